@@ -11,7 +11,7 @@ use Rattle.sqlite.specs.State.{IsLive, State}
 use Rattle.sqlite.specs.State.{Opens as IsOpenedAnew}
 use Rattle.sql_tables.specs.States.{IsSettled, Leaves}
 use Rattle.desk_model.specs.Book.{Book}
-use Rattle.desk_store.specs.Books.{HasNewTables, LeavesBook}
+use Rattle.desk_store.specs.Books.{HasNewTables, LeavesBook, MayServe}
 use Rattle.desk_store.proofs.StoppedOpenings.{still_shown}
 use Rattle.desk_store.proofs.Reopening.{finds_such, holds_new, keeps, second_format}
 use Rattle.desk_rows.specs.Contents.{Contents}
@@ -25,8 +25,8 @@ use Rattle.desk_store.specs.declared.fault.OpenFault.{OpenFault}
 use Rattle.desk_rows.specs.States.{IsFile, ShowsContents}
 use Rattle.desk_session.specs.declared.session.Ended.{Ended}
 use Rattle.desk_session.specs.declared.session.Ended.TheVariants as ended
-use Rattle.desk_session.specs.Service.{EndsAs, HoldsGiven, IsFoundAfter, MayLack, MayServe}
-use Rattle.desk_session.specs.Reopened.{IsKeptBook, MayBegin}
+use Rattle.desk_session.specs.Service.{EndsAs, HoldsGiven, IsFoundAfter, MayLack}
+use Rattle.desk_session.specs.Reopened.{IsKeptBook}
 use Rattle.desk_session.specs.Session.{EndsLost, GivenCommand, Gives, HoldsAcknowledged, IsSession, Turn}
 
 -- ---- a command that was lost is the last one, and wasn't acknowledged
@@ -116,15 +116,13 @@ module _ {S : Type 0} (g : Ghosts S) (make : Bool) (book : Book) (old : Held S) 
   pub begins_again : (l : Layout) → Stands l book (state g old) → Leaves (HoldsEither l book) (state g old) → MayServe (with_missing_tables l) book new
   begins_again l (of, (c, shows, rows)) leaves =
       let opened = opens.stands.opened l c of shows in
-      record { tables = opened.tables; kept = record { shows = (opened.shows.0, opened.shows.1.0, opened.shows.2); leaves = opened.leaves leaves } }
+      record { tables = opened.tables; shows = (opened.shows.0, opened.shows.1.0, opened.shows.2); leaves = opened.leaves leaves }
 
   pub begins_opened : (l : Layout) → Stands l book (state g old) → LeavesBook l book (state g old) → MayServe (with_missing_tables l) book new
   begins_opened l stands leaves = begins_again l stands (λ db left. inl (leaves db left))
 
   pub begins_made : HasNone (state g old).now.schema → MayServe (new_layout (state g old).now.schema) book new
-  begins_made none =
-      let is = opens.stands.made none in
-      record { tables = is.tables; kept = record { shows = is.shows; leaves = is.leaves } }
+  begins_made none = (opens.stands.made none).kept
 
 -- a book that stands in what a connection shows stands where another shows the same
 stands_still : (l : Layout) (book : Book) (old new : State) → new.now ≡ old.now → Stands l book old → Stands l book new
@@ -141,9 +139,6 @@ pub begins_after_a_stop : {S : Type 0} (g : Ghosts S) (make : Bool) (book : Book
 begins_after_a_stop g make book first old new fault stops same opened l stands leaves opens =
     begins_again g make book old new opens l (stands_still l book (state g first) (state g old) (still_shown g first (state g old) fault same stops opened) stands) leaves
 
-pub begins_kept : (book : Book) (s : State) → IsKeptThere book s → MayBegin book s
-begins_kept book s (l, tables, kept) = (l, record { tables = tables; kept = kept })
-
 -- ---- what opening finds after a session
 
 module _ {S : Type 0} (g : Ghosts S) (make : Bool) (next : Held S) (after : State) (anew : IsOpenedAnew (state g next)) (live : IsLive (state g next)) (l : Layout) (tables : HasNewTables l)
@@ -156,6 +151,6 @@ module _ {S : Type 0} (g : Ghosts S) (make : Bool) (next : Held S) (after : Stat
       finds_such g make next after anew live (IsKeptBook book turns given) holds.next (holds.kept, lost, holds.after)
       (holds_new l holds.next (state g next).committed.trees tables holds.holds)
 
-  pub begins_found : IsSettled (state g next) → (found : Book) → OpensBook g make next after (Ok found) → MayBegin found after
+  pub begins_found : IsSettled (state g next) → (found : Book) → OpensBook g make next after (Ok found) → IsKeptThere found after
   begins_found settled found opens =
-      begins_kept found after (keeps g make next after anew live holds.next found (holds_new l holds.next (state g next).committed.trees tables holds.holds) settled opens)
+      keeps g make next after anew live holds.next found (holds_new l holds.next (state g next).committed.trees tables holds.holds) settled opens

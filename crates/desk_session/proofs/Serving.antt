@@ -24,13 +24,13 @@ use Rattle.desk_line.specs.declared.request.Request.{Request}
 use Rattle.desk_line.specs.declared.request.Request.TheVariants.{Do}
 use Rattle.desk_line.specs.Request.{WholeRequests}
 use Rattle.desk_line.proofs.RequestLaws.{one-request}
-use Rattle.desk_store.specs.Books.{HoldsBook, IsKept}
+use Rattle.desk_store.specs.Books.{HoldsBook, MayServe}
 use Rattle.desk_rows.specs.Layout.{Layout}
 use Rattle.desk_session.specs.declared.session.Ended.{Ended}
 use Rattle.desk_session.specs.declared.session.Ended.TheVariants as ended
 use Rattle.desk_session.specs.Reading.{ReadsRequest}
 use Rattle.desk_session.specs.Requests.{FirstRequests}
-use Rattle.desk_session.specs.Service.{AllTaken, AreRequests, EndsAs, EndsFlushed, GoesOut, HoldsGiven, IsHonest, IsLeft, IsWritten, MayLack, MayServe, Serves, SessionEnds, ends_of, requests_of}
+use Rattle.desk_session.specs.Service.{AllTaken, AreRequests, EndsAs, EndsFlushed, GoesOut, HoldsGiven, IsHonest, IsLeft, IsWritten, MayLack, Serves, SessionEnds, ends_of, requests_of}
 use Rattle.desk_session.specs.Session.{EndsLost, GivenCommand, Gives, IsCommand, IsSession, MayGoOn, Turn, commands_of}
 use Rattle.desk_session.specs.Turns.{LeavesLost, LeftBy, SendsReply, TakesTurn}
 use Rattle.desk_session.proofs.MoreTurns.{TurnsFrom-more, after-given, ends-held, ends-lost, gives-some, goes-held, goes-more, requests-more, taken-more}
@@ -40,7 +40,7 @@ use Rattle.desk_session.proofs.RequestCuts.{CutInto, CutInto-all, CutInto-first,
 
 -- after a session in which no command was lost
 held-left : (l : Layout) (start last : Book) (e : Ended) (turns : List Turn) (given : List GivenCommand) (s : State) → IsSession start turns given last → ¬ EndsLost turns
-    → MayLack e [] → IsKept l last s → IsLeft l start last e given s
+    → MayLack e [] → MayServe l last s → IsLeft l start last e given s
 held-left l start last e turns given s session held lacks kept = record {
   shows = λ ends. kept.shows;
   leaves = λ db left. record {
@@ -92,7 +92,7 @@ module _ (l : Layout) (start book : Book) (given gives : List GivenCommand) (byt
   pub lost-left : (last : Book) → IsLeft l start last ended.Lost (given ++ gives) s
   lost-left last = record { shows = λ held. absurd (held refl); leaves = λ db left. lost-holds db (lost.leaves db left) }
 
-kept-by : (l : Layout) (bytes : List ℕ) (book next : Book) (answer : Answer) (s : State) → answer ≢ answers.Lost → LeftBy l bytes book next answer s → IsKept l next s
+kept-by : (l : Layout) (bytes : List ℕ) (book next : Book) (answer : Answer) (s : State) → answer ≢ answers.Lost → LeftBy l bytes book next answer s → MayServe l next s
 kept-by l bytes book next (answers.Done number) s held left = left
 kept-by l bytes book next (answers.Refused refusal) s held left = left
 kept-by l bytes book next (answers.Asked query) s held left = left
@@ -119,7 +119,7 @@ pub record IsServing (start book : Book) (over : SessionEnds) (input : Input) : 
   pub goes : AllByRecursion MayGoOn turns
   pub passed : (turns ≡ []) ⊎ IsFlushed over.written over.flushed
   pub clean : HasCleanDisk over.new → HasCleanDisk over.old
-  pub kept : HasCleanDisk over.new → (l : Layout) → MayServe l start over.old → IsKept l book over.new
+  pub kept : HasCleanDisk over.new → (l : Layout) → MayServe l start over.old → MayServe l book over.new
 
 pub IsServing-none : {R W : Type 0} (book : Book) (source : Source R) (r : R) (sink : Sink W) (w : W) (s : State) → IsServing book book (ends_of source r r sink w w s s) unread
 IsServing-none book source r sink w s = record {
@@ -135,7 +135,7 @@ IsServing-none book source r sink w s = record {
   goes = tt;
   passed = inl refl;
   clean = λ clean. clean;
-  kept = λ clean l may. may.kept;
+  kept = λ clean l may. may;
 }
 
 module _ (start book : Book) (over : SessionEnds) (c : Option (List ℕ)) (input new : Input)
@@ -251,9 +251,9 @@ module _ (start book : Book) (over : SessionEnds) (c : Option (List ℕ)) (input
         subst (λ (t : List ℕ). FirstRequests (IsAtEnd c) t (requests_of turns)) (sym used.parts)
         (CutInto-first (new.is_over ≡ true) (IsAtEnd c) new.waiting (used.ends (unread-knows over.unread)) (so_far.bytes ++ read.bytes) (requests_of turns) cut)
 
-    kept-next : answer ≢ answers.Lost → HasCleanDisk s' → (l : Layout) → MayServe l start over.old → IsKept l next s'
+    kept-next : answer ≢ answers.Lost → HasCleanDisk s' → (l : Layout) → MayServe l start over.old → MayServe l next s'
     kept-next held clean l may =
-        kept-by l read.bytes book next answer s' held (took.left clean l may.tables (so_far.kept (took.clean clean) l may))
+        kept-by l read.bytes book next answer s' held (took.left clean l (so_far.kept (took.clean clean) l may))
 
     pub IsServing-more : answer ≢ answers.Lost → ok ≡ true → IsServing start next after new
     IsServing-more held whole = record {
@@ -312,7 +312,7 @@ module _ (start book : Book) (over : SessionEnds) (c : Option (List ℕ)) (input
     Serves-lost is =
         ended-after ended.Lost first (ends-lost turn so_far.turns is) tt (all-told ok refl)
         (λ clean l may.
-        let lost = lost-by is l (took.left clean l may.tables (so_far.kept (took.clean clean) l may)) in
+        let lost = lost-by is l (took.left clean l (so_far.kept (took.clean clean) l may)) in
         let one = gave-lost is in
         lost-left l start book so_far.given gave.0 read.bytes s'
         (after-given so_far.turns start book so_far.given so_far.session (goes-held so_far.turns so_far.goes))

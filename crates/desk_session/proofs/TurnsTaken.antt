@@ -24,7 +24,7 @@ use Rattle.desk_line.specs.declared.request.Request.TheVariants.{Ask, Do}
 use Rattle.desk_line.specs.Answers.{IsAnswered, accepted, asked, lost, no_request, refused, unplanned, unread}
 use Rattle.desk_line.specs.Reply.{IsReplied}
 use Rattle.desk_line.specs.Request.{Reads}
-use Rattle.desk_store.specs.Books.{HasNewTables, IsKept, LeavesBook, LeavesEither, MayKeep}
+use Rattle.desk_store.specs.Books.{LeavesBook, LeavesEither, MayKeep, MayServe}
 use Rattle.desk_rows.specs.Layout.{Layout}
 use Rattle.desk_session.specs.Requests.{IsFaultOf}
 use Rattle.desk_session.specs.Turns.{SendsReply, TakesTurn, fault_answer}
@@ -33,13 +33,13 @@ use Rattle.desk_session.specs.Turns.{SendsReply, TakesTurn, fault_answer}
 
 pub asked-turn : (bytes : List ℕ) (book : Book) (query : Query) (s : State) → Reads bytes (Ask query) → TakesTurn bytes book book (answers.Asked query) s s
 asked-turn bytes book query s reads =
-    record { answered = asked query reads refl refl; clean = λ clean. clean; left = λ clean l tables kept. kept }
+    record { answered = asked query reads refl refl; clean = λ clean. clean; left = λ clean l may. may }
 
 pub fault-turn : (bytes : List ℕ) (book : Book) (fault : Fault) (s : State) → IsFaultOf bytes fault → TakesTurn bytes book book (fault_answer fault) s s
 fault-turn bytes book faults.Syntax s tells =
-    record { answered = no_request tells refl refl; clean = λ clean. clean; left = λ clean l tables kept. kept }
+    record { answered = no_request tells refl refl; clean = λ clean. clean; left = λ clean l may. may }
 fault-turn bytes book faults.NoMemory s asks =
-    record { answered = unread asks refl refl; clean = λ clean. clean; left = λ clean l tables kept. kept }
+    record { answered = unread asks refl refl; clean = λ clean. clean; left = λ clean l may. may }
 
 refused-answer : (bytes : List ℕ) (book : Book) (command : Command) (expect : Option ℕ) (refusal : Refusal) → Reads bytes (Do command expect)
     → IsRefused book expect command refusal ⊎ ((refusal ≡ refusals.NoMemory) × MayLackMemory book expect command)
@@ -51,15 +51,15 @@ pub refused-turn : (bytes : List ℕ) (book : Book) (command : Command) (expect 
     → IsRefused book expect command refusal ⊎ ((refusal ≡ refusals.NoMemory) × MayLackMemory book expect command)
     → TakesTurn bytes book book (answers.Refused refusal) s s
 refused-turn bytes book command expect refusal s reads is =
-    record { answered = refused-answer bytes book command expect refusal reads is; clean = λ clean. clean; left = λ clean l tables kept. kept }
+    record { answered = refused-answer bytes book command expect refusal reads is; clean = λ clean. clean; left = λ clean l may. may }
 
 -- ---- a command that is accepted
 
 module _ (bytes : List ℕ) (book : Book) (command : Command) (expect : Option ℕ) (next : Book) (change : Change) (old new : State)
     (reads : Reads bytes (Do command expect)) (is : IsAccepted book expect command) (carries : Carries book command next change)
     (P : Trees → Type 0) (survives : Survives old new P) where
-  may-keep : (l : Layout) → HasNewTables l → IsKept l book old → MayKeep l book change next old
-  may-keep l tables kept = record { tables = tables; leads = (command, carries); shows = kept.shows }
+  may-keep : (l : Layout) → MayServe l book old → MayKeep l book change next old
+  may-keep l may = record { tables = may.tables; leads = (command, carries); shows = may.shows }
 
   was-clean : HasCleanDisk new → HasCleanDisk old
   was-clean clean = omega (arith, clean, survives.clean)
@@ -70,27 +70,27 @@ module _ (bytes : List ℕ) (book : Book) (command : Command) (expect : Option �
   lost-turn either = record {
     answered = lost command expect next reads is carries.makes refl refl;
     clean = was-clean;
-    left = λ clean l tables kept. record {
+    left = λ clean l may. record {
       command = command;
       made = next;
       asked = (expect, reads);
       accepted = carries.accepted;
       makes = carries.makes;
-      leaves = either clean l next (may-keep l tables kept) kept.leaves;
+      leaves = either clean l next (may-keep l may) may.leaves;
     };
   }
 
-  done-next : (number : Option ℕ) → number ≡ change.number → (HasCleanDisk new → (l : Layout) (next : Book) → MayKeep l book change next old → IsKept l next new)
+  done-next : (number : Option ℕ) → number ≡ change.number → (HasCleanDisk new → (l : Layout) (next : Book) → MayKeep l book change next old → MayServe l next new)
       → TakesTurn bytes book next (answers.Done number) old new
   done-next number same keeps = record {
     answered = accepted command expect reads is carries.makes (ap answers.Done (same ∙ carries.number));
     clean = was-clean;
-    left = λ clean l tables kept. keeps clean l next (may-keep l tables kept);
+    left = λ clean l may. keeps clean l next (may-keep l may);
   }
 
   -- it is kept, and put into the book
   pub done-turn : (number : Option ℕ) (settled : Book) → number ≡ change.number → settled ≡ next
-      → (HasCleanDisk new → (l : Layout) (next : Book) → MayKeep l book change next old → IsKept l next new)
+      → (HasCleanDisk new → (l : Layout) (next : Book) → MayKeep l book change next old → MayServe l next new)
       → TakesTurn bytes book settled (answers.Done number) old new
   done-turn number settled same settles keeps =
       subst (λ (b : Book). TakesTurn bytes book b (answers.Done number) old new) (sym settles) (done-next number same keeps)

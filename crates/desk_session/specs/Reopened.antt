@@ -1,10 +1,7 @@
 -- What the next session finds of one that ended, however it did.
 use Rattle.std.specs.Prelude.{List}
-use Rattle.sqlite.specs.State.{State}
 use Rattle.desk_model.specs.After.{After}
 use Rattle.desk_model.specs.Book.{Book}
-use Rattle.desk_rows.specs.Layout.{Layout}
-use Rattle.desk_session.specs.Service.{MayServe}
 use Rattle.desk_session.specs.Session.{GivenCommand, HoldsAcknowledged, Turn, commands_of}
 
 -- the book after the first of the given commands, with all that were acknowledged and at most one more
@@ -12,7 +9,3 @@ abbrev pub IsKeptBook : Book → List Turn → List GivenCommand → Book → Ty
 IsKeptBook book turns given found =
     (kept : List GivenCommand) × HoldsAcknowledged (record { turns = turns; given = given; kept = kept })
     × After book (commands_of kept) found
-
--- a session may begin with the book on this connection
-abbrev pub MayBegin : Book → State → Type 0
-MayBegin book s = (l : Layout) × MayServe l book s

@@ -13,7 +13,7 @@ use Rattle.desk_ends.specs.Ends.{IsFlushed}
 use Rattle.desk_ends.specs.Limits.{most_input}
 use Rattle.desk_line.specs.Reply.{IsReply}
 use Rattle.desk_line.specs.Request.{Requests, WholeRequests}
-use Rattle.desk_store.specs.Books.{HasNewTables, HoldsBook, IsKept, ShowsBook}
+use Rattle.desk_store.specs.Books.{HoldsBook, MayServe, ShowsBook}
 use Rattle.desk_rows.specs.Layout.{Layout}
 use Rattle.desk_store.specs.Opened.{Stands}
 use Rattle.desk_session.specs.declared.session.Ended.{Ended}
@@ -109,11 +109,6 @@ EndsFlushed Output turns ends = Unit {0}
 EndsFlushed Lost turns ends = (AllTaken turns × IsFlushed ends.written ends.flushed) ⊎ ends.WritesFail
 
 -- ---- what is in the file
-
--- the connection shows the book in a file with the tables of a new one, and so does whatever a crash leaves
-pub record MayServe (l : Layout) (book : Book) (s : State) : Type 0 where
-  pub tables : HasNewTables l
-  pub kept : IsKept l book s
 
 -- what of the given commands a file may lack: none, or the last one where that was lost
 abbrev pub MayLack : Ended → List GivenCommand → Type 0

@@ -14,7 +14,7 @@ use Rattle.desk_line.specs.declared.fault.Fault.{Fault}
 use Rattle.desk_line.specs.declared.fault.Fault.TheVariants as faults
 use Rattle.desk_line.specs.Answers.{IsAnswered}
 use Rattle.desk_line.specs.Reply.{IsReply}
-use Rattle.desk_store.specs.Books.{HasNewTables, IsKept, LeavesEither}
+use Rattle.desk_store.specs.Books.{LeavesEither, MayServe}
 use Rattle.desk_rows.specs.Layout.{Layout}
 use Rattle.desk_session.specs.Service.{IsPart}
 use Rattle.desk_session.specs.Session.{IsCommand}
@@ -35,19 +35,18 @@ pub record LeavesLost (l : Layout) (request : List ℕ) (book : Book) (s : State
 
 -- what the file is after a request was answered so, and this is the book after it
 abbrev pub LeftBy : Layout → List ℕ → (book next : Book) → Answer → State → Type 0
-LeftBy l request book next (Done number) s = IsKept l next s
-LeftBy l request book next (Refused refusal) s = IsKept l next s
-LeftBy l request book next (Asked query) s = IsKept l next s
-LeftBy l request book next Syntax s = IsKept l next s
-LeftBy l request book next NoMemory s = IsKept l next s
+LeftBy l request book next (Done number) s = MayServe l next s
+LeftBy l request book next (Refused refusal) s = MayServe l next s
+LeftBy l request book next (Asked query) s = MayServe l next s
+LeftBy l request book next Syntax s = MayServe l next s
+LeftBy l request book next NoMemory s = MayServe l next s
 LeftBy l request book next Lost s = LeavesLost l request book s
 
 -- a request was answered so, and the file is as it is then
 pub record TakesTurn (request : List ℕ) (book next : Book) (answer : Answer) (old new : State) : Type 0 where
   pub answered : IsAnswered request book next answer
   pub clean : HasCleanDisk new → HasCleanDisk old
-  pub left : HasCleanDisk new → (l : Layout) → HasNewTables l → IsKept l book old
-      → LeftBy l request book next answer new
+  pub left : HasCleanDisk new → (l : Layout) → MayServe l book old → LeftBy l request book next answer new
 
 -- A reply, or a beginning of it, was written. At true it was taken, and is flushed.
 pub record SendsReply (CanFail : Type 0) (old new flushed : Option (List ℕ)) (book : Book) (answer : Answer)

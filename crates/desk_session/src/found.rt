@@ -1,11 +1,11 @@
 //! Laws of what the next session finds.
 ghost use Rattle.desk_model.specs.Book.{Book};
 ghost use Rattle.desk_rows.specs.Layout.{Layout};
-ghost use Rattle.desk_session.specs.Reopened.{IsKeptBook, MayBegin};
-ghost use Rattle.desk_session.specs.Service.{EndsAs, IsLeft, MayServe};
+ghost use Rattle.desk_session.specs.Reopened.{IsKeptBook};
+ghost use Rattle.desk_session.specs.Service.{EndsAs, IsLeft};
 ghost use Rattle.desk_session.specs.Session.{GivenCommand, IsSession, Turn};
 ghost use Rattle.desk_session.specs.declared.session.Ended.{Ended};
-ghost use Rattle.desk_store.specs.Books.{HasNewTables, shown_by};
+ghost use Rattle.desk_store.specs.Books.{HasNewTables, MayServe, shown_by};
 ghost use Rattle.desk_store.specs.Opened.{FindsBook, HoldsEither, OpensBook, Stands, StopsOpening, with_missing_tables};
 ghost use Rattle.desk_store.specs.Reopened.{IsKeptThere};
 ghost use Rattle.desk_store.specs.declared.fault.OpenFault.{OpenFault};
@@ -38,20 +38,18 @@ pub fn opened_after_a_session<S: Alter, T: Alter>(
         → Opens (state T.Store next.now) → IsSettled (state T.Store next.now)
         → (make : Bool) (found : Book)
         → OpensBook T.Store make next.now (state T.Store opened.now) (Ok found)
-        → MayBegin found (state T.Store opened.now) }
+        → IsKeptThere found (state T.Store opened.now) }
 {
     let _ = next.schema();
 }
 
 /// A session may begin with a book that is opened again after its file was left as it was or as completed, as by an opening that failed to
-/// complete it; and with each book that is kept in a file with the tables of a new one.
+/// complete it.
 pub fn begins_after_a_failed_opening<S: Alter>(old: &Connection<S>, new: &Connection<S>)
-    ensures opened { (make : Bool) (book : Book)
+    ensures { (make : Bool) (book : Book)
         → OpensBook S.Store make old.now (state S.Store new.now) (Ok book) → (l : Layout)
         → Stands l book (state S.Store old.now) → Leaves (HoldsEither l book) (state S.Store old.now)
         → MayServe (with_missing_tables l) book (state S.Store new.now) }
-    ensures kept { (book : Book) → IsKeptThere book (state S.Store new.now)
-        → MayBegin book (state S.Store new.now) }
 {}
 
 /// A session may begin too if the file of a book wasn't opened at first, though it isn't refused, and the book is opened on the same

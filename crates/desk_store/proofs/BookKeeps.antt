@@ -1,46 +1,60 @@
 -- What a change that is put into a file does to its book.
-use Rattle.std.proofs.Common.{◌≡◌, true, List, [], ◌∷◌, inl, inr, refl, sym, subst}
+use Rattle.std.proofs.Common.{◌≡◌, true, List, [], ◌∷◌, inl, inr, refl, sym, subst, true≢false}
 use Rattle.sqlite_trees.specs.Tree.{Trees}
 use Rattle.sqlite.specs.State.{HasCleanDisk, State, Survives}
 use Rattle.sql_tables.specs.States.{IsSettled}
 use Rattle.desk_model.specs.Book.{Book}
 use Rattle.desk_model.specs.Loans.{LeadTo}
 use Rattle.desk_book.specs.Changes.{Change}
+use Rattle.desk_parts.specs.declared.file_table.FileTable.{FileTable}
 use Rattle.desk_parts.specs.declared.file_table.FileTable.TheVariants as tables
-use Rattle.desk_parts.specs.Puts.{RowPut, PutBook, PutTab, PutPara, PutMark, PutCache, PutEntry, SetPlace, SetFlags, SetTable, SetPrint, SetSpan, SetResolved, SetVersion, table_put}
+use Rattle.desk_parts.specs.Puts.{RowPut, PutBook, table_put}
 use Rattle.desk_parts.specs.FileRows.{FileRows, table_of}
 use Rattle.desk_model.specs.Shows.{Shows as RowsShow}
 use Rattle.desk_store.specs.BookFile.{rows_of}
-use Rattle.desk_store.specs.Books.{HasNewTables, HoldsBook, HoldsKept, IsKept, LeavesBook, LeavesEither, MayKeep, ShowsBook}
+use Rattle.desk_store.specs.Books.{HasNewTables, HoldsBook, HoldsKept, LeavesBook, LeavesEither, MayKeep, MayServe, ShowsBook}
 use Rattle.desk_rows.specs.Contents.{Contents}
 use Rattle.desk_rows.specs.Layout.{Layout}
+use Rattle.desk_rows.specs.Making.{is_among, new_tables}
 use Rattle.desk_rows.specs.Puts.{HasThem, IsFileWith, Writes, puts_into}
 use Rattle.desk_store.proofs.BookPuts.{all_put}
 
+-- ---- a file that keeps what it shows
+
+pub leaves_shown : (l : Layout) (book : Book) (s : State) → ShowsBook l book s → IsSettled s → LeavesBook l book s
+leaves_shown l book s shows settled db left =
+    subst (HoldsBook l book) (sym (settled db left)) (shows.0, shows.1.is, shows.2)
+
+pub serves_shown : (l : Layout) (book : Book) (s : State) → HasNewTables l → ShowsBook l book s → IsSettled s
+    → MayServe l book s
+serves_shown l book s has shows settled =
+    record { tables = has; shows = shows; leaves = leaves_shown l book s shows settled }
+
+-- ---- the tables of a new file
+
+-- it has all but `corr`
+pub has_new : (l : Layout) → HasNewTables l → (t : FileTable) → is_among new_tables t ≡ true → l.has t ≡ true
+has_new l has tables.Book among = has.0
+has_new l has tables.Tab among = has.1.0
+has_new l has tables.Para among = has.1.1.0
+has_new l has tables.Corr among = absurd (true≢false (sym among))
+has_new l has tables.Mark among = has.1.1.1.0
+has_new l has tables.Cache among = has.1.1.1.1.0
+has_new l has tables.NamedCorr among = has.1.1.1.1.1.0
+
+put_among : (it : RowPut) → is_among new_tables (table_put it) ≡ true
+put_among (PutBook row) = refl
+put_among it = refl
+
 -- ---- the tables of what is put
 
-module _ (l : Layout) (new : HasNewTables l) where
-  there : (it : RowPut) → l.has (table_put it) ≡ true
-  there (PutBook row) = new.0
-  there (PutTab row) = new.1.0
-  there (PutPara row) = new.1.1.0
-  there (PutMark row) = new.1.1.1.0
-  there (PutCache row) = new.1.1.1.1.0
-  there (PutEntry row) = new.1.1.1.1.1.0
-  there (SetPlace id place) = new.1.1.0
-  there (SetFlags id style volume struck) = new.1.1.0
-  there (SetTable id tab) = new.1.1.0
-  there (SetPrint id print) = new.1.1.0
-  there (SetSpan id start stop touched) = new.1.1.1.0
-  there (SetResolved id resolved) = new.1.1.1.0
-  there (SetVersion version) = new.0
-
+module _ (l : Layout) (has : HasNewTables l) where
   has_them : (puts : List RowPut) → HasThem l puts
   has_them [] = tt
-  has_them (it ∷ puts) = (there it, has_them puts)
+  has_them (it ∷ puts) = (has_new l has (table_put it) (put_among it), has_them puts)
 
   named_entries : (c : Contents) → table_of (rows_of l c).entries ≡ tables.NamedCorr
-  named_entries c = rw new.1.1.1.1.1.0 refl
+  named_entries c = rw (has_new l has tables.NamedCorr refl) refl
 
   -- ---- the book of the file with these put
 
@@ -56,13 +70,8 @@ module _ (l : Layout) (new : HasNewTables l) where
     pub holds_next : (old : State) (db : Trees) → IsFileWith puts old db → ShowsBook l book old → HoldsBook l next db
     holds_next old db with_them was = (puts_into puts was.0, with_them l was.0 (has_them puts) was.1, rows_show was.0 was.2)
 
-    pub is_kept : (old new : State) → Writes puts old new → IsSettled new → ShowsBook l book old → IsKept l next new
-    is_kept old new writes settled was =
-        let shows = shows_next old new writes was in
-        record {
-          shows = shows;
-          leaves = λ db left. subst (HoldsBook l next) (sym (settled db left)) (shows.0, shows.1.is, shows.2);
-        }
+    pub is_kept : (old new : State) → Writes puts old new → IsSettled new → ShowsBook l book old → MayServe l next new
+    is_kept old new writes settled was = serves_shown l next new has (shows_next old new writes was) settled
 
 -- ---- what a crash leaves
 

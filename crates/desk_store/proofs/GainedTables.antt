@@ -17,6 +17,7 @@ use Rattle.desk_rows.specs.Making.{with_tables}
 use Rattle.desk_model.specs.declared.new_tables.NewTables.{NewTables}
 use Rattle.desk_store.specs.Opened.{HasGained, HoldsEitherWith, Keeps, which_lacked}
 use Rattle.desk_rows.specs.States.{ShowsContents}
+use Rattle.desk_store.proofs.BookKeeps.{leaves_shown}
 
 own_rows : (tables : List Table) (rows : Trees) → KeepsRows tables rows rows
 own_rows [] rows = tt
@@ -57,7 +58,7 @@ module _ (l : Layout) (c : Contents) (book : Book) (s : State) where
   gains_none shows rows = (as_it_stands, (stays_shown shows, keeps_all), rows)
 
   pub leaves_gained : (tables : List FileTable) (rows : Trees) → HasGained tables l c book rows (λ after d. ShowsContents after d s) → IsSettled s → LeavesBook (with_tables tables l) book s
-  leaves_gained tables rows gained settled db left = subst (HoldsBook (with_tables tables l) book) (sym (settled db left)) (gained.0, gained.1.0.is, gained.2)
+  leaves_gained tables rows gained = leaves_shown (with_tables tables l) book s (gained.0, gained.1.0, gained.2)
 
 -- one that lacks no table has exactly one form
 pub left_whole : (lacked : Option NewTables) (l : Layout) (book : Book) (s : State) → lacked ≡ None → Leaves (HoldsEitherWith (which_lacked lacked) l book) s

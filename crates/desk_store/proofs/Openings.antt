@@ -21,7 +21,7 @@ use Rattle.desk_model.specs.declared.fault.PartsFault.{PartsFault}
 use Rattle.desk_model.specs.declared.fault.PartsFault.TheVariants as rebuilt
 use Rattle.desk_model.proofs.Callers.{first-damage, one_book, shown-same as shown, turned-same as turned, undamaged as sound}
 use Rattle.desk_store.specs.BookFile.{rows_of}
-use Rattle.desk_store.specs.Books.{HoldsBook, LeavesBook, ShowsBook}
+use Rattle.desk_store.specs.Books.{LeavesBook, MayServe}
 use Rattle.desk_rows.specs.Contents.{Contents}
 use Rattle.desk_rows.specs.Failing.{FailsToChange, of_first_row}
 use Rattle.desk_store.specs.Formats.{Format, HasThoseRead, IsOfEither, IsOfFormat}
@@ -36,6 +36,7 @@ use Rattle.desk_rows.specs.Turns.{with_transaction}
 use Rattle.desk_rows.specs.declared.fault.DatabaseFault.TheVariants as fault
 use Rattle.desk_store.specs.declared.fault.OpenFault.{OpenFault}
 use Rattle.desk_store.specs.declared.fault.OpenFault.TheVariants.{NotABook, Damaged, NewerFormat, Lost, NoMemory}
+use Rattle.desk_store.proofs.BookKeeps.{serves_shown}
 use Rattle.desk_store.proofs.Completed.{completed_tables, lacked_rows, lacked_same, made_holds, new_shows, new_tables_there}
 use Rattle.desk_store.proofs.FoundFormats.{books_there, of_format}
 use Rattle.desk_store.proofs.Opened.{shows_still}
@@ -214,10 +215,8 @@ module _ {S : Type 0} (g : Ghosts S) (make : Bool) (old : Held S) (none : HasNon
         wanted = wanted;
         empty = empty;
         beside = beside;
-        tables = new_tables_there bare.now.schema;
-        shows = subst (λ (b : Book). ShowsBook (new_layout bare.now.schema) b new) (sym empty) shows;
-        leaves = subst (λ (b : Book). LeavesBook (new_layout bare.now.schema) b new) (sym empty)
-            (λ db left. subst (HoldsBook (new_layout bare.now.schema) empty_book) (sym (settled db left)) (shows.0, shows.1.is, shows.2));
+        kept = subst (λ (b : Book). MayServe (new_layout bare.now.schema) b new) (sym empty)
+            (serves_shown (new_layout bare.now.schema) empty_book new (new_tables_there bare.now.schema) shows settled);
       } in
       record {
         answers = record { found = inr it; shown = λ other shows. absurd (no_books shows.are.book) };

@@ -14,36 +14,35 @@ use Rattle.sql_tables.specs.States.{IsSettled}
 use Rattle.sql_tables.proofs.OneSchema.{one_schema}
 use Rattle.desk_model.specs.Book.{Book, empty_book}
 use Rattle.desk_model.proofs.Callers.{Contains-behind, Contains-here}
-use Rattle.desk_store.specs.Books.{HasNewTables, HoldsBook, LeavesBook}
+use Rattle.desk_store.specs.Books.{HasNewTables, HoldsBook}
 use Rattle.desk_rows.specs.Contents.{Contents}
 use Rattle.desk_rows.specs.Layout.{Layout}
 use Rattle.desk_rows.specs.States.{IsFile}
 use Rattle.desk_rows.specs.Tables.{is_there}
 use Rattle.desk_rows.proofs.Schema.Schemas.{shows_committed}
-use Rattle.desk_store.specs.Formats.{Format, IsOfFormat, named}
+use Rattle.desk_store.specs.Formats.{Format, IsOfFormat, IsPresent, named, needed}
 use Rattle.desk_store.specs.Found.{HasNone}
 use Rattle.desk_store.specs.Opened.{FindsBook, HoldsEither, HoldsEmpty, HoldsNone, OpensBook, Stands, with_missing_tables}
 use Rattle.desk_store.specs.Opening.{IsRefusal}
 use Rattle.desk_store.specs.Reopened.{HoldsOneOf, HoldsStanding, IsKeptThere}
 use Rattle.desk_store.specs.declared.fault.OpenFault.{OpenFault}
 use Rattle.desk_store.specs.declared.fault.OpenFault.TheVariants.{NotABook}
+use Rattle.desk_store.proofs.BookKeeps.{has_new, leaves_shown}
 use Rattle.desk_store.proofs.Completed.{completed_tables}
 use Rattle.desk_store.proofs.Openings.{only_no_book}
 use Rattle.desk_store.proofs.StandingBooks.{found_there}
 
 -- ---- a file with the tables of a new one is of the second format
 
-there_by : (l : Layout) (c : Contents) (db : Trees) → IsFile l c db → (t : FileTable) → l.has t ≡ true → is_there l.schema t ≡ true
-there_by l c db is t there = rw (is.declared t there).named refl
+second_table : (l : Layout) (c : Contents) (db : Trees) → IsFile l c db → (t : FileTable) → l.has t ≡ true
+    → IsPresent needed (l.has t) (is_there l.schema t)
+second_table l c db is t has =
+    let there : is_there l.schema t ≡ true = rw (is.declared t has).named refl in (has ∙ sym there, has)
 
 pub second_format : (l : Layout) (c : Contents) (db : Trees) → HasNewTables l → IsFile l c db → IsOfFormat named l
-second_format l c db new is tables.Book = (new.0 ∙ sym (there_by l c db is tables.Book new.0), new.0)
-second_format l c db new is tables.Tab = (new.1.0 ∙ sym (there_by l c db is tables.Tab new.1.0), new.1.0)
-second_format l c db new is tables.Para = (new.1.1.0 ∙ sym (there_by l c db is tables.Para new.1.1.0), new.1.1.0)
 second_format l c db new is tables.Corr = tt
-second_format l c db new is tables.Mark = (new.1.1.1.0 ∙ sym (there_by l c db is tables.Mark new.1.1.1.0), new.1.1.1.0)
-second_format l c db new is tables.Cache = new.1.1.1.1.0 ∙ sym (there_by l c db is tables.Cache new.1.1.1.1.0)
-second_format l c db new is tables.NamedCorr = (new.1.1.1.1.1.0 ∙ sym (there_by l c db is tables.NamedCorr new.1.1.1.1.1.0), new.1.1.1.1.1.0)
+second_format l c db new is tables.Cache = (second_table l c db is tables.Cache (has_new l new tables.Cache refl)).0
+second_format l c db new is t = second_table l c db is t (has_new l new t refl)
 
 -- ---- what a crash leaves
 
@@ -90,8 +89,8 @@ module _ {S : Type 0} (g : Ghosts S) (make : Bool) (next : Held S) (after : Stat
       let l = there.0 in
       let stands = there.1.1 in
       let opened = opens.stands.opened l stands.0 there.1.0 stands.1 in
-      let was : LeavesBook l found s = λ db left. subst (HoldsBook l found) (sym (settled db left)) (stands.0, stands.1.is, opened.rows) in
-      (with_missing_tables l, opened.tables, record { shows = (opened.shows.0, opened.shows.1.0, opened.shows.2); leaves = opened.leaves (λ db left. inl (was db left)) })
+      let was = leaves_shown l found s (stands.0, stands.1, opened.rows) settled in
+      (with_missing_tables l, record { tables = opened.tables; shows = (opened.shows.0, opened.shows.1.0, opened.shows.2); leaves = opened.leaves (λ db left. inl (was db left)) })
 
   -- ---- where no book was left, or the empty one
 

@@ -44,11 +44,18 @@ LeavesBook l book = Leaves (HoldsBook l book)
 abbrev pub LeavesEither : Layout → (book next : Book) → State → Type 0
 LeavesEither l book next = Leaves (λ db. HoldsBook l book db ⊎ HoldsBook l next db)
 
--- ---- a change of it
-
 -- the layout has each table of a new file
 abbrev pub HasNewTables : Layout → Type 0
 HasNewTables l = AllByRecursion (λ t. l.has t ≡ true) new_tables
+
+-- The file shows the book and keeps it: it has the tables of a new one, the connection shows the book in it, and so does whatever a crash
+-- leaves. Opening and keeping a change bring a file to this, and a session may begin with it.
+pub record MayServe (l : Layout) (book : Book) (s : State) : Type 0 where
+  pub tables : HasNewTables l
+  pub shows : ShowsBook l book s
+  pub leaves : LeavesBook l book s
+
+-- ---- a change of it
 
 -- the change carries out a command that makes the next of this book
 abbrev pub LeadsTo : Book → Change → Book → Type 0
@@ -59,11 +66,6 @@ pub record MayKeep (l : Layout) (book : Book) (change : Change) (next : Book) (s
   pub tables : HasNewTables l
   pub leads : LeadsTo book change next
   pub shows : ShowsBook l book s
-
--- the connection shows the book, and so does whatever a crash leaves
-pub record IsKept (l : Layout) (book : Book) (s : State) : Type 0 where
-  pub shows : ShowsBook l book s
-  pub leaves : LeavesBook l book s
 
 -- the trees hold the next book, of whatever file the connection showed in which the change may be kept
 abbrev pub HoldsKept : Book → Change → State → Trees → Type 0

@@ -23,7 +23,7 @@ use Rattle.desk_model.specs.declared.new_tables.NewTables.{NewTables}
 use Rattle.desk_model.specs.declared.new_tables.NewTables.TheVariants.{Braille, Entries, EntriesAndBraille}
 use Rattle.desk_parts.specs.declared.rows.BookRow.{BookRow}
 use Rattle.desk_store.specs.BookFile.{rows_of}
-use Rattle.desk_store.specs.Books.{HasNewTables, HoldsBook, LeavesBook, ShowsBook, WithBook}
+use Rattle.desk_store.specs.Books.{HasNewTables, HoldsBook, LeavesBook, MayServe, ShowsBook, WithBook}
 use Rattle.desk_rows.specs.Contents.{Contents}
 use Rattle.desk_rows.specs.TableQuery.{FailsAs, query_of}
 use Rattle.desk_rows.specs.Failing.{FailsToChange, of_first_row, of_items}
@@ -198,9 +198,7 @@ pub record IsMadeNew (make : Bool) (book : Book) (old new : State) : Type 0 wher
   pub wanted : make ≡ true
   pub empty : book ≡ empty_book
   pub beside : IsNew old.now.schema old.now.trees (λ c. ShowsContents (new_layout old.now.schema) c new)
-  pub tables : HasNewTables (new_layout old.now.schema)
-  pub shows : ShowsBook (new_layout old.now.schema) book new
-  pub leaves : LeavesBook (new_layout old.now.schema) book new
+  pub kept : MayServe (new_layout old.now.schema) book new
 
 -- ---- why it isn't opened, where it isn't refused
 

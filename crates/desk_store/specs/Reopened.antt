@@ -6,7 +6,7 @@ use Rattle.sqlite.specs.State.{State}
 use Rattle.sql_tables.specs.States.{Leaves}
 use Rattle.desk_model.specs.Book.{Book}
 use Rattle.desk_rows.specs.Layout.{Layout}
-use Rattle.desk_store.specs.Books.{HasNewTables, HoldsBook, IsKept}
+use Rattle.desk_store.specs.Books.{HoldsBook, MayServe}
 use Rattle.desk_store.specs.Formats.{IsOfEither}
 
 -- the trees are a file of either format, whose rows show the book
@@ -21,6 +21,6 @@ HoldsOneOf books db = (book : Book) × Contains books book × HoldsStanding book
 abbrev pub LeavesOneOf : List Book → State → Type 0
 LeavesOneOf books = Leaves (HoldsOneOf books)
 
--- the connection shows the book in some file with the tables of a new one, and so does whatever a crash leaves
+-- some file shows the book and keeps it, so that a session may begin with it
 abbrev pub IsKeptThere : Book → State → Type 0
-IsKeptThere book s = (l : Layout) × HasNewTables l × IsKept l book s
+IsKeptThere book s = (l : Layout) × MayServe l book s

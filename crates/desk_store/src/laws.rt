@@ -1,7 +1,7 @@
 //! Laws of books in files.
 
 ghost use Rattle.desk_store.specs.BookFile.{HaveOwnNumbers, rows_of};
-ghost use Rattle.desk_store.specs.Books.{HasNewTables, HoldsKept, IsKept, LeadsTo, LeavesBook, LeavesEither, MayKeep, ShowsBook, shown_by};
+ghost use Rattle.desk_store.specs.Books.{HoldsKept, LeadsTo, LeavesBook, LeavesEither, MayKeep, MayServe, ShowsBook, shown_by};
 ghost use Rattle.desk_rows.specs.Contents.{Contents};
 ghost use Rattle.desk_model.specs.Book.{Book};
 ghost use Rattle.desk_parts.specs.FileRows.{FileRows};
@@ -39,8 +39,7 @@ pub fn numbers_differ()
 /// Once a change is kept, whatever becomes of the next one: a crash leaves the book with the first, or with both.
 pub fn two_keeps<S: Alter>(middle: &Store<S>, end: &Store<S>, change: &Change)
     ensures { HasCleanDisk (shown_by S.Store end.now) → (l : Layout) (first both : Book)
-        → IsKept l first (shown_by S.Store middle.now) → HasNewTables l
-        → LeadsTo first change.now both
+        → MayServe l first (shown_by S.Store middle.now) → LeadsTo first change.now both
         → Survives (shown_by S.Store middle.now) (shown_by S.Store end.now)
         (HoldsKept first change.now (shown_by S.Store middle.now))
         → LeavesEither l first both (shown_by S.Store end.now) }
@@ -71,7 +70,7 @@ pub fn opened_then_kept<S: Alter>(before: &Connection<S>, after: &Store<S>, chan
     ensures left { (l : Layout) (c : Contents) (book : Book)
         → IsOpened l c book (state S.Store before.now) (shown_by S.Store after.now)
         → Leaves (HoldsEither l book) (state S.Store before.now)
-        → IsKept (with_missing_tables l) book (shown_by S.Store after.now) }
+        → MayServe (with_missing_tables l) book (shown_by S.Store after.now) }
     ensures made { (make : Bool) (book next : Book)
         → IsMadeNew make book (state S.Store before.now) (shown_by S.Store after.now)
         → LeadsTo book change.now next
@@ -79,7 +78,7 @@ pub fn opened_then_kept<S: Alter>(before: &Connection<S>, after: &Store<S>, chan
         (shown_by S.Store after.now) }
     ensures made_left { (make : Bool) (book : Book)
         → IsMadeNew make book (state S.Store before.now) (shown_by S.Store after.now)
-        → IsKept (new_layout (state S.Store before.now).now.schema) book (shown_by S.Store after.now) }
+        → MayServe (new_layout (state S.Store before.now).now.schema) book (shown_by S.Store after.now) }
 {}
 
 /// Making tables adds just these to the tables that are there, and an exact layout stays exact.

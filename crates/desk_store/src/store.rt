@@ -2,7 +2,7 @@
 
 ghost use Rattle.std.specs.Prelude.{◌≡◌, false, true, IfErr, IsErr, IsTrue, OnErr, OnOk};
 ghost use Rattle.desk_book.specs.Changes.{Carries};
-ghost use Rattle.desk_store.specs.Books.{FailsToKeep, HoldsKept, IsKept, LeavesBook, LeavesEither, MayKeep, shown_by, statements_of};
+ghost use Rattle.desk_store.specs.Books.{FailsToKeep, HoldsKept, LeavesBook, LeavesEither, MayKeep, MayServe, shown_by, statements_of};
 ghost use Rattle.desk_rows.specs.Layout.{Layout};
 ghost use Rattle.desk_rows.specs.Turns.{AreRun, IsLeftBy};
 ghost use Rattle.sqlite.specs.Held.{state};
@@ -54,7 +54,7 @@ fn put_change<'a, S: Alter>(
     ensures idle { conn.new.in_transaction ≡ false }
     ensures kept { HasCleanDisk (state S.Store conn.new) → (l : Layout) (next : _)
         → MayKeep l book.now change.now next (state S.Store conn.old)
-        → OnOk result (IsKept l next (state S.Store conn.new)) }
+        → OnOk result (MayServe l next (state S.Store conn.new)) }
     ensures survives { Survives (state S.Store conn.old) (state S.Store conn.new)
         (HoldsKept book.now change.now (state S.Store conn.old)) }
     ensures ran { HasCleanDisk (state S.Store conn.new)
@@ -91,7 +91,7 @@ impl<S: Alter> Store<S> {
         requires planned { (command : _) × (next : _) × Carries book.now command next change.now }
         ensures kept { HasCleanDisk (shown_by S.Store self.new) → (l : Layout) (next : _)
             → MayKeep l book.now change.now next (shown_by S.Store self.old)
-            → OnOk result (IsKept l next (shown_by S.Store self.new)) }
+            → OnOk result (MayServe l next (shown_by S.Store self.new)) }
         // At any exit a crash leaves the book or the next one.
         ensures either { HasCleanDisk (shown_by S.Store self.new) → (l : Layout) (next : _)
             → MayKeep l book.now change.now next (shown_by S.Store self.old)

@@ -3,6 +3,6 @@ use Rattle.desk_store.proofs.BookKeeps.{leaves_either}
 use Rattle.desk_store.proofs.laws.two_keeps.Goals as goal
 
 pub returns : goal.returns
-returns g c clean l first both kept tables leads survives =
+returns g c clean l first both kept leads survives =
     leaves_either (state g.S.Store c.args.middle.now.connection) (state g.S.Store c.args.end.now.connection) l first c.args.change.now both
-    survives clean (record { tables = tables; leads = leads; shows = kept.shows }) kept.leaves
+    survives clean (record { tables = kept.tables; leads = leads; shows = kept.shows }) kept.leaves
