@@ -1,9 +1,8 @@
 -- What is read of any file, in the state that the reads began with.
-use Rattle.std.proofs.Common.{◌≡◌, ◌≢◌, ℕ, true, false, List, [], ◌∷◌, map, Ok, Err, Some, None, Option, refl, sym, subst, ◌∙◌}
+use Rattle.std.proofs.Common.{◌≡◌, ℕ, true, false, List, [], Ok, Some, None, Option, refl, sym, subst, ◌∙◌}
 use Rattle.std.specs.List.{AllByRecursion}
-use Rattle.std.proofs.lemmas.List.Sorted.{IsPermutation-sym}
 use Rattle.sqlite_resolve.specs.Compile.{first}
-use Rattle.sqlite_trees.proofs.ListLemmas.{all-map, all-permutation}
+use Rattle.sqlite_trees.proofs.ListLemmas.{all_of}
 use Rattle.sqlite_value.specs.Order.{Row}
 use Rattle.sqlite.specs.Clock.{timed}
 use Rattle.sqlite.specs.Effect.{Database, RefusesToRead}
@@ -15,19 +14,17 @@ use Rattle.sql_tables.proofs.Quiet.{never_returns, reads}
 use Rattle.desk_parts.specs.declared.file_table.FileTable.{FileTable}
 use Rattle.desk_parts.specs.declared.file_table.FileTable.TheVariants as tables
 use Rattle.desk_parts.specs.FileRows.{EntryRows, Named, Unnamed}
-use Rattle.desk_parts.specs.Rows.{ParaCells, RowOf}
-use Rattle.desk_rows.specs.TableQuery.{AnswersRows, Gives, query_of}
+use Rattle.desk_parts.specs.Rows.{ParaCells}
+use Rattle.desk_rows.specs.TableQuery.{Gives, query_of}
 use Rattle.desk_rows.specs.Contents.{Contents}
-use Rattle.desk_store.specs.Formats.{Format, IsOfFormat, Presence, named, needed, presence, unnamed}
-use Rattle.desk_store.specs.Found.{AreCellsIn, AreEntriesIn, AreRowsIn, AreToldApart, CanAllAnswer, CanAnswer, IsReadAs}
+use Rattle.desk_store.specs.Formats.{Format, IsOfFormat, named, presence, unnamed}
+use Rattle.desk_store.specs.Found.{AreCellsIn, AreEntriesIn, CanAllAnswer, CanAnswer, IsReadAs}
 use Rattle.desk_rows.specs.Layout.{Layout}
-use Rattle.desk_store.specs.Opening.{AreEntriesReadable, CanAllBeRead, ShowsReadable, Stays}
-use Rattle.desk_rows.specs.Rows.{ShownOf, own, shown_columns}
-use Rattle.desk_rows.specs.States.{ShowsContents}
+use Rattle.desk_store.specs.Opening.{CanAllBeRead, Stays}
+use Rattle.desk_store.specs.Reading.{AreEntriesReadable, ShowsReadable}
+use Rattle.desk_rows.specs.Rows.{ShownOf, shown_columns}
 use Rattle.desk_rows.specs.Tables.{is_there}
 use Rattle.desk_rows.specs.Whole.{IsUtf8Row}
-use Rattle.desk_rows.specs.declared.fault.DatabaseFault.{DatabaseFault}
-use Rattle.desk_rows.specs.declared.fault.DatabaseFault.TheVariants.{Refused}
 use Rattle.desk_store.proofs.Opened.{shows_still}
 use Rattle.desk_rows.proofs.TableReads.WholeReads.{reads_only}
 
@@ -87,54 +84,17 @@ module _ (s a : State) (same : Stays s a) where
   pub can_all_still : (f : Format) → CanAllAnswer f s → CanAllAnswer f a
   can_all_still f can t is_read = can_still t (can t (subst (λ (d : Database). IsReadAs (presence f t) (is_there d.schema t)) same.now is_read))
 
-module _ {V : Type 0} (t : FileTable) (items : V → List (ShownOf t)) (Apart : List (ShownOf t) → Type 0) (s old new : State) (same : Stays s old) where
-  -- what a read gave after others
-  pub rows_before : (v : V) → (Apart (items v) → AreToldApart t (items v)) → AnswersRows (Ok v) items t (λ x. x) Apart old new → AreRowsIn s t (items v)
-  rows_before v apart answers = (gives_before s old same t new (items v) answers.gives, apart answers.apart)
-
-  -- it isn't refused if the statement has an answer that can be read
-  pub never_refused_any : (fault : DatabaseFault) → ((xs : List (ShownOf t)) → AreToldApart t xs → Apart xs) → AnswersRows (Err fault) items t (λ x. x) Apart old new
-      → old.step_limit ≡ None → CanAnswer s t → fault ≢ Refused
-  never_refused_any fault apart answers unlimited can =
-      answers.answered (answer_still (query_of t).text (reads_only t) s old same can.has) unlimited
-      (λ rows seen. can.kinds rows (shown_before (query_of t).text (reads_only t) s old same new rows seen))
-      (λ xs gives. apart xs (can.apart xs (gives_before s old same t new xs gives)))
-
-  pub never_refused_needed : (f : Format) (fault : DatabaseFault) → presence f t ≡ needed → ((xs : List (ShownOf t)) → AreToldApart t xs → Apart xs)
-      → AnswersRows (Err fault) items t (λ x. x) Apart old new → old.step_limit ≡ None → fault ≡ Refused → ¬ CanAllAnswer f s
-  never_refused_needed f fault has_to apart answers unlimited is can =
-      never_refused_any fault apart answers unlimited (can t (subst (λ (p : Presence). IsReadAs p (is_there s.now.schema t)) (sym has_to) tt)) is
-
 -- ---- texts
-
--- the rows of a table are readable if those are that were read of it
-pub texts_of : {V : Type 0} (t : FileTable) (items : V → List (ShownOf t)) (Apart : List (ShownOf t) → Type 0) (old new : State) (v : V) → AnswersRows (Ok v) items t (λ x. x) Apart old new
-    → (l : Layout) (c : Contents) → l.has t ≡ true → ShowsContents l c old → AllByRecursion (IsUtf8Row t) (c.rows t)
-texts_of t items Apart old new v answers l c there shows =
-    all-permutation (IsUtf8Row t) (map (own t) (items v)) (c.rows t) (IsPermutation-sym _ _ (answers.shows l c there shows)) (all-map (IsUtf8Row t) (own t) (items v) answers.utf8)
-
-no_book_texts : (rows : List (RowOf tables.Book)) → AllByRecursion (IsUtf8Row tables.Book) rows
-no_book_texts [] = tt
-no_book_texts (row ∷ rows) = (tt, no_book_texts rows)
-
-no_cell_texts : (rows : List (RowOf tables.Cache)) → AllByRecursion (IsUtf8Row tables.Cache) rows
-no_cell_texts [] = tt
-no_cell_texts (row ∷ rows) = (tt, no_cell_texts rows)
 
 -- a file of the format can be read if its texts can
 pub all_readable : (f : Format) (l : Layout) (c : Contents) → IsOfFormat f l → AllByRecursion (IsUtf8Row tables.Tab) (c.rows tables.Tab) → AllByRecursion (IsUtf8Row tables.Para) (c.rows tables.Para)
     → AreEntriesReadable f l c → AllByRecursion (IsUtf8Row tables.Mark) (c.rows tables.Mark) → CanAllBeRead f l c
-all_readable unnamed l c of names prints entries notes tables.Book = ((of tables.Book).1, no_book_texts (c.rows tables.Book))
-all_readable unnamed l c of names prints entries notes tables.Tab = ((of tables.Tab).1, names)
-all_readable unnamed l c of names prints entries notes tables.Para = ((of tables.Para).1, prints)
 all_readable unnamed l c of names prints entries notes tables.Corr = ((of tables.Corr).1, entries)
-all_readable unnamed l c of names prints entries notes tables.Mark = ((of tables.Mark).1, notes)
-all_readable unnamed l c of names prints entries notes tables.Cache = λ there. no_cell_texts (c.rows tables.Cache)
-all_readable unnamed l c of names prints entries notes tables.NamedCorr = (of tables.NamedCorr).1
-all_readable named l c of names prints entries notes tables.Book = ((of tables.Book).1, no_book_texts (c.rows tables.Book))
-all_readable named l c of names prints entries notes tables.Tab = ((of tables.Tab).1, names)
-all_readable named l c of names prints entries notes tables.Para = ((of tables.Para).1, prints)
 all_readable named l c of names prints entries notes tables.Corr = tt
-all_readable named l c of names prints entries notes tables.Mark = ((of tables.Mark).1, notes)
-all_readable named l c of names prints entries notes tables.Cache = λ there. no_cell_texts (c.rows tables.Cache)
+all_readable unnamed l c of names prints entries notes tables.NamedCorr = (of tables.NamedCorr).1
 all_readable named l c of names prints entries notes tables.NamedCorr = ((of tables.NamedCorr).1, entries)
+all_readable f l c of names prints entries notes tables.Book = ((of tables.Book).1, all_of (IsUtf8Row tables.Book) (λ row. tt) (c.rows tables.Book))
+all_readable f l c of names prints entries notes tables.Tab = ((of tables.Tab).1, names)
+all_readable f l c of names prints entries notes tables.Para = ((of tables.Para).1, prints)
+all_readable f l c of names prints entries notes tables.Mark = ((of tables.Mark).1, notes)
+all_readable f l c of names prints entries notes t = λ there. all_of (IsUtf8Row tables.Cache) (λ row. tt) (c.rows tables.Cache)

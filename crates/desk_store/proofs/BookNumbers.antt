@@ -1,10 +1,9 @@
 -- Rows that show a book differ by their numbers.
-use Rattle.std.proofs.Common.{◌≡◌, ℕ, ◌+◌, ℤ, pos, List, [], ◌∷◌, map, refl, sym, subst, ◌∙◌, IsPermutation, nat_eq, inl, inr, false, true≢false}
+use Rattle.std.proofs.Common.{◌≡◌, ℕ, ◌+◌, ℤ, pos, List, [], ◌∷◌, map, refl, sym, subst, ◌∙◌, IsPermutation, nat_eq, false}
 use Rattle.std.specs.List.{AllByRecursion, IsDistinct, enumerate_from}
 use Rattle.std.specs.Ordering.{int_eq}
-use Rattle.std.proofs.lemmas.Bool.{cases_Bool}
-use Rattle.std.proofs.lemmas.Bool.Decides.{Decides-eqb, Decides-int_eq}
 use Rattle.std.proofs.lemmas.Cmp.{int_eq_equiv}
+use Rattle.std.proofs.lemmas.Simd.{map-map}
 use Rattle.std.proofs.lemmas.List.Sorted.{IsPermutation-map, IsPermutation-sym}
 use Rattle.std.proofs.lemmas.Map.Keys.{IsDistinct-IsPermutation}
 use Rattle.desk_model.specs.Book.{Book, Mark, Paragraph}
@@ -12,24 +11,15 @@ use Rattle.desk_parts.specs.FileRows.{FileRows, spelled_mark, spelled_para}
 use Rattle.desk_parts.specs.Rows.{Mark as MarkRow, Para, ParaCells}
 use Rattle.desk_model.specs.Shows.{Shows, mark_row_of, para_of, paras_of}
 use Rattle.desk_model.proofs.Callers.{IsDistinct-numbers, IsDistinct-range}
+use Rattle.desk_model.proofs.Lists.RowNumbers.{int_eq-pos}
 use Rattle.desk_store.specs.BookFile.{HaveOwnNumbers}
 use Rattle.desk_rows.specs.Whole.{DifferBy}
 
 -- ---- numbers of a book as those of rows
 
-numbers_apart : (n m : ℕ) → nat_eq n m ≡ false → int_eq (pos n) (pos m) ≡ false
-numbers_apart n m other = elim (cases_Bool (int_eq (pos n) (pos m))) [
-  | inl same ↦ (
-      let one : pos n ≡ pos m = (Decides-int_eq (pos n) (pos m)).0 same in
-      let number : n ≡ m = (let one = one in cc) in
-      absurd (true≢false (sym ((Decides-eqb n m).1 number) ∙ other))
-      )
-  | inr other ↦ other
-]
-
 all_apart : (n : ℕ) (ns : List ℕ) → AllByRecursion (λ m. nat_eq n m ≡ false) ns → AllByRecursion (λ k. int_eq (pos n) k ≡ false) (map pos ns)
 all_apart n [] all = tt
-all_apart n (m ∷ ms) all = (numbers_apart n m all.0, all_apart n ms all.1)
+all_apart n (m ∷ ms) all = (int_eq-pos n m ∙ all.0, all_apart n ms all.1)
 
 rows_apart : (ns : List ℕ) → IsDistinct nat_eq ns → IsDistinct int_eq (map pos ns)
 unfolding IsDistinct
@@ -58,12 +48,10 @@ para_numbers place [] = refl
 para_numbers place (p ∷ ps) = let more = para_numbers (place + 1) ps in cc
 
 mark_numbers : (ms : List Mark) → map (λ (m : MarkRow). m.id) (map mark_row_of ms) ≡ map pos (map (λ (m : Mark). m.id) ms)
-mark_numbers [] = refl
-mark_numbers (m ∷ ms) = let more = mark_numbers ms in cc
+mark_numbers ms = map-map (λ (m : MarkRow). m.id) mark_row_of ms ∙ sym (map-map pos (λ (m : Mark). m.id) ms)
 
 cache_numbers : (ps : List Paragraph) → map (λ (p : Paragraph). pos p.id) ps ≡ map pos (map (λ (p : Paragraph). p.id) ps)
-cache_numbers [] = refl
-cache_numbers (p ∷ ps) = let more = cache_numbers ps in cc
+cache_numbers ps = sym (map-map pos (λ (p : Paragraph). p.id) ps)
 
 pub differ_by_numbers : (rows : FileRows) (book : Book) → Shows rows book → HaveOwnNumbers rows
 unfolding IsDistinct

@@ -4,26 +4,16 @@ use Rattle.desk_parts.specs.declared.file_table.FileTable.{FileTable}
 use Rattle.desk_parts.specs.declared.file_table.FileTable.TheVariants as tables
 use Rattle.desk_parts.specs.FileRows.{EntryRows, Named, Unnamed}
 use Rattle.desk_parts.specs.Puts.{RowPut, change_of, table_put, with_named, with_puts, with_rows_of, with_unnamed}
-use Rattle.desk_parts.specs.Rows.{Corr, NamedCorr, ParaCells, RowOf}
+use Rattle.desk_parts.specs.Rows.{ParaCells, RowOf}
 use Rattle.desk_store.specs.BookFile.{rows_of}
 use Rattle.desk_rows.specs.Contents.{Contents, with_rows}
 use Rattle.desk_rows.specs.Layout.{Layout}
 use Rattle.desk_rows.specs.Puts.{put_into, puts_into}
 
-unnamed_changed : (change : List Corr → List Corr) (es : List NamedCorr) (cs : List Corr) (b : Bool)
-    → (if b then Named es else Unnamed (change cs)) ≡ with_unnamed change (if b then Named es else Unnamed cs)
-unnamed_changed change es cs true = refl
-unnamed_changed change es cs false = refl
-
-named_changed : (change : List NamedCorr → List NamedCorr) (es : List NamedCorr) (cs : List Corr) (b : Bool)
-    → (if b then Named (change es) else Unnamed cs) ≡ with_named change (if b then Named es else Unnamed cs)
-named_changed change es cs true = refl
-named_changed change es cs false = refl
-
-cells_changed : (change : List ParaCells → List ParaCells) (ks : List ParaCells) (b : Bool)
-    → (if b then Some (change ks) else None) ≡ option_map change (if b then Some ks else None)
-cells_changed change ks true = refl
-cells_changed change ks false = refl
+-- what is changed in either case is what there is in it, changed
+either_changed : {X : Type 0} (change : X → X) (x y : X) (b : Bool) → (if b then change x else change y) ≡ change (if b then x else y)
+either_changed change x y true = refl
+either_changed change x y false = refl
 
 module _ (l : Layout) where
   -- other rows in one table
@@ -32,12 +22,12 @@ module _ (l : Layout) where
   rows_changed tables.Tab change c = refl
   rows_changed tables.Para change c = refl
   rows_changed tables.Corr change c =
-      ap (λ (entries : EntryRows). record (rows_of l c) { entries = entries }) (unnamed_changed change (c.rows tables.NamedCorr) (c.rows tables.Corr) (l.has tables.NamedCorr))
+      ap (λ (entries : EntryRows). record (rows_of l c) { entries = entries }) (either_changed (with_unnamed change) (Named (c.rows tables.NamedCorr)) (Unnamed (c.rows tables.Corr)) (l.has tables.NamedCorr))
   rows_changed tables.Mark change c = refl
   rows_changed tables.Cache change c =
-      ap (λ (caches : Option (List ParaCells)). record (rows_of l c) { caches = caches }) (cells_changed change (c.rows tables.Cache) (l.has tables.Cache))
+      ap (λ (caches : Option (List ParaCells)). record (rows_of l c) { caches = caches }) (either_changed (option_map change) (Some (c.rows tables.Cache)) None (l.has tables.Cache))
   rows_changed tables.NamedCorr change c =
-      ap (λ (entries : EntryRows). record (rows_of l c) { entries = entries }) (named_changed change (c.rows tables.NamedCorr) (c.rows tables.Corr) (l.has tables.NamedCorr))
+      ap (λ (entries : EntryRows). record (rows_of l c) { entries = entries }) (either_changed (with_named change) (Named (c.rows tables.NamedCorr)) (Unnamed (c.rows tables.Corr)) (l.has tables.NamedCorr))
 
   pub all_put : (c : Contents) (puts : List RowPut) → rows_of l (puts_into puts c) ≡ with_puts puts (rows_of l c)
   all_put c [] = refl

@@ -83,6 +83,17 @@ either : (a b c : Bool) → b ≡ c → (if a then true else b) ≡ (a || c)
 either true b c is = refl
 either false b c is = is
 
+-- a table that the layout has as it is there, it has so once others are made
+pub has_as_there : (tables : List FileTable) (l : Layout) (t : FileTable) → l.has t ≡ is_there l.schema t
+    → (with_tables tables l).has t ≡ is_there (after tables l.schema) t
+has_as_there tables l t same =
+    either (is_among tables t) (l.has t) (is_there l.schema t) same ∙ sym (there_after tables l.schema t)
+
+-- one that it has stays
+pub stays_there : (made has : Bool) → has ≡ true → (if made then true else has) ≡ true
+stays_there true has is = refl
+stays_there false has is = is
+
 -- an exact layout is exact with tables that are made
 pub exact_with : (tables : List FileTable) (l : Layout) → IsExact l → IsExact (with_tables tables l)
-exact_with tables l is other = either (is_among tables other) (l.has other) (is_there l.schema other) (is other) ∙ sym (there_after tables l.schema other)
+exact_with tables l is t = has_as_there tables l t (is t)

@@ -1,5 +1,5 @@
 -- When a file shows a book, and that at most one refusal is reported of any other.
-use Rattle.std.proofs.Common.{◌≡◌, ◌∙◌, ℤ, pos, ◌≤ℤ◌, Bool, true, if◌then◌else◌, List, [], ◌∷◌, map, inl, inr, arith, refl, sym, subst, ap, ap₂, true≢false}
+use Rattle.std.proofs.Common.{◌≡◌, ◌∙◌, ℤ, pos, ◌≤ℤ◌, true, List, [], ◌∷◌, map, inl, inr, arith, refl, sym, subst, ap, ap₂, true≢false}
 use Rattle.std.specs.List.{AllByRecursion}
 use Rattle.std.proofs.lemmas.Int.{ints}
 use Rattle.std.proofs.lemmas.List.Elements.{All-from_recursion}
@@ -7,7 +7,7 @@ use Rattle.desk_model.specs.Damage.{HasItsTables, IsDamagedBook}
 use Rattle.desk_model.proofs.Callers.{book-undamaged as sound-book, one_damage, shown-undamaged as shown, undamaged as sound}
 use Rattle.desk_parts.specs.declared.file_table.FileTable.{FileTable}
 use Rattle.desk_parts.specs.declared.file_table.FileTable.TheVariants as tables
-use Rattle.desk_parts.specs.FileRows.{AreTexts, HasEntryTexts, Named, Unnamed, entries_in, without_name}
+use Rattle.desk_parts.specs.FileRows.{AreTexts, HasEntryTexts, entries_in, without_name}
 use Rattle.desk_parts.specs.Rows.{Corr}
 use Rattle.desk_parts.specs.declared.rows.BookRow.{BookRow}
 use Rattle.desk_rows.specs.Contents.{Contents}
@@ -15,20 +15,16 @@ use Rattle.desk_rows.specs.Layout.{Layout}
 use Rattle.desk_rows.specs.Whole.{IsUtf8Row}
 use Rattle.desk_store.specs.BookFile.{rows_of}
 use Rattle.desk_store.specs.Formats.{Format, HasThoseRead, IsOfFormat, Presence, named, needed, presence, unnamed}
-use Rattle.desk_store.specs.Found.{format_kept}
 use Rattle.desk_store.specs.Opened.{LacksTables, TellsOf}
 use Rattle.desk_store.specs.Opening.{CanAllBeRead, CanBeRead, IsBookRow, IsNewer, IsRefusal, format_in}
 use Rattle.desk_store.specs.Undamaged.{HasBook, IsUndamaged}
 use Rattle.desk_store.specs.declared.fault.OpenFault.{OpenFault}
 use Rattle.desk_store.specs.declared.fault.OpenFault.TheVariants.{NotABook, Damaged, NewerFormat, Lost, NoMemory}
-use Rattle.desk_store.proofs.JudgedTables.{number_of as row_number, of_read}
+use Rattle.desk_store.proofs.JudgedTables.{number_of as row_number, of_read, same_head}
 use Rattle.desk_store.proofs.Opened.{needs_marks, needs_paras, needs_tabs}
-use Rattle.desk_store.proofs.StandingBooks.{at_most_two, can_be_read, in_format, never_refused, row_is}
+use Rattle.desk_store.proofs.StandingBooks.{AreTextsIf, can_be_read, entries_are, low_format, never_refused, row_is}
 
 -- ---- the row of `book`
-
-same_head : {X : Type 0} (x y : X) → x ∷ [] ≡ y ∷ [] → x ≡ y
-same_head x y same = cc
 
 not_newer : (rows : List BookRow) (row : BookRow) → IsBookRow rows row → ¬ IsNewer rows
 not_newer rows row is (other, alone, later) =
@@ -44,11 +40,10 @@ not_damaged rows row id is damaged = damaged.1 (row, is.alone, is.sound)
 pub undamaged : (l : Layout) (c : Contents) → HasBook l c → IsUndamaged l c
 undamaged l c ((f, of), (book, shows)) =
     let head = sound-book (c.rows tables.Book) (λ id. sound (rows_of l c) book shows tables.Book id) in
-    let format = row_is l c book shows f of head.0 head.1 in
     record {
       row = head.0;
-      book = record { alone = head.1; sound = head.2; format = at_most_two f head.0.format format };
-      readable = subst (λ (g : Format). CanAllBeRead g l c) (sym (in_format f) ∙ ap format_in (sym format)) (can_be_read l c book shows f of);
+      book = record { alone = head.1; sound = head.2; format = low_format l c book shows head.0 head.1 };
+      readable = subst (λ (g : Format). CanAllBeRead g l c) (sym (row_is l c book shows f of head.0 head.1)) (can_be_read l c book shows f of);
       none = sound (rows_of l c) book shows;
     }
 
@@ -65,17 +60,9 @@ module _ (l : Layout) (c : Contents) where
   unnamed_texts [] all = tt
   unnamed_texts (row ∷ rows) all = ((all.0, ([], (refl, refl))), unnamed_texts rows all.1)
 
-  entries_are : (f : Format) → IsOfFormat f l → format_kept (rows_of l c).entries ≡ f
-  entries_are unnamed of = rw (of tables.NamedCorr).1 refl
-  entries_are named of = rw (of tables.NamedCorr).1 refl
-
   entry_texts : (f : Format) → IsOfFormat f l → CanAllBeRead f l c → AllByRecursion HasEntryTexts (entries_in (rows_of l c).entries)
-  entry_texts unnamed of can =
-      subst (λ (has : Bool). AllByRecursion HasEntryTexts (entries_in (if has then Named (c.rows tables.NamedCorr) else Unnamed (c.rows tables.Corr)))) (sym (of tables.NamedCorr).1)
-      (unnamed_texts (c.rows tables.Corr) (can tables.Corr).1)
-  entry_texts named of can =
-      subst (λ (has : Bool). AllByRecursion HasEntryTexts (entries_in (if has then Named (c.rows tables.NamedCorr) else Unnamed (c.rows tables.Corr)))) (sym (of tables.NamedCorr).1)
-      (can tables.NamedCorr).1
+  entry_texts unnamed of can = subst (AreTextsIf c) (sym (of tables.NamedCorr).1) (unnamed_texts (c.rows tables.Corr) (can tables.Corr).1)
+  entry_texts named of can = subst (AreTextsIf c) (sym (of tables.NamedCorr).1) (can tables.NamedCorr).1
 
   texts : (f : Format) → IsOfFormat f l → CanAllBeRead f l c → AreTexts (rows_of l c)
   texts f of can = record {
@@ -91,7 +78,7 @@ module _ (l : Layout) (c : Contents) where
       let of = of_read f l c those u.readable in
       let its : HasItsTables (rows_of l c) = λ row alone low.
       let same : row ≡ u.row = same_head row u.row (sym alone ∙ u.book.alone) in
-      ap (λ (r : BookRow). r.format) same ∙ sym (row_number u.row.format u.book.sound.format u.book.format (rows_of l c).entries (entries_are f of)) in
+      ap (λ (r : BookRow). r.format) same ∙ sym (row_number u.row.format u.book.sound.format u.book.format (rows_of l c).entries (entries_are l c f of)) in
       ((f, of), shown (rows_of l c) (texts f of u.readable) its u.none)
 
   -- ---- at most one refusal is reported

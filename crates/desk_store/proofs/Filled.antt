@@ -2,73 +2,65 @@
 use Rattle.std.proofs.Common.{◌≡◌, true, List, [], ◌∷◌, ◌++◌, map, refl, sym, subst, ap, ◌∙◌}
 use Rattle.sqlite_trees.specs.Tree.{Trees}
 use Rattle.sqlite_catalog.specs.Change.{KeepsRows}
-use Rattle.sqlite.specs.State.{State}
+use Rattle.sqlite.specs.State.{State, Survives}
+use Rattle.sqlite.proofs.StateLemmas.{survives_weaker}
 use Rattle.sql_tables.specs.Making.{KeepsAside}
 use Rattle.desk_model.specs.Book.{Book}
 use Rattle.desk_parts.specs.declared.file_table.FileTable.{FileTable}
 use Rattle.desk_parts.specs.declared.file_table.FileTable.TheVariants as tables
 use Rattle.desk_parts.specs.FileRows.{FileRows}
 use Rattle.desk_model.specs.FilledRows.{Fills, entry_puts, with_empty}
-use Rattle.desk_parts.specs.Puts.{RowPut, PutBook, PutTab, PutPara, PutMark, PutCache, PutEntry, SetPlace, SetFlags, SetTable, SetPrint, SetSpan, SetResolved, SetVersion, with_puts}
-use Rattle.desk_parts.specs.Rows.{ParaCells, NamedCorr}
+use Rattle.desk_parts.specs.Puts.{RowPut, PutBook, PutCache, PutEntry, table_put, with_puts}
 use Rattle.desk_model.specs.Shows.{Shows as RowsShow}
 use Rattle.desk_model.specs.declared.new_tables.NewTables.{NewTables}
 use Rattle.desk_model.specs.declared.new_tables.NewTables.TheVariants.{Braille, Entries, EntriesAndBraille}
 use Rattle.desk_model.proofs.Callers.{filled-shown}
 use Rattle.desk_store.specs.BookFile.{rows_of}
 use Rattle.desk_rows.specs.Contents.{Contents}
-use Rattle.desk_store.specs.Formats.{Format, IsOfFormat, unnamed, named}
+use Rattle.desk_store.specs.Formats.{Format, IsOfFormat}
 use Rattle.desk_rows.specs.Layout.{Layout}
 use Rattle.desk_rows.specs.Making.{Differ, IsFileWithTables, IsGrown, WritesWithTables, with_none, with_tables}
-use Rattle.desk_store.specs.Opened.{HasGained, HoldsWith, Keeps, Stands, which_new}
+use Rattle.desk_store.specs.Filling.{HoldsWith}
+use Rattle.desk_store.specs.Opened.{HasGained, Keeps, Stands, which_new}
 use Rattle.desk_rows.specs.Puts.{HasThem, put_into, puts_into}
 use Rattle.desk_rows.specs.States.{IsFile, ShowsContents}
 use Rattle.desk_rows.specs.Tables.{AreWritten}
 use Rattle.desk_store.proofs.BookPuts.{all_put}
+use Rattle.desk_store.proofs.Opened.{has_book_table}
 
 -- ---- the tables of what is put
 
 pub new_differ : (t : NewTables) → Differ (which_new t)
 new_differ EntriesAndBraille = ((refl, tt), (tt, tt))
-new_differ Entries = (tt, tt)
-new_differ Braille = (tt, tt)
+new_differ t = (tt, tt)
 
 module _ (l : Layout) where
-  entries_there : l.has tables.NamedCorr ≡ true → (entries : List NamedCorr) → HasThem l (map PutEntry entries)
-  entries_there there [] = tt
-  entries_there there (e ∷ es) = (there, entries_there there es)
-
-  cells_there : l.has tables.Cache ≡ true → (cells : List ParaCells) → HasThem l (map PutCache cells)
-  cells_there there [] = tt
-  cells_there there (k ∷ ks) = (there, cells_there there ks)
+  all_there : {X : Type 0} (put : X → RowPut) → ((x : X) → l.has (table_put (put x)) ≡ true) → (xs : List X) → HasThem l (map put xs)
+  all_there put there [] = tt
+  all_there put there (x ∷ xs) = (there x, all_there put there xs)
 
   both_there : (a b : List RowPut) → HasThem l a → HasThem l b → HasThem l (a ++ b)
   both_there [] b _ q = q
   both_there (it ∷ a) b p q = (p.0, both_there a b p.1 q)
-
-has_books : (f : Format) (l : Layout) → IsOfFormat f l → l.has tables.Book ≡ true
-has_books unnamed l of = (of tables.Book).1
-has_books named l of = (of tables.Book).1
 
 pub new_there : (t : NewTables) (f : Format) (l : Layout) → IsOfFormat f l → (book : Book) (puts : List RowPut) → Fills t book puts → HasThem (with_tables (which_new t) l) puts
 new_there EntriesAndBraille f l of book puts fills =
     let after = with_tables (which_new EntriesAndBraille) l in
     subst (HasThem after) (sym fills.4)
     (both_there after (entry_puts book fills.0) (map PutCache fills.1)
-    (has_books f l of, entries_there after refl fills.0) (cells_there after refl fills.1))
+    ((has_book_table f l of).1, all_there after PutEntry (λ entry. refl) fills.0) (all_there after PutCache (λ cells. refl) fills.1))
 new_there Entries f l of book puts fills =
     let after = with_tables (which_new Entries) l in
-    subst (HasThem after) (sym fills.2) (has_books f l of, entries_there after refl fills.0)
+    subst (HasThem after) (sym fills.2) ((has_book_table f l of).1, all_there after PutEntry (λ entry. refl) fills.0)
 new_there Braille f l of book puts fills =
     let after = with_tables (which_new Braille) l in
-    subst (HasThem after) (sym fills.2) (cells_there after refl fills.0)
+    subst (HasThem after) (sym fills.2) (all_there after PutCache (λ cells. refl) fills.0)
 
 -- ---- none of the new tables is `corr`
 
 new_written : (t : NewTables) → AreWritten (which_new t)
 new_written EntriesAndBraille = (refl, (refl, tt))
-new_written Entries = (refl, tt)
-new_written Braille = (refl, tt)
+new_written t = (refl, tt)
 
 pub are_written : (t : NewTables) (ts : List FileTable) → ts ≡ which_new t → AreWritten ts
 are_written t ts are = subst AreWritten (sym are) (new_written t)
@@ -77,25 +69,13 @@ are_written t ts are = subst AreWritten (sym are) (new_written t)
 
 pub emptied : (t : NewTables) (l : Layout) (others : Trees) (c : Contents) → rows_of (with_tables (which_new t) l) (with_none (which_new t) others c) ≡ with_empty t (rows_of l c)
 emptied EntriesAndBraille l others c = refl
-emptied Entries l others c = refl
-emptied Braille l others c = refl
+emptied t l others c = refl
 
 -- ---- what stays
 
 one_keeps : (it : RowPut) (c : Contents) → (put_into c it).rows tables.Corr ≡ c.rows tables.Corr
 one_keeps (PutBook row) c = refl
-one_keeps (PutTab row) c = refl
-one_keeps (PutPara row) c = refl
-one_keeps (PutMark row) c = refl
-one_keeps (PutCache row) c = refl
-one_keeps (PutEntry row) c = refl
-one_keeps (SetPlace id place) c = refl
-one_keeps (SetFlags id style volume struck) c = refl
-one_keeps (SetTable id tab) c = refl
-one_keeps (SetPrint id print) c = refl
-one_keeps (SetSpan id start stop touched) c = refl
-one_keeps (SetResolved id resolved) c = refl
-one_keeps (SetVersion version) c = refl
+one_keeps it c = refl
 
 keep_corrs : (puts : List RowPut) (c : Contents) → (puts_into puts c).rows tables.Corr ≡ c.rows tables.Corr
 keep_corrs [] c = refl
@@ -107,8 +87,7 @@ keep_others (it ∷ puts) c = keep_others puts (put_into c it)
 
 none_of_corrs : (t : NewTables) (others : Trees) (c : Contents) → (with_none (which_new t) others c).rows tables.Corr ≡ c.rows tables.Corr
 none_of_corrs EntriesAndBraille others c = refl
-none_of_corrs Entries others c = refl
-none_of_corrs Braille others c = refl
+none_of_corrs t others c = refl
 
 -- ---- the book in the file with these tables
 
@@ -139,8 +118,14 @@ module _ (t : NewTables) (book : Book) (puts : List RowPut) (fills : Fills t boo
       gained t l book puts fills old stands (λ after d. ShowsContents after d new)
       (writes_new l stands.1.0 (new_differ t) (new_there t stands.0.0 l stands.0.1 book puts fills) stands.1.1)
 
-  pub holds_gained : (db : Trees) → IsFileWithTables ts puts old db → HoldsWith (which_new t) book old db
+  holds_gained : (db : Trees) → IsFileWithTables ts puts old db → HoldsWith (which_new t) book old db
   holds_gained db file l stands =
       let file_new = subst (λ (tables : List FileTable). IsFileWithTables tables puts old db) are file in
       gained t l book puts fills old stands (λ after d. IsFile after d db)
       (file_new l stands.1.0 (new_differ t) (new_there t stands.0.0 l stands.0.1 book puts fills) stands.1.1)
+
+  pub crash_gained : {P : Trees → Type 0} {new : State}
+      → ((db : Trees) → P db → (xs : List RowPut) × (xs ≡ puts) × IsFileWithTables ts xs old db)
+      → Survives old new P → Survives old new (HoldsWith (which_new t) book old)
+  crash_gained file = survives_weaker old _ _ _ (λ clean db left.
+      let it = file db left in holds_gained db (subst (λ (xs : List RowPut). IsFileWithTables ts xs old db) it.1 it.2))

@@ -1,9 +1,8 @@
 -- A file that gains no table is as it was, and one that gained some, and is settled, leaves the book with them.
-use Rattle.std.proofs.Common.{◌≡◌, List, [], ◌∷◌, Option, None, inl, inr, ap, refl, sym, subst}
-use Rattle.std.specs.List.{AllByRecursion}
-use Rattle.sqlite_catalog.specs.Change.{KeepsRows}
+use Rattle.std.proofs.Common.{◌≡◌, List, [], Option, None, inl, inr, ap, refl, sym, subst}
 use Rattle.sqlite_schema.specs.declared.schema.Table.{Table}
 use Rattle.sqlite_trees.specs.Tree.{Trees}
+use Rattle.sqlite_trees.proofs.ListLemmas.{all_of}
 use Rattle.sqlite.specs.State.{State}
 use Rattle.desk_parts.specs.declared.file_table.FileTable.{FileTable}
 use Rattle.sql_tables.specs.States.{IsSettled, Leaves}
@@ -15,13 +14,10 @@ use Rattle.desk_rows.specs.Contents.{Contents}
 use Rattle.desk_rows.specs.Layout.{IsOther, Layout}
 use Rattle.desk_rows.specs.Making.{with_tables}
 use Rattle.desk_model.specs.declared.new_tables.NewTables.{NewTables}
-use Rattle.desk_store.specs.Opened.{HasGained, HoldsEitherWith, Keeps, which_lacked}
+use Rattle.desk_store.specs.Filling.{HoldsEitherWith}
+use Rattle.desk_store.specs.Opened.{HasGained, Keeps, which_lacked}
 use Rattle.desk_rows.specs.States.{ShowsContents}
 use Rattle.desk_store.proofs.BookKeeps.{leaves_shown}
-
-own_rows : (tables : List Table) (rows : Trees) → KeepsRows tables rows rows
-own_rows [] rows = tt
-own_rows (t ∷ tables) rows = (refl, own_rows tables rows)
 
 module _ (l : Layout) (c : Contents) (book : Book) (s : State) where
   -- the contents with the other trees as they stand
@@ -37,20 +33,16 @@ module _ (l : Layout) (c : Contents) (book : Book) (s : State) where
       holds = record {
         tables = shows.is.holds.tables;
         ids = shows.is.holds.ids;
-        others = own_others l.schema.tables;
+        others = all_of (λ (t : Table). IsOther l t.tree → s.now.trees t.tree ≡ s.now.trees t.tree) (λ t other. refl) l.schema.tables;
         aside = λ tree other no_index. refl;
       };
     };
   }
-    where
-      own_others : (tables : List Table) → AllByRecursion (λ t. IsOther l t.tree → s.now.trees t.tree ≡ s.now.trees t.tree) tables
-      own_others [] = tt
-      own_others (t ∷ tables) = (λ other. refl, own_others tables)
 
   keeps_all : Keeps l c s.now.trees as_it_stands
   keeps_all = record {
     corrs = refl;
-    others = own_rows l.schema.tables s.now.trees;
+    others = all_of (λ (t : Table). s.now.trees t.tree ≡ s.now.trees t.tree) (λ t. refl) l.schema.tables;
     aside = record { rows = λ tree is. refl; texts = λ row has foreign. has; version = refl };
   }
 

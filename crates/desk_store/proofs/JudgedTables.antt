@@ -1,7 +1,8 @@
 -- How the tables of a book's file are checked, from what was read of `book`.
-use Rattle.std.proofs.Common.{arith, ◌≡◌, ◌≢◌, ℤ, pos, ◌≤ℤ◌, ◌<ℤ◌, Bool, true, false, ◌&&◌, not, if◌then◌else◌, List, [], ◌∷◌, length, None, Ok, Err, inl, inr, refl, sym, subst, ap, ◌∙◌, true≢false, IsPermutation}
+use Rattle.std.proofs.Common.{arith, ◌≡◌, ◌≢◌, ℕ, ℤ, pos, ◌≤ℤ◌, Bool, true, false, ◌&&◌, not, if◌then◌else◌, List, [], ◌∷◌, length, None, Ok, inl, inr, refl, sym, subst, ap, ◌∙◌, true≢false, IsPermutation}
 use Rattle.std.specs.List.{AllByRecursion}
 use Rattle.std.specs.Ordering.{int_eq}
+use Rattle.std.proofs.lemmas.Bool.{and_parts, not-true}
 use Rattle.std.proofs.lemmas.Bool.Decides.{Decides-int_eq}
 use Rattle.std.proofs.lemmas.Int.{ints}
 use Rattle.std.proofs.lemmas.List.Sorted.{IsPermutation-sym, length_permutation}
@@ -11,6 +12,7 @@ use Rattle.sqlite.specs.Effect.{Database}
 use Rattle.sqlite.specs.State.{State}
 use Rattle.desk_model.specs.Book.{Book}
 use Rattle.desk_model.specs.Damage.{IsDamagedBook}
+use Rattle.desk_model.specs.SameRows.{AreSameRows}
 use Rattle.desk_parts.specs.declared.file_table.FileTable.TheVariants as tables
 use Rattle.desk_parts.specs.FileRows.{EntryRows, FileRows, Named, Unnamed, format_of}
 use Rattle.desk_parts.specs.Parts.{entry_rows, rows_in}
@@ -18,23 +20,24 @@ use Rattle.desk_model.specs.Shows.{Shows as RowsShow, book_row_of}
 use Rattle.desk_parts.specs.declared.parts.Parts.{Parts}
 use Rattle.desk_parts.specs.declared.rows.BookRow.{BookRow}
 use Rattle.desk_model.proofs.Callers.{undamaged as sound}
-use Rattle.desk_rows.specs.TableQuery.{AnswersRows, AnyRows, query_of}
+use Rattle.desk_rows.specs.TableQuery.{AnswersRows, AnyRows}
 use Rattle.desk_store.specs.BookFile.{rows_of}
 use Rattle.desk_rows.specs.Contents.{Contents}
 use Rattle.desk_store.specs.Formats.{Format, HasThoseRead, IsOfFormat, IsPresent, Presence, foreign, named, needed, optional, presence, unnamed, unread}
-use Rattle.desk_store.specs.Found.{AreFileRows, AreOtherRows, AreRowsIn, CanAllAnswer, CanAnswer, RowsShowIn, format_kept}
+use Rattle.desk_store.specs.Found.{AreFileRows, AreOtherRows, AreRowsIn, RowsShowIn, format_kept}
 use Rattle.desk_rows.specs.Layout.{Layout}
-use Rattle.desk_store.specs.Opened.{IsReadOf, LacksTables, TellsOfTables}
-use Rattle.desk_store.specs.Opening.{AreRead, CanAllBeRead, CanBeRead, IsBookRow, IsNewer, IsRefusal, ShowsReadable, Stays, TellsOfRow, format_in, has_tables, opened_as}
+use Rattle.desk_store.specs.Opened.{LacksTables, TellsOf}
+use Rattle.desk_store.specs.Opening.{CanAllBeRead, CanBeRead, IsBookRow, IsNewer, IsRefusal, Stays, TellsOfRow, format_in, has_tables, opened_as}
+use Rattle.desk_store.specs.Reading.{IsReadOf, ShowsReadable}
 use Rattle.desk_rows.specs.States.{ShowsContents}
 use Rattle.desk_rows.specs.Tables.{is_there}
 use Rattle.desk_rows.specs.declared.fault.DatabaseFault.{DatabaseFault}
 use Rattle.desk_rows.specs.declared.fault.DatabaseFault.TheVariants as reading
 use Rattle.desk_store.specs.declared.fault.OpenFault.{OpenFault}
-use Rattle.desk_store.specs.declared.fault.OpenFault.TheVariants.{NotABook, Damaged, NewerFormat, Lost, NoMemory}
-use Rattle.desk_store.proofs.AnyFile.{cells_before, entries_before, gives_before, shown_before}
-use Rattle.desk_store.proofs.Opened.{as_listed, same_state, stays_read}
-use Rattle.desk_rows.proofs.TableReads.WholeReads.{reads_only}
+use Rattle.desk_store.specs.declared.fault.OpenFault.TheVariants.{Damaged, NewerFormat, Lost, NoMemory}
+use Rattle.desk_store.proofs.AnyFile.{cells_before, entries_before, gives_before}
+use Rattle.desk_store.proofs.TablesRead.{reads_table}
+use Rattle.desk_store.proofs.Opened.{as_it_was, as_listed, has_book_table, same_state}
 
 -- ---- one row
 
@@ -49,7 +52,7 @@ same_one {X} xs ys x same is =
     let back : IsPermutation (x ∷ []) xs = subst (λ (zs : List X). IsPermutation zs xs) is (IsPermutation-sym xs ys same) in
     length_one x xs (length_permutation (x ∷ []) xs back) (all-permutation (λ y. y ≡ x) (x ∷ []) xs back (refl, tt))
 
-same_head : {X : Type 0} (x y : X) → x ∷ [] ≡ y ∷ [] → x ≡ y
+pub same_head : {X : Type 0} (x y : X) → x ∷ [] ≡ y ∷ [] → x ≡ y
 same_head x y same = cc
 
 newer_in : (xs ys : List BookRow) → IsPermutation xs ys → IsNewer ys → IsNewer xs
@@ -62,13 +65,11 @@ book_row_in : (xs ys : List BookRow) (row : BookRow) → IsPermutation xs ys →
 book_row_in xs ys row same is = record { alone = same_one xs ys row same is.alone; sound = is.sound; format = is.format }
 
 -- what is reported of the rows that were read is reported of those of the file
-pub row_told : (l : Layout) (c : Contents) (rows : List BookRow) → l.has tables.Book ≡ true → IsPermutation (c.rows tables.Book) rows → (told : OpenFault) → TellsOfRow rows told → TellsOfTables l c told
-row_told l c rows has same NotABook tells = absurd tells
+pub row_told : (l : Layout) (c : Contents) (rows : List BookRow) → l.has tables.Book ≡ true → IsPermutation (c.rows tables.Book) rows → (told : OpenFault) → TellsOfRow rows told → TellsOf l c told
 row_told l c rows has same (Damaged table id) tells =
-    (has, tells.0, damaged_in (c.rows tables.Book) rows id same tells.1, λ newer. tells.2 (newer_in rows (c.rows tables.Book) (IsPermutation-sym (c.rows tables.Book) rows same) newer))
+    inl (has, tells.0, damaged_in (c.rows tables.Book) rows id same tells.1, λ newer. tells.2 (newer_in rows (c.rows tables.Book) (IsPermutation-sym (c.rows tables.Book) rows same) newer))
 row_told l c rows has same NewerFormat tells = (has, newer_in (c.rows tables.Book) rows same tells)
-row_told l c rows has same Lost tells = absurd tells
-row_told l c rows has same NoMemory tells = absurd tells
+row_told l c rows has same told tells = absurd tells
 
 -- ---- the row that a book's rows have
 
@@ -76,9 +77,15 @@ same_fields : (row : BookRow) (id format version : ℤ) → id ≡ row.id → fo
 same_fields row id format version p q r = λ i. record { id = p i; format = q i; version = r i }
 
 -- the row of `book` gives the format of the entries
-numbered : (entries : EntryRows) → format_in (pos (format_of entries)) ≡ format_kept entries
+pub numbered : (entries : EntryRows) → format_in (pos (format_of entries)) ≡ format_kept entries
 numbered (Unnamed rows) = refl
 numbered (Named rows) = refl
+
+-- which is the first or the second
+pub at_most_two : (entries : EntryRows) (version : ℕ) (row : BookRow) → row ≡ book_row_of (format_of entries) version
+    → row.format ≤ℤ pos 2
+at_most_two (Unnamed rows) version row is = let same = ap (λ (r : BookRow). r.format) is in omega (arith, ints, same)
+at_most_two (Named rows) version row is = let same = ap (λ (r : BookRow). r.format) is in omega (arith, ints, same)
 
 pub number_of : (n : ℤ) → pos 1 ≤ℤ n → n ≤ℤ pos 2 → (entries : EntryRows) → format_kept entries ≡ format_in n → pos (format_of entries) ≡ n
 number_of n low high entries kept = go (int_eq n (pos 1)) (Decides-int_eq n (pos 1)).0 (Decides-int_eq n (pos 1)).1 entries kept
@@ -121,14 +128,6 @@ all_but_one t p m c n is_t is_p is_m is_c is_n = rw (is_t, is_p, is_m, is_c, is_
 all_of_them : (t p m n : Bool) → t ≡ true → p ≡ true → m ≡ true → n ≡ true → ((t && p && m) && n) ≡ true
 all_of_them t p m n is_t is_p is_m is_n = rw (is_t, is_p, is_m, is_n) refl
 
-right_of : (a b : Bool) → (a && b) ≡ true → b ≡ true
-right_of true b both = both
-right_of false b both = absurd (true≢false (sym both))
-
-none_of : (b : Bool) → not b ≡ true → b ≡ false
-none_of true is = absurd (true≢false (sym is))
-none_of false is = refl
-
 pub tables_of : (f : Format) (l : Layout) → IsOfFormat f l → has_tables f l.schema ≡ true
 tables_of unnamed l of =
     all_but_one _ _ _ _ _ (sym (of tables.Tab).0 ∙ (of tables.Tab).1) (sym (of tables.Para).0 ∙ (of tables.Para).1) (sym (of tables.Mark).0 ∙ (of tables.Mark).1) (sym (of tables.Corr).0 ∙ (of tables.Corr).1) (sym (of tables.NamedCorr).0 ∙ (of tables.NamedCorr).1)
@@ -139,34 +138,29 @@ tables_of named l of =
 pub one_format : (f g : Format) (l : Layout) → has_tables f l.schema ≡ true → IsOfFormat g l → g ≡ f
 one_format unnamed unnamed l all of = refl
 one_format unnamed named l all of =
-    absurd (true≢false (sym (of tables.NamedCorr).1 ∙ (of tables.NamedCorr).0 ∙ none_of (is_there l.schema tables.NamedCorr) (right_of (is_there l.schema tables.Corr) _ (right_of _ _ all))))
-one_format named unnamed l all of = absurd (true≢false (sym (right_of _ (is_there l.schema tables.NamedCorr) all) ∙ sym (of tables.NamedCorr).0 ∙ (of tables.NamedCorr).1))
+    absurd (true≢false (sym (of tables.NamedCorr).1 ∙ (of tables.NamedCorr).0 ∙ not-true (is_there l.schema tables.NamedCorr) (and_parts (is_there l.schema tables.Corr) _ (and_parts _ _ all).1).1))
+one_format named unnamed l all of = absurd (true≢false (sym (and_parts _ (is_there l.schema tables.NamedCorr) all).1 ∙ sym (of tables.NamedCorr).0 ∙ (of tables.NamedCorr).1))
 one_format named named l all of = refl
-
-books_as_there : (f : Format) (l : Layout) → IsOfFormat f l → l.has tables.Book ≡ is_there l.schema tables.Book
-books_as_there unnamed l of = (of tables.Book).0
-books_as_there named l of = (of tables.Book).0
 
 pub books_there : (l : Layout) → HasThoseRead l → l.has tables.Book ≡ is_there l.schema tables.Book
 books_there l (inl exact) = exact tables.Book
-books_there l (inr other) = books_as_there other.0 l other.1
+books_there l (inr other) = (has_book_table other.0 l other.1).0
 
 -- ---- what is reported
 
 pub refusal_is : (fault : DatabaseFault) → IsRefusal (opened_as fault) → fault ≡ reading.Refused
-refusal_is reading.NoMemory is = absurd is
-refusal_is reading.Lost is = absurd is
 refusal_is reading.Refused is = refl
+refusal_is fault is = absurd is
 
-pub read_told : (l : Layout) (c : Contents) (fault : DatabaseFault) → (fault ≡ reading.Refused → LacksTables l c) → TellsOfTables l c (opened_as fault)
-read_told l c reading.NoMemory lacks = tt
-read_told l c reading.Lost lacks = tt
+pub read_told : (l : Layout) (c : Contents) (fault : DatabaseFault) → (fault ≡ reading.Refused → LacksTables l c) → TellsOf l c (opened_as fault)
 read_told l c reading.Refused lacks = lacks refl
+read_told l c fault lacks = tt
 
 -- ---- what was read
 
-others_before : (s a : State) → Stays s a → (rows : FileRows) → AreOtherRows a rows → AreOtherRows s rows
-others_before s a same rows are = record {
+others_before : (s a : State) → Stays s a → (rows : FileRows) (books : List BookRow) → AreOtherRows a rows
+    → AreOtherRows s (record rows { books = books })
+others_before s a same rows books are = record {
   stored = are.stored;
   tabs_are = are.tabs_are;
   tabs = (gives_before s a same tables.Tab a are.stored are.tabs.0, are.tabs.1);
@@ -175,21 +169,6 @@ others_before s a same rows are = record {
   marks = (gives_before s a same tables.Mark a rows.marks are.marks.0, are.marks.1);
   caches = cells_before s a same rows.caches are.caches;
 }
-
--- ---- a read of `book`
-
-pub books_in : {V : Type 0} (items : V → List BookRow) (v : V) (old new : State) → AnswersRows (Ok v) items tables.Book (λ x. x) AnyRows old new → AreRowsIn old tables.Book (items v)
-books_in items v old new answers = (gives_before old old (same_state old) tables.Book new (items v) answers.gives, tt)
-
-can_books : (f : Format) (s : State) → CanAllAnswer f s → CanAnswer s tables.Book
-can_books unnamed s all = all tables.Book tt
-can_books named s all = all tables.Book tt
-
-pub books_answered : {V : Type 0} (items : V → List BookRow) (f : Format) (fault : DatabaseFault) (old new : State) → AnswersRows (Err fault) items tables.Book (λ x. x) AnyRows old new → old.step_limit ≡ None
-    → CanAllAnswer f old → fault ≢ reading.Refused
-books_answered items f fault old new answers unlimited all =
-    let can = can_books f old all in
-    answers.answered can.has unlimited (λ rows seen. can.kinds rows (shown_before (query_of tables.Book).text (reads_only tables.Book) old old (same_state old) new rows seen)) (λ xs gives. tt)
 
 -- ---- a row that was checked
 
@@ -201,12 +180,13 @@ pub record IsJudged (old new : State) (rows : List BookRow) (row : BookRow) : Ty
   pub shows : (l : Layout) (c : Contents) → l.has tables.Book ≡ true → ShowsContents l c old → IsPermutation (c.rows tables.Book) rows
   pub is : IsBookRow rows row
 
-pub judged : {V : Type 0} (items : V → List BookRow) (v : V) (old new : State) (seen : List BookRow) (row : BookRow) → is_there old.now.schema tables.Book ≡ true → AnswersRows (Ok v) items tables.Book (λ x. x) AnyRows old new
+pub judged : {V : Type 0} {items : V → List BookRow} {v : V} {old new : State} {seen : List BookRow} {row : BookRow} {has : Bool}
+    → has ≡ is_there old.now.schema tables.Book → has ≡ true → AnswersRows (Ok v) items tables.Book (λ x. x) AnyRows old new
     → seen ≡ items v → IsBookRow seen row → IsJudged old new (items v) row
-judged items v old new seen row there answers value is = record {
-  there = there;
-  so_far = stays_read items tables.Book (λ x. x) AnyRows old new v answers;
-  are = books_in items v old new answers;
+judged {old} {new} {row} as_there has answers value is = record {
+  there = sym as_there ∙ has;
+  so_far = as_it_was old new answers.unchanged;
+  are = (reads_table named tables.Book tt answers).given;
   shows = λ l c has was. as_listed _ _ (answers.shows l c has was);
   is = subst (λ (rows : List BookRow). IsBookRow rows row) value is;
 }
@@ -217,8 +197,9 @@ has_books l c s those was there = books_there l those ∙ ap (λ (schema : Schem
 
 module _ {old new : State} {rows : List BookRow} {row : BookRow} (it : IsJudged old new rows row) where
   -- whether the tables of the row's format are there
-  pub tables_there : (f : Format) (has is : Bool) → has ≡ has_tables f new.now.schema → f ≡ format_in row.format → has ≡ is → has_tables (format_in row.format) old.now.schema ≡ is
-  tables_there f has is told of found =
+  pub tables_there : {f : Format} {has is : Bool} → has ≡ has_tables f new.now.schema → f ≡ format_in row.format → has ≡ is
+      → has_tables (format_in row.format) old.now.schema ≡ is
+  tables_there {f} told of found =
       ap (λ (g : Format). has_tables g old.now.schema) (sym of) ∙ ap (λ (d : Database). has_tables f d.schema) (sym it.so_far.now) ∙ sym told ∙ found
 
   -- the row is the file's
@@ -252,10 +233,11 @@ module _ {old new : State} {rows : List BookRow} {row : BookRow} (it : IsJudged 
       book = it.there;
       tables = subst (λ (f : Format). has_tables f old.now.schema ≡ true) (sym kept) all;
       books = subst (AreRowsIn old tables.Book) (sym (books_of row rows parts it.is version kept)) it.are;
-      others = others_before old new it.so_far (rows_in parts) others;
+      others = others_before old new it.so_far (rows_in parts) (rows_in parts).books others;
     }
 
-    pub read_whole : (l : Layout) (c : Contents) → ShowsContents l c old → IsOfFormat (format_in row.format) l → CanAllBeRead (format_in row.format) l c → AreRead (rows_of l c) parts → IsReadOf l c (rows_in parts)
+    pub read_whole : (l : Layout) (c : Contents) → ShowsContents l c old → IsOfFormat (format_in row.format) l → CanAllBeRead (format_in row.format) l c
+        → AreSameRows (record (rows_of l c) { books = (rows_in parts).books }) (rows_in parts) → IsReadOf l c (rows_in parts)
     read_whole l c was of can are =
         let here = row_of_file l c (inr (format_in row.format, of)) was in
         record {
@@ -284,28 +266,15 @@ module _ (s : State) (book : Book) (shows : RowsShowIn s book) (read : List Book
     book = shows.are.book;
     tables = shows.are.tables;
     books = are;
-    others = record {
-      stored = shows.are.others.stored;
-      tabs_are = shows.are.others.tabs_are;
-      tabs = shows.are.others.tabs;
-      paras = shows.are.others.paras;
-      entries = shows.are.others.entries;
-      marks = shows.are.others.marks;
-      caches = shows.are.others.caches;
-    };
+    others = others_before s s (same_state s) shows.rows read shows.are.others;
   })
-
-  not_newer : (entries : EntryRows) (row : BookRow) → row ≡ book_row_of (format_of entries) book.version → ¬ (pos 2 <ℤ row.format)
-  not_newer (Unnamed rows) row is more = let same = ap (λ (r : BookRow). r.format) is in absurd (omega (arith, ints, same, more))
-  not_newer (Named rows) row is more = let same = ap (λ (r : BookRow). r.format) is in absurd (omega (arith, ints, same, more))
 
   -- nothing is reported of the row that was read
   pub row_is_sound : (told : OpenFault) → ¬ TellsOfRow read told
-  row_is_sound NotABook tells = tells
   row_is_sound (Damaged table id) tells = sound others book shown tables.Book id tells.1
-  row_is_sound NewerFormat tells = not_newer shows.rows.entries tells.0 (same_head _ _ (sym tells.1 ∙ shown.row)) tells.2
-  row_is_sound Lost tells = tells
-  row_is_sound NoMemory tells = tells
+  row_is_sound NewerFormat (row, one, later) =
+      let low = at_most_two shows.rows.entries book.version row (same_head _ _ (sym one ∙ shown.row)) in omega (arith, ints, low, later)
+  row_is_sound told tells = tells
 
   -- and it gives how its entries are kept
   pub kept_by_row : (row : BookRow) → IsBookRow read row → format_kept shows.rows.entries ≡ format_in row.format
@@ -317,8 +286,6 @@ module _ (s : State) (book : Book) (shows : RowsShowIn s book) (read : List Book
 
 -- what is reported of the rows of `book` refuses the file
 pub row_refuses : (rows : List BookRow) (fault : OpenFault) → TellsOfRow rows fault → IsRefusal fault
-row_refuses rows NotABook told = tt
-row_refuses rows (Damaged table id) told = tt
-row_refuses rows NewerFormat told = tt
 row_refuses rows Lost told = told
 row_refuses rows NoMemory told = told
+row_refuses rows fault told = tt

@@ -16,3 +16,4 @@ pub mod Reopening
 pub mod FileDamage
 pub mod ShownRows
 pub mod StoppedOpenings
+pub mod TablesRead

@@ -1,6 +1,6 @@
 -- What opening reports and leaves at each of its exits.
-use Rattle.std.proofs.Common.{◌≡◌, ◌⊎◌, Bool, true, false, ◌||◌, IsTrue, List, Option, Ok, Err, arith, refl, sym, ap, ◌∙◌, subst, inl, inr, true≢false}
-use Rattle.std.proofs.lemmas.Bool.{cases_Bool}
+use Rattle.std.proofs.Common.{◌≡◌, ◌⊎◌, Bool, true, false, IsTrue, List, Option, Ok, Err, arith, refl, sym, ap, ◌∙◌, subst, inl, inr, true≢false}
+use Rattle.std.proofs.lemmas.Bool.{cases_Bool, or_parts}
 use Rattle.sqlite_schema.specs.declared.schema.Schema.{Schema}
 use Rattle.sqlite_trees.specs.Tree.{Trees}
 use Rattle.sqlite_trees.specs.declared.store.Store.{Ghosts}
@@ -24,12 +24,14 @@ use Rattle.desk_store.specs.BookFile.{rows_of}
 use Rattle.desk_store.specs.Books.{LeavesBook, MayServe}
 use Rattle.desk_rows.specs.Contents.{Contents}
 use Rattle.desk_rows.specs.Failing.{FailsToChange, of_first_row}
-use Rattle.desk_store.specs.Formats.{Format, HasThoseRead, IsOfEither, IsOfFormat}
-use Rattle.desk_store.specs.Found.{AreFileRows, HasNone, RowsShowIn}
+use Rattle.desk_store.specs.Formats.{HasThoseRead, IsOfEither}
+use Rattle.desk_store.specs.Found.{HasNone, RowsShowIn}
 use Rattle.desk_rows.specs.Layout.{Layout}
-use Rattle.desk_rows.specs.Making.{IsMade, IsNew, new_layout, new_tables, with_tables}
-use Rattle.desk_store.specs.Opened.{HasGained, HoldsEither, HoldsEitherWith, HoldsEmpty, HoldsNone, HoldsWith, IsMadeNew, IsReadOf, MayBring, OpensBook, Stands, TellsOf, TellsOfNone, TellsOfTables, lacked_by, missing_tables, which_lacked}
-use Rattle.desk_store.specs.Opening.{IsOpenedAs, IsRefusal, Stays, rebuilt_as}
+use Rattle.desk_rows.specs.Making.{IsNew, new_layout, new_tables, with_tables}
+use Rattle.desk_store.specs.Filling.{HoldsEitherWith, HoldsWith}
+use Rattle.desk_store.specs.Opened.{HasGained, HoldsEither, HoldsEmpty, HoldsNone, IsMadeNew, MayBring, OpensBook, Stands, TellsOf, TellsOfNone, lacked_by, missing_tables, which_lacked}
+use Rattle.desk_store.specs.Reading.{ReadsFile}
+use Rattle.desk_store.specs.Opening.{IsOpenedAs, IsRefusal, rebuilt_as}
 use Rattle.desk_rows.specs.States.{IsFile, ShowsContents}
 use Rattle.desk_rows.specs.Tables.{is_there}
 use Rattle.desk_rows.specs.Turns.{with_transaction}
@@ -61,19 +63,10 @@ leaves_none make old new survives clean none leaves db left = elim (survives.cra
 
 -- ---- where a table of a book is there
 
-pub tells : (l : Layout) (c : Contents) (fault : OpenFault) → TellsOfTables l c fault → TellsOf l c fault
-tells l c NotABook told = told
-tells l c (Damaged table id) told = inl told
-tells l c NewerFormat told = told
-tells l c Lost told = tt
-tells l c NoMemory told = tt
-
 pub tells_no_refusal : (l : Layout) (c : Contents) (fault : OpenFault) → ¬ IsRefusal fault → TellsOf l c fault
-tells_no_refusal l c NotABook none = absurd (none tt)
-tells_no_refusal l c (Damaged table id) none = absurd (none tt)
-tells_no_refusal l c NewerFormat none = absurd (none tt)
 tells_no_refusal l c Lost none = tt
 tells_no_refusal l c NoMemory none = tt
+tells_no_refusal l c fault none = absurd (none tt)
 
 gained_same : (tables others : List FileTable) (l : Layout) (c : Contents) (a b : Book) (x y : Database) (P : Layout → Contents → Type 0) → tables ≡ others → a ≡ b → x ≡ y
     → HasGained tables l c a x.trees P → HasGained others l c b y.trees P
@@ -96,61 +89,62 @@ module _ {S : Type 0} (g : Ghosts S) (make : Bool) (old : Held S) (there : ¬ Ha
 
   -- ---- once the rows are read
 
-  module _ (rows : FileRows) (found : AreFileRows s rows) (read : (format : Format) (l : Layout) (c : Contents) → IsOfFormat format l → ShowsContents l c s → IsReadOf l c rows) where
+  module _ {mid : State} {rows : FileRows} (read : ReadsFile s mid rows) where
     damage_told : (fault : PartsFault) → IsFaultOf rows fault → (l : Layout) (c : Contents) → HasThoseRead l → ShowsContents l c s → TellsOf l c (rebuilt_as fault)
     damage_told (rebuilt.Damaged table id) first l c those shows =
-        let of = of_format s rows l c found those shows in
-        let it = read of.0 l c of.1 shows in
+        let of = of_format s rows l c read.found those shows in
+        let it = read.read of.0 l c of.1 shows in
         inr (record { row = it.row; book = it.book; of = it.of; readable = it.readable; first = first-damage rows (rows_of l c) table id (turned (rows_of l c) rows it.same) first })
     damage_told rebuilt.NoMemory first l c those shows = tt
 
     damage_shows_none : (fault : PartsFault) → IsFaultOf rows fault → (book : Book) → RowsShowIn s book → ¬ IsRefusal (rebuilt_as fault)
-    damage_shows_none (rebuilt.Damaged table id) first book shows refusal = sound rows book (shows.each rows found) table id first.damaged
+    damage_shows_none (rebuilt.Damaged table id) first book shows refusal = sound rows book (shows.each rows read.found) table id first.damaged
     damage_shows_none rebuilt.NoMemory first book shows refusal = refusal
 
-    pub refuses_damaged : (new : State) (fault : PartsFault) → IsFaultOf rows fault → Stays s new → OpensBook g make old new (Err (rebuilt_as fault))
-    refuses_damaged new fault first stays = refuses new (rebuilt_as fault) (damage_shows_none fault first) (damage_told fault first) (λ refusal is_open. stays.now)
+    pub refuses_damaged : (fault : PartsFault) → IsFaultOf rows fault → OpensBook g make old mid (Err (rebuilt_as fault))
+    refuses_damaged fault first =
+        refuses mid (rebuilt_as fault) (damage_shows_none fault first) (damage_told fault first) (λ refusal is_open. read.stays.now)
 
     -- ---- once they show a book
 
-    module _ (book : Book) (shows_it : RowsShow rows book) (mid : State) (stays : Stays s mid) where
+    module _ {book : Book} {some : Option NewTables} (shows_it : RowsShow rows book) (is : some ≡ lacked_by rows) where
       stood : (l : Layout) (c : Contents) → IsOfEither l → ShowsContents l c s → RowsShow (rows_of l c) book
-      stood l c of shows = shown rows (rows_of l c) (turned (rows_of l c) rows (read of.0 l c of.1 shows).same) book shows_it
+      stood l c of shows = shown rows (rows_of l c) (turned (rows_of l c) rows (read.read of.0 l c of.1 shows).same) book shows_it
 
       -- what stands there is this book
       one_stood : (l : Layout) (other : Book) → Stands l other s → other ≡ book
-      one_stood l other (of, (c, shows, others)) = one_book rows other book (shown (rows_of l c) rows (read of.0 l c of.1 shows).same other others) shows_it
+      one_stood l other (of, (c, shows, others)) = one_book rows other book (shown (rows_of l c) rows (read.read of.0 l c of.1 shows).same other others) shows_it
 
-      lacks : (l : Layout) (c : Contents) → IsOfEither l → ShowsContents l c s → which_lacked (lacked_by rows) ≡ missing_tables l
-      lacks l c of shows = ap which_lacked (sym (lacked_same (rows_of l c) rows (read of.0 l c of.1 shows).same) ∙ lacked_rows l c)
+      lacks : (l : Layout) (c : Contents) → IsOfEither l → ShowsContents l c s → which_lacked some ≡ missing_tables l
+      lacks l c of shows = ap which_lacked (is ∙ sym (lacked_same (rows_of l c) rows (read.read of.0 l c of.1 shows).same) ∙ lacked_rows l c)
 
-      pub brings : (db : Trees) → HoldsWith (which_lacked (lacked_by rows)) book mid db → MayBring make s db
+      pub brings : (db : Trees) → HoldsWith (which_lacked some) book mid db → MayBring make s db
       brings db holds = record {
-        only = inr (book, (rows, found, shows_it));
+        only = inr (book, (rows, read.found, shows_it));
         new = λ none. absurd (there none);
         old = λ l other st.
             let c = st.1.0 in
             let one = one_stood l other st in
-            let here : Stands l book mid = (st.0, (c, shows_still s mid stays l c st.1.1, subst (λ (b : Book). RowsShow (rows_of l c) b) one st.1.2)) in
-            gained_same _ _ l c book other mid.now s.now (λ after d. IsFile after d db) (lacks l c st.0 st.1.1) (sym one) stays.now (holds l here);
+            let here : Stands l book mid = (st.0, (c, shows_still s mid read.stays l c st.1.1, subst (λ (b : Book). RowsShow (rows_of l c) b) one st.1.2)) in
+            gained_same _ _ l c book other mid.now s.now (λ after d. IsFile after d db) (lacks l c st.0 st.1.1) (sym one) read.stays.now (holds l here);
       }
 
-      pub opens : (new : State) → ((l : Layout) (stands : Stands l book mid) → HasGained (which_lacked (lacked_by rows)) l stands.1.0 book mid.now.trees (λ after d. ShowsContents after d new))
-          → ((l : Layout) → Stands l book mid → Leaves (HoldsEitherWith (which_lacked (lacked_by rows)) l book) mid → LeavesBook (with_tables (which_lacked (lacked_by rows)) l) book new)
+      pub opens : (new : State) → ((l : Layout) (stands : Stands l book mid) → HasGained (which_lacked some) l stands.1.0 book mid.now.trees (λ after d. ShowsContents after d new))
+          → ((l : Layout) → Stands l book mid → Leaves (HoldsEitherWith (which_lacked some) l book) mid → LeavesBook (with_tables (which_lacked some) l) book new)
           → ((db : Trees) → mid.may_leave db → s.may_leave db) → IsTrue new.is_open → OpensBook g make old new (Ok book)
       opens new filled leaves left is_open = record {
-        answers = record { found = inl (rows, found, shows_it); shown = λ other shows. (one_book rows book other shows_it (shows.each rows found), tt) };
+        answers = record { found = inl (rows, read.found, shows_it); shown = λ other shows. (one_book rows book other shows_it (shows.each rows read.found), tt) };
         reports = tt;
         stands = record {
           is_open = is_open;
           opened = λ l c of shows.
               let it = stood l c of shows in
               let same = lacks l c of shows in
-              let still : Stands l book mid = (of, (c, shows_still s mid stays l c shows, it)) in
+              let still : Stands l book mid = (of, (c, shows_still s mid read.stays l c shows, it)) in
               record {
                 rows = it;
                 tables = completed_tables of.0 l of.1;
-                shows = gained_same _ _ l c book book mid.now s.now (λ after d. ShowsContents after d new) same refl stays.now (filled l still);
+                shows = gained_same _ _ l c book book mid.now s.now (λ after d. ShowsContents after d new) same refl read.stays.now (filled l still);
                 leaves = λ was.
                     let here : Leaves (HoldsEither l book) mid = λ db here. was db (left db here) in
                     let either = subst (λ (tables : List FileTable). Leaves (HoldsEitherWith tables l book) mid) (sym same) here in
@@ -162,29 +156,21 @@ module _ {S : Type 0} (g : Ghosts S) (make : Bool) (old : Held S) (there : ¬ Ha
       }
 
   -- if the tables that it lacks are made, a crash leaves nothing new but all of it
-  pub fills : (rows : FileRows) (book : Book) (mid new : State) (some : Option NewTables) → some ≡ lacked_by rows → RowsShow rows book
-      → (HasCleanDisk mid → AreFileRows s rows)
-      → (HasCleanDisk mid → (format : Format) (l : Layout) (c : Contents) → IsOfFormat format l → ShowsContents l c s → IsReadOf l c rows)
-      → (HasCleanDisk mid → Stays s mid) → Survives s mid (λ _. ⊥) → Survives mid new (HoldsWith (which_lacked some) book mid) → Survives s new (MayBring make s)
-  fills rows book mid new some is shows_it found read stays reads writes =
+  pub fills : {rows : FileRows} {book : Book} {mid new : State} {some : Option NewTables} → some ≡ lacked_by rows → RowsShow rows book
+      → (HasCleanDisk mid → ReadsFile s mid rows) → Survives s mid (λ _. ⊥) → Survives mid new (HoldsWith (which_lacked some) book mid)
+      → Survives s new (MayBring make s)
+  fills {mid} {new} is shows_it read reads writes =
       survives_then s mid new _ _ _ (λ clean db none. absurd none)
-      (λ clean db holds.
-      let early : HasCleanDisk mid = omega (arith, clean, writes.clean) in
-      brings rows (found early) (read early) book shows_it mid (stays early) db (subst (λ (x : Option NewTables). HoldsWith (which_lacked x) book mid db) is holds))
-      reads writes
+      (λ clean db holds. brings (read (omega (arith, clean, writes.clean))) shows_it is db holds) reads writes
 
 -- ---- where none is there
-
-first_none : (a b : Bool) → (a || b) ≡ false → a ≡ false
-first_none true b none = absurd (true≢false none)
-first_none false b none = refl
 
 module _ {S : Type 0} (g : Ghosts S) (make : Bool) (old : Held S) (none : HasNone (state g old).now.schema) where
   abbrev bare : State
   bare = state g old
 
   no_books : is_there bare.now.schema tables.Book ≡ true → ⊥
-  no_books there = true≢false (sym there ∙ first_none (is_there bare.now.schema tables.Book) _ none)
+  no_books there = true≢false (sym there ∙ (or_parts (is_there bare.now.schema tables.Book) _ none).0)
 
   no_file : (l : Layout) (c : Contents) → IsOfEither l → ShowsContents l c bare → ⊥
   no_file l c of shows = no_books (subst (λ (x : Schema). is_there x tables.Book ≡ true) (sym shows.schema) (books_there of.0 l of.1))
@@ -197,13 +183,6 @@ module _ {S : Type 0} (g : Ghosts S) (make : Bool) (old : Held S) (none : HasNon
     answers = record { found = tt; shown = λ book shows. absurd (no_books shows.are.book) };
     reports = record { declared = λ l c some those shows. absurd (no_exact l c some shows); bare = λ still. told };
     stands = record { is_open = tt; opened = λ l c of shows. tt; made = λ still. tt; refused = before };
-  }
-
-  pub brings_new : make ≡ true → (db : Trees) → IsMade bare db → MayBring make bare db
-  brings_new wanted db is = record {
-    only = inl none;
-    new = λ still. (wanted, is);
-    old = λ l book st. absurd (no_file l st.1.0 st.0 st.1.1);
   }
 
   pub makes : (new : State) (book : Book) → make ≡ true → book ≡ empty_book → IsNew bare.now.schema bare.now.trees (λ c. ShowsContents (new_layout bare.now.schema) c new) → IsSettled new

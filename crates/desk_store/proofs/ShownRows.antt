@@ -8,7 +8,7 @@ use Rattle.sqlite_schema.specs.declared.schema.Schema.{Schema}
 use Rattle.sqlite_sql.specs.Term.{col, eval_all}
 use Rattle.sqlite_trees.specs.Tree.{rowid}
 use Rattle.sqlite_trees.specs.View.{is_int}
-use Rattle.sqlite_trees.proofs.ListLemmas.{all-map, all-permutation, all_from_map}
+use Rattle.sqlite_trees.proofs.ListLemmas.{all-map, all-permutation, all_from_map, all_of}
 use Rattle.sqlite.specs.State.{Shown, State}
 use Rattle.sqlite.specs.Values.{IsInt}
 use Rattle.sql_tables.specs.Rows.{Lists, columns_at}
@@ -34,16 +34,17 @@ use Rattle.desk_rows.proofs.TableReads.Answering.{has_table}
 use Rattle.desk_rows.proofs.TableReads.FileTexts.{readable_table, rowids}
 use Rattle.desk_rows.proofs.TableReads.OneList.{one_list}
 use Rattle.desk_rows.proofs.TableReads.PlainReads.{is_read}
-use Rattle.desk_rows.proofs.TableReads.WholeFile.{own_listed, tabs_apart}
+use Rattle.desk_rows.proofs.TableReads.WholeFile.{own_listed}
 use Rattle.desk_rows.proofs.TableReads.WholeReads.{rows_cmp, table_kinds, table_read}
 use Rattle.desk_store.specs.BookFile.{rows_of}
-use Rattle.desk_store.specs.Formats.{Format, IsOfFormat, IsPresent, Presence, foreign, named, needed, optional, presence, unnamed, unread}
-use Rattle.desk_store.specs.Found.{AreCellsIn, AreEntriesIn, AreFileRows, AreOtherRows, AreRowsIn, AreToldApart, CanAllAnswer, CanAnswer, IsReadAs, RowsShowIn, format_kept}
+use Rattle.desk_store.specs.Formats.{Format, IsOfFormat, named, presence, unnamed}
+use Rattle.desk_store.specs.Found.{AreCellsIn, AreEntriesIn, AreFileRows, AreOtherRows, AreRowsIn, AreToldApart, CanAllAnswer, CanAnswer, RowsShowIn, format_kept}
 use Rattle.desk_store.specs.Opened.{Stands}
-use Rattle.desk_store.specs.Opening.{CanAllBeRead, CanBeRead, has_tables}
+use Rattle.desk_store.specs.Opening.{CanAllBeRead, has_tables}
 use Rattle.desk_store.proofs.FoundFormats.{books_there}
 use Rattle.desk_store.proofs.JudgedTables.{one_format, same_one, tables_of}
-use Rattle.desk_store.proofs.Opened.{as_listed, has_caches, has_needed, needs_marks, needs_paras, needs_tabs}
+use Rattle.desk_store.proofs.TablesRead.{is_had, told_apart, utf8_if}
+use Rattle.desk_store.proofs.Opened.{as_listed, has_book_table, has_caches, has_needed, needs_marks, needs_paras, needs_tabs}
 use Rattle.sql_tables.proofs.ReadAnswers.{answered, can_answer}
 use Rattle.desk_store.proofs.StandingBooks.{can_be_read}
 
@@ -52,19 +53,13 @@ use Rattle.desk_store.proofs.StandingBooks.{can_be_read}
 -- a row of the tree, whose columns are a row of the table, is shown as one
 shown_row : (t : FileTable) (r : Row) → (shows_rowid t ≡ true → IsInt (rowid r)) → (y : RowOf t) × (columns_at (description_of t).own r ≡ columns_of t y)
     → (x : ShownOf t) × (given t (columns_at (description_of t).shown r) ≡ shown_columns t x)
-shown_row tables.Book r id (y, is) = (y, is)
 shown_row tables.Tab r id (y, is) = let n = id refl in (record { rowid = n.0; row = y }, ap₂ (λ (v : Value) (vs : Row). v ∷ vs) n.1 is)
-shown_row tables.Para r id (y, is) = (y, is)
-shown_row tables.Corr r id (y, is) = (y, is)
-shown_row tables.Mark r id (y, is) = (y, is)
-shown_row tables.Cache r id (y, is) = (y, is)
-shown_row tables.NamedCorr r id (y, is) = (y, is)
+shown_row t r id (y, is) = (y, is)
 
 -- ---- lists of rows
 
 all_written : {X : Type 0} (f : X → Row) (xs : List X) → AllByRecursion (λ r. (x : X) × (r ≡ f x)) (map f xs)
-all_written f [] = tt
-all_written f (x ∷ xs) = ((x, refl), all_written f xs)
+all_written {X} f xs = all-map (λ (r : Row). (x : X) × (r ≡ f x)) f xs (all_of (λ (y : X). (x : X) × (f y ≡ f x)) (λ y. (y, refl)) xs)
 
 collected : {X : Type 0} (columns : Row → Row) (f : X → Row) (rows : List Row) → AllByRecursion (λ r. (x : X) × (columns r ≡ f x)) rows
     → (xs : List X) × (map columns rows ≡ map f xs)
@@ -122,13 +117,7 @@ module _ (l : Layout) (c : Contents) (s : State) (is_open : IsTrue s.is_open) (s
         one_list t (columns_at (description_of t).own) (c.rows t) (map (own t) xs) tree (shows.is.holds.tables t there) (own_listed t xs tree (listed xs gives_xs))
 
   apart : (t : FileTable) → l.has t ≡ true → (xs : List (ShownOf t)) → Gives (query_of t) (shown_columns t) s s xs → AreToldApart t xs
-  apart tables.Book there xs gives_xs = tt
-  apart tables.Tab there xs gives_xs = tabs_apart l c s.now.trees shows.is there xs (listed tables.Tab there xs gives_xs)
-  apart tables.Para there xs gives_xs = tt
-  apart tables.Corr there xs gives_xs = tt
-  apart tables.Mark there xs gives_xs = tt
-  apart tables.Cache there xs gives_xs = tt
-  apart tables.NamedCorr there xs gives_xs = tt
+  apart t there xs gives_xs = told_apart t l c s shows there xs (listed t there xs gives_xs)
 
   can : (t : FileTable) → l.has t ≡ true → AllByRecursion (IsUtf8Row t) (c.rows t) → CanAnswer s t
   can t there utf8 = record {
@@ -145,23 +134,10 @@ module _ (l : Layout) (c : Contents) (s : State) (is_open : IsTrue s.is_open) (s
 
   -- ---- the tables of a format
 
-  has_if : (p : Presence) (it is : Bool) → IsPresent p it is → IsReadAs p is → it ≡ true
-  has_if needed it is present read = present.1
-  has_if optional it is present read = present ∙ read
-  has_if foreign it is present read = absurd read
-  has_if unread it is present read = absurd read
-
-  utf8_if : (p : Presence) (it is : Bool) (Utf8 : Type 0) → IsReadAs p is → it ≡ true → CanBeRead p it Utf8 → Utf8
-  utf8_if needed it is Utf8 read there can_be = can_be.1
-  utf8_if optional it is Utf8 read there can_be = can_be there
-  utf8_if foreign it is Utf8 read there can_be = absurd read
-  utf8_if unread it is Utf8 read there can_be = absurd read
-
   can_all : (f : Format) → IsOfFormat f l → CanAllBeRead f l c → CanAllAnswer f s
   can_all f of readable t read =
-      let here : IsReadAs (presence f t) (is_there l.schema t) = subst (λ (x : Schema). IsReadAs (presence f t) (is_there x t)) shows.schema read in
-      let there = has_if (presence f t) (l.has t) (is_there l.schema t) (of t) here in
-      can t there (utf8_if (presence f t) (l.has t) (is_there l.schema t) _ here there (readable t))
+      let there = is_had f t s read l c of shows in
+      can t there (utf8_if (presence f t) (l.has t) (is_there s.now.schema t) _ read there (readable t))
 
   entries_in_file : (f : Format) → IsOfFormat f l → (entries : EntryRows) × (format_kept entries ≡ f) × AreEntriesIn s entries
   entries_in_file unnamed of = let got = rows_in tables.Corr (of tables.Corr).1 in (Unnamed got.0, refl, got.1)
@@ -174,14 +150,10 @@ module _ (l : Layout) (c : Contents) (s : State) (is_open : IsTrue s.is_open) (s
   cells_in_file f of true is = let got = rows_in tables.Cache is in (Some got.0, (sym (caches_there f of) ∙ is, got.1))
   cells_in_file f of false is = (None, sym (caches_there f of) ∙ is)
 
-  has_books : (f : Format) → IsOfFormat f l → l.has tables.Book ≡ true
-  has_books unnamed of = (of tables.Book).1
-  has_books named of = (of tables.Book).1
-
   -- some rows of the file
   some_rows : (f : Format) → IsOfFormat f l → (rows : FileRows) × AreFileRows s rows × (format_kept rows.entries ≡ f)
   some_rows f of =
-      let head = rows_in tables.Book (has_books f of) in
+      let head = rows_in tables.Book (has_book_table f l of).1 in
       let stored = rows_in tables.Tab (has_needed f l tables.Tab of (needs_tabs f)) in
       let texts = rows_in tables.Para (has_needed f l tables.Para of (needs_paras f)) in
       let entries = entries_in_file f of in
@@ -213,7 +185,7 @@ module _ (l : Layout) (c : Contents) (s : State) (is_open : IsTrue s.is_open) (s
   same_file : (f : Format) (book : Book) → IsOfFormat f l → RowsShow (rows_of l c) book → (others : FileRows) → AreFileRows s others → AreSameRows (rows_of l c) others
   same_file f book of stands others are =
       let row = book_row_of (format_of (rows_of l c).entries) book.version in
-      let heads = as_listed _ _ (same_rows tables.Book (has_books f of) others.books are.books.0) in
+      let heads = as_listed _ _ (same_rows tables.Book (has_book_table f l of).1 others.books are.books.0) in
       let its : has_tables (format_kept others.entries) l.schema ≡ true = subst (λ (x : Schema). has_tables (format_kept others.entries) x ≡ true) shows.schema are.tables in
       let rest = are.others in
       let names = same_rows tables.Tab (has_needed f l tables.Tab of (needs_tabs f)) rest.stored rest.tabs.0 in

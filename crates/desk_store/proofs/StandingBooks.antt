@@ -1,6 +1,6 @@
 -- A book that stands in a file is never refused there.
-use Rattle.std.proofs.Common.{◌≡◌, ℤ, pos, Bool, true, false, List, [], ◌∷◌, map, inl, inr, arith, refl, sym, subst, ap, ◌∙◌, true≢false}
-use Rattle.std.specs.Prelude.{◌<ℤ◌, ◌≤ℤ◌, if◌then◌else◌, Result, Ok, Err}
+use Rattle.std.proofs.Common.{◌≡◌, pos, Bool, List, [], ◌∷◌, map, inl, inr, arith, refl, sym, subst, ap, ◌∙◌, true≢false}
+use Rattle.std.specs.Prelude.{◌≤ℤ◌, if◌then◌else◌, Result, Ok, Err}
 use Rattle.std.specs.List.{AllByRecursion}
 use Rattle.std.proofs.lemmas.Int.{ints}
 use Rattle.std.proofs.lemmas.List.Elements.{recursion_from_All}
@@ -18,16 +18,24 @@ use Rattle.desk_store.specs.BookFile.{rows_of}
 use Rattle.desk_rows.specs.Contents.{Contents}
 use Rattle.desk_store.specs.Formats.{Format, IsOfFormat, unnamed, named}
 use Rattle.desk_rows.specs.Layout.{Layout}
-use Rattle.desk_store.specs.Found.{HasNone}
+use Rattle.desk_store.specs.Found.{HasNone, format_kept}
 use Rattle.desk_store.specs.Opened.{FindsBook, OpensBook, Stands, TellsOf}
-use Rattle.desk_rows.specs.Tables.{is_there}
-use Rattle.desk_store.specs.Opening.{AreEntriesReadable, CanAllBeRead, IsRefusal, format_in}
+use Rattle.desk_store.specs.Opening.{CanAllBeRead, IsRefusal, format_in}
+use Rattle.desk_store.specs.Reading.{AreEntriesReadable}
 use Rattle.desk_rows.specs.Whole.{IsUtf8Row}
 use Rattle.desk_store.specs.declared.fault.OpenFault.{OpenFault}
 use Rattle.desk_store.specs.declared.fault.OpenFault.TheVariants.{NotABook, Damaged, NewerFormat, Lost, NoMemory}
 use Rattle.desk_store.proofs.AnyFile.{all_readable}
+use Rattle.desk_store.proofs.FoundFormats.{books_there}
+use Rattle.desk_store.proofs.JudgedTables.{at_most_two, numbered, same_head}
+use Rattle.desk_store.proofs.Opened.{has_book_table}
 
 -- ---- its texts
+
+-- those of its entries, which have names or not
+abbrev pub AreTextsIf : Contents → Bool → Type 0
+AreTextsIf c has =
+    AllByRecursion HasEntryTexts (entries_in (if has then Named (c.rows tables.NamedCorr) else Unnamed (c.rows tables.Corr)))
 
 bodies : (rows : List Corr) → AllByRecursion HasEntryTexts (map without_name rows) → AllByRecursion (IsUtf8Row tables.Corr) rows
 bodies [] all = tt
@@ -35,80 +43,46 @@ bodies (row ∷ rows) all = (all.0.0, bodies rows all.1)
 
 -- ---- its format
 
-pub number_of : Format → ℤ
-number_of unnamed = pos 1
-number_of named = pos 2
-
-pub in_format : (f : Format) → format_in (number_of f) ≡ f
-unfolding number_of
-in_format unnamed = refl
-in_format named = refl
-
-no_later : (f : Format) (format : ℤ) → format ≡ number_of f → ¬ (pos 2 <ℤ format)
-unfolding number_of
-no_later unnamed format is later =
-    let bad : pos 2 <ℤ pos 1 = subst (λ (z : ℤ). pos 2 <ℤ z) is later in
-    omega (arith, ints, bad)
-no_later named format is later =
-    let bad : pos 2 <ℤ pos 2 = subst (λ (z : ℤ). pos 2 <ℤ z) is later in
-    omega (arith, ints, bad)
-
-pub at_most_two : (f : Format) (format : ℤ) → format ≡ number_of f → format ≤ℤ pos 2
-unfolding number_of
-at_most_two unnamed format is = let one : format ≡ pos 1 = is in omega (arith, ints, one)
-at_most_two named format is = let two : format ≡ pos 2 = is in omega (arith, ints, two)
-
-alone : {X : Type 0} (x y : X) → x ∷ [] ≡ y ∷ [] → x ≡ y
-alone x y is = cc is
+pub entries_are : (l : Layout) (c : Contents) (f : Format) → IsOfFormat f l → format_kept (rows_of l c).entries ≡ f
+entries_are l c unnamed of = rw (of tables.NamedCorr).1 refl
+entries_are l c named of = rw (of tables.NamedCorr).1 refl
 
 -- ---- the book of a file of a format
 
 module _ (l : Layout) (c : Contents) (book : Book) (shows : RowsShow (rows_of l c) book) where
+  entry_texts : AllByRecursion HasEntryTexts (entries_in (rows_of l c).entries)
+  entry_texts = recursion_from_All HasEntryTexts (entries_in (rows_of l c).entries) shows.texts.entries
+
   entries_read : (f : Format) → IsOfFormat f l → AreEntriesReadable f l c
-  entries_read unnamed of =
-      let none : l.has tables.NamedCorr ≡ false = (of tables.NamedCorr).1 in
-      let texts = recursion_from_All HasEntryTexts (entries_in (rows_of l c).entries) shows.texts.entries in
-      bodies (c.rows tables.Corr) (subst (λ (has : Bool). AllByRecursion HasEntryTexts (entries_in (if has then Named (c.rows tables.NamedCorr) else Unnamed (c.rows tables.Corr)))) none texts)
-  entries_read named of =
-      let there : l.has tables.NamedCorr ≡ true = (of tables.NamedCorr).1 in
-      let texts = recursion_from_All HasEntryTexts (entries_in (rows_of l c).entries) shows.texts.entries in
-      subst (λ (has : Bool). AllByRecursion HasEntryTexts (entries_in (if has then Named (c.rows tables.NamedCorr) else Unnamed (c.rows tables.Corr)))) there texts
+  entries_read unnamed of = bodies (c.rows tables.Corr) (subst (AreTextsIf c) (of tables.NamedCorr).1 entry_texts)
+  entries_read named of = subst (AreTextsIf c) (of tables.NamedCorr).1 entry_texts
 
   pub can_be_read : (f : Format) → IsOfFormat f l → CanAllBeRead f l c
   can_be_read f of =
       all_readable f l c of (recursion_from_All _ _ shows.texts.tabs) (recursion_from_All _ _ shows.texts.paras) (entries_read f of)
       (recursion_from_All _ _ shows.texts.marks)
 
-  format_is : (f : Format) → IsOfFormat f l → pos (format_of (rows_of l c).entries) ≡ number_of f
-  unfolding number_of
-  format_is unnamed of = rw (of tables.NamedCorr).1 refl
-  format_is named of = rw (of tables.NamedCorr).1 refl
+  head_is : (row : BookRow) → c.rows tables.Book ≡ row ∷ [] → row ≡ book_row_of (format_of (rows_of l c).entries) book.version
+  head_is row is = same_head row _ (sym is ∙ shows.row)
 
-  pub row_is : (f : Format) → IsOfFormat f l → (row : BookRow) → c.rows tables.Book ≡ row ∷ [] → row.format ≡ number_of f
-  row_is f of row is =
-      ap (λ (r : BookRow). r.format) (alone row (book_row_of (format_of (rows_of l c).entries) book.version) (sym is ∙ shows.row)) ∙ format_is f of
+  pub low_format : (row : BookRow) → c.rows tables.Book ≡ row ∷ [] → row.format ≤ℤ pos 2
+  low_format row is = at_most_two (rows_of l c).entries book.version row (head_is row is)
 
-  has_books : (f : Format) → IsOfFormat f l → l.has tables.Book ≡ true
-  has_books unnamed of = (of tables.Book).1
-  has_books named of = (of tables.Book).1
+  pub row_is : (f : Format) → IsOfFormat f l → (row : BookRow) → c.rows tables.Book ≡ row ∷ [] → format_in row.format ≡ f
+  row_is f of row is = ap (λ (r : BookRow). format_in r.format) (head_is row is) ∙ numbered (rows_of l c).entries ∙ entries_are l c f of
 
   pub never_refused : (f : Format) → IsOfFormat f l → (told : OpenFault) → TellsOf l c told → ¬ IsRefusal told
-  never_refused f of NotABook (inl none) is = absurd (true≢false (sym (has_books f of) ∙ none))
+  never_refused f of NotABook (inl none) is = absurd (true≢false (sym (has_book_table f l of).1 ∙ none))
   never_refused f of NotABook (inr (row, there, book_row, not)) is =
-      not (subst (λ (g : Format). CanAllBeRead g l c) (sym (in_format f) ∙ ap format_in (sym (row_is f of row book_row.alone))) (can_be_read f of))
+      not (subst (λ (g : Format). CanAllBeRead g l c) (sym (row_is f of row book_row.alone)) (can_be_read f of))
   never_refused f of (Damaged table id) (inl (there, is_book, damaged, known)) is = sound (rows_of l c) book shows tables.Book id damaged
   never_refused f of (Damaged table id) (inr damage) is = sound (rows_of l c) book shows table id damage.first.damaged
-  never_refused f of NewerFormat (there, (row, one, later)) is = no_later f row.format (row_is f of row one) later
+  never_refused f of NewerFormat (there, (row, one, later)) is = let low = low_format row one in omega (arith, ints, low, later)
   never_refused f of Lost tells is = is
   never_refused f of NoMemory tells is = is
 
 not_bare : (f : Format) (l : Layout) → IsOfFormat f l → ¬ HasNone l.schema
-not_bare unnamed l of none =
-    let there : is_there l.schema tables.Book ≡ true = sym (of tables.Book).0 ∙ (of tables.Book).1 in
-    absurd (true≢false (rw there at none))
-not_bare named l of none =
-    let there : is_there l.schema tables.Book ≡ true = sym (of tables.Book).0 ∙ (of tables.Book).1 in
-    absurd (true≢false (rw there at none))
+not_bare f l of none = let there = books_there f l of in absurd (true≢false (rw there at none))
 
 module _ {S : Type 0} (g : Ghosts S) (make : Bool) (old : Held S) (new : State) where
   pub found_there : (result : Result Book OpenFault) → OpensBook g make old new result → (l : Layout) (book : Book) → Stands l book (state g old)

@@ -21,13 +21,10 @@ use Rattle.desk_rows.specs.Whole.{HaveOwnRowids}
 
 -- ---- which tables are there
 
--- the tables of a book's file by which it is known, of either format
-abbrev pub known_tables : List FileTable
-known_tables = tables.Book ∷ tables.Tab ∷ tables.Para ∷ tables.Corr ∷ tables.Mark ∷ tables.NamedCorr ∷ []
-
--- none of them is there
+-- none of the tables is there by which a book's file is known, of either format
 abbrev pub HasNone : Schema → Type 0
-HasNone s = list_any (is_there s) known_tables ≡ false
+HasNone s =
+    list_any (is_there s) (tables.Book ∷ tables.Tab ∷ tables.Para ∷ tables.Corr ∷ tables.Mark ∷ tables.NamedCorr ∷ []) ≡ false
 
 -- ---- the rows that statements give
 

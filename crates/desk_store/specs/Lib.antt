@@ -4,5 +4,7 @@ pub mod Books
 pub mod Opening
 pub mod Found
 pub mod Opened
+pub mod Reading
+pub mod Filling
 pub mod Undamaged
 pub mod Reopened

@@ -17,7 +17,6 @@ use Rattle.desk_parts.specs.declared.file_table.FileTable.TheVariants as tables
 use Rattle.desk_parts.specs.FileRows.{EntryRows, FileRows, Named, Unnamed}
 use Rattle.desk_parts.specs.Puts.{LendsFirst, RowPut}
 use Rattle.desk_model.specs.FilledRows.{Fills}
-use Rattle.desk_model.specs.SameRows.{AreSameRows}
 use Rattle.desk_model.specs.Shows.{Shows as RowsShow}
 use Rattle.desk_model.specs.declared.new_tables.NewTables.{NewTables}
 use Rattle.desk_model.specs.declared.new_tables.NewTables.TheVariants.{Braille, Entries, EntriesAndBraille}
@@ -51,16 +50,6 @@ LacksTables l c =
     ⊎ ((row : BookRow) × (l.has tables.Book ≡ true) × IsBookRow (c.rows tables.Book) row
     × ¬ CanAllBeRead (format_in row.format) l c)
 
--- Before the rows of the tables but `book` are checked, the first of these is reported: a table is missing, `book` is of a later format,
--- or is damaged; but a missing table other than `book` is reported last.
-abbrev pub TellsOfTables : Layout → Contents → OpenFault → Type 0
-TellsOfTables l c NotABook = LacksTables l c
-TellsOfTables l c (Damaged table id) =
-    (l.has tables.Book ≡ true) × (table ≡ tables.Book) × IsDamagedBook (c.rows tables.Book) id × ¬ IsNewer (c.rows tables.Book)
-TellsOfTables l c NewerFormat = (l.has tables.Book ≡ true) × IsNewer (c.rows tables.Book)
-TellsOfTables l c Lost = ⊤
-TellsOfTables l c NoMemory = ⊤
-
 -- the tables of its format can all be read, and this is the first damage in their rows
 pub record IsDamagedIn (l : Layout) (c : Contents) (table : FileTable) (id : ℤ) : Type 0 where
   pub row : BookRow
@@ -69,11 +58,14 @@ pub record IsDamagedIn (l : Layout) (c : Contents) (table : FileTable) (id : ℤ
   pub readable : CanAllBeRead (format_in row.format) l c
   pub first : IsFirstDamage (rows_of l c) table id
 
--- what is reported of a file that has a table of a book: exactly one of these, that it holds no book, has a later format, or is damaged
+-- What is reported of a file that has a table of a book, the first of these: `book` is missing, of a later format or damaged, another table
+-- can't be read, or rows of the tables are damaged.
 abbrev pub TellsOf : Layout → Contents → OpenFault → Type 0
-TellsOf l c NotABook = TellsOfTables l c NotABook
-TellsOf l c (Damaged table id) = TellsOfTables l c (Damaged table id) ⊎ IsDamagedIn l c table id
-TellsOf l c NewerFormat = TellsOfTables l c NewerFormat
+TellsOf l c NotABook = LacksTables l c
+TellsOf l c (Damaged table id) =
+    ((l.has tables.Book ≡ true) × (table ≡ tables.Book) × IsDamagedBook (c.rows tables.Book) id × ¬ IsNewer (c.rows tables.Book))
+    ⊎ IsDamagedIn l c table id
+TellsOf l c NewerFormat = (l.has tables.Book ≡ true) × IsNewer (c.rows tables.Book)
 TellsOf l c Lost = ⊤
 TellsOf l c NoMemory = ⊤
 
@@ -92,16 +84,6 @@ TellsOfNone make g old new (Damaged table id) = ⊥
 TellsOfNone make g old new NewerFormat = ⊥
 TellsOfNone make g old new Lost = (make ≡ true) × FailsToMake g old new fault.Lost
 TellsOfNone make g old new NoMemory = make ≡ true
-
--- ---- what was read of such a file
-
--- the row of `book` is sound, all other tables can be read, and these are its rows
-pub record IsReadOf (l : Layout) (c : Contents) (rows : FileRows) : Type 0 where
-  pub row : BookRow
-  pub book : IsBookRow (c.rows tables.Book) row
-  pub of : IsOfFormat (format_in row.format) l
-  pub readable : CanAllBeRead (format_in row.format) l c
-  pub same : AreSameRows (rows_of l c) rows
 
 -- ---- the tables that a book's file lacks
 
@@ -154,12 +136,6 @@ abbrev pub HasGained :
 HasGained tables l c book rows P =
     WithBook (with_tables tables l) book (λ d. P (with_tables tables l) d × Keeps l c rows d)
 
--- the trees are such a file, of whatever file the book stood in
-abbrev pub HoldsWith : List FileTable → Book → State → Trees → Type 0
-HoldsWith tables book s db =
-    (l : Layout) (stands : Stands l book s)
-    → HasGained tables l stands.1.0 book s.now.trees (λ after d. IsFile after d db)
-
 -- the trees are those of a database without the tables of a book
 abbrev pub HoldsNone : Trees → Type 0
 HoldsNone db = (s : Schema) × IsSound s db × HasNone s
@@ -176,13 +152,9 @@ pub record MayBring (make : Bool) (s : State) (db : Trees) : Type 0 where
   pub old : (l : Layout) (book : Book) (stands : Stands l book s)
       → HasGained (missing_tables l) l stands.1.0 book s.now.trees (λ after d. IsFile after d db)
 
--- the book in the file as it was, or with these tables
-abbrev pub HoldsEitherWith : List FileTable → Layout → Book → Trees → Type 0
-HoldsEitherWith tables l book db = HoldsBook l book db ⊎ HoldsBook (with_tables tables l) book db
-
 -- the book in the file as it was, or with the tables that it lacked
 abbrev pub HoldsEither : Layout → Book → Trees → Type 0
-HoldsEither l = HoldsEitherWith (missing_tables l) l
+HoldsEither l book db = HoldsBook l book db ⊎ HoldsBook (with_missing_tables l) book db
 
 -- The rows of the file showed the book, it stands there in a file with the tables of a new one, and a crash leaves it so, also if it left
 -- it in either these tables or without.

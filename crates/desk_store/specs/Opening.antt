@@ -1,5 +1,5 @@
 -- How a book's file is opened: what is reported of it, and what is found in it. In which order it is checked stands in Opened.antt.
-use Rattle.std.specs.Prelude.{◌&&◌, not, ◌≡◌, ℤ, pos, ◌<ℤ◌, ◌≤ℤ◌, Bool, true, false, if◌then◌else◌, List, [], ◌∷◌, None, ⊤}
+use Rattle.std.specs.Prelude.{◌&&◌, not, ◌≡◌, ℤ, pos, ◌<ℤ◌, ◌≤ℤ◌, Bool, true, false, if◌then◌else◌, List, [], ◌∷◌, ⊤}
 use Rattle.std.specs.List.{AllByRecursion}
 use Rattle.std.specs.Ordering.{int_eq}
 use Rattle.sqlite.specs.declared.error.Error.{Error}
@@ -8,19 +8,13 @@ use Rattle.sqlite_schema.specs.declared.schema.Schema.{Schema}
 use Rattle.desk_model.specs.Damage.{IsDamagedBook, IsSoundBookRow}
 use Rattle.desk_parts.specs.declared.file_table.FileTable.{FileTable}
 use Rattle.desk_parts.specs.declared.file_table.FileTable.TheVariants as tables
-use Rattle.desk_parts.specs.FileRows.{FileRows}
-use Rattle.desk_parts.specs.Parts.{rows_in}
-use Rattle.desk_model.specs.SameRows.{AreSameRows}
-use Rattle.desk_parts.specs.declared.parts.Parts.{Parts}
 use Rattle.desk_model.specs.declared.fault.PartsFault.{PartsFault}
 use Rattle.desk_model.specs.declared.fault.PartsFault.TheVariants as rebuilt
 use Rattle.desk_parts.specs.declared.rows.BookRow.{BookRow}
-use Rattle.desk_store.specs.BookFile.{rows_of}
 use Rattle.desk_rows.specs.Contents.{Contents}
 use Rattle.desk_rows.specs.Fault.{IsToldAs}
-use Rattle.desk_store.specs.Formats.{Format, Presence, needed, optional, foreign, unread, unnamed, named, presence, IsOfFormat}
+use Rattle.desk_store.specs.Formats.{Format, Presence, needed, optional, foreign, unread, unnamed, named, presence}
 use Rattle.desk_rows.specs.Layout.{Layout}
-use Rattle.desk_rows.specs.States.{ShowsContents}
 use Rattle.desk_rows.specs.Tables.{is_there}
 use Rattle.desk_rows.specs.Whole.{IsUtf8Row}
 use Rattle.desk_store.specs.declared.book_file.FileFormat.{FileFormat}
@@ -105,27 +99,8 @@ abbrev pub CanAllBeRead : Format → Layout → Contents → Type 0
 CanAllBeRead format l c =
     (t : FileTable) → CanBeRead (presence format t) (l.has t) (AllByRecursion (IsUtf8Row t) (c.rows t))
 
--- the table of the entries can be read
-abbrev pub AreEntriesReadable : Format → Layout → Contents → Type 0
-AreEntriesReadable unnamed l c = AllByRecursion (IsUtf8Row tables.Corr) (c.rows tables.Corr)
-AreEntriesReadable named l c = AllByRecursion (IsUtf8Row tables.NamedCorr) (c.rows tables.NamedCorr)
-
--- these are the rows of the parts of a file, `book` aside
-abbrev pub AreRead : FileRows → Parts → Type 0
-AreRead rows parts = AreSameRows (record rows { books = (rows_in parts).books }) (rows_in parts)
-
 -- the connection is as it was, and shows what it showed
 pub record Stays (old new : State) : Type 0 where
   pub now : new.now ≡ old.now
   pub committed : new.committed ≡ old.committed
   pub is_open : new.is_open ≡ old.is_open
-
--- Whatever file of this format the connection shows, this holds of its rows.
-abbrev pub OfFile : Format → State → (FileRows → Type 0) → Type 0
-OfFile format s P = (l : Layout) (c : Contents) → IsOfFormat format l → ShowsContents l c s → P (rows_of l c)
-
--- The connection shows a file of this format that can be read, and has no limit on steps.
-abbrev pub ShowsReadable : Format → State → Type 0
-ShowsReadable format s =
-    (l : Layout) × (c : Contents) × IsOfFormat format l × ShowsContents l c s
-    × CanAllBeRead format l c × (s.step_limit ≡ None)

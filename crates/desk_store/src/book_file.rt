@@ -2,20 +2,20 @@
 //!
 //! Of a file that is declared as a new one the rows are given as they stand, in any order.
 
-ghost use Rattle.std.specs.Prelude.{◌≡◌, false, IfErr, IfOk, IsTrue, MatchBool, None, OnOk, option_map};
+ghost use Rattle.std.specs.Prelude.{◌≡◌, false, IfErr, IfOk, MatchBool, None, option_map};
 ghost use Rattle.std.specs.List.{list_all, list_any};
 ghost use Rattle.sqlite.specs.Held.{state};
 ghost use Rattle.desk_model.specs.Damage.{IsSoundBookRow};
 ghost use Rattle.sqlite.specs.State.{HasCleanDisk, Survives};
 ghost use Rattle.desk_model.specs.Book.{Book};
 ghost use Rattle.desk_parts.specs.Parts.{entry_rows, rows_in};
-ghost use Rattle.desk_model.specs.SameRows.{AreSameCaches, AreSameEntries};
 ghost use Rattle.desk_rows.specs.Contents.{Contents};
-ghost use Rattle.desk_store.specs.Formats.{Format, HasThoseRead, IsOfFormat};
-ghost use Rattle.desk_store.specs.Found.{AreCellsIn, AreEntriesIn, AreFileRows, AreOtherRows, CanAllAnswer, RowsShowIn, format_kept};
+ghost use Rattle.desk_store.specs.Formats.{HasThoseRead};
+ghost use Rattle.desk_store.specs.Found.{RowsShowIn, format_kept};
 ghost use Rattle.desk_rows.specs.Layout.{Layout};
-ghost use Rattle.desk_store.specs.Opened.{IsReadOf, StopsOpening, StopsReading, TellsOfTables};
-ghost use Rattle.desk_store.specs.Opening.{AreEntriesReadable, AreRead, CanAllBeRead, IsBookRow, IsRefusal, OfFile, ShowsReadable, Stays, TellsOfRow, format_in, format_read, has_tables};
+ghost use Rattle.desk_store.specs.Opened.{StopsOpening, TellsOf};
+ghost use Rattle.desk_store.specs.Opening.{IsBookRow, IsRefusal, Stays, TellsOfRow, format_in, format_read, has_tables};
+ghost use Rattle.desk_store.specs.Reading.{FailsToRead, ReadsCells, ReadsEntries, ReadsFile, ReadsRest};
 ghost use Rattle.desk_rows.specs.States.{ShowsContents};
 ghost use Rattle.desk_rows.specs.Tables.{is_there};
 
@@ -107,25 +107,11 @@ fn read_entries<S: Alter>(
     conn: &mut Connection<S>,
     format: FileFormat,
 ) -> Result<EntryRows, DatabaseFault>
-    ensures gives { HasCleanDisk (state S.Store conn.new) → IfOk result (λ entries.
-        OfFile (format_read format) (state S.Store conn.old) (λ rows.
-        AreSameEntries rows.entries (entry_rows entries))) }
-    ensures rows { HasCleanDisk (state S.Store conn.new) → IfOk result (λ entries.
-        AreEntriesIn (state S.Store conn.old) (entry_rows entries)) }
+    ensures read { HasCleanDisk (state S.Store conn.new) → IfOk result (λ entries.
+        ReadsEntries (format_read format) (entry_rows entries) (state S.Store conn.old) (state S.Store conn.new)) }
     ensures kept { IfOk result (λ entries. format_kept (entry_rows entries) ≡ format_read format) }
-    ensures readable { HasCleanDisk (state S.Store conn.new) → (l : Layout) (c : Contents)
-        → IsOfFormat (format_read format) l → ShowsContents l c (state S.Store conn.old)
-        → OnOk result (AreEntriesReadable (format_read format) l c) }
-    ensures unchanged { HasCleanDisk (state S.Store conn.new)
-        → OnOk result (Stays (state S.Store conn.old) (state S.Store conn.new)) }
-    ensures refused { HasCleanDisk (state S.Store conn.new) → IfErr result (λ fault. fault ≡ DatabaseFault.Refused
-        → Stays (state S.Store conn.old) (state S.Store conn.new)
-        × ¬ ShowsReadable (format_read format) (state S.Store conn.old)) }
-    ensures answered { HasCleanDisk (state S.Store conn.new)
-        → (state S.Store conn.old).step_limit ≡ None → IfErr result (λ fault. fault ≡ DatabaseFault.Refused
-        → ¬ CanAllAnswer (format_read format) (state S.Store conn.old)) }
-    ensures stops { HasCleanDisk (state S.Store conn.new)
-        → IfErr result (StopsReading S.Store conn.old (state S.Store conn.new)) }
+    ensures fails { HasCleanDisk (state S.Store conn.new)
+        → IfErr result (FailsToRead S.Store (format_read format) conn.old (state S.Store conn.new)) }
     ensures mode { conn.old.in_transaction ≡ false → conn.new.in_transaction ≡ false }
     ensures survives { Survives (state S.Store conn.old) (state S.Store conn.new) (λ _. ⊥) }
 {
@@ -147,21 +133,11 @@ fn read_cells<S: Alter>(
     conn: &mut Connection<S>,
     format: FileFormat,
 ) -> Result<Option<Vec<CacheRow>>, DatabaseFault>
-    ensures gives { HasCleanDisk (state S.Store conn.new) → IfOk result (λ cells.
-        OfFile (format_read format) (state S.Store conn.old) (λ rows.
-        AreSameCaches rows.caches (option_map (λ rows. rows.items) cells))) }
-    ensures rows { HasCleanDisk (state S.Store conn.new) → IfOk result (λ cells.
-        AreCellsIn (state S.Store conn.old) (option_map (λ rows. rows.items) cells)) }
-    ensures unchanged { HasCleanDisk (state S.Store conn.new)
-        → OnOk result (Stays (state S.Store conn.old) (state S.Store conn.new)) }
-    ensures refused { HasCleanDisk (state S.Store conn.new) → IfErr result (λ fault. fault ≡ DatabaseFault.Refused
-        → Stays (state S.Store conn.old) (state S.Store conn.new)
-        × ¬ ShowsReadable (format_read format) (state S.Store conn.old)) }
-    ensures answered { HasCleanDisk (state S.Store conn.new)
-        → (state S.Store conn.old).step_limit ≡ None → IfErr result (λ fault. fault ≡ DatabaseFault.Refused
-        → ¬ CanAllAnswer (format_read format) (state S.Store conn.old)) }
-    ensures stops { HasCleanDisk (state S.Store conn.new)
-        → IfErr result (StopsReading S.Store conn.old (state S.Store conn.new)) }
+    ensures read { HasCleanDisk (state S.Store conn.new) → IfOk result (λ cells.
+        ReadsCells (format_read format) (option_map (λ rows. rows.items) cells)
+        (state S.Store conn.old) (state S.Store conn.new)) }
+    ensures fails { HasCleanDisk (state S.Store conn.new)
+        → IfErr result (FailsToRead S.Store (format_read format) conn.old (state S.Store conn.new)) }
     ensures mode { conn.old.in_transaction ≡ false → conn.new.in_transaction ≡ false }
     ensures survives { Survives (state S.Store conn.old) (state S.Store conn.new) (λ _. ⊥) }
 {
@@ -179,26 +155,12 @@ fn read_rest<S: Alter>(
     format: FileFormat,
     version: i64,
 ) -> Result<Parts, DatabaseFault>
-    ensures gives { HasCleanDisk (state S.Store conn.new) → IfOk result (λ parts.
-        OfFile (format_read format) (state S.Store conn.old) (λ rows. AreRead rows parts)) }
-    // In any file they are what the statements give.
-    ensures rows { HasCleanDisk (state S.Store conn.new)
-        → IfOk result (λ parts. AreOtherRows (state S.Store conn.old) (rows_in parts)) }
+    ensures read { HasCleanDisk (state S.Store conn.new) → IfOk result (λ parts.
+        ReadsRest (format_read format) parts (state S.Store conn.old) (state S.Store conn.new)) }
     ensures kept { IfOk result (λ parts. (parts.version ≡ version)
         × (format_kept (rows_in parts).entries ≡ format_read format)) }
-    ensures readable { HasCleanDisk (state S.Store conn.new) → (l : Layout) (c : Contents)
-        → IsOfFormat (format_read format) l → ShowsContents l c (state S.Store conn.old)
-        → OnOk result (CanAllBeRead (format_read format) l c) }
-    ensures unchanged { HasCleanDisk (state S.Store conn.new)
-        → OnOk result (Stays (state S.Store conn.old) (state S.Store conn.new)) }
-    ensures refused { HasCleanDisk (state S.Store conn.new) → IfErr result (λ fault. fault ≡ DatabaseFault.Refused
-        → Stays (state S.Store conn.old) (state S.Store conn.new)
-        × ¬ ShowsReadable (format_read format) (state S.Store conn.old)) }
-    ensures answered { HasCleanDisk (state S.Store conn.new)
-        → (state S.Store conn.old).step_limit ≡ None → IfErr result (λ fault. fault ≡ DatabaseFault.Refused
-        → ¬ CanAllAnswer (format_read format) (state S.Store conn.old)) }
-    ensures stops { HasCleanDisk (state S.Store conn.new)
-        → IfErr result (StopsReading S.Store conn.old (state S.Store conn.new)) }
+    ensures fails { HasCleanDisk (state S.Store conn.new)
+        → IfErr result (FailsToRead S.Store (format_read format) conn.old (state S.Store conn.new)) }
     ensures mode { conn.old.in_transaction ≡ false → conn.new.in_transaction ≡ false }
     ensures survives { Survives (state S.Store conn.old) (state S.Store conn.new) (λ _. ⊥) }
 {
@@ -228,23 +190,16 @@ pub(crate) fn read_parts<S: Alter>(
     conn: &mut Connection<S>,
 ) -> Result<Parts, OpenFault>
     requires unlimited { conn.old.step_limit ≡ None }
-    // In any file these are the rows that the statements give, and what is refused shows no book.
-    ensures found { HasCleanDisk (state S.Store conn.new)
-        → IfOk result (λ parts. AreFileRows (state S.Store conn.old) (rows_in parts)) }
+    ensures read { HasCleanDisk (state S.Store conn.new) → IfOk result (λ parts.
+        ReadsFile (state S.Store conn.old) (state S.Store conn.new) (rows_in parts)) }
+    // What is refused shows no book, in any file.
     ensures unrefused { HasCleanDisk (state S.Store conn.new) → (book : Book)
         → RowsShowIn (state S.Store conn.old) book → IfErr result (λ fault. ¬ IsRefusal fault) }
-    // If the tables that are there are declared as those of a new file, this is reported, and the rows are as they stand.
+    // If the tables that are there are declared as those of a new file, this is reported.
     ensures told { HasCleanDisk (state S.Store conn.new) → (l : Layout) (c : Contents)
-        → HasThoseRead l → ShowsContents l c (state S.Store conn.old) → IfErr result (TellsOfTables l c) }
-    ensures read { HasCleanDisk (state S.Store conn.new) → (format : Format) (l : Layout)
-        (c : Contents) → IsOfFormat format l → ShowsContents l c (state S.Store conn.old)
-        → IfOk result (λ parts. IsReadOf l c (rows_in parts)) }
-    ensures is_open { HasCleanDisk (state S.Store conn.new)
-        → OnOk result (IsTrue (state S.Store conn.new).is_open) }
+        → HasThoseRead l → ShowsContents l c (state S.Store conn.old) → IfErr result (TellsOf l c) }
     ensures refused { HasCleanDisk (state S.Store conn.new) → IfErr result (λ fault. IsRefusal fault
         → Stays (state S.Store conn.old) (state S.Store conn.new)) }
-    ensures unchanged { HasCleanDisk (state S.Store conn.new)
-        → OnOk result (Stays (state S.Store conn.old) (state S.Store conn.new)) }
     // What isn't refused has a cause.
     ensures stops { HasCleanDisk (state S.Store conn.new) → IfErr result (λ fault. (¬ IsRefusal fault)
         → StopsOpening S.Store conn.old (state S.Store conn.new) fault) }

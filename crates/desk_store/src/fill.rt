@@ -3,7 +3,8 @@
 ghost use Rattle.std.specs.Prelude.{◌≡◌, false, IfErr, OnOk};
 ghost use Rattle.desk_parts.specs.Parts.{rows_in};
 ghost use Rattle.desk_rows.specs.Layout.{Layout};
-ghost use Rattle.desk_store.specs.Opened.{HasGained, HoldsWith, IsFilledAs, Stands, StopsFilling, lacked_by, which_new};
+ghost use Rattle.desk_store.specs.Filling.{HoldsWith};
+ghost use Rattle.desk_store.specs.Opened.{HasGained, IsFilledAs, Stands, StopsFilling, lacked_by, which_new};
 ghost use Rattle.desk_store.specs.Opening.{IsRefusal};
 ghost use Rattle.desk_rows.specs.States.{ShowsContents};
 ghost use Rattle.sql_tables.specs.States.{IsCommitted, IsSettled};

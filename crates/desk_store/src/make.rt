@@ -29,14 +29,11 @@ pub(crate) fn make_book<S: Alter>(conn: &mut Connection<S>) -> Result<(), OpenFa
     ensures idle { conn.new.in_transaction ≡ false }
     ensures made { HasCleanDisk (state S.Store conn.new)
         → OnOk result (IsNew (state S.Store conn.old).now.schema (state S.Store conn.old).now.trees
-        (λ c. ShowsContents (new_layout (state S.Store conn.old).now.schema) c (state S.Store conn.new))) }
-    ensures open { HasCleanDisk (state S.Store conn.new)
-        → OnOk result (IsCommitted (state S.Store conn.new)) }
+        (λ c. ShowsContents (new_layout (state S.Store conn.old).now.schema) c (state S.Store conn.new))
+        × IsCommitted (state S.Store conn.new) × IsSettled (state S.Store conn.new)) }
     // Of a crash at any exit: nothing new is left but all of it, and that only if no name was taken.
     ensures crash { Survives (state S.Store conn.old) (state S.Store conn.new)
         (IsMade (state S.Store conn.old)) }
-    ensures settled { HasCleanDisk (state S.Store conn.new)
-        → OnOk result (IsSettled (state S.Store conn.new)) }
     ensures as_before { HasCleanDisk (state S.Store conn.new)
         → OnErr result (ShowsAsBefore (state S.Store conn.old) (state S.Store conn.new)) }
     // After a refusal a crash leaves nothing new.

@@ -1,13 +1,12 @@
 use Rattle.std.proofs.Common.{List, refl, subst}
 use Rattle.sqlite.specs.Held.{state}
-use Rattle.sqlite.proofs.StateLemmas.{survives_weaker}
 use Rattle.desk_parts.specs.declared.file_table.FileTable.{FileTable}
 use Rattle.desk_parts.specs.Puts.{LendsFirst, RowPut}
 use Rattle.desk_rows.specs.Failing.{FailsToChange, of_items}
 use Rattle.desk_rows.specs.Turns.{with_transaction}
-use Rattle.desk_rows.specs.Making.{IsFileWithTables, WritesWithTables}
+use Rattle.desk_rows.specs.Making.{WritesWithTables}
 use Rattle.desk_rows.proofs.RowPuts.LentPuts.{all_lent}
-use Rattle.desk_store.proofs.Filled.{are_written, holds_gained, shows_gained}
+use Rattle.desk_store.proofs.Filled.{are_written, crash_gained, shows_gained}
 use Rattle.desk_store.proofs.fill.fill.Goals as goal
 
 pub write_with_tables-requires : goal.write_with_tables-requires
@@ -31,21 +30,13 @@ returns-in-Ok-clause-settled g c clean = (c.in-Ok.ensures.commits clean).settled
 
 pub returns-in-Ok-clause-crash : goal.returns-in-Ok-clause-crash
 returns-in-Ok-clause-crash g c =
-    let old = state g.S.Store c.args.conn.now in
-    let puts = c.filling.result in
-    survives_weaker old (state g.S.Store c.write_with_tables.new.conn) _ _ (λ clean db left.
-    let file = subst (λ (xs : List RowPut). IsFileWithTables c.file_tables.result.now xs old db) (all_lent puts left.0 left.1) left.2.0 in
-    holds_gained c.args.tables c.args.book.now puts c.filling.ensures c.file_tables.result.now c.file_tables.ensures old db file)
-    c.write_with_tables.ensures.crash
+    crash_gained c.args.tables c.args.book.now c.filling.result c.filling.ensures c.file_tables.result.now c.file_tables.ensures _
+    (λ db left. (left.0, all_lent c.filling.result left.0 left.1, left.2.0)) c.write_with_tables.ensures.crash
 
 pub returns-in-Err-clause-crash : goal.returns-in-Err-clause-crash
 returns-in-Err-clause-crash g c =
-    let old = state g.S.Store c.args.conn.now in
-    let puts = c.filling.result in
-    survives_weaker old (state g.S.Store c.write_with_tables.new.conn) _ _ (λ clean db left.
-    let file = subst (λ (xs : List RowPut). IsFileWithTables c.file_tables.result.now xs old db) (all_lent puts left.0 left.1) left.2.0 in
-    holds_gained c.args.tables c.args.book.now puts c.filling.ensures c.file_tables.result.now c.file_tables.ensures old db file)
-    c.write_with_tables.ensures.crash
+    crash_gained c.args.tables c.args.book.now c.filling.result c.filling.ensures c.file_tables.result.now c.file_tables.ensures _
+    (λ db left. (left.0, all_lent c.filling.result left.0 left.1, left.2.0)) c.write_with_tables.ensures.crash
 
 pub returns-in-Err-clause-stops : goal.returns-in-Err-clause-stops
 returns-in-Err-clause-stops g c clean = record {

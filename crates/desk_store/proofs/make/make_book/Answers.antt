@@ -35,10 +35,4 @@ returns-in-Err-clause-refused g c clean is =
 -- ---- it is made
 
 pub returns-in-Ok-clause-made : goal.returns-in-Ok-clause-made
-returns-in-Ok-clause-made g c clean = (c.in-Ok.ensures.commits clean).shown.1
-
-pub returns-in-Ok-clause-open : goal.returns-in-Ok-clause-open
-returns-in-Ok-clause-open g c clean = (c.in-Ok.ensures.commits clean).committed
-
-pub returns-in-Ok-clause-settled : goal.returns-in-Ok-clause-settled
-returns-in-Ok-clause-settled g c clean = (c.in-Ok.ensures.commits clean).settled
+returns-in-Ok-clause-made g c clean = let it = c.in-Ok.ensures.commits clean in (it.shown.1, it.committed, it.settled)

@@ -1,17 +1,11 @@
-use Rattle.std.proofs.Common.{◌≡◌, ◌∙◌, Option, arith, inl, inr, refl, subst, sym}
+use Rattle.std.proofs.Common.{◌≡◌, ◌∙◌, arith, inl, inr, refl, sym}
 use Rattle.std.proofs.lemmas.Result.{err_from_is_err_and}
 use Rattle.sqlite.proofs.StateLemmas.{survives_weaker}
 use Rattle.sqlite.specs.Held.{state}
 use Rattle.sqlite.specs.State.{HasCleanDisk}
 use Rattle.desk_parts.specs.Parts.{rows_in}
-use Rattle.desk_model.specs.declared.new_tables.NewTables.{NewTables}
-use Rattle.desk_store.specs.Books.{LeavesBook}
-use Rattle.desk_rows.specs.Layout.{Layout}
-use Rattle.desk_rows.specs.Making.{with_tables}
-use Rattle.sql_tables.specs.States.{Leaves}
-use Rattle.desk_store.specs.Opened.{HasGained, HoldsEitherWith, Stands, filling, rebuilding, which_lacked}
-use Rattle.desk_rows.specs.States.{ShowsContents}
-use Rattle.desk_store.proofs.Openings.{fills, opens, refuses, refuses_damaged, tells, tells_no_refusal}
+use Rattle.desk_store.specs.Opened.{filling, rebuilding}
+use Rattle.desk_store.proofs.Openings.{fills, opens, refuses, refuses_damaged, tells_no_refusal}
 use Rattle.desk_model.specs.declared.fault.PartsFault.{PartsFault}
 use Rattle.desk_model.specs.declared.fault.PartsFault.TheVariants as rebuilt
 use Rattle.desk_store.specs.Opening.{IsRefusal, rebuilt_as}
@@ -31,7 +25,7 @@ returns-in_err-parts-clause-opens g c clean make =
     let read = c.in_err-parts.ensures in
     rw (p.1, p.2)
     (refuses g.S.Store make c.args.conn.now c.requires.there (state g.S.Store c.read_parts.new.conn) _ (read.unrefused clean)
-    (λ l contents those shows. tells l contents _ (read.told clean l contents those shows)) (λ refusal is_open. (read.refused clean refusal).now))
+    (read.told clean) (λ refusal is_open. (read.refused clean refusal).now))
 
 pub returns-in_err-parts-clause-crash : goal.returns-in_err-parts-clause-crash
 returns-in_err-parts-clause-crash g c make =
@@ -42,10 +36,8 @@ returns-in_err-parts-clause-crash g c make =
 pub returns-in_err-book-clause-opens : goal.returns-in_err-book-clause-opens
 returns-in_err-book-clause-opens g c clean make =
     let p = err_from_is_err_and c.from_residual-in_err-book.result c.from_residual-in_err-book.ensures.1 in
-    let read = c.in_ok-parts.ensures in
     rw (p.1, p.2)
-    (refuses_damaged g.S.Store make c.args.conn.now c.requires.there (rows_in c.in_ok-parts.parts) (read.found clean) (read.read clean)
-    (state g.S.Store c.read_parts.new.conn) _ c.in_err-book.ensures.damaged (read.unchanged clean))
+    (refuses_damaged g.S.Store make c.args.conn.now c.requires.there (c.in_ok-parts.ensures.read clean) _ c.in_err-book.ensures.damaged)
 
 pub returns-in_err-book-clause-crash : goal.returns-in_err-book-clause-crash
 returns-in_err-book-clause-crash g c make =
@@ -63,10 +55,8 @@ returns-in_err-complete-clause-opens g c clean make =
 
 pub returns-in_err-complete-clause-crash : goal.returns-in_err-complete-clause-crash
 returns-in_err-complete-clause-crash g c make =
-    let read = c.in_ok-parts.ensures in
-    fills g.S.Store make c.args.conn.now c.requires.there (rows_in c.in_ok-parts.parts) c.in_ok-book.book
-    (state g.S.Store c.read_parts.new.conn) (state g.S.Store c.complete.new.conn) c.lacked_by-lacked.result c.lacked_by-lacked.ensures
-    c.in_ok-book.ensures.shown read.found read.read read.unchanged c.read_parts.ensures.survives c.complete.ensures.crash
+    fills g.S.Store make c.args.conn.now c.requires.there c.lacked_by-lacked.ensures c.in_ok-book.ensures.shown
+    c.in_ok-parts.ensures.read c.read_parts.ensures.survives c.complete.ensures.crash
 
 pub returns-in_err-complete-clause-refused : goal.returns-in_err-complete-clause-refused
 returns-in_err-complete-clause-refused g c clean =
@@ -77,28 +67,18 @@ returns-in_err-complete-clause-refused g c clean =
 
 pub returns-clause-opens : goal.returns-clause-opens
 returns-clause-opens g c clean make =
-    let old = c.args.conn.now in
-    let mid = state g.S.Store c.read_parts.new.conn in
-    let new = state g.S.Store c.complete.new.conn in
-    let book = c.in_ok-book.book in
-    let read = c.in_ok-parts.ensures in
+    let early : HasCleanDisk (state g.S.Store c.read_parts.new.conn) = omega (arith, clean, c.complete.ensures.crash.clean) in
+    let read = c.in_ok-parts.ensures.read early in
     let done = c.in_ok-complete.ensures in
-    let early : HasCleanDisk mid = omega (arith, clean, c.complete.ensures.crash.clean) in
-    opens g.S.Store make old c.requires.there (rows_in c.in_ok-parts.parts) (read.found early) (read.read early)
-    book c.in_ok-book.ensures.shown mid (read.unchanged early) new
-    (subst (λ (x : Option NewTables). (l : Layout) (stands : Stands l book mid) → HasGained (which_lacked x) l stands.1.0 book mid.now.trees (λ after e. ShowsContents after e new))
-    c.lacked_by-lacked.ensures (done.filled clean))
-    (subst (λ (x : Option NewTables). (l : Layout) → Stands l book mid → Leaves (HoldsEitherWith (which_lacked x) l book) mid → LeavesBook (with_tables (which_lacked x) l) book new)
-    c.lacked_by-lacked.ensures (done.leaves clean))
+    opens g.S.Store make c.args.conn.now c.requires.there read c.in_ok-book.ensures.shown c.lacked_by-lacked.ensures
+    (state g.S.Store c.complete.new.conn) (done.filled clean) (done.leaves clean)
     (λ db here. elim (c.read_parts.ensures.survives.crash early db here) [ inl before ↦ before | inr none ↦ absurd none ])
-    (done.open clean (read.is_open early))
+    (done.open clean read.is_open)
 
 pub returns-clause-crash : goal.returns-clause-crash
 returns-clause-crash g c make =
-    let read = c.in_ok-parts.ensures in
-    fills g.S.Store make c.args.conn.now c.requires.there (rows_in c.in_ok-parts.parts) c.in_ok-book.book
-    (state g.S.Store c.read_parts.new.conn) (state g.S.Store c.complete.new.conn) c.lacked_by-lacked.result c.lacked_by-lacked.ensures
-    c.in_ok-book.ensures.shown read.found read.read read.unchanged c.read_parts.ensures.survives c.complete.ensures.crash
+    fills g.S.Store make c.args.conn.now c.requires.there c.lacked_by-lacked.ensures c.in_ok-book.ensures.shown
+    c.in_ok-parts.ensures.read c.read_parts.ensures.survives c.complete.ensures.crash
 
 -- ---- why it isn't opened, where it isn't refused
 
@@ -109,15 +89,16 @@ returns-in_err-parts-clause-stopped g c clean =
 
 pub returns-in_err-book-clause-stopped : goal.returns-in_err-book-clause-stopped
 returns-in_err-book-clause-stopped g c clean =
+    let read = c.in_ok-parts.ensures.read clean in
     let p = err_from_is_err_and c.from_residual-in_err-book.result c.from_residual-in_err-book.ensures.1 in
-    rw (p.1, p.2) (λ none. rebuilding (rows_in c.in_ok-parts.parts) (c.in_ok-parts.ensures.found clean) (c.in_ok-parts.ensures.unchanged clean) (only_memory c.in_err-book.field-0.0 none))
+    rw (p.1, p.2)
+    (λ none. rebuilding (rows_in c.in_ok-parts.parts) read.found read.stays (only_memory c.in_err-book.field-0.0 none))
 
 pub returns-in_err-complete-clause-stopped : goal.returns-in_err-complete-clause-stopped
 returns-in_err-complete-clause-stopped g c clean =
-    let mid = state g.S.Store c.read_parts.new.conn in
-    let early : HasCleanDisk mid = omega (arith, clean, c.complete.ensures.crash.clean) in
-    let p = err_from_is_err_and c.from_residual-in_err-complete.result c.from_residual-in_err-complete.ensures.1 in
+    let read = c.in_ok-parts.ensures.read (omega (arith, clean, c.complete.ensures.crash.clean)) in
     let stops = c.in_err-complete.ensures.stops clean in
+    let p = err_from_is_err_and c.from_residual-in_err-complete.result c.from_residual-in_err-complete.ensures.1 in
     rw (p.1, p.2)
-    (λ none. filling (rows_in c.in_ok-parts.parts) c.in_ok-book.book stops.0 c.read_parts.new.conn (c.in_ok-parts.ensures.found early)
-    c.in_ok-book.ensures.shown (sym c.lacked_by-lacked.ensures ∙ stops.1) (c.in_ok-parts.ensures.unchanged early) stops.2)
+    (λ none. filling (rows_in c.in_ok-parts.parts) c.in_ok-book.book stops.0 c.read_parts.new.conn read.found
+    c.in_ok-book.ensures.shown (sym c.lacked_by-lacked.ensures ∙ stops.1) read.stays stops.2)

@@ -20,6 +20,6 @@ returns-in_err-make_book-clause-opens g c clean =
 
 pub returns-clause-opens : goal.returns-clause-opens
 returns-clause-opens g c clean =
-    let done = c.in_ok-make_book.ensures in
+    let done = c.in_ok-make_book.ensures.made clean in
     makes g.S.Store true c.args.conn.now c.requires.bare (state g.S.Store c.make_book.new.conn) c.in-Ok.book refl c.in-Ok.ensures
-    (done.made clean) (done.settled clean) (done.open clean).0
+    done.0 done.2 done.1.0

@@ -3,9 +3,10 @@ use Rattle.desk_store.proofs.store.Store.adopt.Goals as goal
 
 pub returns-in_err-book-clause-told : goal.returns-in_err-book-clause-told
 returns-in_err-book-clause-told g c =
-    let p = err_from_is_err_and c.from_residual.result c.from_residual.ensures.1 in
     let left = c.in_err-book.ensures in
-    rw (p.1, p.2) (c.open_on.new.connection, record { opens = left.opens; crash = left.crash; refused = left.refused; stopped = left.stopped })
+    let p = err_from_is_err_and c.from_residual.result c.from_residual.ensures.1 in
+    rw (p.1, p.2)
+    (c.open_on.new.connection, record { opens = left.opens; crash = left.crash; refused = left.refused; stopped = left.stopped })
 
 pub returns-clause-opens : goal.returns-clause-opens
 returns-clause-opens g c = rw c.over.ensures c.in_ok-book.ensures.opens

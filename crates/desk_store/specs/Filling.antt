@@ -1,0 +1,21 @@
+-- How tables that a book's file lacks are made and filled. Only private functions and proofs need these words.
+use Rattle.std.specs.Prelude.{◌⊎◌, List}
+use Rattle.sqlite_trees.specs.Tree.{Trees}
+use Rattle.sqlite.specs.State.{State}
+use Rattle.desk_model.specs.Book.{Book}
+use Rattle.desk_parts.specs.declared.file_table.FileTable.{FileTable}
+use Rattle.desk_rows.specs.Layout.{Layout}
+use Rattle.desk_rows.specs.Making.{with_tables}
+use Rattle.desk_rows.specs.States.{IsFile}
+use Rattle.desk_store.specs.Books.{HoldsBook}
+use Rattle.desk_store.specs.Opened.{HasGained, Stands}
+
+-- the trees are the book in the file with these tables too, of whatever file it stood in
+abbrev pub HoldsWith : List FileTable → Book → State → Trees → Type 0
+HoldsWith tables book s db =
+    (l : Layout) (stands : Stands l book s)
+    → HasGained tables l stands.1.0 book s.now.trees (λ after d. IsFile after d db)
+
+-- the book in the file as it was, or with these tables
+abbrev pub HoldsEitherWith : List FileTable → Layout → Book → Trees → Type 0
+HoldsEitherWith tables l book db = HoldsBook l book db ⊎ HoldsBook (with_tables tables l) book db

@@ -1,0 +1,104 @@
+-- How a book's file is read, table by table. Only private functions and proofs need these words.
+use Rattle.std.specs.Prelude.{◌≡◌, IsTrue, List, map, None, Option, IsPermutation}
+use Rattle.std.specs.List.{AllByRecursion}
+use Rattle.sqlite_trees.specs.declared.store.Store.{Ghosts}
+use Rattle.sqlite.specs.Held.{Held, state}
+use Rattle.sqlite.specs.State.{State}
+use Rattle.desk_model.specs.SameRows.{AreSameCaches, AreSameEntries, AreSameRows}
+use Rattle.desk_parts.specs.declared.file_table.FileTable.{FileTable}
+use Rattle.desk_parts.specs.declared.file_table.FileTable.TheVariants as tables
+use Rattle.desk_parts.specs.declared.parts.Parts.{Parts}
+use Rattle.desk_parts.specs.declared.rows.BookRow.{BookRow}
+use Rattle.desk_parts.specs.FileRows.{EntryRows, FileRows}
+use Rattle.desk_parts.specs.Parts.{rows_in}
+use Rattle.desk_parts.specs.Rows.{ParaCells}
+use Rattle.desk_rows.specs.Contents.{Contents}
+use Rattle.desk_rows.specs.Layout.{Layout}
+use Rattle.desk_rows.specs.Rows.{ShownOf, own}
+use Rattle.desk_rows.specs.States.{ShowsContents}
+use Rattle.desk_rows.specs.Whole.{IsUtf8Row}
+use Rattle.desk_rows.specs.declared.fault.DatabaseFault.{DatabaseFault}
+use Rattle.desk_rows.specs.declared.fault.DatabaseFault.TheVariants as fault
+use Rattle.desk_store.specs.BookFile.{rows_of}
+use Rattle.desk_store.specs.Formats.{Format, IsOfFormat, named, unnamed}
+use Rattle.desk_store.specs.Found.{AreCellsIn, AreEntriesIn, AreFileRows, AreOtherRows, AreRowsIn, CanAllAnswer}
+use Rattle.desk_store.specs.Opened.{StopsReading}
+use Rattle.desk_store.specs.Opening.{CanAllBeRead, IsBookRow, Stays, format_in}
+
+-- ---- what is read, and why nothing is
+
+-- The connection is as it was. In any file this is what the statements give, and this holds of each file of the format that the
+-- connection shows.
+pub record IsReadFrom (format : Format) (old new : State) (Given : State → Type 0)
+    (Of : Layout → Contents → Type 0) : Type 0 where
+  pub stays : Stays old new
+  pub given : Given old
+  pub of : (l : Layout) (c : Contents) → IsOfFormat format l → ShowsContents l c old → Of l c
+
+-- The connection shows a file of this format that can be read, and has no limit on steps.
+abbrev pub ShowsReadable : Format → State → Type 0
+ShowsReadable format s =
+    (l : Layout) × (c : Contents) × IsOfFormat format l × ShowsContents l c s
+    × CanAllBeRead format l c × (s.step_limit ≡ None)
+
+-- Nothing is read, since a statement failed or an allocation did. A file that can be read isn't refused, nor is one of whatever
+-- declaration whose statements have answers that can be read.
+pub record FailsToRead {S : Type 0} (g : Ghosts S) (format : Format) (old : Held S) (new : State)
+    (why : DatabaseFault) : Type 0 where
+  pub refused : why ≡ fault.Refused → Stays (state g old) new × ¬ ShowsReadable format (state g old)
+  pub answered : why ≡ fault.Refused → (state g old).step_limit ≡ None → ¬ CanAllAnswer format (state g old)
+  pub stops : StopsReading g old new why
+
+-- ---- the tables
+
+-- the rows of a table, with texts in UTF-8
+abbrev pub AreTableRows : (t : FileTable) → List (ShownOf t) → Contents → Type 0
+AreTableRows t rows c = IsPermutation (c.rows t) (map (own t) rows) × AllByRecursion (IsUtf8Row t) (c.rows t)
+
+abbrev pub ReadsTable : Format → (t : FileTable) → List (ShownOf t) → State → State → Type 0
+ReadsTable format t rows old new = IsReadFrom format old new (λ s. AreRowsIn s t rows) (λ l c. AreTableRows t rows c)
+
+-- the texts in the table of the entries are UTF-8
+abbrev pub AreEntriesReadable : Format → Layout → Contents → Type 0
+AreEntriesReadable unnamed l c = AllByRecursion (IsUtf8Row tables.Corr) (c.rows tables.Corr)
+AreEntriesReadable named l c = AllByRecursion (IsUtf8Row tables.NamedCorr) (c.rows tables.NamedCorr)
+
+abbrev pub AreFileEntries : Format → EntryRows → Layout → Contents → Type 0
+AreFileEntries format entries l c = AreSameEntries (rows_of l c).entries entries × AreEntriesReadable format l c
+
+abbrev pub ReadsEntries : Format → EntryRows → State → State → Type 0
+ReadsEntries format entries old new =
+    IsReadFrom format old new (λ s. AreEntriesIn s entries) (AreFileEntries format entries)
+
+abbrev pub AreFileCells : Option (List ParaCells) → Layout → Contents → Type 0
+AreFileCells cells l c = AreSameCaches (rows_of l c).caches cells
+
+abbrev pub ReadsCells : Format → Option (List ParaCells) → State → State → Type 0
+ReadsCells format cells old new = IsReadFrom format old new (λ s. AreCellsIn s cells) (AreFileCells cells)
+
+-- these are the rows of the tables but `book`, and all of them can be read
+abbrev pub AreRest : Format → FileRows → Layout → Contents → Type 0
+AreRest format rows l c =
+    AreSameRows (record (rows_of l c) { books = rows.books }) rows × CanAllBeRead format l c
+
+abbrev pub ReadsRest : Format → Parts → State → State → Type 0
+ReadsRest format parts old new =
+    IsReadFrom format old new (λ s. AreOtherRows s (rows_in parts)) (AreRest format (rows_in parts))
+
+-- ---- a whole file
+
+-- the row of `book` is sound, all other tables can be read, and these are its rows
+pub record IsReadOf (l : Layout) (c : Contents) (rows : FileRows) : Type 0 where
+  pub row : BookRow
+  pub book : IsBookRow (c.rows tables.Book) row
+  pub of : IsOfFormat (format_in row.format) l
+  pub readable : CanAllBeRead (format_in row.format) l c
+  pub same : AreSameRows (rows_of l c) rows
+
+-- The connection is as it was and open, these are the rows that the statements give, and so they are of each file of a format that it shows.
+pub record ReadsFile (old new : State) (rows : FileRows) : Type 0 where
+  pub stays : Stays old new
+  pub is_open : IsTrue new.is_open
+  pub found : AreFileRows old rows
+  pub read : (format : Format) (l : Layout) (c : Contents) → IsOfFormat format l → ShowsContents l c old
+      → IsReadOf l c rows
