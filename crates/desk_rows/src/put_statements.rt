@@ -42,21 +42,40 @@ pub(crate) fn run<S: Alter>(
     Ok(())
 }
 
-/// Runs the statement of a put within a transaction.
+/// The text of the statement of a put.
+fn put_text(put: &Put<'_>) -> &'static str
+    ensures { result.now ≡ (statement (put_of put.now)).text }
+{
+    match put {
+        Put::Book(_) => PUT_BOOK,
+        Put::Tab(_) => PUT_TAB,
+        Put::Para(_) => PUT_PARA,
+        Put::Mark(_) => PUT_MARK,
+        Put::Cache(_) => PUT_CACHE,
+        Put::NamedCorr(_) => PUT_NAMED_CORR,
+        Put::Place { .. } => SET_PLACE,
+        Put::Flags { .. } => SET_FLAGS,
+        Put::Table { .. } => SET_TABLE,
+        Put::Print { .. } => SET_PRINT,
+        Put::Span { .. } => SET_SPAN,
+        Put::Resolved { .. } => SET_RESOLVED,
+        Put::Version(_) => SET_VERSION,
+    }
+}
+
+/// Runs the statement of a put with its parameters within a transaction.
 fn run_put<S: Alter>(
     tx: &mut Transaction<'_, S>,
     put: &Put<'_>,
-    text: &str,
     params: &[ValueRef<'_>],
 ) -> Result<(), Error>
-    requires said { text.now ≡ (statement (put_of put.now)).text }
-    requires given { bound params.now ≡ (statement (put_of put.now)).params }
+    requires { bound params.now ≡ (statement (put_of put.now)).params }
     ensures same_reference { tx.new.conn.ghost_name ≡ tx.old.conn.ghost_name }
     ensures put { HasCleanDisk (seen S.Store tx.new)
         → IsPut result (put_of put.now) (seen S.Store tx.old) (seen S.Store tx.new) }
     ensures survives { Survives (seen S.Store tx.old) (seen S.Store tx.new) (λ _. ⊥) }
 {
-    run(tx, text, params)
+    run(tx, put_text(put), params)
 }
 
 /// A print as a text.
@@ -81,7 +100,7 @@ pub(crate) fn put_book<S: Alter>(tx: &mut Transaction<'_, S>, row: &BookRow) -> 
     ensures survives { Survives (seen S.Store tx.old) (seen S.Store tx.new) (λ _. ⊥) }
 {
     let columns = [row.id.to_sql(), row.format.to_sql(), row.version.to_sql()];
-    run_put(tx, &Put::Book(*row), PUT_BOOK, &columns)
+    run_put(tx, &Put::Book(*row), &columns)
 }
 
 /// Puts the row of a paragraph by its key, with its print as a text.
@@ -106,7 +125,7 @@ fn put_para<S: Alter>(
         row.volume.to_sql(),
         row.struck.to_sql(),
     ];
-    run_put(tx, &Put::Para(*row), PUT_PARA, &columns)
+    run_put(tx, &Put::Para(*row), &columns)
 }
 
 /// The columns of a mark.
@@ -149,15 +168,15 @@ fn put<S: Alter>(alloc: Global, tx: &mut Transaction<'_, S>, put: Put<'_>) -> Re
 {
     match put {
         Put::Book(row) => put_book(tx, &row),
-        Put::Tab(row) => run_put(tx, &put, PUT_TAB, &[row.name.to_sql(), row.body.to_sql()]),
+        Put::Tab(row) => run_put(tx, &put, &[row.name.to_sql(), row.body.to_sql()]),
         Put::Para(row) => put_para(alloc, tx, &row),
-        Put::Mark(row) => run_put(tx, &put, PUT_MARK, &mark_columns(&row)),
+        Put::Mark(row) => run_put(tx, &put, &mark_columns(&row)),
         Put::Cache(row) => {
             let cells = masks(alloc, row.cells)?;
-            run_put(tx, &put, PUT_CACHE, &[row.para.to_sql(), cells.to_sql()])
+            run_put(tx, &put, &[row.para.to_sql(), cells.to_sql()])
         }
-        Put::NamedCorr(row) => run_put(tx, &put, PUT_NAMED_CORR, &entry_columns(&row)),
-        Put::Place { id, place } => { run_put(tx, &put, SET_PLACE, &[id.to_sql(), place.to_sql()]) }
+        Put::NamedCorr(row) => run_put(tx, &put, &entry_columns(&row)),
+        Put::Place { id, place } => run_put(tx, &put, &[id.to_sql(), place.to_sql()]),
         Put::Flags {
             id,
             style,
@@ -170,12 +189,12 @@ fn put<S: Alter>(alloc: Global, tx: &mut Transaction<'_, S>, put: Put<'_>) -> Re
                 volume.to_sql(),
                 struck.to_sql(),
             ];
-            run_put(tx, &put, SET_FLAGS, &columns)
+            run_put(tx, &put, &columns)
         }
-        Put::Table { id, tab } => run_put(tx, &put, SET_TABLE, &[id.to_sql(), tab.to_sql()]),
+        Put::Table { id, tab } => run_put(tx, &put, &[id.to_sql(), tab.to_sql()]),
         Put::Print { id, print } => {
             let print = encoded(alloc, print)?;
-            run_put(tx, &put, SET_PRINT, &[id.to_sql(), print.as_str().to_sql()])
+            run_put(tx, &put, &[id.to_sql(), print.as_str().to_sql()])
         }
         Put::Span {
             id,
@@ -184,12 +203,10 @@ fn put<S: Alter>(alloc: Global, tx: &mut Transaction<'_, S>, put: Put<'_>) -> Re
             touched,
         } => {
             let columns = [id.to_sql(), start.to_sql(), stop.to_sql(), touched.to_sql()];
-            run_put(tx, &put, SET_SPAN, &columns)
+            run_put(tx, &put, &columns)
         }
-        Put::Resolved { id, resolved } => {
-            run_put(tx, &put, SET_RESOLVED, &[id.to_sql(), resolved.to_sql()])
-        }
-        Put::Version(version) => run_put(tx, &put, SET_VERSION, &[1i64.to_sql(), version.to_sql()]),
+        Put::Resolved { id, resolved } => run_put(tx, &put, &[id.to_sql(), resolved.to_sql()]),
+        Put::Version(version) => run_put(tx, &put, &[1i64.to_sql(), version.to_sql()]),
     }
 }
 
