@@ -76,7 +76,8 @@ pub fn texts_as_written()
         → l.has t ≡ true → shows_rowid t ≡ true → HaveIntegerRowids (db (l.tree t)) }
     ensures apart { (l : Layout) (c : Contents) (db : Trees) → IsFile l c db → l.has FileTable.Tab ≡ true
         → (xs : List StoredTab)
-        → Lists (shown_columns FileTable.Tab) (columns_at (description_of FileTable.Tab).shown) xs (db (l.tree FileTable.Tab))
+        → Lists (shown_columns FileTable.Tab) (columns_at (description_of FileTable.Tab).shown) xs
+        (db (l.tree FileTable.Tab))
         → HaveOwnRowids xs }
 {}
 

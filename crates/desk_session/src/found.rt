@@ -25,8 +25,8 @@ pub fn opened_after_a_session<S: Alter, T: Alter>(
     next: &Connection<T>,
     opened: &Connection<T>,
 )
-    ensures found { (l : Layout) (book held : Book) (ended : Ended) (turns : List Turn) (given : List GivenCommand)
-        → HasNewTables l → IsSession book turns given held → EndsAs ended turns
+    ensures found { (l : Layout) (book held : Book) (ended : Ended) (turns : List Turn)
+        (given : List GivenCommand) → HasNewTables l → IsSession book turns given held → EndsAs ended turns
         → IsLeft l book held ended given (shown_by S.Store last.now)
         → (shown_by S.Store last.now).may_leave (state T.Store next.now).committed.trees
         → Opens (state T.Store next.now) → (make : Bool) (result : Result Book OpenFault)

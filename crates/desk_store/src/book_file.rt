@@ -108,7 +108,8 @@ fn read_entries<S: Alter>(
     format: FileFormat,
 ) -> Result<EntryRows, DatabaseFault>
     ensures read { HasCleanDisk (state S.Store conn.new) → IfOk result (λ entries.
-        ReadsEntries (format_read format) (entry_rows entries) (state S.Store conn.old) (state S.Store conn.new)) }
+        ReadsEntries (format_read format) (entry_rows entries)
+        (state S.Store conn.old) (state S.Store conn.new)) }
     ensures kept { IfOk result (λ entries. format_kept (entry_rows entries) ≡ format_read format) }
     ensures fails { HasCleanDisk (state S.Store conn.new)
         → IfErr result (FailsToRead S.Store (format_read format) conn.old (state S.Store conn.new)) }
