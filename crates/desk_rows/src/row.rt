@@ -217,14 +217,7 @@ impl TableRow for NamedCorrRow {
 
     fn from_row(alloc: Global, row: &Row) -> Result<NamedCorrRow, DatabaseFault> {
         Ok(NamedCorrRow {
-            entry: CorrRow {
-                para: integer(row, 0)?,
-                seq: integer(row, 1)?,
-                kind: integer(row, 2)?,
-                start: integer(row, 3)?,
-                len: integer(row, 4)?,
-                body: text(alloc, row, 5)?,
-            },
+            entry: CorrRow::from_row(alloc, row)?,
             who: text(alloc, row, 6)?,
         })
     }
