@@ -30,7 +30,7 @@ need_rt = $(if $(shell command -v '$(RT)' 2> /dev/null),,$(error the command '$(
 
 $(PROGRAM): $(SOURCES)
 	$(need_rt)
-	@echo 'Proving what the program needs, and building it. From nothing this takes 40 minutes or more; a crate that is unchanged takes seconds.' >&2
+	@echo 'Proving what the program needs, and building it. From nothing this takes half an hour or more; a crate that is unchanged takes seconds.' >&2
 	@RT='$(RT)' JOBS=$(JOBS) exec scripts/prove.sh
 	@mkdir -p $(@D)
 	@cp crates/braildesk/out/braildesk $@
