@@ -1,5 +1,5 @@
 -- How a correction is checked while no version is expected.
-use Rattle.std.proofs.Common.{◌≡◌, ℕ, ◌+◌, ◌-◌, ◌<◌, ◌≤◌, false, List, length, Option, Some, None, refl, sym, ap, subst, ◌∙◌, arith, inl, lit≤}
+use Rattle.std.proofs.Common.{◌≡◌, ℕ, ◌+◌, ◌-◌, ◌≤◌, false, List, length, Option, Some, None, refl, sym, ap, subst, ◌∙◌, arith, lit≤}
 use Rattle.louis_table.specs.Meaning.{Meaning}
 use Rattle.louis_translate.specs.Position.{AreDefined}
 use Rattle.desk_book.specs.declared.change.Effect.{Effect}
@@ -8,10 +8,10 @@ use Rattle.desk_command.specs.declared.command.Command.{Command}
 use Rattle.desk_command.specs.declared.command.Command.TheVariants.{Correct}
 use Rattle.desk_memory.specs.declared.paragraphs.Paragraph.{Paragraph as KeptParagraph}
 use Rattle.desk_command.specs.declared.refusal.Refusal.{Refusal}
-use Rattle.desk_command.specs.declared.refusal.Refusal.TheVariants.{BadReader, BadSpan, NoMemory, TooLong}
+use Rattle.desk_command.specs.declared.refusal.Refusal.TheVariants.{BadReader, BadSpan, NoMemory}
 use Rattle.desk_model.specs.Book.{Book, Corrects, Paragraph, Replacement}
 use Rattle.desk_book.specs.Changes.{Does}
-use Rattle.desk_book.specs.Corrections.{HaltsEntry, HaltsPrint, IsEntered, IsUnfit, TakesEntry}
+use Rattle.desk_book.specs.Corrections.{HaltsEntry, HaltsPrint, IsEntered, TakesEntry}
 use Rattle.desk_memory.specs.Histories.{TookFrom, entry_kept}
 use Rattle.desk_model.specs.Judging.{Passes}
 use Rattle.desk_model.specs.Limits.{most_print}
@@ -26,11 +26,11 @@ use Rattle.desk_model.specs.NormalForm.{IsUnbarred, normal_form}
 use Rattle.desk_command.specs.Characters.{AreCharacters}
 use Rattle.desk_book.proofs.Plans.EntryPlanned.{ChangesPrint-entered}
 use Rattle.desk_model.proofs.Books.SoundBooks.{short-sound}
-use Rattle.desk_book.proofs.Plans.EntryPlanning.{accepts_entry, halted, undefined, unfit, unstruck}
+use Rattle.desk_book.proofs.Plans.EntryPlanning.{accepts_entry, halted, undefined, unstruck}
 use Rattle.desk_model.proofs.Commands.Turns.{passes_to, past_text, same_some, short_text, to_turn}
 use Rattle.desk_model.proofs.Books.HistoryLists.{corrected_print-corrects}
 use Rattle.desk_model.proofs.Commands.Judging.{Passes-past}
-use Rattle.desk_book.proofs.Plans.Planning.{no_memory, turned_down}
+use Rattle.desk_book.proofs.Plans.Planning.{no_memory}
 use Rattle.desk_model.proofs.Books.SoundEntries.{length-replaced}
 
 module _ (book : Book) (id start count : ℕ) (text who : List ℕ) where
@@ -40,9 +40,6 @@ module _ (book : Book) (id start count : ℕ) (text who : List ℕ) where
   abbrev r : Replacement
   r = replacement_by start count text
 
-  pub bad_reader : (told : Refusal) → (told ≡ BadReader) × (¬ IsProofreaderName who) → IsTurnedDown book command told
-  bad_reader told (is, bad) = turned_down book command 15 BadReader told (passes_to book command 15 refl) refl (record { name = who; given = refl; bad = bad }) is
-
   module _ (named : IsProofreaderName who) where
     pub past_proofreader : Passes book None command 20
     past_proofreader = Passes-past book None command BadReader 20 refl (passes_to book command 15 refl) (λ b. b.bad (subst IsProofreaderName (same_some who b.name b.given) named))
@@ -51,19 +48,12 @@ module _ (book : Book) (id start count : ℕ) (text who : List ℕ) where
       cleaned : Passes book None command 30
       cleaned = past_text book command text past_proofreader refl unbarred
 
-      pub unfit_here : (told : Refusal) → IsUnfit book id told → IsTurnedDown book command told
-      unfit_here told = unfit book command id refl refl refl cleaned told
-
       module _ (kept : KeptParagraph) (meaning : Meaning) (shown : IsShown book id kept meaning) (free : kept.struck ≡ false) where
         abbrev p : Paragraph
         p = shown.paragraph
 
         fit : Passes book None command 90
         fit = to_turn book command 70 90 refl (unstruck book command id refl refl refl cleaned kept meaning shown free)
-
-        pub bad_span : (told : Refusal) → (told ≡ BadSpan) × (length kept.print < start + count) → IsTurnedDown book command told
-        bad_span told (is, past) =
-            turned_down book command 90 BadSpan told fit refl (record { paragraph = p; found = shown.found; past = subst (λ (t : List ℕ). length t < start + count) shown.print past }) is
 
         module _ (span : start + count ≤ length kept.print) where
           spanned : Passes book None command 110
@@ -85,10 +75,6 @@ module _ (book : Book) (id start count : ℕ) (text who : List ℕ) where
 
           pub no_memory_here : (told : Refusal) → told ≡ NoMemory → IsTurnedDown book command told
           no_memory_here told is = no_memory book command told 110 refl spanned is
-
-          pub long_text : (told : Refusal) (put : List ℕ) → put ≡ normal_form text → (told ≡ TooLong) × (most_print < length put) → IsTurnedDown book command told
-          long_text told put same (is, long) =
-              turned_down book command 110 TooLong told spanned refl (inl (record { text = normal_form text; given = refl; long = subst (λ (t : List ℕ). most_print < length t) same long })) is
 
           module _ (print : List ℕ) (print_is : print ≡ with_replacement (print_of p) r) (short : length (normal_form text) ≤ most_print) where
             abbrev replaced : Paragraph → Option (List ℕ)

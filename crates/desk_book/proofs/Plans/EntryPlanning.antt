@@ -1,5 +1,5 @@
 -- How a command that brings an entry into a history is checked while no version is expected.
-use Rattle.std.proofs.Common.{◌≡◌, ℕ, ◌<◌, ◌≤◌, true, false, List, [], ◌∷◌, length, Option, Some, None, refl, sym, ap, subst, ◌∙◌, arith, inl, inr}
+use Rattle.std.proofs.Common.{◌≡◌, ℕ, ◌<◌, ◌≤◌, true, false, List, [], ◌∷◌, length, Option, Some, None, refl, sym, ap, ◌∙◌, arith, inl, inr}
 use Rattle.std.specs.Option.{option_and_then}
 use Rattle.std.proofs.lemmas.List.{length-map}
 use Rattle.louis_table.specs.Meaning.{Meaning}
@@ -10,28 +10,23 @@ use Rattle.desk_memory.specs.declared.paragraphs.Paragraph.{Paragraph as KeptPar
 use Rattle.desk_memory.specs.declared.tables.BookTable.{BookTable}
 use Rattle.desk_command.specs.declared.refusal.Limit.TheVariants.{Entries}
 use Rattle.desk_command.specs.declared.refusal.Refusal.{Refusal}
-use Rattle.desk_command.specs.declared.refusal.Refusal.TheVariants.{Full, NoMemory, Struck, Undefined}
+use Rattle.desk_command.specs.declared.refusal.Refusal.TheVariants.{Full, NoMemory, Undefined}
 use Rattle.desk_model.specs.Book.{Book, Paragraph, paragraph_of, text_of}
-use Rattle.desk_book.specs.Corrections.{HaltsEntry, HaltsPrint, IsUnfit, TakesEntry}
+use Rattle.desk_book.specs.Corrections.{HaltsEntry, HaltsPrint, TakesEntry}
 use Rattle.desk_memory.specs.Display.{IsShown}
 use Rattle.desk_memory.specs.Histories.{entry_kept}
 use Rattle.desk_model.specs.Judging.{Passes, first_turn_after_asking}
 use Rattle.desk_memory.specs.Kept.{paragraph_kept}
 use Rattle.desk_model.specs.Limits.{most_entries, most_print, most_version}
-use Rattle.desk_book.specs.Plans.{AreNotAllThere, IsTurnedDown}
+use Rattle.desk_book.specs.Plans.{IsTurnedDown}
 use Rattle.desk_model.specs.Named.{Changed, history_grown, live_paragraph, paragraph_translated, paragraphs_named}
 use Rattle.desk_model.specs.Refusals.{HasLongNote, HasLongText, IsAccepted, new_print, print_and_table, print_made, print_to_translate}
 use Rattle.desk_model.proofs.Commands.Judging.{Passes-past, skips}
-use Rattle.desk_book.proofs.Plans.Planning.{AreNotAllThere-first, full_version, no_memory, no_paragraph, past_print, too_long, turned_down}
-use Rattle.desk_model.proofs.Commands.Turns.{accepted_after, changed-print, changed-translated, past_fit, past_lengths, past_there, past_version, short_print, to_turn}
+use Rattle.desk_book.proofs.Plans.Planning.{full_version, no_memory, past_print, too_long, turned_down}
+use Rattle.desk_model.proofs.Commands.Turns.{accepted_after, changed-print, changed-translated, past_fit, past_lengths, past_version, short_print, to_turn}
 
 module _ (book : Book) (command : Command) (id : ℕ) (named : paragraphs_named command ≡ id ∷ []) (live : live_paragraph command ≡ Some id) (skip : skips command 40 60 ≡ true)
     (passes : Passes book None command 30) where
-  -- the paragraph isn't there, or is struck
-  pub unfit : (told : Refusal) → IsUnfit book id told → IsTurnedDown book command told
-  unfit told (inl (is, missing)) = no_paragraph book command told passes (subst (AreNotAllThere book) (sym named) (AreNotAllThere-first book id [] missing)) is
-  unfit told (inr (is, (p, found, struck))) = turned_down book command 60 Struck told (past_there book command id named live skip passes p found) refl (record { id = id; paragraph = p; named = live; found = found; struck = struck }) is
-
   -- it is there, and isn't struck
   pub unstruck : (kept : KeptParagraph) (meaning : Meaning) (shown : IsShown book id kept meaning) → kept.struck ≡ false → Passes book None command 70
   unstruck kept meaning shown free = past_fit book command id named live skip passes shown.paragraph shown.found (ap (λ (q : Paragraph). q.struck) shown.kept_is ∙ free)

@@ -14,7 +14,7 @@ use Rattle.desk_command.specs.declared.refusal.Refusal.{Refusal}
 use Rattle.desk_command.specs.declared.refusal.Refusal.TheVariants.{NoMemory, NothingToUndo}
 use Rattle.desk_model.specs.Book.{Book, Undoes, Paragraph, Replacement}
 use Rattle.desk_book.specs.Changes.{Does}
-use Rattle.desk_book.specs.Corrections.{HaltsEntry, HaltsPrint, IsEntered, IsUnfit, TakesEntry}
+use Rattle.desk_book.specs.Corrections.{HaltsEntry, HaltsPrint, IsEntered, TakesEntry}
 use Rattle.desk_memory.specs.Histories.{replaced_by}
 use Rattle.desk_memory.specs.Histories.{IsNewestInForce, LeavePrint, TookFrom, entries_kept, entry_kept, replacement_kept}
 use Rattle.desk_model.specs.Judging.{Passes}
@@ -28,10 +28,9 @@ use Rattle.desk_model.specs.Sound.{AreSoundEntries}
 use Rattle.desk_model.specs.Step.{next_with_entry}
 use Rattle.desk_book.proofs.Plans.EntryPlanned.{ChangesPrint-entered}
 use Rattle.desk_model.proofs.Books.SoundBooks.{short-sound}
-use Rattle.desk_book.proofs.Plans.EntryPlanning.{accepts_entry, halted, lacking, undefined, unfit, unstruck}
+use Rattle.desk_book.proofs.Plans.EntryPlanning.{accepts_entry, halted, lacking, undefined, unstruck}
 use Rattle.desk_model.proofs.Commands.Turns.{passes_to, to_turn}
 use Rattle.desk_model.proofs.Commands.Judging.{Passes-past}
-use Rattle.desk_book.proofs.Plans.Planning.{turned_down}
 use Rattle.desk_memory.proofs.Callers.{taken-span, text-span, undone-length, undone-print}
 
 module _ (book : Book) (id : ℕ) where
@@ -40,9 +39,6 @@ module _ (book : Book) (id : ℕ) where
 
   start_here : Passes book None command 30
   start_here = passes_to book command 30 refl
-
-  pub unfit_here : (told : Refusal) → IsUnfit book id told → IsTurnedDown book command told
-  unfit_here told = unfit book command id refl refl refl start_here told
 
   module _ (kept : KeptParagraph) (meaning : Meaning) (shown : IsShown book id kept meaning) (free : kept.struck ≡ false) where
     abbrev p : Paragraph
@@ -59,10 +55,6 @@ module _ (book : Book) (id : ℕ) where
 
     fit : Passes book None command 100
     fit = to_turn book command 70 100 refl (unstruck book command id refl refl refl start_here kept meaning shown free)
-
-    pub nothing_here : (told : Refusal) → newest (entries_kept kept.history) ≡ None → told ≡ NothingToUndo → IsTurnedDown book command told
-    nothing_here told none is =
-        turned_down book command 100 NothingToUndo told fit refl (record { paragraph = p; found = shown.found; none = ap newest history_is ∙ none }) is
 
     module _ (number : ℕ) (c : Correction) (force : IsNewestInForce kept.history number c) where
       abbrev r : Replacement
