@@ -1,6 +1,7 @@
 pub mod CorrectPlanning
 pub mod EntryPlanned
 pub mod EntryPlanning
+pub mod FlagPlanning
 pub mod MarkPlanning
 pub mod NewParagraphs
 pub mod Planning

@@ -1,0 +1,30 @@
+-- What a command that sets a style or a flag of a paragraph is planned to do.
+use Rattle.std.proofs.Common.{◌≡◌, ℕ, ◌<◌, Bool, true, None, sym, ap, subst}
+use Rattle.desk_book.specs.declared.change.Effect.{Effect}
+use Rattle.desk_book.specs.declared.change.Effect.TheVariants.{SetFlags}
+use Rattle.desk_command.specs.declared.command.Command.{Command}
+use Rattle.desk_memory.specs.declared.paragraphs.Paragraph.{Paragraph as KeptParagraph}
+use Rattle.desk_command.specs.declared.style.Style.{Style}
+use Rattle.desk_model.specs.Book.{Book, Paragraph}
+use Rattle.desk_model.specs.Judging.{Passes}
+use Rattle.desk_memory.specs.Kept.{paragraph_kept}
+use Rattle.desk_model.specs.Limits.{most_version}
+use Rattle.desk_model.specs.Named.{HasCharacters}
+use Rattle.desk_book.specs.Plans.{IsKeptFor, IsPlanned}
+use Rattle.desk_model.specs.Step.{Makes, next_with_paragraphs, with_change}
+use Rattle.desk_model.proofs.Books.ParagraphLists.{with_change-same}
+use Rattle.desk_model.proofs.Commands.Judging.{skips}
+use Rattle.desk_model.proofs.Commands.Turns.{accepted_after, past_version}
+
+module _ (book : Book) (command : Command) (id : ℕ) (kept : KeptParagraph) (k : IsKeptFor book id kept) (change : Paragraph → Paragraph)
+    (makes : Makes book command (next_with_paragraphs book (with_change id change book.paragraphs))) (written : HasCharacters command) where
+  -- where a version is left, and no refusal holds that is checked before
+  pub flags_planned : (n : ℕ) → Passes book None command n → skips command n 160 ≡ true → skips command 170 200 ≡ true → book.version < most_version
+      → (effect : Effect) (style : Style) (begins struck : Bool) → effect ≡ SetFlags id style begins struck
+      → change (paragraph_kept (id, kept)) ≡ record (paragraph_kept (id, kept)) { style = style; begins_volume = begins; struck = struck } → IsPlanned book command effect
+  flags_planned n passes to_version to_end left effect style begins struck is same =
+      subst (IsPlanned book command) (sym is) (
+        accepted_after book command 170 (past_version book command n passes to_version left) to_end,
+        (next_with_paragraphs book (with_change id change book.paragraphs), makes, ap (next_with_paragraphs book) (with_change-same id (paragraph_kept (id, kept)) change _ _ k.alone same)),
+        written,
+      )
