@@ -13,15 +13,20 @@ use Rattle.desk_book.proofs.book.Book.plan_undo.Goals.{After-as_slice-old, In_ok
 
 -- ---- what is known of the correction that is taken back, and of the print then
 
-force_is : (c : After-as_slice-old) → IsNewestInForce c.in_ok-paragraph.paragraph.now.history c.in-Some.number c.in-Some.correction.now
-force_is c = subst (λ h. IsNewestInForce h c.in-Some.number c.in-Some.correction.now) c.as_slice.ensures c.in-Some.ensures.found
+module _ (c : After-as_slice-old) where
+  force_is : IsNewestInForce c.in_ok-paragraph.paragraph.now.history c.in-Some.number c.in-Some.correction.now
+  force_is = subst (λ h. IsNewestInForce h c.in-Some.number c.in-Some.correction.now) c.as_slice.ensures c.in-Some.ensures.found
 
--- so many characters the print has then
-many_is : (c : After-as_slice-old) → IsNewestInForce c.in_ok-paragraph.paragraph.now.history c.in-Some.number c.in-Some.correction.now
-    → (length c.as_slice-old.result.now - c.count-count.result) + length c.as_slice-taken.result.now ≡ length (print_of (with_entry (Undoes c.in-Some.number) c.in_ok-paragraph.ensures.found.0.paragraph))
-many_is c force =
-    counted c.args.self.now c.args.id _ _ c.in_ok-paragraph.ensures.found.0 c.in_ok-paragraph.ensures.found.1 c.in-Some.number c.in-Some.correction.now force
-    _ _ _ (ap length c.as_slice-old.ensures) c.count-count.ensures (ap length c.as_slice-taken.ensures)
+  span_is : c.in-Some.correction.now.start + length c.in-Some.correction.now.text ≤ length c.as_slice-old.result.now
+  span_is =
+      subst (λ (t : List ℕ). c.in-Some.correction.now.start + length c.in-Some.correction.now.text ≤ length t) (sym c.as_slice-old.ensures)
+      (span_here c.args.self.now c.args.id _ _ c.in_ok-paragraph.ensures.found.0 c.in_ok-paragraph.ensures.found.1 c.in-Some.number c.in-Some.correction.now force_is)
+
+  -- so many characters the print has then
+  many_is : (length c.as_slice-old.result.now - c.count-count.result) + length c.as_slice-taken.result.now ≡ length (print_of (with_entry (Undoes c.in-Some.number) c.in_ok-paragraph.ensures.found.0.paragraph))
+  many_is =
+      counted c.args.self.now c.args.id _ _ c.in_ok-paragraph.ensures.found.0 c.in_ok-paragraph.ensures.found.1 c.in-Some.number c.in-Some.correction.now force_is
+      _ _ _ (ap length c.as_slice-old.ensures) c.count-count.ensures (ap length c.as_slice-taken.ensures)
 
 printed_is : (c : In_ok-undone) → IsNewestInForce c.in_ok-paragraph.paragraph.now.history c.in-Some.number c.in-Some.correction.now
     → c.in_ok-undone.field-0.items ≡ print_of (with_entry (Undoes c.in-Some.number) c.in_ok-paragraph.ensures.found.0.paragraph)
@@ -37,70 +42,49 @@ newest-requires c =
 
 pub overflow_sub-old : goal.overflow_sub-old
 overflow_sub-old c =
-    let found = c.in_ok-paragraph.ensures.found in
-    let force = subst (λ h. IsNewestInForce h c.in-Some.number c.in-Some.correction.now) c.as_slice.ensures c.in-Some.ensures.found in
-    let old = ap length c.as_slice-old.ensures in
     let count : c.count-count.result ≡ length c.in-Some.correction.now.text = c.count-count.ensures in
-    let span = span_here c.args.self.now c.args.id _ _ found.0 found.1 c.in-Some.number c.in-Some.correction.now force in
+    let span = span_is (goal.at.overflow_sub-old c).After-as_slice-old in
     omega arith
 
 pub undone-requires : goal.undone-requires
-undone-requires c =
-    let found = c.in_ok-paragraph.ensures.found in
-    let force = subst (λ h. IsNewestInForce h c.in-Some.number c.in-Some.correction.now) c.as_slice.ensures c.in-Some.ensures.found in
-    subst (λ (t : List ℕ). c.in-Some.correction.now.start + length c.in-Some.correction.now.text ≤ length t) (sym c.as_slice-old.ensures)
-    (span_here c.args.self.now c.args.id _ _ found.0 found.1 c.in-Some.number c.in-Some.correction.now force)
+undone-requires c = span_is (goal.at.undone-requires c).After-as_slice-old
 
 pub returns-clause-planned : goal.returns-clause-planned
 returns-clause-planned c =
     let at = goal.at.returns-clause-planned c in
     let found = c.in_ok-paragraph.ensures.found in
-    let correction = c.in-Some.correction.now in
     let force = force_is at.After-as_slice-old in
-    let printed = printed_is at.In_ok-undone force in
     IfOk-weaker c.entry_effect.result _ _
-    (λ effect is. planned_here c.args.self.now c.args.id _ _ found.0 found.1 c.in-Some.number correction force c.in_ok-undone.field-0.items printed _ effect refl is refl refl c.count-count.ensures (ap length c.as_slice-taken.ensures)) c.entry_effect.ensures.planned
+    (λ effect is. planned_here c.args.self.now c.args.id _ _ found.0 found.1 c.in-Some.number c.in-Some.correction.now force c.in_ok-undone.field-0.items (printed_is at.In_ok-undone force) _ effect refl is refl refl c.count-count.ensures (ap length c.as_slice-taken.ensures)) c.entry_effect.ensures.planned
 
 pub returns-in_err-check_entry-clause-refused : goal.returns-in_err-check_entry-clause-refused
 returns-in_err-check_entry-clause-refused c =
-    let at = goal.at.returns-in_err-check_entry-clause-refused c in
+    let at = (goal.at.returns-in_err-check_entry-clause-refused c).After-as_slice-old in
     let p = err_from_is_err_and c.from_residual-in_err-check_entry.result c.from_residual-in_err-check_entry.ensures.1 in
     let found = c.in_ok-paragraph.ensures.found in
-    let correction = c.in-Some.correction.now in
-    let force = force_is at.After-as_slice-old in
-    let many = many_is at.After-as_slice-old force in
-    rw (p.1, p.2) (halted_here c.args.self.now c.args.id _ _ found.0 found.1 c.in-Some.number correction force _ refl _
-    (subst (λ n. HaltsEntry c.args.self.now c.in_ok-paragraph.paragraph.now n c.in_err-check_entry.field-0.0) many c.in_err-check_entry.ensures.halted))
+    rw (p.1, p.2) (halted_here c.args.self.now c.args.id _ _ found.0 found.1 c.in-Some.number c.in-Some.correction.now (force_is at) _ refl _
+    (subst (λ n. HaltsEntry c.args.self.now c.in_ok-paragraph.paragraph.now n c.in_err-check_entry.field-0.0) (many_is at) c.in_err-check_entry.ensures.halted))
 
 pub entry_effect-requires : goal.entry_effect-requires
 entry_effect-requires c =
     let at = goal.at.entry_effect-requires c in
-    let found = c.in_ok-paragraph.ensures.found in
-    let correction = c.in-Some.correction.now in
-    let force = force_is at.After-as_slice-old in
-    let many = many_is at.After-as_slice-old force in
-    let printed = printed_is at.In_ok-undone force in
-    subst (TakesEntry c.args.self.now c.in_ok-paragraph.paragraph.now) (many ∙ sym (ap length printed)) c.in_ok-check_entry.ensures.takes
+    let printed = printed_is at.In_ok-undone (force_is at.After-as_slice-old) in
+    subst (TakesEntry c.args.self.now c.in_ok-paragraph.paragraph.now) (many_is at.After-as_slice-old ∙ sym (ap length printed)) c.in_ok-check_entry.ensures.takes
 
 pub returns-clause-refused : goal.returns-clause-refused
 returns-clause-refused c =
     let at = goal.at.returns-clause-refused c in
     let found = c.in_ok-paragraph.ensures.found in
-    let correction = c.in-Some.correction.now in
     let force = force_is at.After-as_slice-old in
-    let many = many_is at.After-as_slice-old force in
     let printed = printed_is at.In_ok-undone force in
-    let takes = subst (TakesEntry c.args.self.now c.in_ok-paragraph.paragraph.now) (many ∙ sym (ap length printed)) c.in_ok-check_entry.ensures.takes in
+    let takes = subst (TakesEntry c.args.self.now c.in_ok-paragraph.paragraph.now) (many_is at.After-as_slice-old ∙ sym (ap length printed)) c.in_ok-check_entry.ensures.takes in
     IfErr-weaker c.entry_effect.result _ _
-    (λ told halts. undefined_here c.args.self.now c.args.id _ _ found.0 found.1 c.in-Some.number correction force c.in_ok-undone.field-0.items printed takes told halts) c.entry_effect.ensures.refused
+    (λ told halts. undefined_here c.args.self.now c.args.id _ _ found.0 found.1 c.in-Some.number c.in-Some.correction.now force c.in_ok-undone.field-0.items printed takes told halts) c.entry_effect.ensures.refused
 
 pub returns-in_err-undone-clause-refused : goal.returns-in_err-undone-clause-refused
 returns-in_err-undone-clause-refused c =
-    let at = goal.at.returns-in_err-undone-clause-refused c in
+    let at = (goal.at.returns-in_err-undone-clause-refused c).After-as_slice-old in
     let p = err_from_is_err_and c.from_residual-in_err-undone.result c.from_residual-in_err-undone.ensures.1 in
     let found = c.in_ok-paragraph.ensures.found in
-    let correction = c.in-Some.correction.now in
-    let force = force_is at.After-as_slice-old in
-    let many = many_is at.After-as_slice-old force in
-    let takes = subst (TakesEntry c.args.self.now c.in_ok-paragraph.paragraph.now) many c.in_ok-check_entry.ensures.takes in
-    rw p.1 (no_memory_here c.args.self.now c.args.id _ _ found.0 found.1 c.in-Some.number correction force _ refl takes _ p.2)
+    let takes = subst (TakesEntry c.args.self.now c.in_ok-paragraph.paragraph.now) (many_is at) c.in_ok-check_entry.ensures.takes in
+    rw p.1 (no_memory_here c.args.self.now c.args.id _ _ found.0 found.1 c.in-Some.number c.in-Some.correction.now (force_is at) _ refl takes _ p.2)
