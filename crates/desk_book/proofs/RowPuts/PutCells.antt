@@ -6,16 +6,16 @@ use Rattle.std.specs.Option.{ForSome}
 use Rattle.std.specs.Ordering.{int_eq}
 use Rattle.std.specs.Prelude.{nat_eq, not, option_map}
 use Rattle.std.proofs.lemmas.Bool.{cond-true, cond-false, eq-eqb}
-use Rattle.std.proofs.lemmas.List.Elements.{All-contains_itself, All-weaker, filter_agree}
+use Rattle.std.proofs.lemmas.List.Elements.{filter_agree}
 use Rattle.std.proofs.lemmas.List.Sorted.{IsPermutation-map, IsPermutation-sym}
 use Rattle.desk_model.specs.Book.{Book, Mark, Paragraph, paragraph_of}
 use Rattle.desk_model.specs.Loans.{LeadTo, row_number}
 use Rattle.desk_book.specs.ChangePuts.{cache_put}
 use Rattle.desk_book.specs.Changes.{AreCellsByTable}
-use Rattle.desk_parts.specs.FileRows.{HasParaTexts, format_of, spelled_para}
+use Rattle.desk_parts.specs.FileRows.{spelled_para}
 use Rattle.desk_parts.specs.Puts.{PutCache, SetTable, SetVersion, put_by_key}
 use Rattle.desk_parts.specs.Rows.{ParaCells, Para}
-use Rattle.desk_model.specs.Shows.{AreCached, IsCached, paras_of}
+use Rattle.desk_model.specs.Shows.{AreCached, IsCached}
 use Rattle.desk_model.specs.Sound.{IsSound}
 use Rattle.desk_command.specs.Characters.{AreCharacters}
 use Rattle.desk_model.specs.Translation.{IsBraille}
@@ -23,8 +23,8 @@ use Rattle.desk_model.specs.Step.{next_with_paragraphs, with_change, without_par
 use Rattle.desk_model.proofs.Rows.BookRows.{encoded-text, name-characters, spelled-encoded}
 use Rattle.desk_model.proofs.Lists.Members.{Contains-map}
 use Rattle.desk_model.proofs.Books.ParagraphLists.{Contains-found, IsPermutation-without_paragraph, changed, id-found, ids-with_change}
-use Rattle.desk_book.proofs.RowPuts.PutChanges.{Sets, cond-over, entries-changed, para_set, rows-changed, small_id}
-use Rattle.desk_model.proofs.Rows.PutRows.{AreCached-put, All-set_where, IsBraille-same, IsPermutation-set, id_number, number-small, numbers-same, versioned}
+use Rattle.desk_book.proofs.RowPuts.PutChanges.{shown-changed}
+use Rattle.desk_model.proofs.Rows.PutRows.{AreCached-put, IsBraille-same, id_number, number-small, numbers-same}
 use Rattle.desk_model.proofs.Lists.RowNumbers.{filter-map, int_eq-pos}
 use Rattle.desk_model.proofs.Books.SoundBooks.{IsSoundTable-found, paragraph_of-within, paragraphs-apart}
 
@@ -115,30 +115,15 @@ module _ (book : Book) (id : ℕ) (name cells : List ℕ) (sound : IsSound book)
     given.cells_are.2,
   )
 
+  spells : (p : Para) → spelled_para (retabled_bytes p) ≡ retabled_row (spelled_para p)
+  spells p = λ i. record (spelled_para p) { tab = spelled-encoded name characters i }
+
   leads : IsSound with_table
       → LeadTo book (SetVersion (row_number with_table.version) ∷ SetTable (row_number id) (encode_utf8_all name) ∷ PutCache (record { para = pos id; cells = cells }) ∷ []) with_table
-  leads after rows shows has = record {
-    sound = after;
-    texts = record {
-      tabs = shows.texts.tabs;
-      paras = All-set_where (λ (p : Para). int_eq p.id (row_number id)) retabled_bytes HasParaTexts rows.paras (λ p texts. (encoded-text name characters, texts.1, texts.2)) shows.texts.paras;
-      entries = shows.texts.entries;
-      marks = shows.texts.marks;
-    };
-    row = versioned (format_of rows.entries) book.version with_table.version rows.books after.version shows.row;
-    tables = shows.tables;
-    paragraphs = subst (IsPermutation (map spelled_para (map (para_set id retabled_bytes) rows.paras)))
-        (rows-changed id retabled retabled_row 1 book.paragraphs (All-weaker (Contains book.paragraphs) (Sets id retabled retabled_row) (λ p c. (small_id book sound p c, λ e place. refl)) book.paragraphs (All-contains_itself book.paragraphs)))
-        (IsPermutation-set spelled_para (para_set id retabled_bytes) (para_set id retabled_row) spelled-set rows.paras (paras_of book.paragraphs) shows.paragraphs);
-    entries = subst (IsPermutation _) (sym (entries-changed id retabled (λ p. refl) book.paragraphs)) shows.entries;
-    marks = shows.marks;
-    caches = ForSome-map (put_by_key (λ c. int_eq c.para (pos id)) (record { para = pos id; cells = cells })) (AreCached book) (AreCached with_table) rows.caches shows.caches cached-all;
-  }
-    where
-      spelled-set : (p : Para) → spelled_para (para_set id retabled_bytes p) ≡ para_set id retabled_row (spelled_para p)
-      spelled-set p =
-          cond-over spelled_para (int_eq p.id (row_number id)) (retabled_bytes p) p (retabled_row (spelled_para p))
-          (λ e i. record (spelled_para p) { tab = spelled-encoded name characters i })
+  leads after rows shows has =
+      shown-changed book id retabled retabled_row retabled_bytes sound (λ place p. refl) spells (λ p texts. (encoded-text name characters, texts.1, texts.2)) (λ p. refl) after rows shows
+      (option_map (put_by_key (λ c. int_eq c.para (pos id)) (record { para = pos id; cells = cells })) rows.caches)
+      (ForSome-map (put_by_key (λ c. int_eq c.para (pos id)) (record { para = pos id; cells = cells })) (AreCached book) (AreCached with_table) rows.caches shows.caches cached-all)
 
   pub retabled-lead : IsSound with_table
       → LeadTo book (SetVersion (row_number with_table.version) ∷ SetTable (row_number id) (encode_utf8_all name) ∷ cache_put id cells ∷ []) with_table

@@ -1,10 +1,11 @@
 -- What a change of a paragraph or of a mark puts makes rows that show the book show the next.
-use Rattle.std.proofs.Common.{◌≡◌, ℕ, ◌+◌, ◌<◌, ◌≤◌, pos, Bool, true, false, cond, List, [], ◌∷◌, ◌++◌, length, map, Contains, min, refl, sym, ap, subst, ◌∙◌, arith}
+use Rattle.std.proofs.Common.{◌≡◌, ℕ, ◌+◌, ◌<◌, ◌≤◌, pos, Bool, true, false, cond, List, [], ◌∷◌, ◌++◌, length, map, Option, Contains, min, refl, sym, ap, subst, ◌∙◌, arith}
 use Rattle.std.specs.Bool.{one_answer}
 use Rattle.std.specs.Cmp.Lexicographic.{pointwise}
 use Rattle.std.specs.List.{All, enumerate_from, flat_map}
 use Rattle.std.specs.List.Sorted.{IsPermutation}
 use Rattle.std.specs.Map.{lookup}
+use Rattle.std.specs.Option.{ForSome}
 use Rattle.std.specs.Ordering.{int_eq}
 use Rattle.std.specs.Prelude.{nat_eq}
 use Rattle.std.proofs.lemmas.Bool.{cond_both, eqb-true, eq-eqb}
@@ -14,10 +15,10 @@ use Rattle.std.proofs.lemmas.List.Sorted.{IsPermutation-refl}
 use Rattle.desk_command.specs.declared.style.Style.{Style}
 use Rattle.desk_model.specs.Book.{Book, Mark, Paragraph}
 use Rattle.desk_model.specs.Loans.{LeadTo, row_number}
-use Rattle.desk_parts.specs.FileRows.{HasParaTexts, HasMarkText, format_of, spelled_mark, spelled_para}
-use Rattle.desk_parts.specs.Puts.{SetFlags, SetResolved, SetVersion}
+use Rattle.desk_parts.specs.FileRows.{FileRows, HasParaTexts, HasMarkText, format_of, spelled_mark, spelled_para}
+use Rattle.desk_parts.specs.Puts.{SetFlags, SetResolved, SetVersion, with_put}
 use Rattle.desk_parts.specs.Rows.{Mark as MarkRow, Para, ParaCells}
-use Rattle.desk_model.specs.Shows.{IsCached, entry_rows_of, flag_number, mark_row_of, para_of, paras_of, style_number}
+use Rattle.desk_model.specs.Shows.{AreCached, IsCached, Shows, entry_rows_of, flag_number, mark_row_of, para_of, paras_of, style_number}
 use Rattle.desk_model.specs.Sound.{IsSound}
 use Rattle.desk_model.specs.Step.{next_with_marks, next_with_paragraphs, resolved_by, with_change, with_resolved}
 use Rattle.desk_model.specs.Translation.{IsBraille}
@@ -103,6 +104,38 @@ entries-changed id to same (p ∷ ps) = λ i. here i ++ entries-changed id to sa
     here : entry_rows_of (changed id to p) ≡ entry_rows_of p
     here = cond_both (nat_eq p.id id) (to p) p (λ (q : Paragraph). entry_rows_of q ≡ entry_rows_of p) (λ e. same p) (λ e. refl)
 
+-- ---- a change of one paragraph that leaves its history
+
+module _ (book : Book) (id : ℕ) (to : Paragraph → Paragraph) (set bytes : Para → Para) (sound : IsSound book)
+    (sets : (place : ℕ) (p : Paragraph) → set (para_of (place, p)) ≡ para_of (place, to p)) (spells : (p : Para) → spelled_para (bytes p) ≡ set (spelled_para p))
+    (texts : (p : Para) → HasParaTexts p → HasParaTexts (bytes p)) (entries : (p : Paragraph) → entry_rows_of (to p) ≡ entry_rows_of p) where
+  abbrev next : Book
+  next = next_with_paragraphs book (with_change id to book.paragraphs)
+
+  spelled-changed : (p : Para) → spelled_para (para_set id bytes p) ≡ para_set id set (spelled_para p)
+  spelled-changed p = cond-over spelled_para (int_eq p.id (row_number id)) (bytes p) p (set (spelled_para p)) (λ e. spells p)
+
+  -- the rows with its columns set, and rows of the next book's braille, show that book
+  pub shown-changed : IsSound next → (rows : FileRows) → Shows rows book → (caches : Option (List ParaCells)) → ForSome caches (AreCached next)
+      → Shows (record rows { books = (with_put (SetVersion (row_number next.version)) rows).books; paras = map (para_set id bytes) rows.paras; caches = caches }) next
+  shown-changed after rows shows caches cached = record {
+    sound = after;
+    texts = record {
+      tabs = shows.texts.tabs;
+      paras = All-set_where (λ (p : Para). int_eq p.id (row_number id)) bytes HasParaTexts rows.paras texts shows.texts.paras;
+      entries = shows.texts.entries;
+      marks = shows.texts.marks;
+    };
+    row = versioned (format_of rows.entries) book.version next.version rows.books after.version shows.row;
+    tables = shows.tables;
+    paragraphs = subst (IsPermutation (map spelled_para (map (para_set id bytes) rows.paras)))
+        (rows-changed id to set 1 book.paragraphs (All-weaker (Contains book.paragraphs) (Sets id to set) (λ p c. (small_id book sound p c, λ e place. sets place p)) book.paragraphs (All-contains_itself book.paragraphs)))
+        (IsPermutation-set spelled_para (para_set id bytes) (para_set id set) spelled-changed rows.paras (paras_of book.paragraphs) shows.paragraphs);
+    entries = subst (IsPermutation _) (sym (entries-changed id to entries book.paragraphs)) shows.entries;
+    marks = shows.marks;
+    caches = cached;
+  }
+
 -- ---- a style and flags
 
 module _ (book : Book) (id : ℕ) (style : Style) (begins struck : Bool) (sound : IsSound book) where
@@ -128,28 +161,11 @@ module _ (book : Book) (id : ℕ) (style : Style) (begins struck : Bool) (sound 
 
   pub flags-lead : IsSound with_flags
       → LeadTo book (SetVersion (row_number with_flags.version) ∷ SetFlags (row_number id) (style_number style) (flag_number begins) (flag_number struck) ∷ []) with_flags
-  flags-lead after rows shows has = record {
-    sound = after;
-    texts = record {
-      tabs = shows.texts.tabs;
-      paras = All-set_where (λ (p : Para). int_eq p.id (row_number id)) flagged_row HasParaTexts rows.paras (λ p texts. texts) shows.texts.paras;
-      entries = shows.texts.entries;
-      marks = shows.texts.marks;
-    };
-    row = versioned (format_of rows.entries) book.version with_flags.version rows.books after.version shows.row;
-    tables = shows.tables;
-    paragraphs = subst (IsPermutation (map spelled_para (map (para_set id flagged_row) rows.paras)))
-        (rows-changed id flagged flagged_row 1 book.paragraphs (All-weaker (Contains book.paragraphs) (Sets id flagged flagged_row) (λ p c. (small_id book sound p c, λ e place. refl)) book.paragraphs (All-contains_itself book.paragraphs)))
-        (IsPermutation-set spelled_para (para_set id flagged_row) (para_set id flagged_row) spelled-set rows.paras (paras_of book.paragraphs) shows.paragraphs);
-    entries = subst (IsPermutation _) (sym (entries-changed id flagged (λ p. refl) book.paragraphs)) shows.entries;
-    marks = shows.marks;
-    caches = λ caches same. AreCached-same book with_flags caches
-        (IsPermutation-same (map id_number book.paragraphs) (map id_number with_flags.paragraphs) (numbers-same book.paragraphs with_flags.paragraphs (sym (ids-with_change id flagged (λ p. refl) book.paragraphs))))
-        flagged-cached (shows.caches caches same);
-  }
-    where
-      spelled-set : (p : Para) → spelled_para (para_set id flagged_row p) ≡ para_set id flagged_row (spelled_para p)
-      spelled-set p = cond-over spelled_para (int_eq p.id (row_number id)) (flagged_row p) p (flagged_row (spelled_para p)) (λ e. refl)
+  flags-lead after rows shows has =
+      shown-changed book id flagged flagged_row flagged_row sound (λ place p. refl) (λ p. refl) (λ p texts. texts) (λ p. refl) after rows shows rows.caches
+      (λ caches same. AreCached-same book with_flags caches
+      (IsPermutation-same (map id_number book.paragraphs) (map id_number with_flags.paragraphs) (numbers-same book.paragraphs with_flags.paragraphs (sym (ids-with_change id flagged (λ p. refl) book.paragraphs))))
+      flagged-cached (shows.caches caches same))
 
 -- ---- a mark resolved
 
