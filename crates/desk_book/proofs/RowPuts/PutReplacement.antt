@@ -5,7 +5,7 @@ use Rattle.std.specs.List.Sorted.{IsPermutation}
 use Rattle.std.specs.Option.{ForSome, option_and_then}
 use Rattle.std.specs.Ordering.{int_eq}
 use Rattle.std.specs.Prelude.{MatchOption, nat_eq, not, option_map, slice_get, ◌≢◌}
-use Rattle.std.proofs.lemmas.Bool.{cases_eq, cases_lt, eq-eqb}
+use Rattle.std.proofs.lemmas.Bool.{cases_lt, eq-eqb}
 use Rattle.std.proofs.lemmas.List.Elements.{All-contains, All-weaker}
 use Rattle.std.proofs.lemmas.Option.{slice_get_past}
 use Rattle.louis_table.specs.Meaning.{Meaning}
@@ -81,23 +81,23 @@ module _ (book : Book) (name text : List ℕ) (meaning : Meaning) (sound : IsSou
                 row.cells c.cells;
           }
 
+  -- a row stays so at the next number, unless its paragraph uses the table and has this one
+  further : (n : ℕ) (row : ParaCells) (c : Below n row) → (c.paragraph.table ≡ name → c.paragraph.id ≢ n) → Below (n + 1) row
+  further n row c apart = record {
+    paragraph = c.paragraph;
+    there = c.there;
+    named = c.named;
+    cells = λ before. c.cells (λ uses. let lt = before uses in let other = apart uses in omega arith);
+  }
+
   -- the paragraph with this number doesn't use the table
   below-none : (n : ℕ) → Renews book meaning name n None → (rows : List ParaCells) → AllBelow n rows → AllBelow (n + 1) rows
-  below-none n renews rows is = record { one_each = is.one_each; cells = All-weaker (Below n) (Below (n + 1)) further rows is.cells }
-    where
-      further : (row : ParaCells) → Below n row → Below (n + 1) row
-      further row c =
-          let p : Paragraph = c.paragraph in
-          record {
-            paragraph = p;
-            there = c.there;
-            named = c.named;
-            cells = λ before. c.cells (λ uses.
-                elim (cases_eq p.id n) [
-                  | inl same ↦ absurd (renews p (subst (λ (id : ℕ). paragraph_of book id ≡ Some p) same (paragraph_of-own book sound p c.there)) uses)
-                  | inr other ↦ let lt = before uses in omega arith
-                ]);
-          }
+  below-none n renews rows is = record {
+    one_each = is.one_each;
+    cells = All-weaker (Below n) (Below (n + 1))
+        (λ row c. further n row c
+        (λ uses same. renews c.paragraph (subst (λ (id : ℕ). paragraph_of book id ≡ Some c.paragraph) same (paragraph_of-own book sound c.paragraph c.there)) uses)) rows is.cells;
+  }
 
   -- the paragraph with this number uses it, and has new cells
   module _ (n : ℕ) (new : List ℕ) (p : Paragraph) (at : paragraph_of book n ≡ Some p) (renews : Renews book meaning name n (Some new)) where
@@ -126,16 +126,7 @@ module _ (book : Book) (name text : List ℕ) (meaning : Meaning) (sound : IsSou
     others other apart c =
         let q : Paragraph = c.paragraph in
         let differ : nat_eq q.id n ≡ false = sym (int_eq-pos q.id n) ∙ ((λ i. int_eq (sym c.named i) (sym (id-small book n p sound at) i)) ∙ apart) in
-        record {
-          paragraph = q;
-          there = c.there;
-          named = c.named;
-          cells = λ before. c.cells (λ uses.
-              elim (cases_eq q.id n) [
-                | inl same ↦ absurd (let is = eq-eqb q.id n same in cc)
-                | inr other ↦ let lt = before uses in omega arith
-              ]);
-        }
+        further n other c (λ uses same. let is = eq-eqb q.id n same in cc)
 
     below-some : (rows : List ParaCells) → AllBelow n rows → AllBelow (n + 1) (put_by_key (λ c. int_eq c.para (row_number n)) row rows)
     below-some rows is = record {
