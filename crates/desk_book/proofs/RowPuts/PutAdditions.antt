@@ -16,7 +16,7 @@ use Rattle.desk_parts.specs.FileRows.{HasMarkText, format_of, spelled_mark}
 use Rattle.desk_memory.specs.Kept.{mark_kept}
 use Rattle.desk_parts.specs.Puts.{PutMark, SetVersion, put_by_key}
 use Rattle.desk_parts.specs.Rows.{Mark as MarkRow}
-use Rattle.desk_model.specs.Shows.{flag_number, mark_row_of}
+use Rattle.desk_model.specs.Shows.{mark_row_of}
 use Rattle.desk_model.specs.Sound.{IsSound, IsSoundMark}
 use Rattle.desk_model.specs.Step.{next_mark, next_with_marks}
 use Rattle.desk_model.proofs.Rows.BookRows.{encoded-text, spelled-encoded}
@@ -91,15 +91,7 @@ module _ (book : Book) (kept : KeptMark) (sound : IsSound book) where
         let start = number-small kept.start (omega arith) in
         let stop = number-small kept.end (omega arith) in
         let note = spelled-encoded kept.note s.clean.characters in
-        λ i. record {
-          id = id i;
-          para = para i;
-          start = start i;
-          stop = stop i;
-          note = note i;
-          touched = flag_number kept.touched;
-          resolved = flag_number kept.resolved;
-        }
+        cc
 
     others-apart : All (λ (m : MarkRow). not (int_eq m.id (row_number number)) ≡ true) (map mark_row_of book.marks)
     others-apart =

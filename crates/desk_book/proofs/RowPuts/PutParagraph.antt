@@ -27,7 +27,7 @@ use Rattle.desk_memory.specs.Kept.{paragraph_kept}
 use Rattle.desk_model.specs.Print.{corrected_print, print_of}
 use Rattle.desk_parts.specs.Puts.{PutCache, PutPara, RowPut, SetVersion, put_by_key, with_put, with_puts}
 use Rattle.desk_parts.specs.Rows.{NamedCorr, Para, ParaCells}
-use Rattle.desk_model.specs.Shows.{AreCached, IsCached, Shows, entry_row_of, entry_rows_of, flag_number, para_of, paras_of, style_number}
+use Rattle.desk_model.specs.Shows.{AreCached, IsCached, Shows, entry_row_of, entry_rows_of, para_of, paras_of}
 use Rattle.desk_model.specs.Sound.{IsSound, IsSoundParagraph}
 use Rattle.desk_model.specs.Step.{next_id, next_with_paragraphs}
 use Rattle.desk_command.specs.Characters.{AreCharacters}
@@ -194,16 +194,7 @@ module _ (book : Book) (ps : List Paragraph) (kept : KeptParagraph) (place : ℕ
         let tab = spelled-encoded kept.table characters in
         let original = spelled-encoded kept.original is_sound.clean.characters in
         let shown = spelled-encoded kept.print (subst AreCharacters (sym print) is_sound.clean.characters) ∙ print_is in
-        λ i. record {
-          id = id i;
-          place = at i;
-          tab = tab i;
-          original = original i;
-          print = shown i;
-          style = style_number kept.style;
-          volume = flag_number kept.begins_volume;
-          struck = flag_number kept.struck;
-        }
+        cc
 
     old-placed : (q : Paragraph) → Contains book.paragraphs q → placed es (para_of (1 + index_in old_ids q.id, q)) ≡ para_of (1 + index_in (insert old_ids place number) q.id, q)
     old-placed q c =
