@@ -1,7 +1,8 @@
 -- What a book puts into new tables of its file, by what is kept of it.
-use Rattle.std.proofs.Common.{◌≡◌, ℕ, ◌+◌, ◌<◌, ◌≤◌, ℤ, pos, List, [], ◌∷◌, ◌++◌, map, take, length, get_or, None, Some, Contains, append-nil, refl, sym, ap, ap₂, subst, ◌∙◌, arith}
+use Rattle.std.proofs.Common.{◌≡◌, ℕ, ◌+◌, ◌<◌, ◌≤◌, ℤ, pos, SFits, to_z, of_z, w64, List, [], ◌∷◌, ◌++◌, map, take, length, get_or, None, Some, Contains, append-nil, refl, sym, ap, ap₂, subst, ◌∙◌, arith}
 use Rattle.std.specs.List.{All, enumerate_from, flat_map}
 use Rattle.std.specs.Prelude.{slice_get}
+use Rattle.std.proofs.Math.Facts.{to_z-of_z}
 use Rattle.std.proofs.lemmas.List.{get_or-map, length-map, length-take-le, map-append}
 use Rattle.std.proofs.lemmas.List.Elements.{All-append, All-contains_itself, All-head, All-map, All-nil, All-tail, All-weaker}
 use Rattle.std.proofs.lemmas.List.FromFn.{get_or-enumerate_from, length-enumerate_from}
@@ -190,25 +191,32 @@ module _ (version : ℕ) (tables : KeptTables) (kept : KeptParagraphs) (marks : 
     abbrev row_at : ℤ → RowPut
     row_at n = PutBook (record { id = pos 1; format = pos 2; version = n })
 
-    pub filled-both : news ≡ EntriesAndBraille → (n : ℤ) (entries : RowPuts) → n ≡ pos version → entries ≡ histories_from 0 kept → Fills news whole (row_at n ∷ (entries ++ braille_from 0 kept))
-    filled-both which n entries at are =
-        subst (λ (t : NewTables). Fills t whole (row_at n ∷ (entries ++ braille_from 0 kept))) (sym which)
-        (subst (λ (b : Book). Fills EntriesAndBraille b (row_at n ∷ (entries ++ braille_from 0 kept))) same (
-          entries_of kept,
-          caches_of kept,
-          of-book,
-          are-cached,
-          λ i. row_at (at i) ∷ ((are ∙ entries-put kept) i ++ caches-put kept i),
-        ))
+    module _ (n : ℤ) (fits : SFits w64 n) (at : n ≡ row_number version) (entries : RowPuts) (are : entries ≡ histories_from 0 kept) where
+      abbrev version_put : RowPut
+      version_put = row_at (to_z w64 (of_z w64 n))
 
-    pub filled-entries : news ≡ Entries → (n : ℤ) (entries : RowPuts) → n ≡ pos version → entries ≡ histories_from 0 kept → Fills news whole (row_at n ∷ (entries ++ []))
-    filled-entries which n entries at are =
-        subst (λ (t : NewTables). Fills t whole (row_at n ∷ (entries ++ []))) (sym which)
-        (subst (λ (b : Book). Fills Entries b (row_at n ∷ (entries ++ []))) same (
-          entries_of kept,
-          of-book,
-          λ i. row_at (at i) ∷ (append-nil entries ∙ (are ∙ entries-put kept)) i,
-        ))
+      version_is : to_z w64 (of_z w64 n) ≡ pos version
+      version_is = let small = is.sound.version in to_z-of_z {w = w64} {z = n} fits ∙ (at ∙ number-small version (omega arith))
+
+      pub filled-both : news ≡ EntriesAndBraille → Fills news whole (version_put ∷ (entries ++ braille_from 0 kept))
+      filled-both which =
+          subst (λ (t : NewTables). Fills t whole (version_put ∷ (entries ++ braille_from 0 kept))) (sym which)
+          (subst (λ (b : Book). Fills EntriesAndBraille b (version_put ∷ (entries ++ braille_from 0 kept))) same (
+            entries_of kept,
+            caches_of kept,
+            of-book,
+            are-cached,
+            λ i. row_at (version_is i) ∷ ((are ∙ entries-put kept) i ++ caches-put kept i),
+          ))
+
+      pub filled-entries : news ≡ Entries → Fills news whole (version_put ∷ (entries ++ []))
+      filled-entries which =
+          subst (λ (t : NewTables). Fills t whole (version_put ∷ (entries ++ []))) (sym which)
+          (subst (λ (b : Book). Fills Entries b (version_put ∷ (entries ++ []))) same (
+            entries_of kept,
+            of-book,
+            λ i. row_at (version_is i) ∷ (append-nil entries ∙ (are ∙ entries-put kept)) i,
+          ))
 
     pub filled-braille : news ≡ Braille → Fills news whole (braille_from 0 kept)
     filled-braille which =
