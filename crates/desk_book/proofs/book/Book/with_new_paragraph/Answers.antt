@@ -5,36 +5,19 @@ use Rattle.desk_book.proofs.Kept.Settled.{few-placed, order-placed, room-placed,
 use Rattle.desk_book.proofs.Kept.ShownEffects.{accepted-by, as_kept, makes-by}
 use Rattle.desk_book.proofs.book.Book.with_new_paragraph.Goals as goal
 
-pub with_paragraph-requires-clause-few : goal.with_paragraph-requires-clause-few
-with_paragraph-requires-clause-few c =
-    let was = c.self.inside in
-    let here = as_kept _ _ _ _ _ c.self.view_is c.self.invariant _ _ _ c.requires.1 in
-    few-placed was.version was.tables was.paragraphs was.marks here.does.few
-
-pub with_paragraph-requires-clause-room : goal.with_paragraph-requires-clause-room
-with_paragraph-requires-clause-room c =
-    let was = c.self.inside in
-    let here = as_kept _ _ _ _ _ c.self.view_is c.self.invariant _ _ _ c.requires.1 in
-    room-placed was.version was.tables was.paragraphs was.marks c.args.room here.does.room_is
-
-pub with_paragraph-requires-clause-order_room : goal.with_paragraph-requires-clause-order_room
-with_paragraph-requires-clause-order_room c =
-    let was = c.self.inside in
-    let here = as_kept _ _ _ _ _ c.self.view_is c.self.invariant _ _ _ c.requires.1 in
-    room-placed was.version was.tables was.paragraphs was.marks c.args.order_room here.does.order_room_is
-
-pub with_paragraph-requires-clause-place : goal.with_paragraph-requires-clause-place
-with_paragraph-requires-clause-place c =
-    let was = c.self.inside in
-    let here = as_kept _ _ _ _ _ c.self.view_is c.self.invariant _ _ _ c.requires.1 in
-    within-placed was.version was.tables was.paragraphs was.marks c.args.place here.does.within
-
-pub with_paragraph-requires-clause-order : goal.with_paragraph-requires-clause-order
-with_paragraph-requires-clause-order c =
+pub with_paragraph-requires : goal.with_paragraph-requires
+with_paragraph-requires c =
     let was = c.self.inside in
     let here = as_kept _ _ _ _ _ c.self.view_is c.self.invariant _ _ _ c.requires.1 in
     let order = order-placed was.version was.tables was.paragraphs was.marks c.requires.0 c.args.place here.does.order in
-    order-typed was.version was.tables was.paragraphs was.marks c.requires.0 c.args.version here.does.anchor here.does.text (insert (ids was.paragraphs) c.args.place (length was.paragraphs + 1)) c.args.paragraph here.at (accepted-by here here.does.command_is) (makes-by here here.does.command_is) here.does.typed_is order c.self.invariant (sound-next _ _ _ _ c.self.invariant _ _ _ here)
+    record {
+      few = few-placed was.version was.tables was.paragraphs was.marks here.does.few;
+      room = room-placed was.version was.tables was.paragraphs was.marks c.args.room here.does.room_is;
+      order_room = room-placed was.version was.tables was.paragraphs was.marks c.args.order_room here.does.order_room_is;
+      place = within-placed was.version was.tables was.paragraphs was.marks c.args.place here.does.within;
+      order = order-typed was.version was.tables was.paragraphs was.marks c.requires.0 c.args.version here.does.anchor here.does.text (insert (ids was.paragraphs) c.args.place (length was.paragraphs + 1)) c.args.paragraph
+          here.at (accepted-by here here.does.command_is) (makes-by here here.does.command_is) here.does.typed_is order c.self.invariant (sound-next _ _ _ _ c.self.invariant _ _ _ here);
+    }
 
 pub invariant_of-result : goal.invariant_of-result
 invariant_of-result c =
