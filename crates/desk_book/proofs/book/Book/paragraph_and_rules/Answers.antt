@@ -12,9 +12,7 @@ use Rattle.desk_book.proofs.Kept.KeptLookups.{missing}
 use Rattle.desk_book.proofs.book.Book.paragraph_and_rules.Goals as goal
 
 pub returns-in_default-clause-missing : goal.returns-in_default-clause-missing
-returns-in_default-clause-missing c =
-    let was = c.self.inside in
-    (refl, missing was.version was.tables was.paragraphs was.marks c.args.self.now c.self.view_is c.args.id c.get.result c.get.ensures c.in_default.is)
+returns-in_default-clause-missing c = (refl, missing _ _ _ _ c.args.self.now c.self.view_is c.args.id c.get.result c.get.ensures c.in_default.is)
 
 pub unreachable-requires : goal.unreachable-requires
 unreachable-requires c =
