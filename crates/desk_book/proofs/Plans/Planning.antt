@@ -8,17 +8,16 @@ use Rattle.louis_translate.specs.Position.{AreDefined, IsFirstUndefined}
 use Rattle.desk_command.specs.declared.command.Command.{Command}
 use Rattle.desk_memory.specs.declared.paragraphs.Paragraph.{Paragraph as KeptParagraph}
 use Rattle.desk_memory.specs.declared.tables.BookTable.{BookTable}
-use Rattle.desk_command.specs.declared.refusal.Limit.TheVariants.{Paragraphs, Version}
+use Rattle.desk_command.specs.declared.refusal.Limit.TheVariants.{Version}
 use Rattle.desk_command.specs.declared.refusal.Refusal.{Refusal}
-use Rattle.desk_command.specs.declared.refusal.Refusal.TheVariants.{BadText, Full, NoMemory, NoParagraph, NoTable, NotStruck, Struck, TooLong, Undefined}
+use Rattle.desk_command.specs.declared.refusal.Refusal.TheVariants.{Full, NoMemory, NoParagraph, NoTable, NotStruck, Struck, TooLong, Undefined}
 use Rattle.desk_model.specs.Book.{Book, Paragraph, paragraph_of, text_of}
 use Rattle.desk_model.specs.Judging.{Passes, first_turn_after_asking}
 use Rattle.desk_memory.specs.Kept.{paragraph_kept}
-use Rattle.desk_model.specs.Limits.{most_paragraphs, most_print, most_version}
+use Rattle.desk_model.specs.Limits.{most_print, most_version}
 use Rattle.desk_book.specs.Plans.{AreNotAllThere, AreThere, IsKeptFor, IsTableFor, IsTurnedDown}
-use Rattle.desk_model.specs.Named.{adds_paragraph, live_paragraph, paragraphs_named, struck_paragraph, table_named, text_given}
+use Rattle.desk_model.specs.Named.{live_paragraph, paragraphs_named, struck_paragraph, table_named}
 use Rattle.desk_model.specs.Refusals.{Holds, turn, IsUndefined, new_print, print_to_translate}
-use Rattle.desk_model.specs.NormalForm.{IsFirstBarred}
 use Rattle.desk_model.proofs.Commands.Judging.{IsRefused-passes, Passes-past, Passes-skip, skips}
 use Rattle.desk_model.proofs.Commands.Turns.{defined_not_first, passes_to, same_some}
 
@@ -56,14 +55,8 @@ module _ (book : Book) (command : Command) where
   pub no_table : (told : Refusal) (name : List ℕ) → Passes book None command 40 → table_named command ≡ Some name → text_of book name ≡ None → told ≡ NoTable → IsTurnedDown book command told
   no_table told name passes named missing = turned_down 40 NoTable told passes refl (record { name = name; named = named; missing = missing })
 
-  pub bad_text : (told : Refusal) (text : List ℕ) (place : ℕ) → Passes book None command 20 → text_given command ≡ Some text → told ≡ BadText place → IsFirstBarred text place → IsTurnedDown book command told
-  bad_text told text place passes given is first = turned_down 20 (BadText place) told passes refl (record { text = text; given = given; first = first }) is
-
   pub too_long : (told : Refusal) (print : List ℕ) → Passes book None command 110 → new_print book command ≡ Some print → most_print < length print → told ≡ TooLong → IsTurnedDown book command told
   too_long told print passes made long = turned_down 110 TooLong told passes refl (inr (inl (record { print = print; made = made; long = long })))
-
-  pub full_paragraphs : (told : Refusal) → Passes book None command 130 → adds_paragraph command ≡ true → most_paragraphs ≤ length book.paragraphs → told ≡ Full Paragraphs → IsTurnedDown book command told
-  full_paragraphs told passes adds full = turned_down 130 (Full Paragraphs) told passes refl (record { adds = adds; full = full })
 
   pub full_version : (n : ℕ) (told : Refusal) → Passes book None command n → skips command n 160 ≡ true → most_version ≤ book.version → told ≡ Full Version → IsTurnedDown book command told
   full_version n told passes skip full = turned_down 160 (Full Version) told (Passes-skip book None command n 160 skip passes) refl full

@@ -82,9 +82,6 @@ abbrev pub RenewsEach : Book → Meaning → List ℕ → List (Option (List ℕ
 RenewsEach book meaning name cells = (k : ℕ) (item : Option (List ℕ)) → slice_get cells k ≡ Some item → Renews book meaning name (k + 1) item
 
 module _ (book : Book) (meaning : Meaning) (name : List ℕ) where
-  pub RenewsEach-none : RenewsEach book meaning name []
-  RenewsEach-none k item e = absurd (cc)
-
   pub RenewsEach-push : (cells : List (Option (List ℕ))) (new : Option (List ℕ)) (n : ℕ) → n ≡ length cells → RenewsEach book meaning name cells → Renews book meaning name (n + 1) new → RenewsEach book meaning name (cells ++ new ∷ [])
   RenewsEach-push cells new n many each here k item e =
       elim (push-cases cells new k item e) [

@@ -1,5 +1,5 @@
 -- What a book puts into new tables of its file, by what is kept of it.
-use Rattle.std.proofs.Common.{◌≡◌, ℕ, ◌+◌, ◌<◌, ◌≤◌, ℤ, pos, SFits, to_z, of_z, w64, List, [], ◌∷◌, ◌++◌, map, take, length, get_or, None, Some, Contains, append-nil, refl, sym, ap, ap₂, subst, ◌∙◌, arith}
+use Rattle.std.proofs.Common.{◌≡◌, ℕ, ◌+◌, ◌<◌, ◌≤◌, ℤ, pos, SFits, to_z, of_z, w64, List, [], ◌∷◌, ◌++◌, map, take, length, get_or, Some, Contains, append-nil, refl, sym, ap, ap₂, subst, ◌∙◌, arith}
 use Rattle.std.specs.List.{All, enumerate_from, flat_map}
 use Rattle.std.specs.Prelude.{slice_get}
 use Rattle.std.proofs.Math.Facts.{to_z-of_z}
@@ -27,7 +27,7 @@ use Rattle.desk_parts.specs.Puts.{PutBook, PutCache, PutEntry, RowPut, RowPuts}
 use Rattle.desk_parts.specs.Rows.{ParaCells, NamedCorr}
 use Rattle.desk_model.specs.Shows.{AreCached, IsCached, entry_row_of, entry_rows_of}
 use Rattle.desk_model.specs.Sound.{IsSoundParagraph}
-use Rattle.desk_model.proofs.Lists.Items.{All-from_map, drop-past, drop-there}
+use Rattle.desk_model.proofs.Lists.Items.{All-from_map, drop-there}
 use Rattle.desk_memory.proofs.Callers.{means-kept, text_of-kept}
 use Rattle.desk_model.proofs.Lists.Members.{Contains-map}
 use Rattle.desk_model.proofs.Lists.Permutations.{IsPermutation-same}
@@ -228,6 +228,3 @@ module _ (version : ℕ) (tables : KeptTables) (kept : KeptParagraphs) (marks : 
 module _ (kept : KeptParagraphs) (place : ℕ) where
   pub histories-there : (entry : ℕ × KeptParagraph) → slice_get kept place ≡ Some entry → histories_from place kept ≡ history_puts entry ++ histories_from (place + 1) kept
   histories-there entry at = ap (flat_map history_puts) (drop-there kept place entry at).0
-
-  pub histories-past : slice_get kept place ≡ None → histories_from place kept ≡ []
-  histories-past none = ap (flat_map history_puts) (drop-past kept place none)

@@ -34,7 +34,7 @@ use Rattle.desk_command.specs.Characters.{AreCharacters}
 use Rattle.desk_model.proofs.Rows.BookRows.{HasCharacters, encoded-text, entry-text, history-characters, spelled-encoded}
 use Rattle.desk_memory.proofs.Callers.{IsWithin-sound}
 use Rattle.desk_model.proofs.Lists.Members.{Contains-behind, Contains-cases, Contains-here, Contains-map, Contains-none}
-use Rattle.desk_model.proofs.Books.ParagraphLists.{found-changed, id-found}
+use Rattle.desk_model.proofs.Books.ParagraphLists.{found-changed}
 use Rattle.desk_model.proofs.Books.PrintCharacters.{HasText, print-all}
 use Rattle.desk_book.proofs.RowPuts.PutCells.{ForSome-map, cached-put, id-small}
 use Rattle.desk_book.proofs.RowPuts.PutChanges.{Sets, cond-over, para_set, rows-changed, same_key, small_id, small_mark}
@@ -97,9 +97,6 @@ module _ (book : Book) (id : ℕ) (change : PrintChange) (sound : IsSound book) 
   module _ (given : ChangesPrint book next id change) (after : IsSound next) where
     abbrev p : Paragraph
     p = given.paragraph
-
-    own : p.id ≡ id
-    own = id-found id book.paragraphs p given.there
 
     -- ---- the entry, and the print
 

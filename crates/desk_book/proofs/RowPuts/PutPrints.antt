@@ -71,9 +71,6 @@ module _ (original : List ℕ) (before : List Entry) (id seq : ℕ) (small : id 
 -- ---- the entries of a book, one more
 
 module _ (id : ℕ) (e : Entry) (p : Paragraph) (ps : List Paragraph) (apart : AreApart ps) (there : found id ps ≡ Some p) where
-  others : List Paragraph
-  others = without_paragraph id ps
-
   pub changed-out : (to : Paragraph → Paragraph) → IsPermutation (with_change id to ps) (to p ∷ without_paragraph id ps)
   changed-out to =
       let out = IsPermutation-map (changed id to) ps (p ∷ without_paragraph id ps) (IsPermutation-without_paragraph id p ps apart there) in
