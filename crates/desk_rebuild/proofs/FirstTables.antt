@@ -1,14 +1,13 @@
 -- The damage of a table is the first, where the tables before it have none.
-use Rattle.std.proofs.Common.{◌≡◌, ◌≤◌, ℤ, List, Result, Ok, Err, Some, None, refl, sym, subst, arith}
+use Rattle.std.proofs.Common.{◌≡◌, ℤ, List, Result, Ok, Err, Some, None, refl, sym, subst}
 use Rattle.std.specs.Prelude.{IfErr, IfOk, IsErrAnd, MatchResult, OnOk}
 use Rattle.std.proofs.lemmas.Result.{IfErr-weaker, IfOk-weaker}
 use Rattle.desk_parts.specs.declared.file_table.FileTable.{FileTable}
-use Rattle.desk_parts.specs.declared.file_table.FileTable.TheVariants.{Book, Tab, Para, Corr, Mark, Cache, NamedCorr}
 use Rattle.desk_model.specs.declared.fault.PartsFault.{PartsFault}
 use Rattle.desk_model.specs.declared.fault.PartsFault.TheVariants.{Damaged, NoMemory}
 use Rattle.desk_rebuild.specs.declared.damage.RowsFault.{RowsFault}
 use Rattle.desk_rebuild.specs.declared.damage.RowsFault.TheVariants as rows_fault
-use Rattle.desk_model.specs.Damage.{IsDamaged, IsDamagedCache, IsDamagedEntries, IsFirstDamage, table_turn}
+use Rattle.desk_model.specs.Damage.{IsDamaged, IsDamagedCache, IsDamagedEntries, IsFirstDamage}
 use Rattle.desk_parts.specs.FileRows.{EntryRows, FileRows, Named, Unnamed, entries_in, table_of}
 use Rattle.desk_rebuild.specs.Faults.{IsDamagedBraille, TellsDamageOf, fault_in}
 use Rattle.desk_rebuild.specs.Rows.{IsFirstId, IsWhole, TellsDamage}
@@ -16,6 +15,7 @@ use Rattle.desk_rebuild.specs.OrderedRows.{IsFirstUnsound, RowRule, TellsUnsound
 use Rattle.desk_model.specs.Rebuilding.{IsFaultOf}
 use Rattle.desk_parts.specs.Rows.{Para as ParaRow, ParaCells, Tab as TabRow}
 use Rattle.desk_model.proofs.Commands.Turns.{same_some}
+use Rattle.desk_model.proofs.Damage.FirstDamage.{IsWholeBefore, from_table}
 
 -- the fault of a table's rows is reported of it
 pub told-of : (table : FileTable) (damaged : ℤ → Type 0) (fault : RowsFault) → TellsDamage damaged fault → TellsDamageOf table damaged (fault_in table fault)
@@ -83,86 +83,10 @@ pub no-braille-told : (tabs : List TabRow) (paras : List ParaRow) (fault : RowsF
 no-braille-told tabs paras fault is = subst (TellsDamage (IsDamagedBraille tabs paras None)) (sym is) tt
 
 module _ (rows : FileRows) where
-  -- no table that is checked before this one is damaged
-  abbrev pub IsWholeBefore : FileTable → Type 0
-  IsWholeBefore table = (other : FileTable) (id : ℤ) → IsDamaged rows other id → table_turn table ≤ table_turn other
-
-  pub first-fault : (table : FileTable) → IsWholeBefore table → (fault : PartsFault) → TellsDamageOf table (IsDamaged rows table) fault → IsFaultOf rows fault
+  pub first-fault : (table : FileTable) → IsWholeBefore rows table → (fault : PartsFault) → TellsDamageOf table (IsDamaged rows table) fault → IsFaultOf rows fault
   first-fault table before (Damaged other id) told =
       subst (λ t. IsFirstDamage rows t id) (sym told.0) (record { damaged = told.1.0; tables = before; ids = told.1.1 })
   first-fault table before NoMemory told = tt
-
-  pub before-book : IsWholeBefore Book
-  before-book Book id damaged = omega arith
-  before-book Tab id damaged = omega arith
-  before-book Para id damaged = omega arith
-  before-book Corr id damaged = omega arith
-  before-book Mark id damaged = omega arith
-  before-book Cache id damaged = omega arith
-  before-book NamedCorr id damaged = omega arith
-
-  pub before-tab : IsWhole (IsDamaged rows Book) → IsWholeBefore Tab
-  before-tab whole Book id damaged = absurd (whole id damaged)
-  before-tab whole Tab id damaged = omega arith
-  before-tab whole Para id damaged = omega arith
-  before-tab whole Corr id damaged = omega arith
-  before-tab whole Mark id damaged = omega arith
-  before-tab whole Cache id damaged = omega arith
-  before-tab whole NamedCorr id damaged = omega arith
-
-  pub before-para : IsWholeBefore Tab → IsWhole (IsDamaged rows Tab) → IsWholeBefore Para
-  before-para before whole Book id damaged = let late = before Book id damaged in absurd (omega (arith, late))
-  before-para before whole Tab id damaged = absurd (whole id damaged)
-  before-para before whole Para id damaged = omega arith
-  before-para before whole Corr id damaged = omega arith
-  before-para before whole Mark id damaged = omega arith
-  before-para before whole Cache id damaged = omega arith
-  before-para before whole NamedCorr id damaged = omega arith
-
-  -- before either table of entries
-  before_entries : IsWholeBefore Para → IsWhole (IsDamaged rows Para) → IsWholeBefore Corr
-  before_entries before whole Book id damaged = let late = before Book id damaged in absurd (omega (arith, late))
-  before_entries before whole Tab id damaged = let late = before Tab id damaged in absurd (omega (arith, late))
-  before_entries before whole Para id damaged = absurd (whole id damaged)
-  before_entries before whole Corr id damaged = omega arith
-  before_entries before whole Mark id damaged = omega arith
-  before_entries before whole Cache id damaged = omega arith
-  before_entries before whole NamedCorr id damaged = omega arith
-
-  pub before-entries : IsWholeBefore Para → IsWhole (IsDamaged rows Para) → IsWholeBefore (table_of rows.entries)
-  before-entries before whole = by rows.entries
-    where
-      by : (entries : EntryRows) → IsWholeBefore (table_of entries)
-      by (Unnamed corrs) = before_entries before whole
-      by (Named corrs) = before_entries before whole
-
-  pub before-mark : IsWholeBefore Para → IsWhole (IsDamaged rows Para) → IsWhole (IsDamagedEntries rows.paras (entries_in rows.entries)) → IsWholeBefore Mark
-  before-mark before whole entries Book id damaged = let late = before Book id damaged in absurd (omega (arith, late))
-  before-mark before whole entries Tab id damaged = let late = before Tab id damaged in absurd (omega (arith, late))
-  before-mark before whole entries Para id damaged = absurd (whole id damaged)
-  before-mark before whole entries Corr id damaged = absurd (entries id damaged.1)
-  before-mark before whole entries Mark id damaged = omega arith
-  before-mark before whole entries Cache id damaged = omega arith
-  before-mark before whole entries NamedCorr id damaged = absurd (entries id damaged.1)
-
-  pub before-cache : IsWholeBefore Mark → IsWhole (IsDamaged rows Mark) → IsWholeBefore Cache
-  before-cache before whole Book id damaged = let late = before Book id damaged in absurd (omega (arith, late))
-  before-cache before whole Tab id damaged = let late = before Tab id damaged in absurd (omega (arith, late))
-  before-cache before whole Para id damaged = let late = before Para id damaged in absurd (omega (arith, late))
-  before-cache before whole Corr id damaged = let late = before Corr id damaged in absurd (omega (arith, late))
-  before-cache before whole Mark id damaged = absurd (whole id damaged)
-  before-cache before whole Cache id damaged = omega arith
-  before-cache before whole NamedCorr id damaged = let late = before NamedCorr id damaged in absurd (omega (arith, late))
-
-  -- and nothing is damaged at last
-  pub no-damage : IsWholeBefore Cache → IsWhole (IsDamaged rows Cache) → (table : FileTable) (id : ℤ) → ¬ IsDamaged rows table id
-  no-damage before whole Book id damaged = let late = before Book id damaged in omega (arith, late)
-  no-damage before whole Tab id damaged = let late = before Tab id damaged in omega (arith, late)
-  no-damage before whole Para id damaged = let late = before Para id damaged in omega (arith, late)
-  no-damage before whole Corr id damaged = let late = before Corr id damaged in omega (arith, late)
-  no-damage before whole Mark id damaged = let late = before Mark id damaged in omega (arith, late)
-  no-damage before whole Cache id damaged = whole id damaged
-  no-damage before whole NamedCorr id damaged = let late = before NamedCorr id damaged in omega (arith, late)
 
   -- the damage of the table of entries, where it is the one that they are the rows of
   to_table : (entries : EntryRows) → table_of rows.entries ≡ table_of entries → (id : ℤ)
@@ -170,13 +94,9 @@ module _ (rows : FileRows) where
   to_table (Unnamed corrs) same id damaged = (same, damaged)
   to_table (Named corrs) same id damaged = (same, damaged)
 
-  from_table : (entries : EntryRows) (id : ℤ) → IsDamaged rows (table_of entries) id → IsDamagedEntries rows.paras (entries_in rows.entries) id
-  from_table (Unnamed corrs) id damaged = damaged.1
-  from_table (Named corrs) id damaged = damaged.1
-
   pub entries-damaged : (fault : PartsFault) → TellsDamageOf (table_of rows.entries) (IsDamagedEntries rows.paras (entries_in rows.entries)) fault
       → TellsDamageOf (table_of rows.entries) (IsDamaged rows (table_of rows.entries)) fault
-  entries-damaged (Damaged table id) told = (told.0, (to_table rows.entries refl id told.1.0, λ other damaged. told.1.1 other (from_table rows.entries other damaged)))
+  entries-damaged (Damaged table id) told = (told.0, (to_table rows.entries refl id told.1.0, λ other damaged. told.1.1 other (from_table rows rows.entries other damaged)))
   entries-damaged NoMemory told = tt
 
 module _ {X E : Type 0} where

@@ -21,7 +21,8 @@ use Rattle.desk_model.specs.Rebuilding.{IsFaultOf}
 use Rattle.desk_parts.specs.Parts.{rows_in}
 use Rattle.desk_parts.specs.Rows.{Para as ParaRow}
 use Rattle.desk_model.specs.Shows.{Shows}
-use Rattle.desk_rebuild.proofs.FirstTables.{before-cache, before-entries, before-mark, before-para, before-tab, entries-damaged, first-fault, no-damage}
+use Rattle.desk_model.proofs.Damage.FirstDamage.{IsWholeBefore, before-cache, before-entries, before-mark, before-para, before-tab, no-damage}
+use Rattle.desk_rebuild.proofs.FirstTables.{entries-damaged, first-fault}
 use Rattle.desk_rebuild.proofs.JoinedBook.{is_kept, shown}
 use Rattle.desk_model.proofs.Lists.Items.{Contains-there}
 use Rattle.desk_rebuild.proofs.KeptRows.{AreOf-same, HaveMarks-same, histories-same, less-same, plain, same-at, told}
@@ -77,25 +78,36 @@ module _ (parts : Parts) (within : IsWithin 0 most_version parts.version) where
   tab-fault = first-fault rows Tab (before-tab rows no-book)
 
   module _ (no_tab : IsWhole (IsDamagedTab rows.tabs)) where
+    before_para : IsWholeBefore rows Para
+    before_para = before-para rows (before-tab rows no-book) no_tab
+
     pub para-fault : (fault : PartsFault) → TellsDamageOf Para (IsDamagedPara rows.tabs rows.paras) fault → IsFaultOf rows fault
-    para-fault = first-fault rows Para (before-para rows (before-tab rows no-book) no_tab)
+    para-fault = first-fault rows Para before_para
 
     module _ (no_para : IsWhole (IsDamagedPara rows.tabs rows.paras)) where
+      before_entries : IsWholeBefore rows (table_of rows.entries)
+      before_entries = before-entries rows before_para no_para
+
       pub entry-fault : (fault : PartsFault) → TellsDamageOf (table_of rows.entries) (IsDamagedEntries rows.paras (entries_in rows.entries)) fault → IsFaultOf rows fault
-      entry-fault fault told =
-          first-fault rows (table_of rows.entries) (before-entries rows (before-para rows (before-tab rows no-book) no_tab) no_para) fault (entries-damaged rows fault told)
+      entry-fault fault told = first-fault rows (table_of rows.entries) before_entries fault (entries-damaged rows fault told)
 
       module _ (no_entry : IsWhole (IsDamagedEntries rows.paras (entries_in rows.entries))) where
+        before_mark : IsWholeBefore rows Mark
+        before_mark = before-mark rows before_entries no_entry
+
         pub mark-fault : (fault : PartsFault) → TellsDamageOf Mark (IsDamagedMark rows.paras rows.marks) fault → IsFaultOf rows fault
-        mark-fault = first-fault rows Mark (before-mark rows (before-para rows (before-tab rows no-book) no_tab) no_para no_entry)
+        mark-fault = first-fault rows Mark before_mark
 
         module _ (no_mark : IsWhole (IsDamagedMark rows.paras rows.marks)) where
+          before_cache : IsWholeBefore rows Cache
+          before_cache = before-cache rows before_mark no_mark
+
           pub cache-fault : (fault : PartsFault) → TellsDamageOf Cache (IsDamagedBraille rows.tabs rows.paras rows.caches) fault → IsFaultOf rows fault
-          cache-fault = first-fault rows Cache (before-cache rows (before-mark rows (before-para rows (before-tab rows no-book) no_tab) no_para no_entry) no_mark)
+          cache-fault = first-fault rows Cache before_cache
 
           module _ (no_cache : IsWhole (IsDamagedBraille rows.tabs rows.paras rows.caches)) where
             none : (table : FileTable) (id : ℤ) → ¬ IsDamaged rows table id
-            none = no-damage rows (before-cache rows (before-mark rows (before-para rows (before-tab rows no-book) no_tab) no_para no_entry) no_mark) no_cache
+            none = no-damage rows before_cache no_cache
 
             -- ---- what is made
 

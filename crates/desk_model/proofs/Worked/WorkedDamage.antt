@@ -1,5 +1,5 @@
 -- Damage of rows, worked by the definitions alone: they say what these rows say, and not only what the code does.
-use Rattle.std.proofs.Common.{◌≡◌, ◌⊎◌, ℕ, ◌+◌, ◌≤◌, ℤ, pos, ◌+ℤ◌, ◌≤ℤ◌, false, List, [], ◌∷◌, length, Some, Contains, refl, sym, ap, subst, ◌∙◌, arith, inl, inr, lit≤}
+use Rattle.std.proofs.Common.{◌≡◌, ◌⊎◌, ℕ, ◌+◌, ℤ, pos, ◌+ℤ◌, ◌≤ℤ◌, false, List, [], ◌∷◌, length, Some, Contains, refl, sym, ap, subst, ◌∙◌, arith, inl, inr}
 use Rattle.std.specs.Str.{chars}
 use Rattle.std.proofs.lemmas.List.Elements.{All-nil}
 use Rattle.std.proofs.lemmas.List.Sorted.{IsPermutation-refl, length_permutation}
@@ -7,16 +7,16 @@ use Rattle.std.proofs.lemmas.Option.{slice_get_within}
 use Rattle.std.proofs.lemmas.Str.{chars-nil}
 use Rattle.louis_table.specs.Meaning.{Meaning}
 use Rattle.louis_table.specs.Table.{Means}
-use Rattle.desk_parts.specs.declared.file_table.FileTable.{FileTable}
 use Rattle.desk_parts.specs.declared.file_table.FileTable.TheVariants as file
 use Rattle.desk_parts.specs.declared.rows.BookRow.{BookRow}
-use Rattle.desk_model.specs.Damage.{IsDamaged, IsDamagedBook, IsDamagedCache, IsDamagedEntries, IsDamagedMark, IsDamagedPara, IsDamagedTab, IsFirstDamage, IsNumber, IsPrintText, IsSoundMarkRow, IsSoundParaRow, table_turn}
+use Rattle.desk_model.specs.Damage.{IsDamagedBook, IsDamagedCache, IsDamagedEntries, IsDamagedMark, IsDamagedPara, IsDamagedTab, IsFirstDamage, IsNumber, IsPrintText, IsSoundMarkRow, IsSoundParaRow}
 use Rattle.desk_parts.specs.FileRows.{FileRows, Named}
 use Rattle.desk_model.specs.Limits.{most_marks, most_paragraphs, most_version}
 use Rattle.desk_model.specs.Name.{IsTableName}
 use Rattle.desk_parts.specs.Rows.{Mark, NamedCorr, Para, ParaCells, Tab}
 use Rattle.desk_model.specs.Shows.{book_row_of}
 use Rattle.desk_model.specs.NormalForm.{IsUnbarred, is_barred}
+use Rattle.desk_model.proofs.Damage.FirstDamage.{IsWholeBefore, before-book, before-cache, before-entries, before-mark, before-para, before-tab}
 use Rattle.desk_model.proofs.Lists.Members.{Contains-behind, Contains-cases, Contains-here, Contains-none}
 use Rattle.desk_model.proofs.Commands.Turns.{same_some}
 use Rattle.desk_model.proofs.Lists.RowNumbers.{pos_le, same_number}
@@ -108,40 +108,28 @@ no-entries id (inr (row, c, named, none)) = Contains-none row c
 no-marks : (paras : List Para) (id : ℤ) → ¬ IsDamagedMark paras [] id
 no-marks paras id (row, c, named, unsound) = Contains-none row c
 
-first-turn : (table : FileTable) → 1 ≤ table_turn table
-first-turn file.Book = lit≤ tt
-first-turn file.Tab = lit≤ tt
-first-turn file.Para = lit≤ tt
-first-turn file.Corr = lit≤ tt
-first-turn file.Mark = lit≤ tt
-first-turn file.Cache = lit≤ tt
-first-turn file.NamedCorr = lit≤ tt
+-- no damage before `para`, where one row is in `book` and none in `tab`
+before-paras : (paras : List Para) (entries : List NamedCorr) (marks : List Mark) → IsWholeBefore (file_with sound_books [] paras entries marks) file.Para
+before-paras paras entries marks =
+    let rows = file_with sound_books [] paras entries marks in
+    before-para rows (before-tab rows sound-books) no-tabs
 
 -- no row in `book`: before all others
 book-first : IsFirstDamage (all_wrong []) file.Book (pos 1)
 book-first = record {
   damaged = (refl, λ (row, is, sound). cc is);
-  tables = λ other id damaged. first-turn other;
+  tables = before-book (all_wrong []);
   ids = λ id damaged. subst (λ z. pos 1 ≤ℤ z) (sym damaged.0) (pos_le 1 1 (omega arith));
 }
 
 nameless-is : ¬ IsTableName (chars [])
 nameless-is named = let some = named.nonempty in omega (arith, some, no-characters)
 
-tab-turn : (table : FileTable) (id : ℤ) → IsDamaged (all_wrong sound_books) table id → 2 ≤ table_turn table
-tab-turn file.Book id damaged = absurd (sound-books id damaged)
-tab-turn file.Tab id damaged = lit≤ tt
-tab-turn file.Para id damaged = lit≤ tt
-tab-turn file.Corr id damaged = lit≤ tt
-tab-turn file.Mark id damaged = lit≤ tt
-tab-turn file.Cache id damaged = lit≤ tt
-tab-turn file.NamedCorr id damaged = lit≤ tt
-
 -- then the table without a name
 tab-first : IsFirstDamage (all_wrong sound_books) file.Tab (pos 1)
 tab-first = record {
   damaged = (nameless ∷ [], IsPermutation-refl (nameless ∷ []), λ k d low less. absurd (omega (arith, less)), (0, nameless, refl, refl, λ sound. nameless-is sound.named));
-  tables = tab-turn;
+  tables = before-tab (all_wrong sound_books) sound-books;
   ids = λ id (sorted, moved, ordered, (index, row, at, told, unsound)). subst (λ z. pos 1 ≤ℤ z) (sym told) (pos_le 1 (index + 1) (omega arith));
 }
 
@@ -155,31 +143,13 @@ alone-unsound sound =
           omega (arith, same)
     ]
 
-para-turn : (table : FileTable) (id : ℤ) → IsDamaged paras_wrong table id → 3 ≤ table_turn table
-para-turn file.Book id damaged = absurd (sound-books id damaged)
-para-turn file.Tab id damaged = absurd (no-tabs id damaged)
-para-turn file.Para id damaged = lit≤ tt
-para-turn file.Corr id damaged = lit≤ tt
-para-turn file.Mark id damaged = lit≤ tt
-para-turn file.Cache id damaged = lit≤ tt
-para-turn file.NamedCorr id damaged = lit≤ tt
-
 -- then the paragraph after the gap
 para-first : IsFirstDamage paras_wrong file.Para (pos 2)
 para-first = record {
   damaged = (second_alone, Contains-here second_alone [], refl, alone-unsound);
-  tables = para-turn;
+  tables = before-paras (second_alone ∷ []) (stray_entry ∷ []) (stray_mark ∷ []);
   ids = λ id (row, c, named, unsound). subst (λ z. pos 2 ≤ℤ z) (ap (λ (p : Para). p.id) (only second_alone row c) ∙ named) (pos_le 2 2 (omega arith));
 }
-
-entries-turn : (table : FileTable) (id : ℤ) → IsDamaged entries_wrong table id → 4 ≤ table_turn table
-entries-turn file.Book id damaged = absurd (sound-books id damaged)
-entries-turn file.Tab id damaged = absurd (no-tabs id damaged)
-entries-turn file.Para id damaged = absurd (no-paras [] id damaged)
-entries-turn file.Corr id damaged = lit≤ tt
-entries-turn file.Mark id damaged = lit≤ tt
-entries-turn file.Cache id damaged = lit≤ tt
-entries-turn file.NamedCorr id damaged = lit≤ tt
 
 entries-ids : (id : ℤ) → IsDamagedEntries [] (stray_entry ∷ []) id → pos 9 ≤ℤ id
 entries-ids id (inl (para, c, named, unsound)) = absurd (Contains-none para c)
@@ -190,35 +160,17 @@ entries-ids id (inr (row, c, named, none)) =
 entries-first : IsFirstDamage entries_wrong file.NamedCorr (pos 9)
 entries-first = record {
   damaged = (refl, inr (stray_entry, Contains-here stray_entry [], refl, λ (para, c, named). Contains-none para c));
-  tables = entries-turn;
+  tables = before-entries entries_wrong (before-paras [] (stray_entry ∷ []) (stray_mark ∷ [])) (no-paras []);
   ids = λ id damaged. entries-ids id damaged.1;
 }
-
-marks-turn : (table : FileTable) (id : ℤ) → IsDamaged marks_wrong table id → 5 ≤ table_turn table
-marks-turn file.Book id damaged = absurd (sound-books id damaged)
-marks-turn file.Tab id damaged = absurd (no-tabs id damaged)
-marks-turn file.Para id damaged = absurd (no-paras [] id damaged)
-marks-turn file.Corr id damaged = absurd (no-entries id damaged.1)
-marks-turn file.Mark id damaged = lit≤ tt
-marks-turn file.Cache id damaged = lit≤ tt
-marks-turn file.NamedCorr id damaged = absurd (no-entries id damaged.1)
 
 -- then the mark, at its own id
 marks-first : IsFirstDamage marks_wrong file.Mark (pos 1)
 marks-first = record {
   damaged = (stray_mark, Contains-here stray_mark [], refl, λ sound. Contains-none sound.span.paragraph sound.span.there);
-  tables = marks-turn;
+  tables = before-mark marks_wrong (before-entries marks_wrong (before-paras [] [] (stray_mark ∷ [])) (no-paras [])) no-entries;
   ids = λ id (row, c, named, unsound). subst (λ z. pos 1 ≤ℤ z) (ap (λ (m : Mark). m.id) (only stray_mark row c) ∙ named) (pos_le 1 1 (omega arith));
 }
-
-cells-turn : (table : FileTable) (id : ℤ) → IsDamaged cells_wrong table id → 6 ≤ table_turn table
-cells-turn file.Book id damaged = absurd (sound-books id damaged)
-cells-turn file.Tab id damaged = absurd (no-tabs id damaged)
-cells-turn file.Para id damaged = absurd (no-paras [] id damaged)
-cells-turn file.Corr id damaged = absurd (no-entries id damaged.1)
-cells-turn file.Mark id damaged = absurd (no-marks [] id damaged)
-cells-turn file.Cache id damaged = lit≤ tt
-cells-turn file.NamedCorr id damaged = absurd (no-entries id damaged.1)
 
 cells-ids : (caches : List ParaCells) (id : ℤ) → Some (stray_cells ∷ []) ≡ Some caches → IsDamagedCache [] [] caches id → pos 9 ≤ℤ id
 cells-ids caches id is (inl (row, c, named, unsound)) =
@@ -231,7 +183,7 @@ cells-ids caches id is (inr ((para, c, named), none)) = absurd (Contains-none pa
 cells-first : IsFirstDamage cells_wrong file.Cache (pos 9)
 cells-first = record {
   damaged = (stray_cells ∷ [], refl, inl (stray_cells, Contains-here stray_cells [], refl, λ sound. Contains-none sound.paragraph sound.there));
-  tables = cells-turn;
+  tables = before-cache cells_wrong (before-mark cells_wrong (before-entries cells_wrong (before-paras [] [] []) (no-paras [])) no-entries) (no-marks []);
   ids = λ id (caches, is, damaged). cells-ids caches id is damaged;
 }
 
