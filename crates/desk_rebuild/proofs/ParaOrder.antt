@@ -16,9 +16,8 @@ use Rattle.desk_rebuild.specs.OrderedRows.{AreSoundUpTo}
 use Rattle.desk_parts.specs.Rows.{Para}
 use Rattle.desk_model.proofs.Lists.Items.{Contains-there, slice_get-there}
 use Rattle.desk_model.proofs.Lists.Members.{Contains-behind, Contains-here}
-use Rattle.desk_model.proofs.Lists.NumberedRows.{AreOnce, AreUpTo, in_order, once-one, pigeonholes}
+use Rattle.desk_model.proofs.Lists.NumberedRows.{AreOnce, AreUpTo, in_order, once-map, once-one, pigeonholes}
 use Rattle.desk_rebuild.proofs.OrderedRows.{all-numbers, number-in}
-use Rattle.desk_model.proofs.Lists.Permutations.{pull_back}
 use Rattle.desk_model.proofs.Lists.RowNumbers.{Contains-from_map, numbers, same_number}
 use Rattle.desk_model.proofs.Lists.Stable.{at_least, le_from}
 use Rattle.desk_model.proofs.Damage.UndamagedRows.{place-of}
@@ -106,20 +105,11 @@ module _ (tables : KeptTables) (rows sorted : List Para) (moved : IsPermutation 
       ]
 
   once-places : AreOnce (map place_key sorted)
-  once-places z others turned c =
-      let back = pull_back place_key (map place_key sorted) (z ∷ others) turned sorted refl in
-      by back.0 back.1 back.2
-    where
-      by : (to : List Para) → IsPermutation sorted to → z ∷ others ≡ map place_key to → ⊥
-      by [] same is = absurd (cc)
-      by (para ∷ to) same is =
-          let first : z ≡ para.place = cc in
-          let rest : others ≡ map place_key to = cc in
-          let twin = Contains-from_map place_key to z (subst (λ (zs : List ℤ). Contains zs z) rest c) in
-          let back = IsPermutation-sym sorted (para ∷ to) same in
-          let there = Contains-permutation (para ∷ to) sorted para back (Contains-here para to) in
-          let other = Contains-permutation (para ∷ to) sorted twin.0 back (Contains-behind para twin.0 to twin.1) in
-          once-one key sorted to para twin.0 (number-in (para_rule tables sorted) sorted sound para there).once same twin.1 (same-id twin.0 para other there (twin.2 ∙ first))
+  once-places = once-map place_key sorted (λ para other others turned c same.
+      let back = IsPermutation-sym sorted (para ∷ others) turned in
+      let in_para = Contains-permutation (para ∷ others) sorted para back (Contains-here para others) in
+      let in_other = Contains-permutation (para ∷ others) sorted other back (Contains-behind para other others c) in
+      once-one key sorted others para other (number-in (para_rule tables sorted) sorted sound para in_para).once turned c (same-id other para in_other in_para same))
 
   places-within : AreUpTo (length sorted) (map place_key sorted)
   places-within z c =

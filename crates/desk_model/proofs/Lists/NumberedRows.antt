@@ -138,8 +138,9 @@ module _ {X : Type 0} (key : X → ℤ) where
       let two : length (filter test (x ∷ other ∷ more.0)) ≡ suc (suc (length (filter test more.0))) = ap length (first ∙ ap (λ (rows : List X). x ∷ rows) second) in
       omega (arith, one, long, two)
 
-  pub once-keys : (xs : List X) → ((x : X) → Contains xs x → rows_with key (key x) xs ≡ 1) → AreOnce (map key xs)
-  once-keys xs each z others moved c =
+  -- values of rows, none of them that of two rows
+  pub once-map : (xs : List X) → ((x other : X) (others : List X) → IsPermutation xs (x ∷ others) → Contains others other → key other ≡ key x → ⊥) → AreOnce (map key xs)
+  once-map xs apart z others moved c =
       let back = pull_back key (map key xs) (z ∷ others) moved xs refl in
       by back.0 back.1 back.2
     where
@@ -149,8 +150,12 @@ module _ {X : Type 0} (key : X → ℤ) where
           let first : z ≡ key x = cc in
           let rest : others ≡ map key to = cc in
           let twin = Contains-from_map key to z (subst (λ (zs : List ℤ). Contains zs z) rest c) in
-          let there = Contains-permutation (x ∷ to) xs x (IsPermutation-sym xs (x ∷ to) same) (Contains-here x to) in
-          once-one xs to x twin.0 (each x there) same twin.1 (twin.2 ∙ first)
+          apart x twin.0 to same twin.1 (twin.2 ∙ first)
+
+  pub once-keys : (xs : List X) → ((x : X) → Contains xs x → rows_with key (key x) xs ≡ 1) → AreOnce (map key xs)
+  once-keys xs each = once-map xs (λ x other others moved c same.
+      let there = Contains-permutation (x ∷ others) xs x (IsPermutation-sym xs (x ∷ others) moved) (Contains-here x others) in
+      once-one xs others x other (each x there) moved c same)
 
   -- rows in another order, by the numbers
   pub in_order : (xs : List X) (n : ℕ) → IsPermutation (map key xs) (numbers 1 n) → (sorted : List X) × IsPermutation xs sorted × (numbers 1 n ≡ map key sorted)
