@@ -188,12 +188,11 @@ module _ (paras : List Para) (was : List KeptParagraph) (are : AreOf paras was) 
                   | inr past ↦ above-all (index + 1) (length was) other (omega (arith, within)) past
                 ]
 
-    module _ (now : List KeptParagraph) (same : (k : ℕ) (kept : KeptParagraph) → slice_get was k ≡ Some kept → (new : KeptParagraph) × (slice_get now k ≡ Some new) × (new.original ≡ kept.original) × (new.print ≡ kept.print))
-        (read : HaveRead groups now) where
+    module _ (now : List KeptParagraph) (same : map without_history now ≡ map without_history was) (read : HaveRead groups now) where
       can-read : (para : Para) (c : Contains paras para) → CanBeRead (rows_of entries para.id) (at-row para c).kept.original (at-row para c).kept.print
       can-read para c =
           let a = at-row para c in
-          let new = same a.index a.kept a.at in
+          let new = kept-at was now same a.index a.kept a.at in
           let has : HasRead (rows_of entries para.id) new.0 = read a.index (rows_of entries para.id) new.0 a.rows new.1 in
           record {
             sorted = has.sorted;
@@ -217,7 +216,7 @@ module _ (paras : List Para) (was : List KeptParagraph) (are : AreOf paras was) 
       pub histories-read : All (HasHistory entries now) paras
       histories-read = All-among (HasHistory entries now) paras (λ para c.
           let a = at-row para c in
-          let new = same a.index a.kept a.at in
+          let new = kept-at was now same a.index a.kept a.at in
           let has : HasRead (rows_of entries para.id) new.0 = read a.index (rows_of entries para.id) new.0 a.rows new.1 in
           let original : new.0.original ≡ chars para.original = new.2 ∙ a.of.original in
           let index : nat_abs para.id - 1 ≡ a.index = (let plus : a.index + 1 - 1 ≡ a.index = omega arith in ap (λ (z : ℤ). nat_abs z - 1) a.id ∙ plus) in

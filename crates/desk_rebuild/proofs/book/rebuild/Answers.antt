@@ -4,10 +4,19 @@ use Rattle.desk_parts.specs.Parts.{rows_in}
 use Rattle.desk_model.specs.Shows.{Shows}
 use Rattle.desk_rebuild.proofs.FirstTables.{IfErr-exit}
 use Rattle.desk_memory.specs.Kept.{IsKept, book_kept}
+use Rattle.desk_rebuild.specs.Rows.{AreOf}
 use Rattle.desk_rebuild.specs.declared.book.KeptBook.{KeptBook}
 use Rattle.desk_rebuild.proofs.KeptRows.{order-permutes}
 use Rattle.desk_rebuild.proofs.RebuiltBook.{cache-fault, entry-fault, made, mark-fault, of-with_cells, of-with_history, of-with_marks, para-fault, tab-fault, unmarked-with_history, version-read}
 use Rattle.desk_rebuild.proofs.book.rebuild.Goals as goal
+use Rattle.desk_rebuild.proofs.book.rebuild.Goals.{In_ok-give_histories, In_ok-marks}
+
+-- the paragraphs with their histories, and with their marks, are those of the rows
+history_of : (c : In_ok-give_histories) → AreOf (rows_in c.args.parts).paras c.give_histories.new.items.items
+history_of c = of-with_history _ _ _ c.in_ok-give_histories.ensures.same (c.in_ok-items.ensures.items (rows_in c.args.parts).tabs c.in_ok-tables.ensures.tables)
+
+marks_of : (c : In_ok-marks) → AreOf (rows_in c.args.parts).paras c.give_histories.new.items.items → AreOf (rows_in c.args.parts).paras c.read_marks.new.items.items
+marks_of c = of-with_marks _ _ _ c.in_ok-marks.ensures.same
 
 pub returns-in_err-tables-clause-damaged : goal.returns-in_err-tables-clause-damaged
 returns-in_err-tables-clause-damaged c =
@@ -37,10 +46,7 @@ returns-in_err-give_histories-clause-damaged c =
     (c.in_err-give_histories.ensures.damaged rows.paras (c.in_ok-items.ensures.items rows.tabs tables)))
 
 pub read_marks-requires-clause-of : goal.read_marks-requires-clause-of
-read_marks-requires-clause-of c =
-    let rows = rows_in c.args.parts in
-    let of = c.in_ok-items.ensures.items rows.tabs c.in_ok-tables.ensures.tables in
-    (rows.paras, of-with_history rows.paras c.in_ok-items.field-0.items.items c.give_histories.new.items.items c.in_ok-give_histories.ensures.same of)
+read_marks-requires-clause-of c = ((rows_in c.args.parts).paras, history_of (goal.at.read_marks-requires-clause-of c).In_ok-give_histories)
 
 pub read_marks-requires-clause-unmarked : goal.read_marks-requires-clause-unmarked
 read_marks-requires-clause-unmarked c =
@@ -52,52 +58,50 @@ returns-in_err-marks-clause-damaged c =
     let within = (version-read c.args.parts (search rules) c.in-Some.version c.in-Some.ensures).0 in
     let tables = c.in_ok-tables.ensures.tables in
     let of = c.in_ok-items.ensures.items rows.tabs tables in
-    let with_history = of-with_history rows.paras c.in_ok-items.field-0.items.items c.give_histories.new.items.items c.in_ok-give_histories.ensures.same of in
+    let with_history = history_of (goal.at.returns-in_err-marks-clause-damaged c).In_ok-give_histories in
     IfErr-exit c.from_residual-in_err-marks.result c.in_err-marks.field-0.0 (IsFaultOf rows) c.from_residual-in_err-marks.ensures.1
     (mark-fault c.args.parts within c.in_ok-tables.ensures.whole (c.in_ok-items.ensures.whole rows.tabs tables) (c.in_ok-give_histories.ensures.whole rows.paras of)
     c.in_err-marks.field-0.0 (c.in_err-marks.ensures.damaged rows.paras with_history))
 
 pub give_cells-requires : goal.give_cells-requires
 give_cells-requires c =
+    let at = goal.at.give_cells-requires c in
     let rows = rows_in c.args.parts in
     let tables = c.in_ok-tables.ensures.tables in
-    let of = c.in_ok-items.ensures.items rows.tabs tables in
-    let with_history = of-with_history rows.paras c.in_ok-items.field-0.items.items c.give_histories.new.items.items c.in_ok-give_histories.ensures.same of in
-    let with_marks = of-with_marks rows.paras c.give_histories.new.items.items c.read_marks.new.items.items c.in_ok-marks.ensures.same with_history in
-    record { of = (rows.tabs, rows.paras, tables, with_marks, c.in_ok-items.ensures.whole rows.tabs tables) }
+    record { of = (rows.tabs, rows.paras, tables, marks_of at.In_ok-marks (history_of at.In_ok-give_histories), c.in_ok-items.ensures.whole rows.tabs tables) }
 
 pub returns-in_err-give_cells-clause-damaged : goal.returns-in_err-give_cells-clause-damaged
 returns-in_err-give_cells-clause-damaged c =
+    let at = goal.at.returns-in_err-give_cells-clause-damaged c in
     let rows = rows_in c.args.parts in
     let within = (version-read c.args.parts (search rules) c.in-Some.version c.in-Some.ensures).0 in
     let tables = c.in_ok-tables.ensures.tables in
     let no_para = c.in_ok-items.ensures.whole rows.tabs tables in
     let of = c.in_ok-items.ensures.items rows.tabs tables in
-    let with_history = of-with_history rows.paras c.in_ok-items.field-0.items.items c.give_histories.new.items.items c.in_ok-give_histories.ensures.same of in
-    let with_marks = of-with_marks rows.paras c.give_histories.new.items.items c.read_marks.new.items.items c.in_ok-marks.ensures.same with_history in
+    let with_history = history_of at.In_ok-give_histories in
+    let with_marks = marks_of at.In_ok-marks with_history in
     IfErr-exit c.from_residual-in_err-give_cells.result c.in_err-give_cells.field-0.0 (IsFaultOf rows) c.from_residual-in_err-give_cells.ensures.1
     (cache-fault c.args.parts within c.in_ok-tables.ensures.whole no_para (c.in_ok-give_histories.ensures.whole rows.paras of) (c.in_ok-marks.ensures.whole rows.paras with_history)
     c.in_err-give_cells.field-0.0 (c.in_err-give_cells.ensures.damaged rows.tabs rows.paras tables with_marks no_para))
 
 pub kept_book-requires : goal.kept_book-requires
 kept_book-requires c =
+    let at = goal.at.kept_book-requires c in
     let rows = rows_in c.args.parts in
-    let tables = c.in_ok-tables.ensures.tables in
-    let of = c.in_ok-items.ensures.items rows.tabs tables in
-    let with_history = of-with_history rows.paras c.in_ok-items.field-0.items.items c.give_histories.new.items.items c.in_ok-give_histories.ensures.same of in
-    let with_marks = of-with_marks rows.paras c.give_histories.new.items.items c.read_marks.new.items.items c.in_ok-marks.ensures.same with_history in
+    let with_marks = marks_of at.In_ok-marks (history_of at.In_ok-give_histories) in
     let last = of-with_cells rows.paras c.read_marks.new.items.items c.give_cells.new.items.items c.in_ok-give_cells.ensures.same with_marks in
-    order-permutes rows.paras c.give_cells.new.items.items c.in_ok-items.field-0.order.items last (c.in_ok-items.ensures.order rows.tabs tables)
+    order-permutes rows.paras c.give_cells.new.items.items c.in_ok-items.field-0.order.items last (c.in_ok-items.ensures.order rows.tabs c.in_ok-tables.ensures.tables)
 
 pub returns-clause-made : goal.returns-clause-made
 returns-clause-made c =
+    let at = goal.at.returns-clause-made c in
     let rows = rows_in c.args.parts in
     let version = version-read c.args.parts (search rules) c.in-Some.version c.in-Some.ensures in
     let tables = c.in_ok-tables.ensures.tables in
     let no_para = c.in_ok-items.ensures.whole rows.tabs tables in
     let of = c.in_ok-items.ensures.items rows.tabs tables in
-    let with_history = of-with_history rows.paras c.in_ok-items.field-0.items.items c.give_histories.new.items.items c.in_ok-give_histories.ensures.same of in
-    let with_marks = of-with_marks rows.paras c.give_histories.new.items.items c.read_marks.new.items.items c.in_ok-marks.ensures.same with_history in
+    let with_history = history_of at.In_ok-give_histories in
+    let with_marks = marks_of at.In_ok-marks with_history in
     subst (λ (book : KeptBook). IsKept book.version book.tables book.paragraphs book.marks
     × Shows rows (book_kept book.version book.tables book.paragraphs book.marks)) (sym c.in_ok-book.ensures)
     (made c.args.parts version.0 c.in_ok-tables.ensures.whole no_para (c.in_ok-give_histories.ensures.whole rows.paras of) (c.in_ok-marks.ensures.whole rows.paras with_history)

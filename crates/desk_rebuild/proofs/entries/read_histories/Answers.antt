@@ -1,4 +1,4 @@
-use Rattle.std.proofs.Common.{◌≡◌, ℕ, ◌+◌, ◌<◌, ◌+ℤ◌, pos, length, map, set, inl, inr, refl, sym, ap, subst, ◌∙◌, arith, w64, to_z, of_z}
+use Rattle.std.proofs.Common.{◌≡◌, ℕ, ◌+◌, ◌<◌, ◌+ℤ◌, pos, Some, length, map, set, inl, inr, refl, sym, ap, subst, ◌∙◌, arith, w64, to_z, of_z}
 use Rattle.std.specs.Prelude.{option_map, slice_get}
 use Rattle.std.specs.Vec.Iter.{into_iter_items, into_iter_len}
 use Rattle.std.proofs.lemmas.Int.{ints}
@@ -11,65 +11,55 @@ use Rattle.std.proofs.lemmas.Result.{err_from_is_err_and}
 use Rattle.desk_rebuild.specs.declared.damage.RowsFault.TheVariants.{Damaged}
 use Rattle.desk_rebuild.proofs.ReadGroups.{HaveReadTo, as-long, at-enumerate, read-all, read-more, unread-at}
 use Rattle.desk_rebuild.proofs.entries.read_histories.Goals as goal
+use Rattle.desk_rebuild.proofs.entries.read_histories.Goals.{After-index_mut}
+
+-- a turn has the next group, and the paragraph with the same index
+turn : (c : After-index_mut) → (c.in-Some.index ≡ length c.loop-index.yielded) × (length c.loop-index.yielded < length c.args.groups.items)
+    × (slice_get (map (λ group. group.items) c.args.groups.items) (length c.loop-index.yielded) ≡ Some c.in-Some.rows.items)
+    × (slice_get c.loop-index.items.items (length c.loop-index.yielded) ≡ Some c.index_mut.result.now)
+turn c =
+    let groups = c.args.groups.items in
+    let lists = map (λ group. group.items) groups in
+    let now = c.loop-index.items.items in
+    let n = length c.loop-index.yielded in
+    let source : c.into_iter-index-iterator.result.iter ≡ c.into_iter.result = cc in
+    let road = YieldsList-from_enumerate {s = c.into_iter-index-iterator.result} (YieldsList-from_vec {s = c.into_iter-index-iterator.result.iter} groups (ap into_iter_items source ∙ c.into_iter.ensures.rest) (ap into_iter_len source ∙ (c.into_iter.ensures.len ∙ c.args.groups.ok.0))) (cc) in
+    let turn = YieldsList-turn road c.loop-index.yielded c.loop-index.index-iterator c.loop-index.yielded_by c.next.result c.next.new.self (c.in-Some.index, c.in-Some.rows) c.in-Some.is c.next.ensures.steps in
+    let found = at-enumerate groups n c.in-Some.index c.in-Some.rows turn.0 turn.1 in
+    let within = slice_get_within groups n c.in-Some.rows found.1 in
+    let long = as-long lists c.args.items.now.items now n c.loop-index.invariant in
+    let bound : c.in-Some.index < length now = (let here = found.0 in let all = c.requires in omega (arith, within, long, all, here)) in
+    let at = slice_get_read now (length now) c.in-Some.index c.index_mut.result.now refl bound c.index_mut.ensures.value in
+    (found.0, within, slice_get-map (λ group. group.items) groups n ∙ ap (option_map (λ group. group.items)) found.1, ap (slice_get now) (sym found.0) ∙ at)
 
 pub loop-index-preserved : goal.loop-index-preserved
 loop-index-preserved c =
-    let groups = c.args.groups.items in
-    let lists = map (λ group. group.items) groups in
+    let here = turn (goal.at.loop-index-preserved c).After-index_mut in
+    let lists = map (λ group. group.items) c.args.groups.items in
     let was = c.args.items.now.items in
     let now = c.loop-index.items.items in
     let n = length c.loop-index.yielded in
-    let source : c.into_iter-index-iterator.result.iter ≡ c.into_iter.result = cc in
-    let road = YieldsList-from_enumerate {s = c.into_iter-index-iterator.result} (YieldsList-from_vec {s = c.into_iter-index-iterator.result.iter} groups (ap into_iter_items source ∙ c.into_iter.ensures.rest) (ap into_iter_len source ∙ (c.into_iter.ensures.len ∙ c.args.groups.ok.0))) (cc) in
-    let turn = YieldsList-turn road c.loop-index.yielded c.loop-index.index-iterator c.loop-index.yielded_by c.next.result c.next.new.self (c.in-Some.index, c.in-Some.rows) c.in-Some.is c.next.ensures.steps in
-    let found = at-enumerate groups n c.in-Some.index c.in-Some.rows turn.0 turn.1 in
-    let is = c.loop-index.invariant in
-    let within = slice_get_within groups n c.in-Some.rows found.1 in
-    let long = as-long lists was now n is in
-    let many = length-map groups (λ group. group.items) in
-    let bound : c.in-Some.index < length now = (let here = found.0 in let all = c.requires in omega (arith, within, long, all, here)) in
-    let at = slice_get_read now (length now) c.in-Some.index c.index_mut.result.now refl bound c.index_mut.ensures.value in
-    let group = slice_get-map (λ group. group.items) groups n ∙ ap (option_map (λ group. group.items)) found.1 in
-    let more = read-more lists was now n is c.in-Some.rows.items c.index_mut.result.now c.read_history.new.paragraph group (ap (slice_get now) (sym found.0) ∙ at) c.in_ok-read_history.ensures.same c.in_ok-read_history.ensures.read in
+    let more = read-more lists was now n c.loop-index.invariant c.in-Some.rows.items c.index_mut.result.now c.read_history.new.paragraph here.2 here.3 c.in_ok-read_history.ensures.same c.in_ok-read_history.ensures.read in
     subst (λ (k : ℕ). HaveReadTo lists was (set now c.in-Some.index c.read_history.new.paragraph) k) (sym (length_push c.loop-index.yielded (c.in-Some.index, c.in-Some.rows)))
-    (subst (λ (k : ℕ). HaveReadTo lists was (set now k c.read_history.new.paragraph) (n + 1)) (sym found.0) more)
+    (subst (λ (k : ℕ). HaveReadTo lists was (set now k c.read_history.new.paragraph) (n + 1)) (sym here.0) more)
 
 pub returns-in_err-read_history-clause-damaged : goal.returns-in_err-read_history-clause-damaged
 returns-in_err-read_history-clause-damaged c =
-    let groups = c.args.groups.items in
-    let lists = map (λ group. group.items) groups in
-    let was = c.args.items.now.items in
-    let now = c.loop-index.items.items in
+    let here = turn (goal.at.returns-in_err-read_history-clause-damaged c).After-index_mut in
+    let groups = c.args.groups in
     let n = length c.loop-index.yielded in
-    let source : c.into_iter-index-iterator.result.iter ≡ c.into_iter.result = cc in
-    let road = YieldsList-from_enumerate {s = c.into_iter-index-iterator.result} (YieldsList-from_vec {s = c.into_iter-index-iterator.result.iter} groups (ap into_iter_items source ∙ c.into_iter.ensures.rest) (ap into_iter_len source ∙ (c.into_iter.ensures.len ∙ c.args.groups.ok.0))) (cc) in
-    let turn = YieldsList-turn road c.loop-index.yielded c.loop-index.index-iterator c.loop-index.yielded_by c.next.result c.next.new.self (c.in-Some.index, c.in-Some.rows) c.in-Some.is c.next.ensures.steps in
-    let found = at-enumerate groups n c.in-Some.index c.in-Some.rows turn.0 turn.1 in
-    let is = c.loop-index.invariant in
-    let within = slice_get_within groups n c.in-Some.rows found.1 in
-    let long = as-long lists was now n is in
-    let bound : c.in-Some.index < length now = (let here = found.0 in let all = c.requires in omega (arith, within, long, all, here)) in
-    let at = slice_get_read now (length now) c.in-Some.index c.index_mut.result.now refl bound c.index_mut.ensures.value in
-    let group = slice_get-map (λ group. group.items) groups n ∙ ap (option_map (λ group. group.items)) found.1 in
-    let capacity = c.args.groups.ok in
-    let small = c.args.groups.small in
-    let id : to_z w64 (of_z w64 (to_z w64 c.in-Some.index +ℤ pos 1)) ≡ pos (n + 1) = (let here = found.0 in let held = capacity.0 in let room = capacity.1 in omega (arith, ints, here, within, held, room, small)) in
+    let id : to_z w64 (of_z w64 (to_z w64 c.in-Some.index +ℤ pos 1)) ≡ pos (n + 1) =
+    (let index = here.0 in let within = here.1 in let held = groups.ok.0 in let room = groups.ok.1 in let small = groups.small in omega (arith, ints, index, within, held, room, small)) in
     let p = err_from_is_err_and c.from_residual.result c.from_residual.ensures.1 in
-    rw p.1 (elim c.in_err-read_history.ensures.damaged [
-      | inl refused ↦ inl (p.2 ∙ refused)
-      | inr damaged ↦ inr (n, p.2 ∙ (damaged.0 ∙ ap Damaged id), unread-at lists was now n is c.in-Some.rows.items c.index_mut.result.now group (ap (slice_get now) (sym found.0) ∙ at) damaged.1)
-    ])
+    let unread = unread-at (map (λ group. group.items) groups.items) c.args.items.now.items c.loop-index.items.items n c.loop-index.invariant c.in-Some.rows.items c.index_mut.result.now here.2 here.3 in
+    rw p.1 (elim c.in_err-read_history.ensures.damaged [ inl refused ↦ inl (p.2 ∙ refused) | inr damaged ↦ inr (n, p.2 ∙ (damaged.0 ∙ ap Damaged id), unread damaged.1) ])
 
 pub returns-clause-read : goal.returns-clause-read
 returns-clause-read c =
     let groups = c.args.groups.items in
-    let lists = map (λ group. group.items) groups in
-    let was = c.args.items.now.items in
-    let now = c.loop-index.items.items in
-    let n = length c.loop-index.yielded in
     let source : c.into_iter-index-iterator.result.iter ≡ c.into_iter.result = cc in
     let road = YieldsList-from_enumerate {s = c.into_iter-index-iterator.result} (YieldsList-from_vec {s = c.into_iter-index-iterator.result.iter} groups (ap into_iter_items source ∙ c.into_iter.ensures.rest) (ap into_iter_len source ∙ (c.into_iter.ensures.len ∙ c.args.groups.ok.0))) (cc) in
     let end = YieldsList-end road c.loop-index.yielded c.loop-index.index-iterator c.loop-index.yielded_by c.next.result c.next.new.self c.in-None.is c.next.ensures.steps in
     let many = length-map groups (λ group. group.items) in
     let all = length-enumerate_from 0 groups in
-    read-all lists was now n c.loop-index.invariant (let whole = end.1 in omega (arith, many, all, whole))
+    read-all (map (λ group. group.items) groups) c.args.items.now.items c.loop-index.items.items (length c.loop-index.yielded) c.loop-index.invariant (let whole = end.1 in omega (arith, many, all, whole))

@@ -1,4 +1,5 @@
-use Rattle.std.proofs.Common.{◌≡◌, ℕ, List, ◌+◌, ◌++◌, ◌∷◌, [], length, take, inl, inr, refl, sym, ap, subst, ◌∙◌, rules, w64}
+use Rattle.std.proofs.Common.{◌≡◌, ℕ, List, ◌+◌, ◌++◌, ◌∷◌, [], Some, length, take, inl, inr, refl, sym, ap, subst, ◌∙◌, rules, w64}
+use Rattle.std.specs.Prelude.{slice_get}
 use Rattle.std.specs.Str.{chars}
 use Rattle.std.proofs.lemmas.Int.{to_z-of_z}
 use Rattle.std.proofs.lemmas.Iterator.Adapters.{YieldsList-from_vec}
@@ -12,7 +13,16 @@ use Rattle.desk_rebuild.specs.History.{IsRead, IsSoundNext}
 use Rattle.desk_parts.specs.Rows.{NamedCorr}
 use Rattle.desk_rebuild.proofs.ReadRows.{AreSoundTo, nothing-read, sound-all, sound-more, sound-none, unsound-at}
 use Rattle.desk_rebuild.proofs.history.read_rows.Goals as goal
+use Rattle.desk_rebuild.proofs.history.read_rows.Goals.{In-Some}
 use Rattle.desk_model.proofs.Lists.Items.{take-more}
+
+-- the row that a turn has is the next of the rows
+row_at : (c : In-Some) → slice_get c.args.rows.items (length c.loop-row.yielded) ≡ Some c.in-Some.row
+row_at c =
+    let rows = c.args.rows.items in
+    let given = c.into_iter-row-iterator.ensures.into_iter_gives in
+    let turn = YieldsList-turn (YieldsList-from_vec {s = c.into_iter-row-iterator.result} rows given.0 (given.1 ∙ c.args.rows.ok.0)) c.loop-row.yielded c.loop-row.row-iterator c.loop-row.yielded_by c.next.result c.next.new.self c.in-Some.row c.in-Some.is c.next.ensures.steps in
+    slice_get_read rows (length rows) (length c.loop-row.yielded) c.in-Some.row refl turn.0 turn.1
 
 pub read-requires : goal.read-requires
 read-requires c = (chars c.args.original.now, c.loop-row.yielded, c.loop-row.invariant.0)
@@ -26,9 +36,7 @@ pub loop-row-preserved : goal.loop-row-preserved
 loop-row-preserved c =
     let rows = c.args.rows.items in
     let original = chars c.args.original.now in
-    let given = c.into_iter-row-iterator.ensures.into_iter_gives in
-    let turn = YieldsList-turn (YieldsList-from_vec {s = c.into_iter-row-iterator.result} rows given.0 (given.1 ∙ c.args.rows.ok.0)) c.loop-row.yielded c.loop-row.row-iterator c.loop-row.yielded_by c.next.result c.next.new.self c.in-Some.row c.in-Some.is c.next.ensures.steps in
-    let at = slice_get_read rows (length rows) (length c.loop-row.yielded) c.in-Some.row refl turn.0 turn.1 in
+    let at = row_at (goal.at.loop-row-preserved c).In-Some in
     let read = c.in_ok-read.ensures.read original c.loop-row.yielded c.loop-row.invariant.0 in
     let many : length (c.loop-row.yielded ++ c.in-Some.row ∷ []) ≡ length c.loop-row.yielded + 1 = length_push c.loop-row.yielded c.in-Some.row in
     let so_far = c.loop-row.invariant.1 in (
@@ -42,9 +50,7 @@ pub returns-in_err-read-clause-damaged : goal.returns-in_err-read-clause-damaged
 returns-in_err-read-clause-damaged c =
     let rows = c.args.rows.items in
     let original = chars c.args.original.now in
-    let given = c.into_iter-row-iterator.ensures.into_iter_gives in
-    let turn = YieldsList-turn (YieldsList-from_vec {s = c.into_iter-row-iterator.result} rows given.0 (given.1 ∙ c.args.rows.ok.0)) c.loop-row.yielded c.loop-row.row-iterator c.loop-row.yielded_by c.next.result c.next.new.self c.in-Some.row c.in-Some.is c.next.ensures.steps in
-    let at = slice_get_read rows (length rows) (length c.loop-row.yielded) c.in-Some.row refl turn.0 turn.1 in
+    let at = row_at (goal.at.returns-in_err-read-clause-damaged c).In-Some in
     let told = c.in_err-read.ensures.damaged original c.loop-row.yielded c.loop-row.invariant.0 in
     let p = err_from_is_err_and c.from_residual-in_err-read.result c.from_residual-in_err-read.ensures.1 in
     let so_far = c.loop-row.invariant.1 in

@@ -16,32 +16,19 @@ use Rattle.desk_rebuild.proofs.paras.read_paras.Goals as goal
 abbrev Reads : KeptTables → List Para → OrderedParas → Type 0
 Reads tables sorted judged = AreKeptOf tables (length sorted) sorted judged.items.items judged.order.items
 
-pub returns-clause-whole : goal.returns-clause-whole
-returns-clause-whole c = λ tabs are.
+pub returns : goal.returns
+returns c =
+    let tables = c.args.tables.now in
+    let rows = c.args.rows.items in
     let sorted = c.sort.new.rows.items in
-    read-of-table ParaTable c.paragraphs_of.result c.of_table.result c.of_table.ensures (Reads c.args.tables.now sorted) (λ judged. IsWhole (IsDamagedPara tabs c.args.rows.items))
-    (λ judged have. whole tabs c.args.tables.now are c.args.rows.items sorted c.sort.ensures.same c.sort.ensures.sorted have.kept.sound) c.paragraphs_of.ensures.kept
-
-pub returns-clause-items : goal.returns-clause-items
-returns-clause-items c = λ tabs are.
-    let sorted = c.sort.new.rows.items in
-    read-of-table ParaTable c.paragraphs_of.result c.of_table.result c.of_table.ensures (Reads c.args.tables.now sorted) (λ judged. AreOf c.args.rows.items judged.items.items)
-    (λ judged have. are-of c.args.tables.now c.args.rows.items sorted c.sort.ensures.same judged.items.items judged.order.items have) c.paragraphs_of.ensures.kept
-
-pub returns-clause-unmarked : goal.returns-clause-unmarked
-returns-clause-unmarked c =
-    let sorted = c.sort.new.rows.items in
-    read-of-table ParaTable c.paragraphs_of.result c.of_table.result c.of_table.ensures (Reads c.args.tables.now sorted) (λ judged. All (λ (kept : KeptParagraph). kept.marks ≡ []) judged.items.items)
-    (λ judged have. unmarked c.args.tables.now c.args.rows.items sorted c.sort.ensures.same judged.items.items judged.order.items have) c.paragraphs_of.ensures.kept
-
-pub returns-clause-order : goal.returns-clause-order
-returns-clause-order c = λ tabs are.
-    let sorted = c.sort.new.rows.items in
-    read-of-table ParaTable c.paragraphs_of.result c.of_table.result c.of_table.ensures (Reads c.args.tables.now sorted) (λ judged. AreInPlaces c.args.rows.items judged.order.items)
-    (λ judged have. in-places c.args.tables.now c.args.rows.items sorted c.sort.ensures.same judged.items.items judged.order.items have) c.paragraphs_of.ensures.kept
-
-pub returns-clause-damaged : goal.returns-clause-damaged
-returns-clause-damaged c = λ tabs are.
-    let sorted = c.sort.new.rows.items in
-    first-of-table ParaTable c.paragraphs_of.result c.of_table.result c.of_table.ensures (para_rule c.args.tables.now sorted) sorted (IsDamagedPara tabs c.args.rows.items)
-    (tells tabs c.args.tables.now are c.args.rows.items sorted c.sort.ensures.same c.sort.ensures.sorted) c.paragraphs_of.ensures.damaged
+    let moved = c.sort.ensures.same in
+    let read = (λ (P : OrderedParas → Type 0) (follows : (judged : OrderedParas) → Reads tables sorted judged → P judged).
+    read-of-table ParaTable c.paragraphs_of.result c.of_table.result c.of_table.ensures (Reads tables sorted) P follows c.paragraphs_of.ensures.kept) in
+    record {
+      whole = λ tabs are. read (λ judged. IsWhole (IsDamagedPara tabs rows)) (λ judged have. whole tabs tables are rows sorted moved c.sort.ensures.sorted have.kept.sound);
+      items = λ tabs are. read (λ judged. AreOf rows judged.items.items) (λ judged have. are-of tables rows sorted moved judged.items.items judged.order.items have);
+      unmarked = read (λ judged. All (λ (kept : KeptParagraph). kept.marks ≡ []) judged.items.items) (λ judged have. unmarked tables rows sorted moved judged.items.items judged.order.items have);
+      order = λ tabs are. read (λ judged. AreInPlaces rows judged.order.items) (λ judged have. in-places tables rows sorted moved judged.items.items judged.order.items have);
+      damaged = λ tabs are. first-of-table ParaTable c.paragraphs_of.result c.of_table.result c.of_table.ensures (para_rule tables sorted) sorted (IsDamagedPara tabs rows)
+          (tells tabs tables are rows sorted moved c.sort.ensures.sorted) c.paragraphs_of.ensures.damaged;
+    }

@@ -7,15 +7,25 @@ use Rattle.desk_rebuild.specs.Tabs.{AreRead, TellsFirstUnsound, rows_of}
 use Rattle.desk_parts.specs.Rows.{StoredTab, Tab}
 use Rattle.desk_rebuild.proofs.ReadTabs.{first-unsound, none-read}
 use Rattle.desk_rebuild.proofs.tabs.tables_of.Goals as goal
+use Rattle.desk_rebuild.proofs.tabs.tables_of.Goals.{After-add}
 
 abbrev row_of : StoredTab → Tab
 row_of stored = stored.row
 
 -- the rows that were taken, the next one and those after it
-parted : (taken left all : List StoredTab) (next : StoredTab) (own : Tab) → taken ++ next ∷ left ≡ all → own ≡ next.row
-    → rows_of taken ++ own ∷ rows_of left ≡ rows_of all
-parted taken left all next own is same =
-    ap (λ t. rows_of taken ++ t ∷ rows_of left) same ∙ (sym (map-append row_of taken (next ∷ left)) ∙ ap rows_of is)
+stored_is : (c : After-add) → c.loop-stored.yielded ++ c.in-Some.stored ∷ into_iter_items c.next.new.self ≡ c.args.rows.items
+stored_is c = sym (ap (λ (rest : List StoredTab). c.loop-stored.yielded ++ rest) c.in-Some.ensures.steps.0) ∙ c.loop-stored.invariant.3
+
+rows_are : (c : After-add) → rows_of c.loop-stored.yielded ++ c.stored.inside.row ∷ rows_of (into_iter_items c.next.new.self) ≡ rows_of c.args.rows.items
+rows_are c =
+    let taken = c.loop-stored.yielded in
+    let left = into_iter_items c.next.new.self in
+    ap (λ t. rows_of taken ++ t ∷ rows_of left) (ap row_of c.stored.view_is) ∙ (sym (map-append row_of taken (c.in-Some.stored ∷ left)) ∙ ap rows_of (stored_is c))
+
+-- what was read of those that were taken
+before : (c : After-add) → AreRead (rows_of c.loop-stored.yielded ++ c.stored.inside.row ∷ rows_of (into_iter_items c.next.new.self))
+    (rows_of c.loop-stored.yielded) c.loop-stored.tables
+before c = subst (λ rows. AreRead rows (rows_of c.loop-stored.yielded) c.loop-stored.tables) (sym (rows_are c)) c.loop-stored.invariant.2
 
 pub loop-stored-init : goal.loop-stored-init
 loop-stored-init c = (
@@ -27,22 +37,18 @@ loop-stored-init c = (
 
 pub loop-stored-preserved : goal.loop-stored-preserved
 loop-stored-preserved c =
+    let at = (goal.at.loop-stored-preserved c).After-add in
     let taken = c.loop-stored.yielded in
     let left = into_iter_items c.next.new.self in
     let next = c.in-Some.stored in
-    let is : taken ++ next ∷ left ≡ c.args.rows.items = sym (ap (λ (rest : List StoredTab). taken ++ rest) c.in-Some.ensures.steps.0) ∙ c.loop-stored.invariant.3 in
-    let own : c.stored.inside.row ≡ next.row = ap row_of c.stored.view_is in
-    let all = parted taken left c.args.rows.items next c.stored.inside.row is own in
-    let before : AreRead (rows_of taken ++ c.stored.inside.row ∷ rows_of left) (rows_of taken) c.loop-stored.tables =
-    subst (λ rows. AreRead rows (rows_of taken) c.loop-stored.tables) (sym all) c.loop-stored.invariant.2 in
     let pushed = map-append row_of taken (next ∷ []) in
-    let read = c.in_ok-add.ensures.read (rows_of taken) (rows_of left) before in (
+    let read = c.in_ok-add.ensures.read (rows_of taken) (rows_of left) (before at) in (
       tt,
       tt,
       subst (λ done. AreRead (rows_of c.args.rows.items) done c.add.new.tables) (sym pushed)
-          (subst (λ (t : Tab). AreRead (rows_of c.args.rows.items) (rows_of taken ++ t ∷ []) c.add.new.tables) own
-          (subst (λ rows. AreRead rows (rows_of taken ++ c.stored.inside.row ∷ []) c.add.new.tables) all read)),
-      append_assoc taken (next ∷ []) left ∙ is,
+          (subst (λ (t : Tab). AreRead (rows_of c.args.rows.items) (rows_of taken ++ t ∷ []) c.add.new.tables) (ap row_of c.stored.view_is)
+          (subst (λ rows. AreRead rows (rows_of taken ++ c.stored.inside.row ∷ []) c.add.new.tables) (rows_are at) read)),
+      append_assoc taken (next ∷ []) left ∙ stored_is at,
     )
 
 pub add-requires : goal.add-requires
@@ -50,16 +56,10 @@ add-requires c = record { few = c.loop-stored.invariant.2.few }
 
 pub returns-in_err-add-clause-told : goal.returns-in_err-add-clause-told
 returns-in_err-add-clause-told c =
-    let taken = c.loop-stored.yielded in
-    let left = into_iter_items c.next.new.self in
-    let next = c.in-Some.stored in
-    let is : taken ++ next ∷ left ≡ c.args.rows.items = sym (ap (λ (rest : List StoredTab). taken ++ rest) c.in-Some.ensures.steps.0) ∙ c.loop-stored.invariant.3 in
-    let own : c.stored.inside.row ≡ next.row = ap row_of c.stored.view_is in
-    let all = parted taken left c.args.rows.items next c.stored.inside.row is own in
-    let before : AreRead (rows_of taken ++ c.stored.inside.row ∷ rows_of left) (rows_of taken) c.loop-stored.tables =
-    subst (λ rows. AreRead rows (rows_of taken) c.loop-stored.tables) (sym all) c.loop-stored.invariant.2 in
+    let at = (goal.at.returns-in_err-add-clause-told c).After-add in
+    let taken = rows_of c.loop-stored.yielded in
+    let left = rows_of (into_iter_items c.next.new.self) in
     let exit = err_from_is_err_and c.from_residual.result c.from_residual.ensures.1 in
     subst (λ r. IfErr r (TellsFirstUnsound (rows_of c.args.rows.items))) (sym (exit.1 ∙ ap (λ e. Err e) exit.2))
-    (subst (λ rows. TellsFirstUnsound rows c.in_err-add.field-0.0) all
-    (first-unsound (rows_of taken) (rows_of left) c.stored.inside.row c.loop-stored.tables c.in_err-add.field-0.0 before
-    (c.in_err-add.ensures.told (rows_of taken) (rows_of left) before)))
+    (subst (λ rows. TellsFirstUnsound rows c.in_err-add.field-0.0) (rows_are at)
+    (first-unsound taken left c.stored.inside.row c.loop-stored.tables c.in_err-add.field-0.0 (before at) (c.in_err-add.ensures.told taken left (before at))))
