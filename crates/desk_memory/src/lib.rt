@@ -1,9 +1,9 @@
 //! How a book is kept in memory: its tables, its paragraphs with their histories and their order, its marks, and the room that
 //! they have to grow.
 //!
-//! When a command makes a list longer, this takes two steps. What it needs is asked for first ([`Items::room`], [`Tables`] with [`TablesRoom`]), and
-//! this can fail; the item is put in then, and this allocates nothing. So a change of a book can be planned, written to a file
-//! and applied, and nothing that fails is left for the last step.
+//! A command makes a list longer in two steps. What the list needs is asked for first ([`Items::room`], [`Tables`] with
+//! [`TablesRoom`]), which can fail; then the item is put in, which allocates nothing. So a change of a book can be planned,
+//! written to a file and applied, and nothing that fails is left for the last step.
 //!
 //! ```rust
 //! use desk_memory::Items;

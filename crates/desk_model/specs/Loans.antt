@@ -27,7 +27,7 @@ Comes book command id = (id ≡ next_id book) × (adds_paragraph command ≡ tru
 abbrev pub GetsEntry : (book next : Book) → ℕ → Type 0
 GetsEntry book next id = (entry : Entry) × (move : (Mark → Mark)) × (next ≡ next_with_entry book id entry move)
 
--- the next book differs from the book in the paragraph with this id alone
+-- the next book has the next version, and differs otherwise in the paragraph with this id alone
 abbrev pub GetsFlags : (book next : Book) → ℕ → Type 0
 GetsFlags book next id =
     (change : (Paragraph → Paragraph)) × (next ≡ next_with_paragraphs book (with_change id change book.paragraphs))

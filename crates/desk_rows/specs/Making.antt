@@ -93,8 +93,8 @@ pub record MakesTables (tables : List FileTable) (old new : State) : Type 0 wher
 abbrev pub creation : FileTable → Statement
 creation t = record { text = (description_of t).create; params = [] }
 
--- A table is made by its statement, and the transaction goes on; or the database answered an error to this.
--- Nothing is committed.
+-- A table is made by its statement, and the transaction goes on; or, if a transaction was open, the database answered an error to
+-- the statement. Nothing is committed.
 pub record IsCreated {V : Type 0} (result : Result V Error) (t : FileTable) (old new : State) : Type 0 where
   pub made : OnOk result (MakesTables (t ∷ []) old new)
   pub ran : OnOk result (Ran (creation t) old new)

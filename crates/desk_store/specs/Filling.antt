@@ -10,7 +10,7 @@ use Rattle.desk_rows.specs.States.{IsFile}
 use Rattle.desk_store.specs.Books.{HoldsBook}
 use Rattle.desk_store.specs.Opened.{HasGained, Stands}
 
--- the trees are the book in the file with these tables too, of whatever file it stood in
+-- Whatever file the book stood in, the trees hold it in that file with these tables too, and nothing else there is lost.
 abbrev pub HoldsWith : List FileTable → Book → State → Trees → Type 0
 HoldsWith tables book s db =
     (l : Layout) (stands : Stands l book s)

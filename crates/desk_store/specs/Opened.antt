@@ -58,8 +58,8 @@ pub record IsDamagedIn (l : Layout) (c : Contents) (table : FileTable) (id : ℤ
   pub readable : CanAllBeRead (format_in row.format) l c
   pub first : IsFirstDamage (rows_of l c) table id
 
--- What is reported of a file that has a table of a book, the first of these: `book` is missing, of a later format or damaged, another table
--- can't be read, or rows of the tables are damaged.
+-- What is reported of a file that has a table of a book, the first of these that holds: `book` is missing, is of a later format or is damaged;
+-- another table can't be read; rows of the tables are damaged. Nothing is said here of `Lost` and `NoMemory`.
 abbrev pub TellsOf : Layout → Contents → OpenFault → Type 0
 TellsOf l c NotABook = LacksTables l c
 TellsOf l c (Damaged table id) =

@@ -21,6 +21,6 @@ HoldsOneOf books db = (book : Book) × Contains books book × HoldsStanding book
 abbrev pub LeavesOneOf : List Book → State → Type 0
 LeavesOneOf books = Leaves (HoldsOneOf books)
 
--- some file shows the book and keeps it, so that a session may begin with it
+-- the connection shows the book in some file that keeps it, so that a session may begin with it
 abbrev pub IsKeptThere : Book → State → Type 0
 IsKeptThere book s = (l : Layout) × MayServe l book s
