@@ -10,8 +10,7 @@ use Rattle.desk_model.specs.Book.{Book, Mark, Paragraph}
 use Rattle.desk_parts.specs.FileRows.{FileRows, spelled_mark, spelled_para}
 use Rattle.desk_parts.specs.Rows.{Mark as MarkRow, Para, ParaCells}
 use Rattle.desk_model.specs.Shows.{Shows, mark_row_of, para_of, paras_of}
-use Rattle.desk_model.proofs.Callers.{IsDistinct-numbers, IsDistinct-range}
-use Rattle.desk_model.proofs.Lists.RowNumbers.{int_eq-pos}
+use Rattle.desk_model.proofs.Callers.{IsDistinct-numbers, IsDistinct-range, int_eq-pos}
 use Rattle.desk_store.specs.BookFile.{HaveOwnNumbers}
 use Rattle.desk_rows.specs.Whole.{DifferBy}
 
