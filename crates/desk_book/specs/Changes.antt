@@ -13,14 +13,14 @@ use Rattle.desk_command.specs.declared.command.Command.{Command}
 use Rattle.desk_command.specs.declared.command.Command.TheVariants.{TypeIn}
 use Rattle.desk_memory.specs.declared.paragraphs.Paragraph.{Paragraph as KeptParagraph}
 use Rattle.desk_model.specs.Book.{Book, Paragraph, text_of, paragraph_of}
-use Rattle.desk_book.specs.ChangePuts.{effect_puts}
-use Rattle.desk_model.specs.Loans.{GetsTable, Reorders, row_number}
+use Rattle.desk_book.specs.ChangePuts.{effect_puts, version_put}
+use Rattle.desk_model.specs.Loans.{GetsTable, Reorders}
 use Rattle.desk_memory.specs.Histories.{HaveTaken, TookFrom, entry_kept}
 use Rattle.desk_memory.specs.Kept.{mark_kept, new_cells, paragraph_kept}
 use Rattle.desk_model.specs.Limits.{most_entries, most_marks, most_paragraphs, most_print}
 use Rattle.desk_model.specs.Marks.{mark_moved_by}
 use Rattle.desk_model.specs.ParagraphMarks.{marks_on}
-use Rattle.desk_parts.specs.Puts.{RowPut, SetVersion}
+use Rattle.desk_parts.specs.Puts.{RowPut}
 use Rattle.desk_model.specs.Print.{print_of, with_entry}
 use Rattle.desk_model.specs.Named.{HasCharacters, number_of, table_given}
 use Rattle.desk_model.specs.Refusals.{IsAccepted}
@@ -206,10 +206,10 @@ Does-change_by book command next version number effect carries = carries.does
 
 -- what the change puts into the rows of its book's file, in order: the version, and what its effect puts
 pub change_puts : Book → Change → List RowPut
-change_puts book change = SetVersion (row_number change.version) ∷ effect_puts book change.effect
+change_puts book change = version_put change.version ∷ effect_puts book change.effect
 
 pub puts-change_by : (book : Book) (version : ℕ) (number : Option ℕ) (effect : Effect)
-    → change_puts book (change_by version number effect) ≡ SetVersion (row_number version) ∷ effect_puts book effect
+    → change_puts book (change_by version number effect) ≡ version_put version ∷ effect_puts book effect
 unfolding change_by change_puts
 puts-change_by book version number effect = refl
 

@@ -6,11 +6,12 @@ use Rattle.desk_memory.specs.declared.paragraphs.Paragraph.{Paragraph as KeptPar
 use Rattle.desk_book.specs.ChangePuts.{cache_put, entry_row}
 use Rattle.desk_memory.specs.Kept.{KeptParagraphs}
 use Rattle.desk_model.specs.Limits.{most_entries, most_paragraphs}
-use Rattle.desk_parts.specs.Puts.{PutEntry, RowPut, RowPuts}
+use Rattle.desk_parts.specs.declared.file_table.FileTable.TheVariants.{NamedCorr}
+use Rattle.desk_parts.specs.Puts.{PutRow, RowPut, RowPuts}
 
 -- the entry with this number in the history of the paragraph with this id
 abbrev pub entry_put : ℕ → ℕ × KeptEntry → RowPut
-entry_put id (seq, entry) = PutEntry (entry_row id seq entry)
+entry_put id (seq, entry) = PutRow NamedCorr (entry_row id seq entry)
 
 -- the entries of the history of the paragraph with this id from an index on, with their numbers from 1
 abbrev pub entry_puts_from : (id index : ℕ) → List KeptEntry → RowPuts

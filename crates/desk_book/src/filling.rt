@@ -22,10 +22,13 @@ struct HistoryPuts<'a> {
 impl<'a> Model for HistoryPuts<'a> {
     ghost use Rattle.desk_book.specs.Filling.{entry_puts_from};
     ghost use Rattle.desk_model.specs.Limits.{most_entries};
+    ghost use Rattle.desk_parts.proofs.PutCodes.{puts_code};
     ghost use Rattle.desk_parts.specs.Puts.{RowPuts};
     ghost use Rattle.std.specs.Prelude.{◌≤◌, length};
 
     ghost Value = { RowPuts };
+
+    ghost coded = { puts_code };
 
     ghost view = { λ p. entry_puts_from p.id p.at p.entries.now };
 
@@ -93,10 +96,13 @@ struct EntryPuts<'a> {
 
 impl<'a> Model for EntryPuts<'a> {
     ghost use Rattle.desk_book.specs.Filling.{HaveHistories, histories_from};
+    ghost use Rattle.desk_parts.proofs.PutCodes.{puts_code};
     ghost use Rattle.desk_parts.specs.Puts.{RowPuts};
     ghost use Rattle.std.specs.Prelude.{◌++◌};
 
     ghost Value = { RowPuts };
+
+    ghost coded = { puts_code };
 
     ghost view = { λ p. p.history ++ histories_from p.next p.paragraphs.now };
 
@@ -143,10 +149,13 @@ struct BraillePuts<'a> {
 impl<'a> Model for BraillePuts<'a> {
     ghost use Rattle.desk_book.specs.Filling.{braille_from};
     ghost use Rattle.desk_model.specs.Limits.{most_paragraphs};
+    ghost use Rattle.desk_parts.proofs.PutCodes.{puts_code};
     ghost use Rattle.desk_parts.specs.Puts.{RowPuts};
     ghost use Rattle.std.specs.Prelude.{◌≤◌, length};
 
     ghost Value = { RowPuts };
+
+    ghost coded = { puts_code };
 
     ghost view = { λ p. braille_from p.at p.paragraphs.now };
 
@@ -194,10 +203,13 @@ pub struct Filling<'a> {
 }
 
 impl<'a> Model for Filling<'a> {
+    ghost use Rattle.desk_parts.proofs.PutCodes.{puts_code};
     ghost use Rattle.desk_parts.specs.Puts.{RowPuts, puts_in};
     ghost use Rattle.std.specs.Prelude.{[], ◌++◌, unwrap_or};
 
     ghost Value = { RowPuts };
+
+    ghost coded = { puts_code };
 
     ghost view = { λ f. puts_in f.book ++ (unwrap_or f.entries [] ++ unwrap_or f.braille []) };
 }

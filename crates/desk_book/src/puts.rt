@@ -1,14 +1,15 @@
 //! What a change puts into the rows of its book's file.
 ghost use Rattle.desk_model.specs.Loans.{AreLent, LeadTo, row_number};
-ghost use Rattle.desk_book.specs.ChangePuts.{cache_put, cells_from, effect_puts, elsewhere_from, entry_row, further_from, kept_mark_row, kept_row, span_put, stays_in, tab_put};
+ghost use Rattle.desk_book.specs.ChangePuts.{cache_put, cells_from, effect_puts, elsewhere_from, entry_row, flags_put, further_from, kept_mark_row, kept_row, place_put, resolved_put, span_put, stays_in, tab_put, used_table_put, version_put};
 ghost use Rattle.desk_book.specs.Changes.{Carries, Does, change_puts};
 ghost use Rattle.desk_model.specs.Limits.{most_paragraphs, most_print};
 ghost use Rattle.desk_model.specs.ParagraphMarks.{marks_on};
-ghost use Rattle.desk_parts.specs.Puts.{LendsFirst, PutEntry, PutMark, PutPara, SetFlags, SetPlace, SetResolved, SetTable, SetVersion, put_of};
+ghost use Rattle.desk_parts.specs.declared.file_table.FileTable.{FileTable};
+ghost use Rattle.desk_parts.specs.Puts.{LendsFirst, PutRow, put_of};
 ghost use Rattle.desk_model.specs.Shows.{flag_number, style_number};
 ghost use Rattle.desk_model.specs.Sound.{IsSound};
 ghost use Rattle.desk_model.specs.Step.{next_id};
-ghost use Rattle.std.specs.Prelude.{◌≡◌, ◌+◌, ◌-◌, ◌<◌, ◌≤◌, [], ◌∷◌, ◌++◌, IfNone, IfSome, encode_utf8_all, length, map, pos, slice_index};
+ghost use Rattle.std.specs.Prelude.{◌≡◌, ◌+◌, ◌-◌, ◌<◌, ◌≤◌, [], ◌∷◌, ◌++◌, IfNone, IfSome, length, map, slice_index};
 
 use super::book::Book;
 use super::change::{Change, Effect};
@@ -45,7 +46,7 @@ fn style_row(style: Style) -> i64
 
 /// The entry with a number of the history of a paragraph.
 pub(crate) fn entry(id: u64, seq: u64, entry: &KeptEntry) -> Put<'_>
-    ensures { put_of result ≡ PutEntry (entry_row id seq entry.now) }
+    ensures { put_of result ≡ PutRow FileTable.NamedCorr (entry_row id seq entry.now) }
 {
     match entry {
         KeptEntry::Corrects(correction) => Put::NamedCorr(NamedCorrPut {
@@ -79,9 +80,12 @@ struct CellPuts<'a> {
 
 impl<'a> Model for CellPuts<'a> {
     ghost use Rattle.desk_book.specs.ChangePuts.{cells_from};
+    ghost use Rattle.desk_parts.proofs.PutCodes.{puts_code};
     ghost use Rattle.desk_parts.specs.Puts.{RowPuts};
 
     ghost Value = { RowPuts };
+
+    ghost coded = { puts_code };
 
     ghost view = { λ p. cells_from p.at p.cells.now };
 }
@@ -125,10 +129,13 @@ struct FurtherPuts<'a> {
 impl<'a> Model for FurtherPuts<'a> {
     ghost use Rattle.desk_book.specs.ChangePuts.{further_from};
     ghost use Rattle.desk_model.specs.Limits.{most_paragraphs};
+    ghost use Rattle.desk_parts.proofs.PutCodes.{puts_code};
     ghost use Rattle.desk_parts.specs.Puts.{RowPuts};
     ghost use Rattle.std.specs.Prelude.{◌≤◌, length};
 
     ghost Value = { RowPuts };
+
+    ghost coded = { puts_code };
 
     ghost view = { λ p. further_from p.at p.order.now };
 
@@ -160,9 +167,12 @@ struct ElsewherePuts<'a> {
 
 impl<'a> Model for ElsewherePuts<'a> {
     ghost use Rattle.desk_book.specs.ChangePuts.{elsewhere_from};
+    ghost use Rattle.desk_parts.proofs.PutCodes.{puts_code};
     ghost use Rattle.desk_parts.specs.Puts.{RowPuts};
 
     ghost Value = { RowPuts };
+
+    ghost coded = { puts_code };
 
     ghost view = { λ p. elsewhere_from p.at p.was.now p.order.now };
 }
@@ -182,7 +192,7 @@ fn stays(was: &[u64], order: &[u64], index: usize) -> bool
 fn first_elsewhere(was: &[u64], order: &[u64], from: usize) -> Option<usize>
     ensures within { IfSome result (λ place. (0 < place) × (place ≤ length order.now)) }
     ensures found { IfSome result (λ place. elsewhere_from from was.now order.now
-        ≡ SetPlace (row_number (slice_index order.now (place - 1))) (row_number place)
+        ≡ place_put (slice_index order.now (place - 1)) place
         ∷ elsewhere_from place was.now order.now) }
     ensures none { IfNone result (elsewhere_from from was.now order.now ≡ []) }
 {
@@ -221,10 +231,13 @@ struct SpanPuts<'a> {
 impl<'a> Model for SpanPuts<'a> {
     ghost use Rattle.desk_book.specs.ChangePuts.{AreSpans, span_put};
     ghost use Rattle.desk_model.specs.Limits.{most_print};
+    ghost use Rattle.desk_parts.proofs.PutCodes.{puts_code};
     ghost use Rattle.desk_parts.specs.Puts.{RowPuts};
     ghost use Rattle.std.specs.Prelude.{◌+◌, ◌≤◌, map};
 
     ghost Value = { RowPuts };
+
+    ghost coded = { puts_code };
 
     ghost view = { λ p. map (span_put p.start p.removed p.added) p.marks };
 
@@ -299,10 +312,13 @@ pub struct Puts<'a> {
 
 impl<'a> Model for Puts<'a> {
     ghost use Rattle.desk_book.specs.PutsLeft.{walk_puts};
+    ghost use Rattle.desk_parts.proofs.PutCodes.{puts_code};
     ghost use Rattle.desk_parts.specs.Puts.{RowPuts, puts_in};
     ghost use Rattle.std.specs.Prelude.{◌++◌};
 
     ghost Value = { RowPuts };
+
+    ghost coded = { puts_code };
 
     ghost view = { λ p.
         puts_in p.version
@@ -336,7 +352,7 @@ impl<'a> Iterator for Puts<'a> {
 }
 
 impl<'a> Puts<'a> {
-    ghost use Rattle.desk_parts.specs.Puts.{SetVersion, puts_in};
+    ghost use Rattle.desk_parts.specs.Puts.{puts_in};
     ghost use Rattle.desk_book.specs.PutsLeft.{walk_puts};
 
     /// The version, up to three rows or columns of rows, and what follows from a list.
@@ -347,7 +363,7 @@ impl<'a> Puts<'a> {
         cells: Option<Put<'a>>,
         walk: Walk<'a>,
     ) -> Self
-        ensures { result ≡ SetVersion (row_number version)
+        ensures { result ≡ version_put version
             ∷ (puts_in row.entry ++ (puts_in print.entry
             ++ (puts_in cells.entry ++ walk_puts walk.entry))) }
     {
@@ -362,7 +378,7 @@ impl<'a> Puts<'a> {
 
     /// The version, and a row or columns of one.
     fn of_row(version: u64, row: Put<'a>) -> Self
-        ensures { result ≡ SetVersion (row_number version) ∷ put_of row.entry ∷ [] }
+        ensures { result ≡ version_put version ∷ put_of row.entry ∷ [] }
     {
         Puts::new(version, Some(row), None, None, Walk::Nothing)
     }
@@ -390,7 +406,7 @@ pub(crate) fn cache(id: u64, cells: &Cells) -> Put<'_>
 
 /// The row of a paragraph.
 fn para(id: u64, place: usize, paragraph: &Paragraph) -> Put<'_>
-    ensures { put_of result ≡ PutPara (kept_row id place paragraph.now) }
+    ensures { put_of result ≡ PutRow FileTable.Para (kept_row id place paragraph.now) }
 {
     Put::Para(ParaPut {
         id: number(id),
@@ -406,7 +422,7 @@ fn para(id: u64, place: usize, paragraph: &Paragraph) -> Put<'_>
 
 /// The row of a mark.
 fn mark(id: u64, mark: &KeptMark) -> Put<'_>
-    ensures { put_of result ≡ PutMark (kept_mark_row id mark.now) }
+    ensures { put_of result ≡ PutRow FileTable.Mark (kept_mark_row id mark.now) }
 {
     Put::Mark(MarkPut {
         id: number(id),
@@ -421,7 +437,7 @@ fn mark(id: u64, mark: &KeptMark) -> Put<'_>
 
 /// That a mark is resolved.
 fn resolved<'a>(id: u64) -> Put<'a>
-    ensures { put_of result ≡ SetResolved (row_number id) (pos 1) }
+    ensures { put_of result ≡ resolved_put id }
 {
     Put::Resolved {
         id: number(id),
@@ -431,9 +447,7 @@ fn resolved<'a>(id: u64) -> Put<'a>
 
 /// The style and flags of a paragraph.
 fn flags<'a>(id: u64, style: Style, begins_volume: bool, struck: bool) -> Put<'a>
-    ensures { put_of result
-        ≡ SetFlags (row_number id) (style_number style)
-        (flag_number begins_volume) (flag_number struck) }
+    ensures { put_of result ≡ flags_put id style begins_volume struck }
 {
     Put::Flags {
         id: number(id),
@@ -445,7 +459,7 @@ fn flags<'a>(id: u64, style: Style, begins_volume: bool, struck: bool) -> Put<'a
 
 /// The table that a paragraph uses.
 fn table_put<'a>(id: u64, table: &'a Text) -> Put<'a>
-    ensures { put_of result ≡ SetTable (row_number id) (encode_utf8_all table.now) }
+    ensures { put_of result ≡ used_table_put id table.now }
 {
     Put::Table {
         id: number(id),
@@ -472,8 +486,8 @@ impl Book {
         place: usize,
     ) -> Puts<'a>
         requires { place ≤ length self.now.paragraphs }
-        ensures { result ≡ SetVersion (row_number version)
-            ∷ PutPara (kept_row (next_id self.now) (place + 1) paragraph.now)
+        ensures { result ≡ version_put version
+            ∷ PutRow FileTable.Para (kept_row (next_id self.now) (place + 1) paragraph.now)
             ∷ cache_put (next_id self.now) paragraph.now.cells
             ∷ further_from place (map (λ other. other.id) self.now.paragraphs) }
     {
@@ -490,7 +504,7 @@ impl Book {
 
     /// What another order of the paragraphs puts.
     fn elsewhere_puts<'a>(&'a self, version: u64, order: &'a Order) -> Puts<'a>
-        ensures { result ≡ SetVersion (row_number version)
+        ensures { result ≡ version_put version
             ∷ elsewhere_from 0 (map (λ other. other.id) self.now.paragraphs) order.now }
     {
         let walk = Walk::Elsewhere(ElsewherePuts {
@@ -526,7 +540,7 @@ impl Book {
         requires within { change.now.start + change.now.removed ≤ most_print }
         requires short { change.now.added ≤ most_print }
         requires sound { IsSound self.now }
-        ensures { result ≡ SetVersion (row_number version)
+        ensures { result ≡ version_put version
             ∷ effect_puts self.now (Effect.ChangePrint id change.now) }
     {
         let seq = self.next_entry(id).unwrap_or(1);
@@ -548,7 +562,7 @@ impl Effect {
     fn puts<'a>(&'a self, version: u64, book: &'a Book) -> Puts<'a>
         requires does { (command : _) × (next : _) × Does book.now command next self.now }
         requires sound { IsSound book.now }
-        ensures { result ≡ SetVersion (row_number version) ∷ effect_puts book.now self.now }
+        ensures { result ≡ version_put version ∷ effect_puts book.now self.now }
     {
         match self {
             Effect::AddTable { name, table, .. } => Puts::of_row(version, tab(name, table)),

@@ -7,7 +7,8 @@ use Rattle.desk_model.specs.declared.new_tables.NewTables.TheVariants.{Braille, 
 use Rattle.desk_parts.specs.declared.rows.BookRow.{BookRow}
 use Rattle.desk_model.specs.Book.{Book}
 use Rattle.desk_parts.specs.FileRows.{FileRows, HasEntryTexts, Named, entries_in, spelled_entry}
-use Rattle.desk_parts.specs.Puts.{PutBook, PutCache, PutEntry, RowPuts}
+use Rattle.desk_parts.specs.declared.file_table.FileTable.TheVariants as tables
+use Rattle.desk_parts.specs.Puts.{PutRow, RowPuts, put_rows}
 use Rattle.desk_parts.specs.Rows.{ParaCells, NamedCorr}
 use Rattle.desk_model.specs.Shows.{AreCached, book_row_of, entry_rows_of}
 
@@ -50,7 +51,8 @@ AreEntriesOf book entries =
 -- braille of each paragraph
 abbrev pub second_format_puts : ℕ → FileRows → List ParaCells → RowPuts
 second_format_puts version rows caches =
-    PutBook (book_row_of 2 version) ∷ (map PutEntry (entries_in rows.entries) ++ map PutCache caches)
+    PutRow tables.Book (book_row_of 2 version)
+    ∷ (put_rows tables.NamedCorr (entries_in rows.entries) ++ put_rows tables.Cache caches)
 
 -- ---- what fills new tables
 
@@ -62,13 +64,13 @@ with_empty Braille rows = with_caches [] rows
 
 -- the row of `book` in the second format, and these entries
 abbrev pub entry_puts : Book → List NamedCorr → RowPuts
-entry_puts book entries = PutBook (book_row_of 2 book.version) ∷ map PutEntry entries
+entry_puts book entries = PutRow tables.Book (book_row_of 2 book.version) ∷ put_rows tables.NamedCorr entries
 
 -- This fills these tables: with the entries of the book's histories, after the row of `book`, and with the braille of
 -- each of its paragraphs.
 abbrev pub Fills : NewTables → Book → RowPuts → Type 0
 Fills EntriesAndBraille book puts =
     (entries : List NamedCorr) × (caches : List ParaCells) × AreEntriesOf book entries × AreCached book caches
-    × (puts ≡ entry_puts book entries ++ map PutCache caches)
+    × (puts ≡ entry_puts book entries ++ put_rows tables.Cache caches)
 Fills Entries book puts = (entries : List NamedCorr) × AreEntriesOf book entries × (puts ≡ entry_puts book entries)
-Fills Braille book puts = (caches : List ParaCells) × AreCached book caches × (puts ≡ map PutCache caches)
+Fills Braille book puts = (caches : List ParaCells) × AreCached book caches × (puts ≡ put_rows tables.Cache caches)

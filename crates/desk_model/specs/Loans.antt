@@ -3,10 +3,10 @@ use Rattle.std.specs.Prelude.{◌≡◌, ◌⊎◌, ℕ, ℤ, ◌+◌, true, IsS
 use Rattle.std.specs.List.{All, Contains}
 use Rattle.desk_command.specs.declared.command.Command.{Command}
 use Rattle.desk_model.specs.Book.{Book, Entry, Mark, Paragraph, paragraph_of}
-use Rattle.desk_parts.specs.Puts.{PutBook, PutCache, PutEntry, PutMark, PutPara, PutTab, RowPut, SetFlags, SetPlace, SetPrint, SetResolved, SetSpan, SetTable, SetVersion, with_puts}
+use Rattle.desk_parts.specs.Puts.{Flags, Place, Print, PutRow, Resolved, RowPut, SetColumns, Span, Table, Version, with_puts}
 use Rattle.desk_model.specs.Named.{Retabled, adds_paragraph, paragraph_translated, place_given, table_given}
 use Rattle.desk_model.specs.Step.{next_id, next_mark, next_with_entry, next_with_marks, next_with_paragraphs, with_change, with_resolved}
-use Rattle.desk_parts.specs.declared.file_table.FileTable.TheVariants.{NamedCorr as NamedCorrTable}
+use Rattle.desk_parts.specs.declared.file_table.FileTable.TheVariants as tables
 use Rattle.desk_parts.specs.FileRows.{FileRows, table_of}
 use Rattle.desk_parts.specs.Rows.{NamedCorr}
 use Rattle.desk_model.specs.Shows.{Shows}
@@ -57,25 +57,33 @@ GetsCells book next command id =
 abbrev pub Reorders : Command → Type 0
 Reorders command = IsSome (place_given command)
 
--- the command, which makes the next book of this one, changes what this is put for
+-- The command, which makes the next book of this one, changes what this is put for. The row of `book` and rows of `corr` are
+-- never lent, and no columns of other tables are set.
 abbrev pub IsLent : (book next : Book) → Command → RowPut → Type 0
-IsLent book next command (PutBook row) = ⊥
-IsLent book next command (PutTab row) =
+IsLent book next command (PutRow tables.Book row) = ⊥
+IsLent book next command (PutRow tables.Tab row) =
     (name : List ℕ) × (text : List ℕ) × (table_given command ≡ Some (name, text)) × (row.name ≡ encode_utf8_all name) × (row.body ≡ text)
-IsLent book next command (PutPara row) = (id : ℕ) × (row.id ≡ row_number id) × Comes book command id
-IsLent book next command (PutMark row) = row.id ≡ row_number (next_mark book)
-IsLent book next command (PutCache row) = (id : ℕ) × (row.para ≡ row_number id) × GetsCells book next command id
-IsLent book next command (PutEntry row) =
+IsLent book next command (PutRow tables.Para row) = (id : ℕ) × (row.id ≡ row_number id) × Comes book command id
+IsLent book next command (PutRow tables.Corr row) = ⊥
+IsLent book next command (PutRow tables.Mark row) = row.id ≡ row_number (next_mark book)
+IsLent book next command (PutRow tables.Cache row) =
+    (id : ℕ) × (row.para ≡ row_number id) × GetsCells book next command id
+IsLent book next command (PutRow tables.NamedCorr row) =
     (id : ℕ) × (row.entry.para ≡ row_number id) × (row.entry.seq ≡ row_number (next_entry_number book id)) × GetsEntry book next id
-IsLent book next command (SetPlace id place) = Reorders command
-IsLent book next command (SetFlags id style volume struck) = (named : ℕ) × (id ≡ row_number named) × GetsFlags book next named
-IsLent book next command (SetTable id tab) =
+IsLent book next command (SetColumns tables.Book id (Version version)) =
+    (id ≡ pos 1) × (version ≡ row_number next.version)
+IsLent book next command (SetColumns tables.Para id (Place place)) = Reorders command
+IsLent book next command (SetColumns tables.Para id (Flags style volume struck)) =
+    (named : ℕ) × (id ≡ row_number named) × GetsFlags book next named
+IsLent book next command (SetColumns tables.Para id (Table tab)) =
     (named : ℕ) × (table : List ℕ) × (id ≡ row_number named) × (tab ≡ encode_utf8_all table) × GetsTable command named table
-IsLent book next command (SetPrint id print) = (named : ℕ) × (id ≡ row_number named) × GetsEntry book next named
-IsLent book next command (SetSpan id start stop touched) =
+IsLent book next command (SetColumns tables.Para id (Print print)) =
+    (named : ℕ) × (id ≡ row_number named) × GetsEntry book next named
+IsLent book next command (SetColumns tables.Mark id (Span start stop touched)) =
     (mark : Mark) × Contains book.marks mark × (id ≡ row_number mark.id) × GetsEntry book next mark.paragraph
-IsLent book next command (SetResolved id resolved) = (named : ℕ) × (id ≡ row_number named) × GetsResolved book next named
-IsLent book next command (SetVersion version) = version ≡ row_number next.version
+IsLent book next command (SetColumns tables.Mark id (Resolved resolved)) =
+    (named : ℕ) × (id ≡ row_number named) × GetsResolved book next named
+IsLent book next command (SetColumns t key none) = absurd none
 
 -- all that is lent is
 abbrev pub AreLent : (book next : Book) → Command → List RowPut → Type 0
@@ -83,7 +91,8 @@ AreLent book next command puts = All (IsLent book next command) puts
 
 -- the rows have the table of entries with names, if one is put
 abbrev pub TakesEntries : FileRows → List RowPut → Type 0
-TakesEntries rows puts = (row : NamedCorr) → Contains puts (PutEntry row) → table_of rows.entries ≡ NamedCorrTable
+TakesEntries rows puts =
+    (row : NamedCorr) → Contains puts (PutRow tables.NamedCorr row) → table_of rows.entries ≡ tables.NamedCorr
 
 -- Put into any rows that show the book, and that take the entries among them, they make rows that show the next. A row of
 -- `cache` is put only if that is there.

@@ -6,19 +6,19 @@ ghost use Rattle.desk_command.specs.declared.command.Command.{Command};
 ghost use Rattle.desk_model.specs.declared.new_tables.NewTables.{NewTables};
 ghost use Rattle.desk_parts.specs.declared.file_table.FileTable.{FileTable};
 ghost use Rattle.desk_parts.specs.FileRows.{AreTexts, FileRows, table_of};
-ghost use Rattle.desk_model.specs.FilledRows.{AreEntriesOf, Fills, in_second_format, new_rows, second_format_puts, with_caches, with_empty, with_new_entries, with_new_tables};
+ghost use Rattle.desk_model.specs.FilledRows.{AreEntriesOf, Fills, entry_puts, in_second_format, new_rows, second_format_puts, with_caches, with_empty, with_new_entries, with_new_tables};
 ghost use Rattle.desk_model.specs.Named.{HasCharacters};
 ghost use Rattle.desk_model.specs.Outcome.{HasOneOutcome};
-ghost use Rattle.desk_parts.specs.Puts.{HasTheirTables, PutBook, PutCache, PutEntry, RowPuts, with_puts};
+ghost use Rattle.desk_parts.specs.Puts.{HasTheirTables, RowPuts, put_rows, with_puts};
 ghost use Rattle.desk_model.specs.Refusals.{IsAccepted};
 ghost use Rattle.desk_model.specs.Restoration.{RestoresPrint};
 ghost use Rattle.desk_parts.specs.Rows.{ParaCells, NamedCorr};
 ghost use Rattle.desk_model.specs.SameRows.{AreSameRows};
-ghost use Rattle.desk_model.specs.Shows.{AreCached, IsUnnamed, Shows, book_row_of};
+ghost use Rattle.desk_model.specs.Shows.{AreCached, IsUnnamed, Shows};
 ghost use Rattle.desk_model.specs.Sound.{IsSound};
 ghost use Rattle.desk_model.specs.Step.{Makes};
 ghost use Rattle.std.specs.List.{All};
-ghost use Rattle.std.specs.Prelude.{IsNone, IsSome, List, None, Option, [], ◌∷◌, map, ℕ, ℤ, ◌++◌, ◌↔◌, ◌≡◌};
+ghost use Rattle.std.specs.Prelude.{IsNone, IsSome, List, None, Option, [], ℕ, ℤ, ◌++◌, ◌↔◌, ◌≡◌};
 
 /// A list of commands, cut anywhere: the whole of it makes of a book what its second part makes of the book that its
 /// first part makes, and is accepted exactly if both parts are.
@@ -79,11 +79,10 @@ pub fn filled_rows_show_their_book()
     ensures braille { (rows : FileRows) (book : Book) (caches : List ParaCells) → Shows rows book
         → AreCached book caches → Shows (with_caches caches rows) book }
     ensures caches { (rows : FileRows) (book : Book) (caches : List ParaCells) → Shows rows book
-        → AreCached book caches → Shows (with_puts (map PutCache caches) (with_caches [] rows)) book }
+        → AreCached book caches → Shows (with_puts (put_rows FileTable.Cache caches) (with_caches [] rows)) book }
     ensures names { (rows : FileRows) (book : Book) (entries : List NamedCorr) → Shows rows book
         → AreEntriesOf book entries
-        → Shows (with_puts (PutBook (book_row_of 2 book.version) ∷ map PutEntry entries)
-        (with_new_entries rows)) book }
+        → Shows (with_puts (entry_puts book entries) (with_new_entries rows)) book }
     ensures all { (rows : FileRows) (book : Book) (caches : List ParaCells) → Shows rows book
         → AreCached book caches
         → Shows (with_puts (second_format_puts book.version rows caches) (with_new_tables rows)) book }

@@ -1,10 +1,9 @@
 -- What is put into the rows of a book's file, and the rows after it.
-use Rattle.std.specs.Prelude.{◌≡◌, ℕ, ℤ, pos, Bool, not, if◌then◌else◌, List, [], ◌∷◌, map, filter, fold, Option, option_map, option_to_list, MatchOption, IsSome, bytes_eq, encode_utf8_all}
+use Rattle.std.specs.Prelude.{◌≡◌, ℕ, ℤ, pos, Bool, not, ◌&&◌, if◌then◌else◌, List, [], ◌∷◌, map, filter, fold, Option, option_map, option_to_list, MatchOption, IsSome, bytes_eq, encode_utf8_all}
 use Rattle.std.specs.List.{All}
 use Rattle.std.specs.Ordering.{int_eq}
 use Rattle.desk_parts.specs.declared.file_table.FileTable.{FileTable}
 use Rattle.desk_parts.specs.declared.file_table.FileTable.TheVariants as tables
-use Rattle.desk_parts.specs.declared.rows.BookRow.{BookRow}
 use Rattle.desk_parts.specs.declared.put.CachePut.{CachePut}
 use Rattle.desk_parts.specs.declared.put.MarkPut.{MarkPut}
 use Rattle.desk_parts.specs.declared.put.NamedCorrPut.{NamedCorrPut}
@@ -15,25 +14,55 @@ use Rattle.desk_parts.specs.declared.put.Put.TheVariants as lent
 use Rattle.desk_parts.specs.FileRows.{EntryRows, FileRows, Named, Unnamed, table_of}
 use Rattle.desk_parts.specs.Rows.{Corr, Mark, NamedCorr, Para, ParaCells, RowOf, Tab}
 
+-- ---- what is put
+
+-- what the key of a row is: a number, a name, or of an entry its paragraph's id and its own number
+abbrev pub KeyOf : FileTable → Type 0
+KeyOf tables.Book = ℤ
+KeyOf tables.Tab = List ℕ
+KeyOf tables.Para = ℤ
+KeyOf tables.Corr = ℤ × ℤ
+KeyOf tables.Mark = ℤ
+KeyOf tables.Cache = ℤ
+KeyOf tables.NamedCorr = ℤ × ℤ
+
+-- Columns that are set without the rest of their row, those of one case at once: of the row of `book`, of a paragraph, and
+-- of a mark.
+pub data BookColumns : Type 0 where
+  Version : ℤ → BookColumns
+
+pub data ParaColumns : Type 0 where
+  Place : ℤ → ParaColumns
+  Flags : (style volume struck : ℤ) → ParaColumns
+  Table : List ℕ → ParaColumns
+  Print : List ℕ → ParaColumns
+
+pub data MarkColumns : Type 0 where
+  Span : (start stop touched : ℤ) → MarkColumns
+  Resolved : ℤ → MarkColumns
+
+-- Those of a row of a table. Where there are none, the type is empty, and definitions over them end with `absurd none`.
+abbrev pub ColumnsOf : FileTable → Type 0
+ColumnsOf tables.Book = BookColumns
+ColumnsOf tables.Tab = ⊥
+ColumnsOf tables.Para = ParaColumns
+ColumnsOf tables.Corr = ⊥
+ColumnsOf tables.Mark = MarkColumns
+ColumnsOf tables.Cache = ⊥
+ColumnsOf tables.NamedCorr = ⊥
+
 -- A row that is added, or replaces the one with its key, or columns that are set in the row with a key. A text is its
 -- bytes.
 pub data RowPut : Type 0 where
-  PutBook : BookRow → RowPut
-  PutTab : Tab → RowPut
-  PutPara : Para → RowPut
-  PutMark : Mark → RowPut
-  PutCache : ParaCells → RowPut
-  PutEntry : NamedCorr → RowPut
-  SetPlace : (id place : ℤ) → RowPut
-  SetFlags : (id style volume struck : ℤ) → RowPut
-  SetTable : ℤ → List ℕ → RowPut
-  SetPrint : ℤ → List ℕ → RowPut
-  SetSpan : (id start stop touched : ℤ) → RowPut
-  SetResolved : (id resolved : ℤ) → RowPut
-  SetVersion : ℤ → RowPut
+  PutRow : (t : FileTable) → RowOf t → RowPut
+  SetColumns : (t : FileTable) → KeyOf t → ColumnsOf t → RowPut
 
 abbrev pub RowPuts : Type 0
 RowPuts = List RowPut
+
+-- these rows of a table, put one by one
+abbrev pub put_rows : (t : FileTable) → List (RowOf t) → RowPuts
+put_rows t rows = map (PutRow t) rows
 
 -- the row that is lent
 abbrev pub lent_tab : TabPut → Tab
@@ -80,19 +109,19 @@ lent_entry row = record {
 
 -- what a lent one puts
 abbrev pub put_of : Put → RowPut
-put_of (lent.Book row) = PutBook row
-put_of (lent.Tab row) = PutTab (lent_tab row)
-put_of (lent.Para row) = PutPara (lent_para row)
-put_of (lent.Mark row) = PutMark (lent_mark row)
-put_of (lent.Cache row) = PutCache (lent_cells row)
-put_of (lent.NamedCorr row) = PutEntry (lent_entry row)
-put_of (lent.Place id place) = SetPlace id place
-put_of (lent.Flags id style volume struck) = SetFlags id style volume struck
-put_of (lent.Table id tab) = SetTable id tab.now
-put_of (lent.Print id print) = SetPrint id (encode_utf8_all print.now)
-put_of (lent.Span id start stop touched) = SetSpan id start stop touched
-put_of (lent.Resolved id resolved) = SetResolved id resolved
-put_of (lent.Version version) = SetVersion version
+put_of (lent.Book row) = PutRow tables.Book row
+put_of (lent.Tab row) = PutRow tables.Tab (lent_tab row)
+put_of (lent.Para row) = PutRow tables.Para (lent_para row)
+put_of (lent.Mark row) = PutRow tables.Mark (lent_mark row)
+put_of (lent.Cache row) = PutRow tables.Cache (lent_cells row)
+put_of (lent.NamedCorr row) = PutRow tables.NamedCorr (lent_entry row)
+put_of (lent.Place id place) = SetColumns tables.Para id (Place place)
+put_of (lent.Flags id style volume struck) = SetColumns tables.Para id (Flags style volume struck)
+put_of (lent.Table id tab) = SetColumns tables.Para id (Table tab.now)
+put_of (lent.Print id print) = SetColumns tables.Para id (Print (encode_utf8_all print.now))
+put_of (lent.Span id start stop touched) = SetColumns tables.Mark id (Span start stop touched)
+put_of (lent.Resolved id resolved) = SetColumns tables.Mark id (Resolved resolved)
+put_of (lent.Version version) = SetColumns tables.Book (pos 1) (Version version)
 
 -- what is lent, if anything is
 abbrev pub puts_in : Option Put → List RowPut
@@ -112,71 +141,48 @@ put_by_key has_key x xs = x ∷ filter (λ y. not (has_key y)) xs
 abbrev pub set_by_key : {X : Type 0} → (X → Bool) → (X → X) → List X → List X
 set_by_key has_key set xs = map (λ x. if has_key x then set x else x) xs
 
+-- whether this is the key of a row
+abbrev pub has_key : (t : FileTable) → KeyOf t → RowOf t → Bool
+has_key tables.Book id b = int_eq b.id id
+has_key tables.Tab name t = bytes_eq t.name name
+has_key tables.Para id p = int_eq p.id id
+has_key tables.Corr entry e = int_eq e.para entry.0 && int_eq e.seq entry.1
+has_key tables.Mark id m = int_eq m.id id
+has_key tables.Cache para c = int_eq c.para para
+has_key tables.NamedCorr entry e = int_eq e.entry.para entry.0 && int_eq e.entry.seq entry.1
+
 -- a row with these columns set
-abbrev pub with_place : ℤ → Para → Para
-with_place place p = record p { place = place }
-
-abbrev pub with_flags : (style volume struck : ℤ) → Para → Para
-with_flags style volume struck p = record p { style = style; volume = volume; struck = struck }
-
-abbrev pub with_table : List ℕ → Para → Para
-with_table tab p = record p { tab = tab }
-
-abbrev pub with_print : List ℕ → Para → Para
-with_print print p = record p { print = print }
-
-abbrev pub with_span : (start stop touched : ℤ) → Mark → Mark
-with_span start stop touched m = record m { start = start; stop = stop; touched = touched }
-
-abbrev pub with_resolution : ℤ → Mark → Mark
-with_resolution resolved m = record m { resolved = resolved }
-
-abbrev pub with_version : ℤ → BookRow → BookRow
-with_version version b = record b { version = version }
+abbrev pub with_columns : (t : FileTable) → ColumnsOf t → RowOf t → RowOf t
+with_columns tables.Book (Version version) b = record b { version = version }
+with_columns tables.Para (Place place) p = record p { place = place }
+with_columns tables.Para (Flags style volume struck) p =
+    record p { style = style; volume = volume; struck = struck }
+with_columns tables.Para (Table tab) p = record p { tab = tab }
+with_columns tables.Para (Print print) p = record p { print = print }
+with_columns tables.Mark (Span start stop touched) m =
+    record m { start = start; stop = stop; touched = touched }
+with_columns tables.Mark (Resolved resolved) m = record m { resolved = resolved }
+with_columns t none row = absurd none
 
 -- The rows of a table once one is put: in place of those with its key, or, of an entry of a history, beside them.
 abbrev pub put_to : (t : FileTable) → RowOf t → List (RowOf t) → List (RowOf t)
-put_to tables.Book row = put_by_key (λ b. int_eq b.id row.id) row
-put_to tables.Tab row = put_by_key (λ t. bytes_eq t.name row.name) row
-put_to tables.Para row = put_by_key (λ p. int_eq p.id row.id) row
+put_to tables.Book row = put_by_key (has_key tables.Book row.id) row
+put_to tables.Tab row = put_by_key (has_key tables.Tab row.name) row
+put_to tables.Para row = put_by_key (has_key tables.Para row.id) row
 put_to tables.Corr row = λ rows. row ∷ rows
-put_to tables.Mark row = put_by_key (λ m. int_eq m.id row.id) row
-put_to tables.Cache row = put_by_key (λ c. int_eq c.para row.para) row
+put_to tables.Mark row = put_by_key (has_key tables.Mark row.id) row
+put_to tables.Cache row = put_by_key (has_key tables.Cache row.para) row
 put_to tables.NamedCorr row = λ rows. row ∷ rows
 
 -- the table that it changes
 abbrev pub table_put : RowPut → FileTable
-table_put (PutBook row) = tables.Book
-table_put (PutTab row) = tables.Tab
-table_put (PutPara row) = tables.Para
-table_put (PutMark row) = tables.Mark
-table_put (PutCache row) = tables.Cache
-table_put (PutEntry row) = tables.NamedCorr
-table_put (SetPlace id place) = tables.Para
-table_put (SetFlags id style volume struck) = tables.Para
-table_put (SetTable id tab) = tables.Para
-table_put (SetPrint id print) = tables.Para
-table_put (SetSpan id start stop touched) = tables.Mark
-table_put (SetResolved id resolved) = tables.Mark
-table_put (SetVersion version) = tables.Book
+table_put (PutRow t row) = t
+table_put (SetColumns t key columns) = t
 
 -- what it makes of the rows of that table
 abbrev pub change_of : (it : RowPut) → List (RowOf (table_put it)) → List (RowOf (table_put it))
-change_of (PutBook row) = put_to tables.Book row
-change_of (PutTab row) = put_to tables.Tab row
-change_of (PutPara row) = put_to tables.Para row
-change_of (PutMark row) = put_to tables.Mark row
-change_of (PutCache row) = put_to tables.Cache row
-change_of (PutEntry row) = put_to tables.NamedCorr row
-change_of (SetPlace id place) = set_by_key (λ (p : Para). int_eq p.id id) (with_place place)
-change_of (SetFlags id style volume struck) =
-    set_by_key (λ (p : Para). int_eq p.id id) (with_flags style volume struck)
-change_of (SetTable id tab) = set_by_key (λ (p : Para). int_eq p.id id) (with_table tab)
-change_of (SetPrint id print) = set_by_key (λ (p : Para). int_eq p.id id) (with_print print)
-change_of (SetSpan id start stop touched) =
-    set_by_key (λ (m : Mark). int_eq m.id id) (with_span start stop touched)
-change_of (SetResolved id resolved) = set_by_key (λ (m : Mark). int_eq m.id id) (with_resolution resolved)
-change_of (SetVersion version) = set_by_key (λ (b : BookRow). int_eq b.id (pos 1)) (with_version version)
+change_of (PutRow t row) = put_to t row
+change_of (SetColumns t key columns) = set_by_key (has_key t key) (with_columns t columns)
 
 -- the entries, with this done to those without names, to those with names
 abbrev pub with_unnamed : (List Corr → List Corr) → EntryRows → EntryRows
@@ -220,7 +226,7 @@ HasTable rows tables.Mark = Unit {0}
 HasTable rows tables.Cache = IsSome rows.caches
 HasTable rows tables.NamedCorr = table_of rows.entries ≡ tables.NamedCorr
 
--- the table that a row is put into is there
+-- the table that it changes is there
 abbrev pub HasItsTable : FileRows → RowPut → Type 0
 HasItsTable rows it = HasTable rows (table_put it)
 

@@ -1,5 +1,5 @@
 -- The contents once rows are put in turn.
-use Rattle.std.specs.Prelude.{◌≡◌, ◌⊎◌, ℕ, pos, true, List, [], ◌∷◌, map, fold, Option, Some, Result, Ok, Err, IfErr, IsTrue, OnOk, ⊤}
+use Rattle.std.specs.Prelude.{◌≡◌, ◌⊎◌, ℕ, true, List, [], ◌∷◌, map, fold, Option, Some, Result, Ok, Err, IfErr, IsTrue, OnOk, ⊤}
 use Rattle.std.specs.Iterator.{Drains, YieldsThen}
 use Rattle.std.specs.List.{AllByRecursion}
 use Rattle.sqlite_value.specs.declared.value.Value.TheVariants.{Int, Text}
@@ -14,7 +14,7 @@ use Rattle.sqlite.specs.State.{State, KeepsCommit, ExecutesInside, store_error}
 use Rattle.desk_parts.specs.declared.file_table.FileTable.{FileTable}
 use Rattle.desk_parts.specs.declared.file_table.FileTable.TheVariants as tables
 use Rattle.desk_parts.specs.declared.put.Put.{Put}
-use Rattle.desk_parts.specs.Puts.{RowPut, PutBook, PutTab, PutPara, PutMark, PutCache, PutEntry, SetPlace, SetFlags, SetTable, SetPrint, SetSpan, SetResolved, SetVersion, change_of, put_of, table_put}
+use Rattle.desk_parts.specs.Puts.{RowPut, PutRow, SetColumns, Flags, Place, Print, Resolved, Span, Table, Version, change_of, put_of, table_put}
 use Rattle.desk_parts.specs.Rows.{RowOf}
 use Rattle.desk_rows.specs.Contents.{Contents, with_row, with_rows}
 use Rattle.desk_rows.specs.Descriptions.{description_of}
@@ -47,28 +47,28 @@ Writes puts old new =
 
 -- ---- the statement of a put
 
--- a row of a table
+-- The statement that puts a row of a table. Nothing is put into `corr`: its text is empty and takes no parameters, so that it
+-- never runs with the six columns of a row.
 abbrev pub row_put : (t : FileTable) → RowOf t → Statement
 row_put t x = record { text = (description_of t).put; params = columns_of t x }
 
 abbrev pub statement : RowPut → Statement
-statement (PutBook row) = row_put tables.Book row
-statement (PutTab row) = row_put tables.Tab row
-statement (PutPara row) = row_put tables.Para row
-statement (PutMark row) = row_put tables.Mark row
-statement (PutCache row) = row_put tables.Cache row
-statement (PutEntry row) = row_put tables.NamedCorr row
-statement (SetPlace id place) = record { text = SET_PLACE.now; params = Int id ∷ Int place ∷ [] }
-statement (SetFlags id style volume struck) =
+statement (PutRow t x) = row_put t x
+statement (SetColumns tables.Book id (Version version)) =
+    record { text = SET_VERSION.now; params = Int id ∷ Int version ∷ [] }
+statement (SetColumns tables.Para id (Place place)) =
+    record { text = SET_PLACE.now; params = Int id ∷ Int place ∷ [] }
+statement (SetColumns tables.Para id (Flags style volume struck)) =
     record { text = SET_FLAGS.now; params = Int id ∷ Int style ∷ Int volume ∷ Int struck ∷ [] }
-statement (SetTable id tab) = record { text = SET_TABLE.now; params = Int id ∷ Text tab ∷ [] }
-statement (SetPrint id print) = record { text = SET_PRINT.now; params = Int id ∷ Text print ∷ [] }
-statement (SetSpan id start stop touched) =
+statement (SetColumns tables.Para id (Table tab)) =
+    record { text = SET_TABLE.now; params = Int id ∷ Text tab ∷ [] }
+statement (SetColumns tables.Para id (Print print)) =
+    record { text = SET_PRINT.now; params = Int id ∷ Text print ∷ [] }
+statement (SetColumns tables.Mark id (Span start stop touched)) =
     record { text = SET_SPAN.now; params = Int id ∷ Int start ∷ Int stop ∷ Int touched ∷ [] }
-statement (SetResolved id resolved) =
+statement (SetColumns tables.Mark id (Resolved resolved)) =
     record { text = SET_RESOLVED.now; params = Int id ∷ Int resolved ∷ [] }
-statement (SetVersion version) =
-    record { text = SET_VERSION.now; params = Int (pos 1) ∷ Int version ∷ [] }
+statement (SetColumns t key none) = absurd none
 
 -- ---- what a statement within a transaction does
 
@@ -86,19 +86,21 @@ PutsRow t x old new =
 
 -- A put that allocates before its statement runs: a print is encoded, and cells are written as bytes.
 abbrev pub TakesMemory : RowPut → Type 0
-TakesMemory (PutBook row) = ⊥
-TakesMemory (PutTab row) = ⊥
-TakesMemory (PutPara row) = ⊤
-TakesMemory (PutMark row) = ⊥
-TakesMemory (PutCache row) = ⊤
-TakesMemory (PutEntry row) = ⊥
-TakesMemory (SetPlace id place) = ⊥
-TakesMemory (SetFlags id style volume struck) = ⊥
-TakesMemory (SetTable id tab) = ⊥
-TakesMemory (SetPrint id print) = ⊤
-TakesMemory (SetSpan id start stop touched) = ⊥
-TakesMemory (SetResolved id resolved) = ⊥
-TakesMemory (SetVersion version) = ⊥
+TakesMemory (PutRow tables.Book row) = ⊥
+TakesMemory (PutRow tables.Tab row) = ⊥
+TakesMemory (PutRow tables.Para row) = ⊤
+TakesMemory (PutRow tables.Corr row) = ⊥
+TakesMemory (PutRow tables.Mark row) = ⊥
+TakesMemory (PutRow tables.Cache row) = ⊤
+TakesMemory (PutRow tables.NamedCorr row) = ⊥
+TakesMemory (SetColumns tables.Book id (Version version)) = ⊥
+TakesMemory (SetColumns tables.Para id (Place place)) = ⊥
+TakesMemory (SetColumns tables.Para id (Flags style volume struck)) = ⊥
+TakesMemory (SetColumns tables.Para id (Table tab)) = ⊥
+TakesMemory (SetColumns tables.Para id (Print print)) = ⊤
+TakesMemory (SetColumns tables.Mark id (Span start stop touched)) = ⊥
+TakesMemory (SetColumns tables.Mark id (Resolved resolved)) = ⊥
+TakesMemory (SetColumns t key none) = absurd none
 
 -- nothing was done
 pub record Rests (old new : State) : Type 0 where
@@ -113,7 +115,8 @@ abbrev pub NotPut : RowPut → State → State → Error → Type 0
 NotPut it old new e =
     FailsWith (statement it) old new e ⊎ (TakesMemory it × (e ≡ store_error OutOfMemory) × Rests old new)
 
--- Something is put into the contents, over the same commit, if its table is there, and the transaction goes on; or it isn't put.
+-- Something is put into the contents, over the same commit, if its table is there, and the transaction goes on; or, if a
+-- transaction was open, it is said why it isn't put.
 pub record IsPut {V : Type 0} (result : Result V Error) (it : RowPut) (old new : State) : Type 0 where
   pub put : (committed : Database) (l : Layout) (c : Contents) → l.has (table_put it) ≡ true
       → IsUnder committed l c old → OnOk result (IsUnder committed l (put_into c it) new)

@@ -8,7 +8,7 @@ use Rattle.sql_tables.specs.Rows.{Lists, columns_at}
 use Rattle.desk_parts.specs.declared.file_table.FileTable.{FileTable}
 use Rattle.desk_parts.specs.declared.file_table.FileTable.TheVariants as tables
 use Rattle.desk_parts.specs.FileRows.{HasEntryTexts, HasMarkText, HasParaTexts, HasTabText}
-use Rattle.desk_parts.specs.Puts.{RowPut, PutBook, PutTab, PutPara, PutMark, PutCache, PutEntry, SetPlace, SetFlags, SetTable, SetPrint, SetSpan, SetResolved, SetVersion}
+use Rattle.desk_parts.specs.Puts.{RowPut, PutRow, SetColumns, Flags, Place, Print, Resolved, Span, Table, Version}
 use Rattle.desk_parts.specs.Rows.{RowOf, StoredTab}
 use Rattle.desk_rows.specs.Contents.{Contents}
 use Rattle.desk_rows.specs.Descriptions.{description_of}
@@ -71,16 +71,12 @@ AreUtf8 c = (t : FileTable) → AllByRecursion (IsUtf8Row t) (c.rows t)
 
 -- the texts of what is put are UTF-8
 abbrev pub IsUtf8Put : RowPut → Type 0
-IsUtf8Put (PutBook row) = ⊤
-IsUtf8Put (PutTab row) = IsUtf8Row tables.Tab row
-IsUtf8Put (PutPara row) = IsUtf8Row tables.Para row
-IsUtf8Put (PutMark row) = IsUtf8Row tables.Mark row
-IsUtf8Put (PutCache row) = ⊤
-IsUtf8Put (PutEntry row) = IsUtf8Row tables.NamedCorr row
-IsUtf8Put (SetPlace id place) = ⊤
-IsUtf8Put (SetFlags id style volume struck) = ⊤
-IsUtf8Put (SetTable id tab) = IsUtf8 tab
-IsUtf8Put (SetPrint id print) = IsUtf8 print
-IsUtf8Put (SetSpan id start stop touched) = ⊤
-IsUtf8Put (SetResolved id resolved) = ⊤
-IsUtf8Put (SetVersion version) = ⊤
+IsUtf8Put (PutRow t row) = IsUtf8Row t row
+IsUtf8Put (SetColumns tables.Book id (Version version)) = ⊤
+IsUtf8Put (SetColumns tables.Para id (Place place)) = ⊤
+IsUtf8Put (SetColumns tables.Para id (Flags style volume struck)) = ⊤
+IsUtf8Put (SetColumns tables.Para id (Table tab)) = IsUtf8 tab
+IsUtf8Put (SetColumns tables.Para id (Print print)) = IsUtf8 print
+IsUtf8Put (SetColumns tables.Mark id (Span start stop touched)) = ⊤
+IsUtf8Put (SetColumns tables.Mark id (Resolved resolved)) = ⊤
+IsUtf8Put (SetColumns t key none) = absurd none

@@ -11,7 +11,7 @@ ghost use Rattle.sqlite_value.specs.declared.value.Value.TheVariants.{Blob, Int,
 ghost use Rattle.sqlite.specs.State.{HasCleanDisk, KeepsCommit, Survives};
 ghost use Rattle.sqlite.specs.Values.{bound};
 ghost use Rattle.sql_tables.specs.States.{seen};
-ghost use Rattle.desk_parts.specs.Puts.{PutBook, PutPara, lent_entry, lent_mark, lent_para, put_of};
+ghost use Rattle.desk_parts.specs.Puts.{PutRow, lent_entry, lent_mark, lent_para, put_of};
 ghost use Rattle.desk_parts.specs.declared.file_table.FileTable.{FileTable};
 ghost use Rattle.desk_rows.specs.Failing.{of_items};
 ghost use Rattle.desk_rows.specs.Puts.{ArePut, IsPut, OfItems, RunsTo, statement};
@@ -96,7 +96,7 @@ fn masks(alloc: Global, cells: &[Cell]) -> Result<Vec<u8>, AllocError>
 pub(crate) fn put_book<S: Alter>(tx: &mut Transaction<'_, S>, row: &BookRow) -> Result<(), Error>
     ensures same_reference { tx.new.conn.ghost_name ≡ tx.old.conn.ghost_name }
     ensures put { HasCleanDisk (seen S.Store tx.new)
-        → IsPut result (PutBook row.now) (seen S.Store tx.old) (seen S.Store tx.new) }
+        → IsPut result (PutRow FileTable.Book row.now) (seen S.Store tx.old) (seen S.Store tx.new) }
     ensures survives { Survives (seen S.Store tx.old) (seen S.Store tx.new) (λ _. ⊥) }
 {
     let columns = [row.id.to_sql(), row.format.to_sql(), row.version.to_sql()];
@@ -111,7 +111,7 @@ fn put_para<S: Alter>(
 ) -> Result<(), Error>
     ensures same_reference { tx.new.conn.ghost_name ≡ tx.old.conn.ghost_name }
     ensures put { HasCleanDisk (seen S.Store tx.new)
-        → IsPut result (PutPara (lent_para row.now)) (seen S.Store tx.old) (seen S.Store tx.new) }
+        → IsPut result (PutRow FileTable.Para (lent_para row.now)) (seen S.Store tx.old) (seen S.Store tx.new) }
     ensures survives { Survives (seen S.Store tx.old) (seen S.Store tx.new) (λ _. ⊥) }
 {
     let print = encoded(alloc, row.print)?;

@@ -1,14 +1,16 @@
 -- What a change that is put into a file does to its book.
 use Rattle.std.proofs.Common.{◌≡◌, true, List, [], ◌∷◌, inl, inr, refl, sym, subst, true≢false}
+use Rattle.std.proofs.lemmas.List.Elements.{All-head, All-tail}
 use Rattle.sqlite_trees.specs.Tree.{Trees}
 use Rattle.sqlite.specs.State.{HasCleanDisk, State, Survives}
 use Rattle.sql_tables.specs.States.{IsSettled}
 use Rattle.desk_model.specs.Book.{Book}
-use Rattle.desk_model.specs.Loans.{LeadTo}
+use Rattle.desk_command.specs.declared.command.Command.{Command}
+use Rattle.desk_model.specs.Loans.{AreLent, IsLent, LeadTo}
 use Rattle.desk_book.specs.Changes.{Change}
 use Rattle.desk_parts.specs.declared.file_table.FileTable.{FileTable}
 use Rattle.desk_parts.specs.declared.file_table.FileTable.TheVariants as tables
-use Rattle.desk_parts.specs.Puts.{RowPut, PutBook, table_put}
+use Rattle.desk_parts.specs.Puts.{RowPut, PutRow, SetColumns, table_put}
 use Rattle.desk_parts.specs.FileRows.{FileRows, table_of}
 use Rattle.desk_model.specs.Shows.{Shows as RowsShow}
 use Rattle.desk_store.specs.BookFile.{rows_of}
@@ -42,33 +44,37 @@ has_new l has tables.Mark among = has.1.1.1.0
 has_new l has tables.Cache among = has.1.1.1.1.0
 has_new l has tables.NamedCorr among = has.1.1.1.1.1.0
 
-put_among : (it : RowPut) → is_among new_tables (table_put it) ≡ true
-put_among (PutBook row) = refl
-put_among it = refl
+-- what is lent is put into one of them
+put_among : (book next : Book) (command : Command) (it : RowPut) → IsLent book next command it → is_among new_tables (table_put it) ≡ true
+put_among book next command (PutRow tables.Corr row) lent = absurd lent
+put_among book next command (SetColumns tables.Corr key none) lent = absurd none
+put_among book next command it lent = refl
 
 -- ---- the tables of what is put
 
 module _ (l : Layout) (has : HasNewTables l) where
-  has_them : (puts : List RowPut) → HasThem l puts
-  has_them [] = tt
-  has_them (it ∷ puts) = (has_new l has (table_put it) (put_among it), has_them puts)
+  has_them : (book next : Book) (command : Command) (puts : List RowPut) → AreLent book next command puts → HasThem l puts
+  has_them book next command [] lent = tt
+  has_them book next command (it ∷ puts) lent =
+      let P = IsLent book next command in
+      (has_new l has (table_put it) (put_among book next command it (All-head P it puts lent)), has_them book next command puts (All-tail P it puts lent))
 
   named_entries : (c : Contents) → table_of (rows_of l c).entries ≡ tables.NamedCorr
   named_entries c = rw (has_new l has tables.NamedCorr refl) refl
 
   -- ---- the book of the file with these put
 
-  module _ (puts : List RowPut) (book next : Book) (leads : LeadTo book puts next) where
+  module _ (puts : List RowPut) (book next : Book) (command : Command) (leads : LeadTo book puts next) (lent : AreLent book next command puts) where
     rows_show : (c : Contents) → RowsShow (rows_of l c) book → RowsShow (rows_of l (puts_into puts c)) next
     rows_show c was =
         subst (λ (rows : FileRows). RowsShow rows next) (sym (all_put l c puts))
         (leads (rows_of l c) was (λ row put. named_entries c))
 
     shows_next : (old new : State) → Writes puts old new → ShowsBook l book old → ShowsBook l next new
-    shows_next old new writes was = (puts_into puts was.0, writes l was.0 (has_them puts) was.1, rows_show was.0 was.2)
+    shows_next old new writes was = (puts_into puts was.0, writes l was.0 (has_them book next command puts lent) was.1, rows_show was.0 was.2)
 
     pub holds_next : (old : State) (db : Trees) → IsFileWith puts old db → ShowsBook l book old → HoldsBook l next db
-    holds_next old db with_them was = (puts_into puts was.0, with_them l was.0 (has_them puts) was.1, rows_show was.0 was.2)
+    holds_next old db with_them was = (puts_into puts was.0, with_them l was.0 (has_them book next command puts lent) was.1, rows_show was.0 was.2)
 
     pub is_kept : (old new : State) → Writes puts old new → IsSettled new → ShowsBook l book old → MayServe l next new
     is_kept old new writes settled was = serves_shown l next new has (shows_next old new writes was) settled

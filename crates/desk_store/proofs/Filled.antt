@@ -1,5 +1,7 @@
 -- The tables that a book's file lacked, filled with what the book has for them.
-use Rattle.std.proofs.Common.{◌≡◌, true, List, [], ◌∷◌, ◌++◌, map, refl, sym, subst, ap, ◌∙◌}
+use Rattle.std.proofs.Common.{◌≡◌, true, List, [], ◌∷◌, ◌++◌, refl, sym, subst, ap, ◌∙◌, true≢false}
+use Rattle.std.specs.List.{AllByRecursion}
+use Rattle.sqlite_schema.specs.declared.schema.Schema.{Schema}
 use Rattle.sqlite_trees.specs.Tree.{Trees}
 use Rattle.sqlite_catalog.specs.Change.{KeepsRows}
 use Rattle.sqlite.specs.State.{State, Survives}
@@ -10,7 +12,8 @@ use Rattle.desk_parts.specs.declared.file_table.FileTable.{FileTable}
 use Rattle.desk_parts.specs.declared.file_table.FileTable.TheVariants as tables
 use Rattle.desk_parts.specs.FileRows.{FileRows}
 use Rattle.desk_model.specs.FilledRows.{Fills, entry_puts, with_empty}
-use Rattle.desk_parts.specs.Puts.{RowPut, PutBook, PutCache, PutEntry, table_put, with_puts}
+use Rattle.desk_parts.specs.Puts.{RowPut, PutRow, SetColumns, put_rows, table_put, with_puts}
+use Rattle.desk_parts.specs.Rows.{RowOf}
 use Rattle.desk_model.specs.Shows.{Shows as RowsShow}
 use Rattle.desk_model.specs.declared.new_tables.NewTables.{NewTables}
 use Rattle.desk_model.specs.declared.new_tables.NewTables.TheVariants.{Braille, Entries, EntriesAndBraille}
@@ -19,7 +22,7 @@ use Rattle.desk_store.specs.BookFile.{rows_of}
 use Rattle.desk_rows.specs.Contents.{Contents}
 use Rattle.desk_store.specs.Formats.{Format, IsOfFormat}
 use Rattle.desk_rows.specs.Layout.{Layout}
-use Rattle.desk_rows.specs.Making.{Differ, IsFileWithTables, IsGrown, WritesWithTables, with_none, with_tables}
+use Rattle.desk_rows.specs.Making.{Differ, IsFileWithTables, IsGrown, WritesWithTables, is_among, new_layout, new_tables, with_none, with_tables}
 use Rattle.desk_store.specs.Filling.{HoldsWith}
 use Rattle.desk_store.specs.Opened.{HasGained, Keeps, Stands, which_new}
 use Rattle.desk_rows.specs.Puts.{HasThem, put_into, puts_into}
@@ -35,26 +38,26 @@ new_differ EntriesAndBraille = ((refl, tt), (tt, tt))
 new_differ t = (tt, tt)
 
 module _ (l : Layout) where
-  all_there : {X : Type 0} (put : X → RowPut) → ((x : X) → l.has (table_put (put x)) ≡ true) → (xs : List X) → HasThem l (map put xs)
-  all_there put there [] = tt
-  all_there put there (x ∷ xs) = (there x, all_there put there xs)
+  rows_there : (t : FileTable) → l.has t ≡ true → (rows : List (RowOf t)) → HasThem l (put_rows t rows)
+  rows_there t there [] = tt
+  rows_there t there (row ∷ rows) = (there, rows_there t there rows)
 
   both_there : (a b : List RowPut) → HasThem l a → HasThem l b → HasThem l (a ++ b)
   both_there [] b _ q = q
   both_there (it ∷ a) b p q = (p.0, both_there a b p.1 q)
 
+  -- what fills these tables is put into them, and into `book`
+  fills_there : (t : NewTables) (book : Book) (puts : List RowPut) → Fills t book puts → l.has tables.Book ≡ true → AllByRecursion (λ v. l.has v ≡ true) (which_new t) → HasThem l puts
+  fills_there EntriesAndBraille book puts fills first has =
+      subst (HasThem l) (sym fills.4)
+      (both_there (entry_puts book fills.0) (put_rows tables.Cache fills.1) (first, rows_there tables.NamedCorr has.1.0 fills.0) (rows_there tables.Cache has.0 fills.1))
+  fills_there Entries book puts fills first has = subst (HasThem l) (sym fills.2) (first, rows_there tables.NamedCorr has.0 fills.0)
+  fills_there Braille book puts fills first has = subst (HasThem l) (sym fills.2) (rows_there tables.Cache has.0 fills.0)
+
 pub new_there : (t : NewTables) (f : Format) (l : Layout) → IsOfFormat f l → (book : Book) (puts : List RowPut) → Fills t book puts → HasThem (with_tables (which_new t) l) puts
 new_there EntriesAndBraille f l of book puts fills =
-    let after = with_tables (which_new EntriesAndBraille) l in
-    subst (HasThem after) (sym fills.4)
-    (both_there after (entry_puts book fills.0) (map PutCache fills.1)
-    ((has_book_table f l of).1, all_there after PutEntry (λ entry. refl) fills.0) (all_there after PutCache (λ cells. refl) fills.1))
-new_there Entries f l of book puts fills =
-    let after = with_tables (which_new Entries) l in
-    subst (HasThem after) (sym fills.2) ((has_book_table f l of).1, all_there after PutEntry (λ entry. refl) fills.0)
-new_there Braille f l of book puts fills =
-    let after = with_tables (which_new Braille) l in
-    subst (HasThem after) (sym fills.2) (all_there after PutCache (λ cells. refl) fills.0)
+    fills_there (with_tables (which_new EntriesAndBraille) l) EntriesAndBraille book puts fills (has_book_table f l of).1 (refl, (refl, tt))
+new_there t f l of book puts fills = fills_there (with_tables (which_new t) l) t book puts fills (has_book_table f l of).1 (refl, tt)
 
 -- ---- none of the new tables is `corr`
 
@@ -73,13 +76,19 @@ emptied t l others c = refl
 
 -- ---- what stays
 
-one_keeps : (it : RowPut) (c : Contents) → (put_into c it).rows tables.Corr ≡ c.rows tables.Corr
-one_keeps (PutBook row) c = refl
-one_keeps it c = refl
+-- what is put into tables of a new file leaves `corr` as it was
+one_keeps : (it : RowPut) (c : Contents) → is_among new_tables (table_put it) ≡ true → (put_into c it).rows tables.Corr ≡ c.rows tables.Corr
+one_keeps (PutRow tables.Corr row) c new = absurd (true≢false (sym new))
+one_keeps (SetColumns tables.Corr key none) c new = absurd none
+one_keeps it c new = refl
 
-keep_corrs : (puts : List RowPut) (c : Contents) → (puts_into puts c).rows tables.Corr ≡ c.rows tables.Corr
-keep_corrs [] c = refl
-keep_corrs (it ∷ puts) c = keep_corrs puts (put_into c it) ∙ one_keeps it c
+keep_corrs : (s : Schema) (puts : List RowPut) (c : Contents) → HasThem (new_layout s) puts → (puts_into puts c).rows tables.Corr ≡ c.rows tables.Corr
+keep_corrs s [] c new = refl
+keep_corrs s (it ∷ puts) c new = keep_corrs s puts (put_into c it) new.1 ∙ one_keeps it c new.0
+
+fills_new : (t : NewTables) (s : Schema) (book : Book) (puts : List RowPut) → Fills t book puts → HasThem (new_layout s) puts
+fills_new EntriesAndBraille s book puts fills = fills_there (new_layout s) EntriesAndBraille book puts fills refl (refl, (refl, tt))
+fills_new t s book puts fills = fills_there (new_layout s) t book puts fills refl (refl, tt)
 
 keep_others : (puts : List RowPut) (c : Contents) → (puts_into puts c).others ≡ c.others
 keep_others [] c = refl
@@ -99,7 +108,7 @@ module _ (t : NewTables) (l : Layout) (book : Book) (puts : List RowPut) (fills 
       let empty = with_none (which_new t) others c in
       let same = all_put after empty puts ∙ ap (with_puts puts) (emptied t l others c) in
       let keeps : Keeps l c s.now.trees (puts_into puts empty) = record {
-        corrs = keep_corrs puts empty ∙ none_of_corrs t others c;
+        corrs = keep_corrs l.schema puts empty (fills_new t l.schema book puts fills) ∙ none_of_corrs t others c;
         others = subst (KeepsRows l.schema.tables s.now.trees) (sym (keep_others puts empty)) rows;
         aside = subst (KeepsAside l.schema s.now.trees) (sym (keep_others puts empty)) aside;
       } in (

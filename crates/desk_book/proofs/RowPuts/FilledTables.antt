@@ -23,7 +23,8 @@ use Rattle.desk_model.specs.FilledRows.{AreEntriesOf, Fills}
 use Rattle.desk_book.specs.Filling.{HaveHistories, braille_from, braille_put, histories_from, history_puts}
 use Rattle.desk_memory.specs.Histories.{entries_kept, entry_kept}
 use Rattle.desk_memory.specs.Kept.{IsKept, IsKeptParagraph, KeptParagraphs, KeptTables, book_kept, paragraph_kept}
-use Rattle.desk_parts.specs.Puts.{PutBook, PutCache, PutEntry, RowPut, RowPuts}
+use Rattle.desk_parts.specs.declared.file_table.FileTable.TheVariants as file
+use Rattle.desk_parts.specs.Puts.{PutRow, RowPut, RowPuts, put_rows}
 use Rattle.desk_parts.specs.Rows.{ParaCells, NamedCorr}
 use Rattle.desk_model.specs.Shows.{AreCached, IsCached, entry_row_of, entry_rows_of}
 use Rattle.desk_model.specs.Sound.{IsSoundParagraph}
@@ -49,11 +50,11 @@ rows_kept entry = map (numbered_row entry.0) (enumerate_from 1 entry.1.history)
 abbrev pub entries_of : KeptParagraphs → List NamedCorr
 entries_of kept = flat_map rows_kept kept
 
-pub entries-put : (kept : KeptParagraphs) → flat_map history_puts kept ≡ map PutEntry (entries_of kept)
+pub entries-put : (kept : KeptParagraphs) → flat_map history_puts kept ≡ put_rows file.NamedCorr (entries_of kept)
 entries-put [] = refl
 entries-put (entry ∷ kept) =
-    ap₂ (λ (xs ys : List RowPut). xs ++ ys) (sym (map-map PutEntry (numbered_row entry.0) (enumerate_from 1 entry.1.history))) (entries-put kept)
-    ∙ sym (map-append PutEntry (rows_kept entry) (entries_of kept))
+    ap₂ (λ (xs ys : List RowPut). xs ++ ys) (sym (map-map (PutRow file.NamedCorr) (numbered_row entry.0) (enumerate_from 1 entry.1.history))) (entries-put kept)
+    ∙ sym (map-append (PutRow file.NamedCorr) (rows_kept entry) (entries_of kept))
 
 enumerate_from-map : {X Y : Type 0} (f : X → Y) (n : ℕ) (xs : List X) → enumerate_from n (map f xs) ≡ map (λ (e : ℕ × X). (e.0, f e.1)) (enumerate_from n xs)
 enumerate_from-map f n [] = refl
@@ -121,8 +122,8 @@ cached_row entry = record { para = row_number entry.0; cells = entry.1.cells }
 abbrev pub caches_of : KeptParagraphs → List ParaCells
 caches_of kept = map cached_row kept
 
-pub caches-put : (kept : KeptParagraphs) → map braille_put kept ≡ map PutCache (caches_of kept)
-caches-put kept = sym (map-map PutCache cached_row kept)
+pub caches-put : (kept : KeptParagraphs) → map braille_put kept ≡ put_rows file.Cache (caches_of kept)
+caches-put kept = sym (map-map (PutRow file.Cache) cached_row kept)
 
 -- ---- of a book that is kept
 
@@ -189,7 +190,7 @@ module _ (version : ℕ) (tables : KeptTables) (kept : KeptParagraphs) (marks : 
   -- what the lists of entries and of braille are fills these tables
   module _ (whole : Book) (same : book ≡ whole) (news : NewTables) where
     abbrev row_at : ℤ → RowPut
-    row_at n = PutBook (record { id = pos 1; format = pos 2; version = n })
+    row_at n = PutRow file.Book (record { id = pos 1; format = pos 2; version = n })
 
     module _ (n : ℤ) (fits : SFits w64 n) (at : n ≡ row_number version) (entries : RowPuts) (are : entries ≡ histories_from 0 kept) where
       abbrev version_put : RowPut

@@ -1,7 +1,7 @@
 -- What a change lends is put for what its command changes.
-use Rattle.std.proofs.Common.{◌≡◌, ℕ, ℤ, ◌+◌, ◌≤◌, Bool, true, false, cond, List, [], ◌∷◌, length, map, drop, Option, Some, None, Contains, refl, sym, ap, subst, ◌∙◌, arith, inl, inr, get_or}
+use Rattle.std.proofs.Common.{◌≡◌, ℕ, ◌+◌, ◌≤◌, Bool, true, false, cond, List, [], ◌∷◌, length, map, drop, Option, Some, None, Contains, refl, sym, ap, subst, ◌∙◌, arith, inl, inr, get_or}
 use Rattle.std.specs.List.{All, enumerate_from, filter, flat_map}
-use Rattle.std.specs.Prelude.{◌==◌, encode_utf8_all, is_some}
+use Rattle.std.specs.Prelude.{◌==◌, is_some}
 use Rattle.std.proofs.lemmas.Bool.{cases_Bool, eqb-true}
 use Rattle.std.proofs.lemmas.List.Elements.{All-append, All-cons, All-map, All-nil}
 use Rattle.louis_table.specs.Meaning.{Meaning}
@@ -11,9 +11,9 @@ use Rattle.desk_book.specs.declared.change.Effect.TheVariants as effect
 use Rattle.desk_memory.specs.declared.history.KeptEntry.{KeptEntry}
 use Rattle.desk_memory.specs.declared.history.KeptEntry.TheVariants.{Corrects, Undoes}
 use Rattle.desk_command.specs.declared.command.Command.{Command}
-use Rattle.desk_parts.specs.Puts.{RowPut, SetPlace, SetPrint, SetVersion}
+use Rattle.desk_parts.specs.Puts.{RowPut}
 use Rattle.desk_model.specs.Book.{Book, Mark}
-use Rattle.desk_book.specs.ChangePuts.{cache_put, cells_from, cells_put, effect_puts, elsewhere_from, elsewhere_put, entry_row, further_from, further_put, span_put, stays_in, tab_put}
+use Rattle.desk_book.specs.ChangePuts.{cache_put, cells_from, cells_put, effect_puts, elsewhere_from, elsewhere_put, entry_row, further_from, further_put, place_put, print_put, span_put, stays_in, tab_put, version_put}
 use Rattle.desk_model.specs.Loans.{AreLent, Comes, GetsEntry, IsLent, Reorders, next_entry_number, row_number}
 use Rattle.desk_book.specs.Changes.{Carries, Change, Does, change_puts, puts-change_by, has-effect}
 use Rattle.desk_memory.specs.Histories.{entry_kept}
@@ -48,15 +48,15 @@ module _ (book next : Book) (command : Command) where
         each : (x : ℕ × ℕ) → P (further_put x)
         each (place, id) = order
 
-    place-lent : (stays : Bool) (id place : ℤ) → All P (cond stays [] (SetPlace id place ∷ []))
+    place-lent : (stays : Bool) (id place : ℕ) → All P (cond stays [] (place_put id place ∷ []))
     place-lent true id place = All-nil P
-    place-lent false id place = All-cons P (SetPlace id place) [] order (All-nil P)
+    place-lent false id place = All-cons P (place_put id place) [] order (All-nil P)
 
     elsewhere-lent : (old ids : List ℕ) → All P (elsewhere_from 0 old ids)
     elsewhere-lent old ids = All-flat P (elsewhere_put old) each (enumerate_from 1 ids)
       where
         each : (x : ℕ × ℕ) → All P (elsewhere_put old x)
-        each (place, id) = place-lent (stays_in old (place, id)) (row_number id) (row_number place)
+        each (place, id) = place-lent (stays_in old (place, id)) id place
 
   -- ---- marks
 
@@ -105,8 +105,8 @@ module _ (book next : Book) (command : Command) where
       let grows : GetsEntry book next id = (entry_kept change.entry, mark_moved_by change.start change.removed change.added, does.next_is) in
       let row = entry-row id (next_entry_number book id) change.entry in
       let spans : List RowPut = map (span_put change.start change.removed change.added) (marks_on id book.marks) in
-      All-cons P _ (SetPrint (row_number id) (encode_utf8_all change.print) ∷ cache_put id change.cells ∷ spans) (id, row.0, row.1, grows)
-      (All-cons P (SetPrint (row_number id) (encode_utf8_all change.print)) (cache_put id change.cells ∷ spans) (id, refl, grows)
+      All-cons P _ (print_put id change.print ∷ cache_put id change.cells ∷ spans) (id, row.0, row.1, grows)
+      (All-cons P (print_put id change.print) (cache_put id change.cells ∷ spans) (id, refl, grows)
       (All-cons P (cache_put id change.cells) spans (id, refl, inr (inl grows))
       (spans-lent id change.start change.removed change.added grows book.marks (λ mark c. c))))
   effect-lent sound (effect.AddMark mark room index_room) does = All-cons P _ [] refl (All-nil P)
@@ -119,8 +119,8 @@ module _ (book next : Book) (command : Command) where
       elsewhere-lent does.0.0 (map (λ other. other.id) book.paragraphs) order
 
   pub puts-lent : IsSound book → (version : ℕ) → version ≡ next.version → (e : Effect) → Does book command next e
-      → AreLent book next command (SetVersion (row_number version) ∷ effect_puts book e)
-  puts-lent sound version at e does = All-cons P (SetVersion (row_number version)) (effect_puts book e) (ap row_number at) (effect-lent sound e does)
+      → AreLent book next command (version_put version ∷ effect_puts book e)
+  puts-lent sound version at e does = All-cons P (version_put version) (effect_puts book e) (refl, ap row_number at) (effect-lent sound e does)
 
   pub change-lent : IsSound book → (change : Change) → Carries book command next change → AreLent book next command (change_puts book change)
   change-lent sound change carries =

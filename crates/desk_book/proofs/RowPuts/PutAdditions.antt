@@ -11,10 +11,11 @@ use Rattle.std.proofs.lemmas.List.Sorted.{IsPermutation-cons, IsPermutation-refl
 use Rattle.desk_memory.specs.declared.marks.KeptMark.{KeptMark}
 use Rattle.desk_model.specs.Book.{Book, Mark}
 use Rattle.desk_model.specs.Loans.{LeadTo, row_number}
-use Rattle.desk_book.specs.ChangePuts.{kept_mark_row}
+use Rattle.desk_book.specs.ChangePuts.{kept_mark_row, version_put}
 use Rattle.desk_parts.specs.FileRows.{HasMarkText, format_of, spelled_mark}
 use Rattle.desk_memory.specs.Kept.{mark_kept}
-use Rattle.desk_parts.specs.Puts.{PutMark, SetVersion, put_by_key}
+use Rattle.desk_parts.specs.declared.file_table.FileTable.TheVariants as tables
+use Rattle.desk_parts.specs.Puts.{PutRow, put_by_key}
 use Rattle.desk_parts.specs.Rows.{Mark as MarkRow}
 use Rattle.desk_model.specs.Shows.{mark_row_of}
 use Rattle.desk_model.specs.Sound.{IsSound, IsSoundMark}
@@ -102,7 +103,7 @@ module _ (book : Book) (kept : KeptMark) (sound : IsSound book) where
         ap not (same_key m.id number (omega arith) ∙ ne_eqb m.id number (λ same. omega arith)))
         book.marks (small_mark book sound))
 
-    pub mark-lead : LeadTo book (SetVersion (row_number marked.version) ∷ PutMark row ∷ []) marked
+    pub mark-lead : LeadTo book (version_put marked.version ∷ PutRow tables.Mark row ∷ []) marked
     mark-lead rows shows has = record {
       sound = after;
       texts = record {

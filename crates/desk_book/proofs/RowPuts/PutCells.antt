@@ -10,10 +10,11 @@ use Rattle.std.proofs.lemmas.List.Elements.{filter_agree}
 use Rattle.std.proofs.lemmas.List.Sorted.{IsPermutation-map, IsPermutation-sym}
 use Rattle.desk_model.specs.Book.{Book, Mark, Paragraph, paragraph_of}
 use Rattle.desk_model.specs.Loans.{LeadTo, row_number}
-use Rattle.desk_book.specs.ChangePuts.{cache_put}
+use Rattle.desk_book.specs.ChangePuts.{cache_put, used_table_put, version_put}
 use Rattle.desk_book.specs.Changes.{AreCellsByTable}
 use Rattle.desk_parts.specs.FileRows.{spelled_para}
-use Rattle.desk_parts.specs.Puts.{PutCache, SetTable, SetVersion, put_by_key}
+use Rattle.desk_parts.specs.declared.file_table.FileTable.TheVariants.{Cache}
+use Rattle.desk_parts.specs.Puts.{PutRow, put_by_key}
 use Rattle.desk_parts.specs.Rows.{ParaCells, Para}
 use Rattle.desk_model.specs.Shows.{AreCached, IsCached}
 use Rattle.desk_model.specs.Sound.{IsSound}
@@ -119,14 +120,14 @@ module _ (book : Book) (id : ℕ) (name cells : List ℕ) (sound : IsSound book)
   spells p = λ i. record (spelled_para p) { tab = spelled-encoded name characters i }
 
   leads : IsSound with_table
-      → LeadTo book (SetVersion (row_number with_table.version) ∷ SetTable (row_number id) (encode_utf8_all name) ∷ PutCache (record { para = pos id; cells = cells }) ∷ []) with_table
+      → LeadTo book (version_put with_table.version ∷ used_table_put id name ∷ PutRow Cache (record { para = pos id; cells = cells }) ∷ []) with_table
   leads after rows shows has =
       shown-changed book id retabled retabled_row retabled_bytes sound (λ place p. refl) spells (λ p texts. (encoded-text name characters, texts.1, texts.2)) (λ p. refl) after rows shows
       (option_map (put_by_key (λ c. int_eq c.para (pos id)) (record { para = pos id; cells = cells })) rows.caches)
       (ForSome-map (put_by_key (λ c. int_eq c.para (pos id)) (record { para = pos id; cells = cells })) (AreCached book) (AreCached with_table) rows.caches shows.caches cached-all)
 
   pub retabled-lead : IsSound with_table
-      → LeadTo book (SetVersion (row_number with_table.version) ∷ SetTable (row_number id) (encode_utf8_all name) ∷ cache_put id cells ∷ []) with_table
+      → LeadTo book (version_put with_table.version ∷ used_table_put id name ∷ cache_put id cells ∷ []) with_table
   retabled-lead after =
-      subst (λ (n : ℤ). LeadTo book (SetVersion (row_number with_table.version) ∷ SetTable (row_number id) (encode_utf8_all name) ∷ PutCache (record { para = n; cells = cells }) ∷ []) with_table)
+      subst (λ (n : ℤ). LeadTo book (version_put with_table.version ∷ used_table_put id name ∷ PutRow Cache (record { para = n; cells = cells }) ∷ []) with_table)
       (sym (id-small book id given.paragraph sound given.there)) (leads after)

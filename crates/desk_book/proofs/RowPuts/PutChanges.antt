@@ -15,8 +15,9 @@ use Rattle.std.proofs.lemmas.List.Sorted.{IsPermutation-refl}
 use Rattle.desk_command.specs.declared.style.Style.{Style}
 use Rattle.desk_model.specs.Book.{Book, Mark, Paragraph}
 use Rattle.desk_model.specs.Loans.{LeadTo, row_number}
+use Rattle.desk_book.specs.ChangePuts.{flags_put, resolved_put, version_put}
 use Rattle.desk_parts.specs.FileRows.{FileRows, HasParaTexts, HasMarkText, format_of, spelled_mark, spelled_para}
-use Rattle.desk_parts.specs.Puts.{SetFlags, SetResolved, SetVersion, with_put}
+use Rattle.desk_parts.specs.Puts.{with_put}
 use Rattle.desk_parts.specs.Rows.{Mark as MarkRow, Para, ParaCells}
 use Rattle.desk_model.specs.Shows.{AreCached, IsCached, Shows, entry_rows_of, flag_number, mark_row_of, para_of, paras_of, style_number}
 use Rattle.desk_model.specs.Sound.{IsSound}
@@ -117,7 +118,7 @@ module _ (book : Book) (id : ℕ) (to : Paragraph → Paragraph) (set bytes : Pa
 
   -- the rows with its columns set, and rows of the next book's braille, show that book
   pub shown-changed : IsSound next → (rows : FileRows) → Shows rows book → (caches : Option (List ParaCells)) → ForSome caches (AreCached next)
-      → Shows (record rows { books = (with_put (SetVersion (row_number next.version)) rows).books; paras = map (para_set id bytes) rows.paras; caches = caches }) next
+      → Shows (record rows { books = (with_put (version_put next.version) rows).books; paras = map (para_set id bytes) rows.paras; caches = caches }) next
   shown-changed after rows shows caches cached = record {
     sound = after;
     texts = record {
@@ -160,7 +161,7 @@ module _ (book : Book) (id : ℕ) (style : Style) (begins struck : Bool) (sound 
   }
 
   pub flags-lead : IsSound with_flags
-      → LeadTo book (SetVersion (row_number with_flags.version) ∷ SetFlags (row_number id) (style_number style) (flag_number begins) (flag_number struck) ∷ []) with_flags
+      → LeadTo book (version_put with_flags.version ∷ flags_put id style begins struck ∷ []) with_flags
   flags-lead after rows shows has =
       shown-changed book id flagged flagged_row flagged_row sound (λ place p. refl) (λ p. refl) (λ p texts. texts) (λ p. refl) after rows shows rows.caches
       (λ caches same. AreCached-same book with_flags caches
@@ -192,7 +193,7 @@ module _ (book : Book) (id : ℕ) (sound : IsSound book) where
   small-marks : All IsSmall book.marks
   small-marks = All-weaker (λ (m : Mark). m.id ≤ length book.marks) IsSmall (λ m lower. let few = sound.few_marks in omega arith) book.marks (small_mark book sound)
 
-  pub resolved-lead : IsSound resolved → LeadTo book (SetVersion (row_number resolved.version) ∷ SetResolved (row_number id) (pos 1) ∷ []) resolved
+  pub resolved-lead : IsSound resolved → LeadTo book (version_put resolved.version ∷ resolved_put id ∷ []) resolved
   resolved-lead after rows shows has = record {
     sound = after;
     texts = record {

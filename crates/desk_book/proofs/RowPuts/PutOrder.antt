@@ -14,9 +14,9 @@ use Rattle.std.proofs.lemmas.Map.Keys.{IsDistinct-head, IsDistinct-tail}
 use Rattle.std.proofs.lemmas.Simd.{map-map}
 use Rattle.desk_model.specs.Book.{Book, Paragraph}
 use Rattle.desk_model.specs.Loans.{LeadTo, row_number}
-use Rattle.desk_book.specs.ChangePuts.{elsewhere_from, elsewhere_put, stays_in}
+use Rattle.desk_book.specs.ChangePuts.{elsewhere_from, elsewhere_put, place_put, stays_in, version_put}
 use Rattle.desk_parts.specs.FileRows.{FileRows, HasParaTexts, format_of, spelled_para}
-use Rattle.desk_parts.specs.Puts.{RowPut, SetPlace, SetVersion, with_put, with_puts}
+use Rattle.desk_parts.specs.Puts.{RowPut, with_put, with_puts}
 use Rattle.desk_parts.specs.Rows.{ParaCells, Para}
 use Rattle.desk_model.specs.Shows.{IsCached, Shows, entry_rows_of, para_of, paras_of}
 use Rattle.desk_model.specs.Sound.{IsSound}
@@ -26,7 +26,7 @@ use Rattle.desk_model.proofs.Lists.Members.{Contains-cases, Contains-map, Contai
 use Rattle.desk_model.proofs.Books.ParagraphLists.{ids_of}
 use Rattle.desk_model.proofs.Lists.Permutations.{along_permutation}
 use Rattle.desk_book.proofs.RowPuts.PutChanges.{same_key, small_id}
-use Rattle.desk_book.proofs.RowPuts.PutPlaces.{Misses, Places, Sends, index_in, map-agree, paras-indexed, place_put, placed, placed-at, placed-spelled, placed-texts, places-put}
+use Rattle.desk_book.proofs.RowPuts.PutPlaces.{Misses, Places, Sends, index_in, map-agree, paras-indexed, place_set, placed, placed-at, placed-spelled, placed-texts, places-put}
 use Rattle.desk_model.proofs.Rows.PutRows.{AreCached-same, IsBraille-same, IsPermutation-set, id_number, number-small, versioned}
 use Rattle.desk_model.proofs.Books.SoundBooks.{paragraphs-apart}
 
@@ -69,15 +69,15 @@ elsewhere_pair old (place, id) = cond (stays_in old (place, id)) [] ((row_number
 abbrev pairs_from : List ℕ → ℕ → List ℕ → Places
 pairs_from old n new = flat_map (elsewhere_pair old) (enumerate_from n new)
 
-elsewhere-puts : (old : List ℕ) (n : ℕ) (new : List ℕ) → flat_map (elsewhere_put old) (enumerate_from n new) ≡ map place_put (pairs_from old n new)
+elsewhere-puts : (old : List ℕ) (n : ℕ) (new : List ℕ) → flat_map (elsewhere_put old) (enumerate_from n new) ≡ map place_set (pairs_from old n new)
 elsewhere-puts old n [] = refl
 elsewhere-puts old n (x ∷ xs) =
     let rest : List RowPut = flat_map (elsewhere_put old) (enumerate_from (n + 1) xs) in
     let pairs : Places = pairs_from old (n + 1) xs in
-    let later : rest ≡ map place_put pairs = elsewhere-puts old (n + 1) xs in
-    elim (stays_in old (n, x)) as (λ b. cond b [] (SetPlace (row_number x) (row_number n) ∷ []) ++ rest ≡ map place_put (cond b [] ((row_number x, row_number n) ∷ []) ++ pairs)) [
+    let later : rest ≡ map place_set pairs = elsewhere-puts old (n + 1) xs in
+    elim (stays_in old (n, x)) as (λ b. cond b [] (place_put x n ∷ []) ++ rest ≡ map place_set (cond b [] ((row_number x, row_number n) ∷ []) ++ pairs)) [
       | true ↦ later
-      | false ↦ ap (λ (l : List RowPut). SetPlace (row_number x) (row_number n) ∷ l) later
+      | false ↦ ap (λ (l : List RowPut). place_put x n ∷ l) later
     ]
 
 module _ (old : List ℕ) (id : ℕ) (small : id ≤ 20000) where
@@ -228,9 +228,9 @@ module _ (book : Book) (ps : List Paragraph) (sound : IsSound book) (moved : IsP
       cells = IsBraille-same book next is.paragraph is.paragraph refl refl row.cells is.cells;
     }
 
-    shown-placed : (rows : FileRows) → Shows rows book → Shows (with_puts (map place_put es) (with_put (SetVersion (row_number next.version)) rows)) next
+    shown-placed : (rows : FileRows) → Shows rows book → Shows (with_puts (map place_set es) (with_put (version_put next.version) rows)) next
     shown-placed rows shows =
-        let at : FileRows = with_put (SetVersion (row_number next.version)) rows in
+        let at : FileRows = with_put (version_put next.version) rows in
         subst (λ (r : FileRows). Shows r next) (sym (places-put es at)) (record {
           sound = after;
           texts = record {
@@ -248,6 +248,6 @@ module _ (book : Book) (ps : List Paragraph) (sound : IsSound book) (moved : IsP
           caches = λ caches same. AreCached-same book next caches (IsPermutation-map id_number book.paragraphs ps moved) cached-on (shows.caches caches same);
         })
 
-    pub order-lead : LeadTo book (SetVersion (row_number next.version) ∷ elsewhere_from 0 old_ids new_ids) next
+    pub order-lead : LeadTo book (version_put next.version ∷ elsewhere_from 0 old_ids new_ids) next
     order-lead rows shows has =
-        subst (λ (puts : List RowPut). Shows (with_puts puts (with_put (SetVersion (row_number next.version)) rows)) next) (sym (elsewhere-puts old_ids 1 new_ids)) (shown-placed rows shows)
+        subst (λ (puts : List RowPut). Shows (with_puts puts (with_put (version_put next.version) rows)) next) (sym (elsewhere-puts old_ids 1 new_ids)) (shown-placed rows shows)

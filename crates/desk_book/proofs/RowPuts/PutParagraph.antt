@@ -19,13 +19,14 @@ use Rattle.desk_memory.specs.declared.history.KeptEntry.{KeptEntry}
 use Rattle.desk_memory.specs.declared.paragraphs.Paragraph.{Paragraph as KeptParagraph}
 use Rattle.desk_model.specs.Book.{Book, Paragraph, text_of}
 use Rattle.desk_model.specs.Loans.{LeadTo, row_number}
-use Rattle.desk_book.specs.ChangePuts.{cache_put, further_from, kept_row}
+use Rattle.desk_book.specs.ChangePuts.{cache_put, further_from, kept_row, version_put}
 use Rattle.desk_memory.specs.Braille.{AreCellsOf}
 use Rattle.desk_parts.specs.FileRows.{FileRows, HasParaTexts, format_of, spelled_para}
 use Rattle.desk_memory.specs.Histories.{entries_kept}
 use Rattle.desk_memory.specs.Kept.{paragraph_kept}
 use Rattle.desk_model.specs.Print.{corrected_print, print_of}
-use Rattle.desk_parts.specs.Puts.{PutCache, PutPara, RowPut, SetVersion, put_by_key, with_put, with_puts}
+use Rattle.desk_parts.specs.declared.file_table.FileTable.TheVariants as tables
+use Rattle.desk_parts.specs.Puts.{PutRow, RowPut, put_by_key, with_put, with_puts}
 use Rattle.desk_parts.specs.Rows.{NamedCorr, Para, ParaCells}
 use Rattle.desk_model.specs.Shows.{AreCached, IsCached, Shows, entry_row_of, entry_rows_of, para_of, paras_of}
 use Rattle.desk_model.specs.Sound.{IsSound, IsSoundParagraph}
@@ -38,7 +39,7 @@ use Rattle.desk_book.proofs.RowPuts.PutAdditions.{All-put_in, IsPermutation-put_
 use Rattle.desk_book.proofs.RowPuts.PutCells.{ForSome-map}
 use Rattle.desk_book.proofs.RowPuts.PutChanges.{same_key, small_id}
 use Rattle.desk_book.proofs.RowPuts.PutOrder.{IsPermutation-flat_map}
-use Rattle.desk_book.proofs.RowPuts.PutPlaces.{Misses, Places, Sends, index_in, map-agree, paras-indexed, place_put, placed, placed-at, placed-spelled, placed-texts, places-put}
+use Rattle.desk_book.proofs.RowPuts.PutPlaces.{Misses, Places, Sends, index_in, map-agree, paras-indexed, place_set, placed, placed-at, placed-spelled, placed-texts, places-put}
 use Rattle.desk_model.proofs.Rows.PutRows.{AreCached-put, IsBraille-same, IsPermutation-set, filter-all, id_number, number-small, versioned}
 use Rattle.desk_model.proofs.Lists.RowNumbers.{int_eq-pos}
 use Rattle.desk_model.proofs.Books.SoundBooks.{IsSoundTable-found, paragraph_of-own, paragraph_of-within, paragraphs-apart}
@@ -289,9 +290,9 @@ module _ (book : Book) (ps : List Paragraph) (kept : KeptParagraph) (place : ℕ
             let small = small_id book sound q c in
             ap not (same_key q.id number (omega arith) ∙ ne_eqb q.id number (λ same. omega arith))) book.paragraphs (All-contains_itself book.paragraphs)))
 
-    shown-placed : (rows : FileRows) → Shows rows book → Shows (with_puts (map place_put es) (with_put (PutCache cached) (with_put (PutPara row) (with_put (SetVersion (row_number next.version)) rows)))) next
+    shown-placed : (rows : FileRows) → Shows rows book → Shows (with_puts (map place_set es) (with_put (PutRow tables.Cache cached) (with_put (PutRow tables.Para row) (with_put (version_put next.version) rows)))) next
     shown-placed rows shows =
-        let at : FileRows = with_put (PutCache cached) (with_put (PutPara row) (with_put (SetVersion (row_number next.version)) rows)) in
+        let at : FileRows = with_put (PutRow tables.Cache cached) (with_put (PutRow tables.Para row) (with_put (version_put next.version) rows)) in
         let texts : All HasParaTexts (put_by_key key row rows.paras) = All-put_in HasParaTexts key row rows.paras
         (encoded-text kept.table characters, encoded-text kept.original is_sound.clean.characters, encoded-text kept.print (subst AreCharacters (sym print) is_sound.clean.characters)) shows.texts.paras in
         subst (λ (r : FileRows). Shows r next) (sym (places-put es at)) (record {
@@ -312,13 +313,13 @@ module _ (book : Book) (ps : List Paragraph) (kept : KeptParagraph) (place : ℕ
               (λ caches is. AreCached-put book next caches cached ids-more cached-here (λ other apart. cached-others other) is);
         })
 
-    further-puts : further_from place old_ids ≡ map place_put es
-    further-puts = sym (map-map place_put further_pair (drop place (enumerate_from 1 old_ids)))
+    further-puts : further_from place old_ids ≡ map place_set es
+    further-puts = sym (map-map place_set further_pair (drop place (enumerate_from 1 old_ids)))
 
-    pub paragraph-lead : LeadTo book (SetVersion (row_number next.version) ∷ PutPara row ∷ cache_put number kept.cells ∷ further_from place old_ids) next
+    pub paragraph-lead : LeadTo book (version_put next.version ∷ PutRow tables.Para row ∷ cache_put number kept.cells ∷ further_from place old_ids) next
     paragraph-lead rows shows has =
         let most = few in
         let small : row_number number ≡ pos number = number-small number (omega arith) in
-        subst (λ (puts : List RowPut). Shows (with_puts puts (with_put (cache_put number kept.cells) (with_put (PutPara row) (with_put (SetVersion (row_number next.version)) rows)))) next) (sym further-puts)
-        (subst (λ (n : ℤ). Shows (with_puts (map place_put es) (with_put (PutCache (record { para = n; cells = kept.cells })) (with_put (PutPara row) (with_put (SetVersion (row_number next.version)) rows)))) next) (sym small)
+        subst (λ (puts : List RowPut). Shows (with_puts puts (with_put (cache_put number kept.cells) (with_put (PutRow tables.Para row) (with_put (version_put next.version) rows)))) next) (sym further-puts)
+        (subst (λ (n : ℤ). Shows (with_puts (map place_set es) (with_put (PutRow tables.Cache (record { para = n; cells = kept.cells })) (with_put (PutRow tables.Para row) (with_put (version_put next.version) rows)))) next) (sym small)
         (shown-placed rows shows))

@@ -9,7 +9,8 @@ use Rattle.std.proofs.lemmas.List.Elements.{All-cons, All-contains_itself, All-h
 use Rattle.std.proofs.lemmas.Simd.{map-map}
 use Rattle.desk_model.specs.Book.{Paragraph}
 use Rattle.desk_parts.specs.FileRows.{FileRows, HasParaTexts, spelled_para}
-use Rattle.desk_parts.specs.Puts.{RowPut, SetPlace, with_puts}
+use Rattle.desk_parts.specs.declared.file_table.FileTable.TheVariants as tables
+use Rattle.desk_parts.specs.Puts.{Place, RowPut, SetColumns, with_puts}
 use Rattle.desk_parts.specs.Rows.{Para}
 use Rattle.desk_model.specs.Shows.{para_of}
 use Rattle.desk_model.proofs.Books.ParagraphLists.{AreApart, AreApart-first, AreApart-rest, ids_of}
@@ -18,8 +19,8 @@ use Rattle.desk_model.proofs.Books.ParagraphLists.{AreApart, AreApart-first, Are
 abbrev pub Places : Type 0
 Places = List (ℤ × ℤ)
 
-abbrev pub place_put : ℤ × ℤ → RowPut
-place_put e = SetPlace e.0 e.1
+abbrev pub place_set : ℤ × ℤ → RowPut
+place_set e = SetColumns tables.Para e.0 (Place e.1)
 
 abbrev pub placed_by : ℤ × ℤ → Para → Para
 placed_by e p = cond (int_eq p.id e.0) (record p { place = e.1 }) p
@@ -29,7 +30,7 @@ abbrev pub placed : Places → Para → Para
 placed [] p = p
 placed (e ∷ es) p = placed es (placed_by e p)
 
-pub places-put : (es : Places) (rows : FileRows) → with_puts (map place_put es) rows ≡ record rows { paras = map (placed es) rows.paras }
+pub places-put : (es : Places) (rows : FileRows) → with_puts (map place_set es) rows ≡ record rows { paras = map (placed es) rows.paras }
 places-put [] rows = λ i. record rows { paras = sym (map-id rows.paras) i }
 places-put (e ∷ es) rows =
     places-put es (record rows { paras = map (placed_by e) rows.paras })

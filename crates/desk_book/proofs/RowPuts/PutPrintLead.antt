@@ -15,17 +15,17 @@ use Rattle.std.proofs.lemmas.Simd.{map-map}
 use Rattle.louis_translate.specs.Braille.{braille}
 use Rattle.louis_translate.specs.Tiling.{Tiles}
 use Rattle.desk_memory.specs.declared.paragraphs.PrintChange.{PrintChange}
-use Rattle.desk_parts.specs.declared.file_table.FileTable.TheVariants.{NamedCorr as NamedCorrTable}
+use Rattle.desk_parts.specs.declared.file_table.FileTable.TheVariants as tables
 use Rattle.desk_model.specs.Book.{Book, Entry, Mark, Paragraph, paragraph_of}
 use Rattle.desk_model.specs.Loans.{LeadTo, row_number}
-use Rattle.desk_book.specs.ChangePuts.{cache_put, entry_row, span_put}
+use Rattle.desk_book.specs.ChangePuts.{cache_put, entry_row, print_put, span_put, version_put}
 use Rattle.desk_book.specs.Changes.{ChangesPrint}
 use Rattle.desk_parts.specs.FileRows.{EntryRows, FileRows, HasEntryTexts, HasMarkText, HasParaTexts, Named, Unnamed, entries_in, format_of, spelled_entry, spelled_mark, spelled_para, table_of}
 use Rattle.desk_memory.specs.Histories.{entry_kept}
 use Rattle.desk_model.specs.Marks.{mark_moved_by}
 use Rattle.desk_model.specs.ParagraphMarks.{marks_on}
 use Rattle.desk_model.specs.Print.{corrected_print, print_of, with_entry}
-use Rattle.desk_parts.specs.Puts.{PutCache, PutEntry, RowPut, SetPrint, SetVersion, put_by_key, with_entry_row, with_put, with_puts}
+use Rattle.desk_parts.specs.Puts.{PutRow, RowPut, put_by_key, with_entry_row, with_put, with_puts}
 use Rattle.desk_parts.specs.Rows.{Mark as MarkRow, NamedCorr, Para, ParaCells}
 use Rattle.desk_model.specs.Shows.{AreCached, Shows, book_row_of, entry_row_of, entry_rows_of, flag_number, mark_row_of, para_of, paras_of}
 use Rattle.desk_model.specs.Sound.{IsSound, IsSoundEntry, IsSoundMark, IsSoundParagraph}
@@ -120,10 +120,13 @@ module _ (book : Book) (id : ℕ) (change : PrintChange) (sound : IsSound book) 
     characters = subst AreCharacters (sym given.print) (print-all IsScalar (more p) sound-more.clean.characters
         (All-weaker HasCharacters (HasText IsScalar) entry-text (more p).history (history-characters next (more p) sound-more)))
 
-    abbrev entry_put : NamedCorr
-    entry_put = entry_row id (length p.history + 1) change.entry
+    abbrev new_row : NamedCorr
+    new_row = entry_row id (length p.history + 1) change.entry
 
-    spelled-entry : spelled_entry entry_put ≡ entry_row_of id (length p.history + 1, entry)
+    abbrev entry_put : RowPut
+    entry_put = PutRow tables.NamedCorr new_row
+
+    spelled-entry : spelled_entry new_row ≡ entry_row_of id (length p.history + 1, entry)
     spelled-entry = let few = given.few in entry-spelled p.original p.history id (length p.history + 1) small (omega arith) (omega arith) short change.entry sound-entry
 
     -- ---- the marks
@@ -212,10 +215,10 @@ module _ (book : Book) (id : ℕ) (change : PrintChange) (sound : IsSound book) 
     module _ (rows : FileRows) (shows : Shows rows book) (corrs : List NamedCorr) (named : rows.entries ≡ Named corrs) where
       abbrev at : FileRows
       at = record rows {
-        books = (with_put (SetVersion (row_number next.version)) rows).books;
+        books = (with_put (version_put next.version) rows).books;
         paras = map (para_set id print_bytes) rows.paras;
-        entries = Named (entry_put ∷ corrs);
-        caches = (with_put (PutCache (record { para = pos id; cells = change.cells })) rows).caches;
+        entries = Named (new_row ∷ corrs);
+        caches = (with_put (PutRow tables.Cache (record { para = pos id; cells = change.cells })) rows).caches;
       }
 
       had : IsPermutation (map spelled_entry corrs) (flat_map entry_rows_of book.paragraphs)
@@ -227,7 +230,7 @@ module _ (book : Book) (id : ℕ) (change : PrintChange) (sound : IsSound book) 
         texts = record {
           tabs = shows.texts.tabs;
           paras = All-set_where (λ (r : Para). int_eq r.id (row_number id)) print_bytes HasParaTexts rows.paras (λ r texts. (texts.0, texts.1, encoded-text change.print characters)) shows.texts.paras;
-          entries = All-cons HasEntryTexts entry_put corrs (let few = given.few in entry-texts p.original p.history id (length p.history + 1) small (omega arith) (omega arith) short change.entry sound-entry)
+          entries = All-cons HasEntryTexts new_row corrs (let few = given.few in entry-texts p.original p.history id (length p.history + 1) small (omega arith) (omega arith) short change.entry sound-entry)
               (subst (λ (es : EntryRows). All HasEntryTexts (entries_in es)) named shows.texts.entries);
           marks = All-map HasMarkText (spanned change.start change.removed change.added (marks_on id book.marks)) rows.marks
               (All-weaker HasMarkText (λ m. HasMarkText (spanned change.start change.removed change.added (marks_on id book.marks) m))
@@ -251,22 +254,22 @@ module _ (book : Book) (id : ℕ) (change : PrintChange) (sound : IsSound book) 
 
     abbrev first_puts : ℤ → FileRows → FileRows
     first_puts key rows =
-        with_put (PutCache (record { para = key; cells = change.cells })) (with_put (SetPrint (row_number id) (encode_utf8_all change.print)) (with_put (PutEntry entry_put) (with_put (SetVersion (row_number next.version)) rows)))
+        with_put (PutRow tables.Cache (record { para = key; cells = change.cells })) (with_put (print_put id change.print) (with_put entry_put (with_put (version_put next.version) rows)))
 
-    leads : (es : EntryRows) (rows : FileRows) → rows.entries ≡ es → table_of es ≡ NamedCorrTable → Shows rows book
+    leads : (es : EntryRows) (rows : FileRows) → rows.entries ≡ es → table_of es ≡ tables.NamedCorr → Shows rows book
         → Shows (with_puts (map (span_put change.start change.removed change.added) (marks_on id book.marks)) (first_puts (pos id) rows)) next
     leads (Unnamed corrs) rows e table shows = absurd (cc)
     leads (Named corrs) rows e table shows =
-        let entries : with_entry_row entry_put rows.entries ≡ Named (entry_put ∷ corrs) = ap (with_entry_row entry_put) e in
+        let entries : with_entry_row new_row rows.entries ≡ Named (new_row ∷ corrs) = ap (with_entry_row new_row) e in
         subst (λ (r : FileRows). Shows r next) (sym (spans-put change.start change.removed change.added (marks_on id book.marks) (first_puts (pos id) rows)))
         (subst (λ (es : EntryRows). Shows (record (first_puts (pos id) rows) { entries = es; marks = map (spanned change.start change.removed change.added (marks_on id book.marks)) rows.marks }) next) (sym entries) (shown-all rows shows corrs e))
 
-    pub print-lead : LeadTo book (SetVersion (row_number next.version) ∷ PutEntry entry_put ∷ SetPrint (row_number id) (encode_utf8_all change.print) ∷ cache_put id change.cells
+    pub print-lead : LeadTo book (version_put next.version ∷ entry_put ∷ print_put id change.print ∷ cache_put id change.cells
         ∷ map (span_put change.start change.removed change.added) (marks_on id book.marks)) next
     print-lead rows shows has =
-        let rest : List RowPut = SetPrint (row_number id) (encode_utf8_all change.print) ∷ cache_put id change.cells
+        let rest : List RowPut = print_put id change.print ∷ cache_put id change.cells
         ∷ map (span_put change.start change.removed change.added) (marks_on id book.marks) in
-        let table : table_of rows.entries ≡ NamedCorrTable =
-        has entry_put (Contains-behind (SetVersion (row_number next.version)) (PutEntry entry_put) (PutEntry entry_put ∷ rest) (Contains-here (PutEntry entry_put) rest)) in
+        let table : table_of rows.entries ≡ tables.NamedCorr =
+        has new_row (Contains-behind (version_put next.version) entry_put (entry_put ∷ rest) (Contains-here entry_put rest)) in
         subst (λ (key : ℤ). Shows (with_puts (map (span_put change.start change.removed change.added) (marks_on id book.marks)) (first_puts key rows)) next)
         (sym (id-small book id p sound given.there)) (leads rows.entries rows refl table shows)

@@ -12,13 +12,14 @@ use Rattle.louis_table.specs.Meaning.{Meaning}
 use Rattle.louis_table.specs.Table.{Means}
 use Rattle.desk_model.specs.Book.{Book, Paragraph, paragraph_of}
 use Rattle.desk_model.specs.Loans.{LeadTo, row_number}
-use Rattle.desk_book.specs.ChangePuts.{cells_from, cells_put}
+use Rattle.desk_book.specs.ChangePuts.{cells_from, cells_put, version_put}
 use Rattle.desk_book.specs.Changes.{AreRenewed}
 use Rattle.desk_memory.specs.Braille.{AreCellsOf}
 use Rattle.desk_parts.specs.FileRows.{FileRows}
 use Rattle.desk_memory.specs.Kept.{new_cells}
 use Rattle.desk_model.specs.Print.{print_of}
-use Rattle.desk_parts.specs.Puts.{PutTab, SetVersion, put_by_key, with_puts}
+use Rattle.desk_parts.specs.declared.file_table.FileTable.TheVariants.{Tab}
+use Rattle.desk_parts.specs.Puts.{PutRow, put_by_key, with_puts}
 use Rattle.desk_parts.specs.Rows.{ParaCells}
 use Rattle.desk_model.specs.Shows.{AreCached, IsCached, Shows}
 use Rattle.desk_model.specs.Sound.{IsSound}
@@ -190,9 +191,9 @@ module _ (book : Book) (name text : List ℕ) (meaning : Meaning) (sound : IsSou
     }
 
     pub replaced-lead : length cells ≤ length book.paragraphs → IsSound retexted
-        → LeadTo book (SetVersion (row_number retexted.version) ∷ PutTab (record { name = encode_utf8_all name; body = text }) ∷ cells_from 0 cells) retexted
+        → LeadTo book (version_put retexted.version ∷ PutRow Tab (record { name = encode_utf8_all name; body = text }) ∷ cells_from 0 cells) retexted
     replaced-lead few after rows shows has =
-        let put : FileRows = with_puts (SetVersion (row_number retexted.version) ∷ PutTab (record { name = encode_utf8_all name; body = text }) ∷ []) rows in
+        let put : FileRows = with_puts (version_put retexted.version ∷ PutRow Tab (record { name = encode_utf8_all name; body = text }) ∷ []) rows in
         let made = along 1 (1 + length cells) cells put rows.caches (omega arith) refl (omega (arith, few)) renews-all (λ caches e. below-first caches (shows.caches caches e)) in
         subst (λ (r : FileRows). Shows r retexted) (sym made.2)
         (shown-tabled book name text sound after rows shows made.0 (λ caches e. below-last caches (made.1 caches e)))

@@ -16,9 +16,11 @@ use Rattle.std.proofs.lemmas.List.Elements.{All-weaker}
 use Rattle.std.proofs.lemmas.List.Sorted.{IsPermutation-cons, IsPermutation-map, IsPermutation-middle, IsPermutation-refl, IsPermutation-trans}
 use Rattle.std.proofs.lemmas.Slice.Eq.{bytes_eq-Decides}
 use Rattle.desk_model.specs.Book.{Book, text_of}
-use Rattle.desk_model.specs.Loans.{LeadTo, row_number}
+use Rattle.desk_model.specs.Loans.{LeadTo}
+use Rattle.desk_book.specs.ChangePuts.{version_put}
 use Rattle.desk_parts.specs.FileRows.{FileRows, HasTabText, format_of, spelled_tab}
-use Rattle.desk_parts.specs.Puts.{PutTab, RowPut, SetVersion, put_by_key, with_puts}
+use Rattle.desk_parts.specs.declared.file_table.FileTable.TheVariants as tables
+use Rattle.desk_parts.specs.Puts.{PutRow, RowPut, put_by_key, with_puts}
 use Rattle.desk_parts.specs.Rows.{ParaCells, Tab}
 use Rattle.desk_model.specs.Shows.{AreCached, IsCached, Shows, tab_of}
 use Rattle.desk_model.specs.Sound.{IsSound}
@@ -121,7 +123,7 @@ module _ (book : Book) (name text : List ℕ) (sound : IsSound book) where
   tabled = next_with_tables book (with_text name text book.tables)
 
   abbrev LeadPuts : List RowPut
-  LeadPuts = SetVersion (row_number tabled.version) ∷ PutTab (record { name = encode_utf8_all name; body = text }) ∷ []
+  LeadPuts = version_put tabled.version ∷ PutRow tables.Tab (record { name = encode_utf8_all name; body = text }) ∷ []
 
   -- its row, and rows of the next book's braille, show that book
   pub shown-tabled : IsSound tabled → (rows : FileRows) → Shows rows book → (caches : Option (List ParaCells)) → ForSome caches (AreCached tabled)

@@ -1,5 +1,5 @@
 -- What a change puts makes rows that show its book show the next.
-use Rattle.std.proofs.Common.{◌≡◌, ℕ, ◌+◌, List, [], ◌∷◌, length, map, Option, None, Contains, encode_utf8_all, refl, sym, ap, subst, ◌∙◌}
+use Rattle.std.proofs.Common.{◌≡◌, ℕ, ◌+◌, List, [], ◌∷◌, length, map, Option, None, Contains, refl, sym, ap, subst, ◌∙◌}
 use Rattle.std.specs.List.{insert}
 use Rattle.std.specs.List.Sorted.{IsPermutation}
 use Rattle.std.specs.Prelude.{option_map, unwrap_or}
@@ -9,14 +9,15 @@ use Rattle.desk_command.specs.declared.command.Command.{Command}
 use Rattle.desk_command.specs.declared.command.Command.TheVariants.{TypeIn}
 use Rattle.desk_memory.specs.declared.history.KeptEntry.{KeptEntry}
 use Rattle.desk_model.specs.Book.{Book, Paragraph, paragraph_of}
-use Rattle.desk_model.specs.Loans.{LeadTo, row_number}
-use Rattle.desk_book.specs.ChangePuts.{cache_put, effect_puts, entry_row, span_put}
+use Rattle.desk_model.specs.Loans.{LeadTo}
+use Rattle.desk_book.specs.ChangePuts.{cache_put, effect_puts, entry_row, print_put, span_put, version_put}
 use Rattle.desk_book.specs.Changes.{Carries, Change, ChangesPrint, Does, IsEffect, change_puts, puts-change_by, has-effect}
 use Rattle.desk_memory.specs.Histories.{entries_kept, entry_kept}
 use Rattle.desk_memory.specs.Kept.{paragraph_kept}
 use Rattle.desk_model.specs.Marks.{mark_moved_by}
 use Rattle.desk_model.specs.ParagraphMarks.{marks_on}
-use Rattle.desk_parts.specs.Puts.{PutEntry, RowPut, SetPrint, SetVersion}
+use Rattle.desk_parts.specs.declared.file_table.FileTable.TheVariants.{NamedCorr}
+use Rattle.desk_parts.specs.Puts.{PutRow, RowPut}
 use Rattle.desk_model.specs.Named.{paragraph_before}
 use Rattle.desk_model.specs.Refusals.{IsAccepted}
 use Rattle.desk_model.specs.Sound.{IsSound}
@@ -45,7 +46,7 @@ no-entries (h ∷ hs) e = absurd (cc)
 module _ (book next : Book) (command : Command) (sound : IsSound book) (accepted : IsAccepted book None command) (makes : Makes book command next) (after : IsSound next) where
   -- what leads to an equal book
   abbrev Leads : Effect → Book → Type 0
-  Leads e b = LeadTo book (SetVersion (row_number b.version) ∷ effect_puts book e) b
+  Leads e b = LeadTo book (version_put b.version ∷ effect_puts book e) b
 
   pub leads : (e : Effect) → Does book command next e → Leads e next
   leads (effect.AddTable name table room) does =
@@ -79,7 +80,7 @@ module _ (book next : Book) (command : Command) (sound : IsSound book) (accepted
       let number : length given.paragraph.history + 1 ≡ unwrap_or (option_map (λ (q : Paragraph). length q.history + 1) (paragraph_of book id)) 1 =
       ap (λ (o : Option Paragraph). unwrap_or (option_map (λ (q : Paragraph). length q.history + 1) o) 1) (sym given.there) in
       subst (Leads (effect.ChangePrint id change)) (sym is)
-      (subst (λ (n : ℕ). LeadTo book (SetVersion (row_number (book.version + 1)) ∷ PutEntry (entry_row id n change.entry) ∷ SetPrint (row_number id) (encode_utf8_all change.print) ∷ cache_put id change.cells
+      (subst (λ (n : ℕ). LeadTo book (version_put (book.version + 1) ∷ PutRow NamedCorr (entry_row id n change.entry) ∷ print_put id change.print ∷ cache_put id change.cells
       ∷ map (span_put change.start change.removed change.added) (marks_on id book.marks)) (next_with_entry book id (entry_kept change.entry) (mark_moved_by change.start change.removed change.added))) number
       (print-lead book id change sound given (subst IsSound is after)))
   leads (effect.AddMark mark room index_room) does =
@@ -98,9 +99,9 @@ module _ (book next : Book) (command : Command) (sound : IsSound book) (accepted
       (subst (Leads (effect.Reorder (ids_of ps))) (sym is) (order-lead book ps sound does.0.1 (subst IsSound is after)))
 
 pub puts-lead : (book next : Book) (version : ℕ) (effect : Effect) → IsSound book → IsEffect book version effect next
-    → LeadTo book (SetVersion (row_number version) ∷ effect_puts book effect) next
+    → LeadTo book (version_put version ∷ effect_puts book effect) next
 puts-lead book next version effect sound is =
-    subst (λ (n : ℕ). LeadTo book (SetVersion (row_number n) ∷ effect_puts book effect) next) (sym is.at)
+    subst (λ (n : ℕ). LeadTo book (version_put n ∷ effect_puts book effect) next) (sym is.at)
     (leads book next is.command sound is.accepted is.makes (IsSound-makes book next None is.command sound is.accepted is.written is.makes) effect is.does)
 
 pub change-leads : (book next : Book) (command : Command) (change : Change) → IsSound book → Carries book command next change

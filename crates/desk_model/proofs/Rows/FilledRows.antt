@@ -14,12 +14,12 @@ use Rattle.std.proofs.lemmas.List.Sorted.{IsPermutation-map, IsPermutation-middl
 use Rattle.std.proofs.lemmas.Map.Keys.{IsDistinct-from_apart, IsDistinct-head, IsDistinct-IsPermutation, IsDistinct-tail, apart_from_distinct}
 use Rattle.desk_model.specs.declared.new_tables.NewTables.{NewTables}
 use Rattle.desk_model.specs.declared.new_tables.NewTables.TheVariants.{Braille, Entries, EntriesAndBraille}
-use Rattle.desk_parts.specs.declared.file_table.FileTable.TheVariants.{Corr as CorrTable, NamedCorr as NamedCorrTable}
+use Rattle.desk_parts.specs.declared.file_table.FileTable.TheVariants as tables
 use Rattle.desk_parts.specs.declared.rows.BookRow.{BookRow}
 use Rattle.desk_model.specs.Book.{Book, Paragraph, empty_book}
 use Rattle.desk_parts.specs.FileRows.{EntryRows, FileRows, HasEntryTexts, HasMarkText, HasParaTexts, HasTabText, Named, entries_in, format_of, table_of}
 use Rattle.desk_model.specs.FilledRows.{AreEntriesOf, Fills, entry_puts, in_second_format, new_rows, second_format_puts, with_caches, with_empty, with_new_entries, with_new_tables}
-use Rattle.desk_parts.specs.Puts.{HasItsTable, HasTheirTables, PutBook, PutCache, PutEntry, RowPuts, put_by_key, with_put, with_puts}
+use Rattle.desk_parts.specs.Puts.{HasItsTable, HasTheirTables, PutRow, RowPuts, put_by_key, put_rows, with_put, with_puts}
 use Rattle.desk_parts.specs.Rows.{ParaCells, NamedCorr}
 use Rattle.desk_model.specs.Shows.{AreCached, IsCached, IsUnnamed, Shows, book_row_of}
 use Rattle.desk_model.specs.Sound.{IsSound}
@@ -86,7 +86,7 @@ module _ (rows : FileRows) (book : Book) (shown : Shows rows book) where
 -- ---- entries put one by one
 
 put-entries : (rows : FileRows) (entries done : List NamedCorr)
-    → (made : List NamedCorr) × IsPermutation (entries ++ done) made × (with_puts (map PutEntry entries) (record rows { entries = Named done }) ≡ record rows { entries = Named made })
+    → (made : List NamedCorr) × IsPermutation (entries ++ done) made × (with_puts (put_rows tables.NamedCorr entries) (record rows { entries = Named done }) ≡ record rows { entries = Named made })
 put-entries rows [] done = (done, IsPermutation-refl done, refl)
 put-entries rows (entry ∷ entries) done =
     let rest = put-entries rows entries (entry ∷ done) in (
@@ -99,18 +99,18 @@ put-entries rows (entry ∷ entries) done =
 -- the row of the second format, and these entries, put where no entry was
 put-second : (rows : FileRows) (format version : ℕ) → rows.books ≡ book_row_of format version ∷ [] → (entries : List NamedCorr)
     → (made : List NamedCorr) × IsPermutation entries made
-    × (with_puts (PutBook (book_row_of 2 version) ∷ map PutEntry entries) (with_new_entries rows) ≡ record rows { books = book_row_of 2 version ∷ []; entries = Named made })
+    × (with_puts (PutRow tables.Book (book_row_of 2 version) ∷ put_rows tables.NamedCorr entries) (with_new_entries rows) ≡ record rows { books = book_row_of 2 version ∷ []; entries = Named made })
 put-second rows format version row entries =
     let book_row = book_row_of 2 version in
     let made = put-entries (record rows { books = book_row ∷ [] }) entries [] in
     let one : put_by_key (λ (b : BookRow). int_eq b.id (pos 1)) book_row rows.books ≡ book_row ∷ [] = ap (put_by_key (λ (b : BookRow). int_eq b.id (pos 1)) book_row) row in (
       made.0,
       subst (λ (some : List NamedCorr). IsPermutation some made.0) (append-nil entries) made.1,
-      ap (λ (books : List BookRow). with_puts (map PutEntry entries) (record (with_new_entries rows) { books = books })) one ∙ made.2,
+      ap (λ (books : List BookRow). with_puts (put_rows tables.NamedCorr entries) (record (with_new_entries rows) { books = books })) one ∙ made.2,
     )
 
 module _ (rows : FileRows) (book : Book) (shown : Shows rows book) (entries : List NamedCorr) (are : AreEntriesOf book entries) where
-  pub names-put : Shows (with_puts (PutBook (book_row_of 2 book.version) ∷ map PutEntry entries) (with_new_entries rows)) book
+  pub names-put : Shows (with_puts (entry_puts book entries) (with_new_entries rows)) book
   names-put =
       let made = put-second rows (format_of rows.entries) book.version shown.row entries in
       subst (λ (shows : FileRows). Shows shows book) (sym made.2) (entered rows book shown made.0 (AreEntriesOf-moved book entries made.0 made.1 are))
@@ -143,7 +143,7 @@ AreDistinct-front [] ys apart = apart
 AreDistinct-front (x ∷ xs) ys apart = AreDistinct-front xs ys (IsDistinct-tail int_eq x.para (map (λ c. c.para) (xs ++ ys)) apart)
 
 put-caches : (rows : FileRows) (caches done : List ParaCells) → AreDistinct (caches ++ done)
-    → (made : List ParaCells) × IsPermutation (caches ++ done) made × (with_puts (map PutCache caches) (with_caches done rows) ≡ with_caches made rows)
+    → (made : List ParaCells) × IsPermutation (caches ++ done) made × (with_puts (put_rows tables.Cache caches) (with_caches done rows) ≡ with_caches made rows)
 put-caches rows [] done apart = (done, IsPermutation-refl done, refl)
 put-caches rows (row ∷ caches) done apart =
     let moved : IsPermutation (row ∷ caches ++ done) (caches ++ row ∷ done) =
@@ -152,7 +152,7 @@ put-caches rows (row ∷ caches) done apart =
     let rest = put-caches rows caches (row ∷ done) onward in (
       rest.0,
       IsPermutation-trans (row ∷ caches ++ done) (caches ++ row ∷ done) rest.0 moved rest.1,
-      ap (λ (all : List ParaCells). with_puts (map PutCache caches) (with_caches all rows)) (added row done (AreDistinct-front caches (row ∷ done) onward)) ∙ rest.2,
+      ap (λ (all : List ParaCells). with_puts (put_rows tables.Cache caches) (with_caches all rows)) (added row done (AreDistinct-front caches (row ∷ done) onward)) ∙ rest.2,
     )
 
 IsDistinct-pos : (ids : List ℕ) → IsDistinct nat_eq ids → IsDistinct int_eq (map pos ids)
@@ -170,7 +170,7 @@ module _ (book : Book) (sound : IsSound book) (caches : List ParaCells) (are : A
       (subst (IsDistinct int_eq) (map-map pos (λ (p : Paragraph). p.id) book.paragraphs) (IsDistinct-pos (ids_of book.paragraphs) (paragraphs-apart book sound)))
 
   -- the rows with these put, one by one, where none was
-  made_caches : (rows : FileRows) → (made : List ParaCells) × AreCached book made × (with_puts (map PutCache caches) (with_caches [] rows) ≡ with_caches made rows)
+  made_caches : (rows : FileRows) → (made : List ParaCells) × AreCached book made × (with_puts (put_rows tables.Cache caches) (with_caches [] rows) ≡ with_caches made rows)
   made_caches rows =
       let made = put-caches rows caches [] (subst AreDistinct (sym (append-nil caches)) cached-apart) in
       (made.0, AreCached-moved book caches made.0 (subst (λ (some : List ParaCells). IsPermutation some made.0) (append-nil caches) made.1) are, made.2)
@@ -180,20 +180,20 @@ with_puts-append [] more rows = refl
 with_puts-append (put ∷ some) more rows = with_puts-append some more (with_put put rows)
 
 module _ (rows : FileRows) (book : Book) (shown : Shows rows book) (caches : List ParaCells) (are : AreCached book caches) where
-  pub caches-put : Shows (with_puts (map PutCache caches) (with_caches [] rows)) book
+  pub caches-put : Shows (with_puts (put_rows tables.Cache caches) (with_caches [] rows)) book
   caches-put =
       let made = made_caches book shown.sound caches are rows in
       subst (λ (shows : FileRows). Shows shows book) (sym made.2) (cached-shown rows book shown made.0 made.1)
 
   -- with these entries
-  both-put : (entries : List NamedCorr) → AreEntriesOf book entries → Shows (with_puts (entry_puts book entries ++ map PutCache caches) (with_new_tables rows)) book
+  both-put : (entries : List NamedCorr) → AreEntriesOf book entries → Shows (with_puts (entry_puts book entries ++ put_rows tables.Cache caches) (with_new_tables rows)) book
   both-put entries of_book =
       let named = put-second (with_caches [] rows) (format_of rows.entries) book.version shown.row entries in
       let left : FileRows = record rows { books = book_row_of 2 book.version ∷ []; entries = Named named.0 } in
       let full = made_caches book shown.sound caches are left in
-      let is : with_puts (entry_puts book entries ++ map PutCache caches) (with_new_tables rows) ≡ with_caches full.0 left =
-      with_puts-append (entry_puts book entries) (map PutCache caches) (with_new_tables rows)
-      ∙ (ap (with_puts (map PutCache caches)) named.2 ∙ full.2) in
+      let is : with_puts (entry_puts book entries ++ put_rows tables.Cache caches) (with_new_tables rows) ≡ with_caches full.0 left =
+      with_puts-append (entry_puts book entries) (put_rows tables.Cache caches) (with_new_tables rows)
+      ∙ (ap (with_puts (put_rows tables.Cache caches)) named.2 ∙ full.2) in
       let shows = entered rows book shown named.0 (AreEntriesOf-moved book entries named.0 named.1 of_book) in
       subst (λ (all : FileRows). Shows all book) (sym is) (cached-shown left book shows full.0 full.1)
 
@@ -210,21 +210,21 @@ filled-shown Entries rows book puts shown (entries, of_book, is) =
 filled-shown Braille rows book puts shown (caches, cached, is) =
     subst (λ (all : RowPuts). Shows (with_puts all (with_caches [] rows)) book) (sym is) (caches-put rows book shown caches cached)
 
-entries-there : (rows : FileRows) → table_of rows.entries ≡ NamedCorrTable → (entries : List NamedCorr) → HasTheirTables (map PutEntry entries) rows
-entries-there rows named entries = All-map (HasItsTable rows) PutEntry entries (λ k d within. named)
+entries-there : (rows : FileRows) → table_of rows.entries ≡ tables.NamedCorr → (entries : List NamedCorr) → HasTheirTables (put_rows tables.NamedCorr entries) rows
+entries-there rows named entries = All-map (HasItsTable rows) (PutRow tables.NamedCorr) entries (λ k d within. named)
 
-caches-there : (rows : FileRows) → IsSome rows.caches → (caches : List ParaCells) → HasTheirTables (map PutCache caches) rows
-caches-there rows some caches = All-map (HasItsTable rows) PutCache caches (λ k d within. some)
+caches-there : (rows : FileRows) → IsSome rows.caches → (caches : List ParaCells) → HasTheirTables (put_rows tables.Cache caches) rows
+caches-there rows some caches = All-map (HasItsTable rows) (PutRow tables.Cache) caches (λ k d within. some)
 
 pub filled-there : (tables : NewTables) (rows : FileRows) (book : Book) (puts : RowPuts) → Fills tables book puts → HasTheirTables puts (with_empty tables rows)
 filled-there EntriesAndBraille rows book puts (entries, caches, of_book, cached, is) =
     subst (λ (all : RowPuts). HasTheirTables all (with_new_tables rows)) (sym is)
-    (All-cons (HasItsTable (with_new_tables rows)) (PutBook (book_row_of 2 book.version)) (map PutEntry entries ++ map PutCache caches) tt
-    (All-append (HasItsTable (with_new_tables rows)) (map PutEntry entries) (map PutCache caches)
+    (All-cons (HasItsTable (with_new_tables rows)) (PutRow tables.Book (book_row_of 2 book.version)) (put_rows tables.NamedCorr entries ++ put_rows tables.Cache caches) tt
+    (All-append (HasItsTable (with_new_tables rows)) (put_rows tables.NamedCorr entries) (put_rows tables.Cache caches)
     (entries-there (with_new_tables rows) refl entries) (caches-there (with_new_tables rows) refl caches)))
 filled-there Entries rows book puts (entries, of_book, is) =
     subst (λ (all : RowPuts). HasTheirTables all (with_new_entries rows)) (sym is)
-    (All-cons (HasItsTable (with_new_entries rows)) (PutBook (book_row_of 2 book.version)) (map PutEntry entries) tt
+    (All-cons (HasItsTable (with_new_entries rows)) (PutRow tables.Book (book_row_of 2 book.version)) (put_rows tables.NamedCorr entries) tt
     (entries-there (with_new_entries rows) refl entries))
 filled-there Braille rows book puts (caches, cached, is) =
     subst (λ (all : RowPuts). HasTheirTables all (with_caches [] rows)) (sym is) (caches-there (with_caches [] rows) refl caches)
@@ -232,10 +232,10 @@ filled-there Braille rows book puts (caches, cached, is) =
 -- ---- rows of both formats, with the braille and without it
 
 module _ (book : Book) (sound : IsSound book) where
-  pub second_bare : (rows : FileRows) × (table_of rows.entries ≡ NamedCorrTable) × IsNone rows.caches × Shows rows book
+  pub second_bare : (rows : FileRows) × (table_of rows.entries ≡ tables.NamedCorr) × IsNone rows.caches × Shows rows book
   second_bare = let some = some_rows book sound in (record some.0 { caches = None }, some.1, refl, bare-shown some.0 book some.3)
 
-  pub first_cached : IsUnnamed book → (rows : FileRows) × (table_of rows.entries ≡ CorrTable) × IsSome rows.caches × Shows rows book
+  pub first_cached : IsUnnamed book → (rows : FileRows) × (table_of rows.entries ≡ tables.Corr) × IsSome rows.caches × Shows rows book
   first_cached unnamed =
       let some = some_unnamed_rows book sound unnamed in
       let caches = book_caches book sound in

@@ -12,7 +12,7 @@ use Rattle.sqlite.proofs.InsideLemmas.{inside_keeps}
 use Rattle.desk_parts.specs.declared.file_table.FileTable.{FileTable}
 use Rattle.desk_parts.specs.declared.file_table.FileTable.TheVariants as tables
 use Rattle.desk_parts.specs.declared.rows.BookRow.{BookRow}
-use Rattle.desk_parts.specs.Puts.{PutBook, RowPut, change_of, table_put}
+use Rattle.desk_parts.specs.Puts.{PutRow, RowPut, change_of, table_put}
 use Rattle.sql_tables.specs.Rows.{HaveRowids, Lists, columns_at}
 use Rattle.sql_tables.proofs.Declaring.{has_table}
 use Rattle.sql_tables.proofs.PutLists.{apart, differ}
@@ -96,12 +96,12 @@ module _ (it : RowPut) (old new : State) where
   put_as r params ran same = put_ran r (subst (λ p. RunsTo r (statement it).text p old new) same ran)
 
 module _ (x : BookRow) (old new : State) where
-  pub puts_row : (r : Result (Unit {0}) Error) → IsPut r (PutBook x) old new → OnOk r (PutsRow tables.Book x old new × Ran (row_put tables.Book x) old new)
+  pub puts_row : (r : Result (Unit {0}) Error) → IsPut r (PutRow tables.Book x) old new → OnOk r (PutsRow tables.Book x old new × Ran (row_put tables.Book x) old new)
   puts_row (Ok v) it = (it.put, it.ran)
   puts_row (Err e) it = tt
 
   -- it allocates nothing of its own
-  pub row_told : (r : Result (Unit {0}) Error) → IsPut r (PutBook x) old new → old.in_transaction ≡ true → IfErr r (FailsWith (row_put tables.Book x) old new)
+  pub row_told : (r : Result (Unit {0}) Error) → IsPut r (PutRow tables.Book x) old new → old.in_transaction ≡ true → IfErr r (FailsWith (row_put tables.Book x) old new)
   row_told (Ok v) it was = tt
   row_told (Err e) it was = elim (it.told was) [ inl failed ↦ failed | inr none ↦ absurd none.0 ]
 

@@ -1,5 +1,5 @@
 -- What the statements that put and set rows do to their tables.
-use Rattle.std.proofs.Common.{◌≡◌, ℕ, ℤ, pos, true, List, [], ◌∷◌, map, codes, Ok, refl, subst, IsPermutation}
+use Rattle.std.proofs.Common.{◌≡◌, ℕ, ℤ, true, List, [], ◌∷◌, length, map, codes, Ok, refl, sym, ap, subst, ◌∙◌, IsPermutation, arith}
 use Rattle.std.specs.Ordering.{int_eq}
 use Rattle.std.proofs.lemmas.List.Sorted.{IsPermutation-sym, IsPermutation-trans, IsPermutation-cons, IsPermutation-map}
 use Rattle.sqlite_value.specs.declared.value.Value.TheVariants.{Null, Int, Text}
@@ -7,26 +7,29 @@ use Rattle.sqlite_value.specs.Order.{Row}
 use Rattle.sqlite_ast.specs.declared.Statement.TheVariants.{Insert}
 use Rattle.sqlite_ast.specs.declared.Conflict.TheVariants as conflict
 use Rattle.sqlite_sql.specs.Term.{Term, lit, col}
+use Rattle.sqlite_schema.specs.declared.command.Command.TheVariants.{Nothing}
 use Rattle.sqlite_schema.specs.declared.command.Source.TheVariants.{Values}
 use Rattle.sqlite_schema.specs.declared.schema.Schema.{Schema}
+use Rattle.sqlite_resolve.specs.declared.compiled.Compiled.{Compiled}
 use Rattle.sqlite_resolve.specs.Compile.{new_rows}
 use Rattle.sqlite_rules.specs.declared.error.Rowids.TheVariants.{Chosen}
 use Rattle.sqlite_rules.specs.Cast.{cast_row}
 use Rattle.sqlite_rules.specs.Edit.{next_rowid, with_rowid}
 use Rattle.sqlite_catalog.specs.Listing.{IsSound}
-use Rattle.sqlite.specs.State.{State, Executes}
+use Rattle.sqlite.specs.Listing.{understood}
+use Rattle.sqlite.specs.State.{State, Executes, ExecutesIn}
 use Rattle.sqlite_tied.specs.Compute.{everything}
 use Rattle.desk_parts.specs.declared.file_table.FileTable.{FileTable}
 use Rattle.desk_parts.specs.declared.file_table.FileTable.TheVariants as tables
-use Rattle.desk_parts.specs.Puts.{RowPut, PutBook, PutTab, PutPara, PutMark, PutCache, PutEntry, SetPlace, SetFlags, SetTable, SetPrint, SetSpan, SetResolved, SetVersion, change_of, put_by_key, put_to, set_by_key, table_put, with_flags, with_place, with_print, with_resolution, with_span, with_table, with_version}
-use Rattle.desk_parts.specs.Rows.{NamedCorr, RowOf, Tab}
+use Rattle.desk_parts.specs.Puts.{RowPut, PutRow, SetColumns, Flags, Place, Print, Resolved, Span, Table, Version, change_of, put_by_key, put_to, set_by_key, table_put, with_columns}
+use Rattle.desk_parts.specs.Rows.{Corr, NamedCorr, RowOf, Tab}
 use Rattle.sql_tables.specs.Rows.{HaveRowids, Lists, columns_at}
 use Rattle.sql_tables.specs.Tables.{IsDeclared, numbered_table}
 use Rattle.sql_tables.proofs.ByRowid.{PutsByRowid, cast_int, cast_null, numbered_puts}
 use Rattle.sql_tables.proofs.Meaning.{IsText, insert_is, parse_of, rows_in}
-use Rattle.sql_tables.proofs.Running.{Wrote, insert_ran}
+use Rattle.sql_tables.proofs.Running.{Means, Wrote, insert_ran}
 use Rattle.sql_tables.proofs.SetByRowid.{SetsByRowid, sets_by_rowid}
-use Rattle.sql_tables.proofs.Writing.{IsAdded, Spares}
+use Rattle.sql_tables.proofs.Writing.{IsAdded, Spares, same_value}
 use Rattle.desk_rows.specs.Descriptions.{description_of, table_of}
 use Rattle.desk_rows.specs.Rows.{columns_of}
 use Rattle.desk_rows.specs.Puts.{statement}
@@ -94,31 +97,31 @@ row_puts : Puts books × Puts paras × Puts marks × Puts caches
 unfolding everything
 row_puts = (assumption, assumption, assumption, assumption)
 
-place_sets : (id place : ℤ) → Sets paras SET_PLACE.now (2 ∷ []) (Int place ∷ []) id (with_place place)
+place_sets : (id place : ℤ) → Sets paras SET_PLACE.now (2 ∷ []) (Int place ∷ []) id (with_columns tables.Para (Place place))
 unfolding everything
 place_sets id place = assumption
 
-flags_sets : (id style volume struck : ℤ) → Sets paras SET_FLAGS.now (6 ∷ 7 ∷ 8 ∷ []) (Int style ∷ Int volume ∷ Int struck ∷ []) id (with_flags style volume struck)
+flags_sets : (id style volume struck : ℤ) → Sets paras SET_FLAGS.now (6 ∷ 7 ∷ 8 ∷ []) (Int style ∷ Int volume ∷ Int struck ∷ []) id (with_columns tables.Para (Flags style volume struck))
 unfolding everything
 flags_sets id style volume struck = assumption
 
-table_sets : (id : ℤ) (tab : List ℕ) → Sets paras SET_TABLE.now (3 ∷ []) (Text tab ∷ []) id (with_table tab)
+table_sets : (id : ℤ) (tab : List ℕ) → Sets paras SET_TABLE.now (3 ∷ []) (Text tab ∷ []) id (with_columns tables.Para (Table tab))
 unfolding everything
 table_sets id tab = assumption
 
-print_sets : (id : ℤ) (print : List ℕ) → Sets paras SET_PRINT.now (5 ∷ []) (Text print ∷ []) id (with_print print)
+print_sets : (id : ℤ) (print : List ℕ) → Sets paras SET_PRINT.now (5 ∷ []) (Text print ∷ []) id (with_columns tables.Para (Print print))
 unfolding everything
 print_sets id print = assumption
 
-span_sets : (id start stop touched : ℤ) → Sets marks SET_SPAN.now (3 ∷ 4 ∷ 6 ∷ []) (Int start ∷ Int stop ∷ Int touched ∷ []) id (with_span start stop touched)
+span_sets : (id start stop touched : ℤ) → Sets marks SET_SPAN.now (3 ∷ 4 ∷ 6 ∷ []) (Int start ∷ Int stop ∷ Int touched ∷ []) id (with_columns tables.Mark (Span start stop touched))
 unfolding everything
 span_sets id start stop touched = assumption
 
-resolved_sets : (id resolved : ℤ) → Sets marks SET_RESOLVED.now (7 ∷ []) (Int resolved ∷ []) id (with_resolution resolved)
+resolved_sets : (id resolved : ℤ) → Sets marks SET_RESOLVED.now (7 ∷ []) (Int resolved ∷ []) id (with_columns tables.Mark (Resolved resolved))
 unfolding everything
 resolved_sets id resolved = assumption
 
-version_sets : (id version : ℤ) → Sets books SET_VERSION.now (3 ∷ []) (Int version ∷ []) id (with_version version)
+version_sets : (id version : ℤ) → Sets books SET_VERSION.now (3 ∷ []) (Int version ∷ []) id (with_columns tables.Book (Version version))
 unfolding everything
 version_sets id version = assumption
 
@@ -155,20 +158,41 @@ tab_does t schema tree d old new count xs has sound ids lists h =
     let did = tab_puts schema tree d old new count t xs has sound (ids refl) lists h in
     record { wrote = did.0; lists = did.1.3; ids = λ changed. did.1.4; spares = did.1.2.others }
 
+-- ---- an entry without a name, which nothing puts
+
+-- `corr` has no statement of its own: the empty text means nothing, and has no parameters
+nothing_is : (schema : Schema) → Means schema [] Nothing × ((parse_of []).names ≡ [])
+unfolding everything understood
+nothing_is schema = (refl, refl)
+
+never_puts : (e : Corr) → Does tables.Corr (put_to tables.Corr e) (description_of tables.Corr).put (columns_of tables.Corr e)
+unfolding ExecutesIn
+never_puts e schema tree d old new count xs has sound ids lists h =
+    let is = nothing_is old.now.schema in
+    let same = same_value (sym h.1.is ∙ is.0) in
+    let none : length h.0.names ≡ 0 = ap (λ (c : Compiled). length c.names) same ∙ ap length is.1 in
+    let given : 6 ≡ length h.0.names = h.1.given in
+    absurd (omega (arith, none, given))
+
 -- ---- each statement
+
+row_does : (t : FileTable) (x : RowOf t) → Does t (put_to t x) (description_of t).put (columns_of t x)
+row_does tables.Book row = put_does books row_puts.0 row
+row_does tables.Tab row = tab_does row
+row_does tables.Para row = put_does paras row_puts.1 row
+row_does tables.Corr row = never_puts row
+row_does tables.Mark row = put_does marks row_puts.2 row
+row_does tables.Cache row = put_does caches row_puts.3 row
+row_does tables.NamedCorr row = entry_puts row
 
 -- what is put does to its table what it says, by its statement
 pub does : (it : RowPut) → Does (table_put it) (change_of it) (statement it).text (statement it).params
-does (PutBook row) = put_does books row_puts.0 row
-does (PutTab row) = tab_does row
-does (PutPara row) = put_does paras row_puts.1 row
-does (PutMark row) = put_does marks row_puts.2 row
-does (PutCache row) = put_does caches row_puts.3 row
-does (PutEntry row) = entry_puts row
-does (SetPlace id place) = set_does paras _ _ _ _ _ (place_sets id place)
-does (SetFlags id style volume struck) = set_does paras _ _ _ _ _ (flags_sets id style volume struck)
-does (SetTable id tab) = set_does paras _ _ _ _ _ (table_sets id tab)
-does (SetPrint id print) = set_does paras _ _ _ _ _ (print_sets id print)
-does (SetSpan id start stop touched) = set_does marks _ _ _ _ _ (span_sets id start stop touched)
-does (SetResolved id resolved) = set_does marks _ _ _ _ _ (resolved_sets id resolved)
-does (SetVersion version) = set_does books _ _ _ _ _ (version_sets (pos 1) version)
+does (PutRow t row) = row_does t row
+does (SetColumns tables.Book id (Version version)) = set_does books _ _ _ _ _ (version_sets id version)
+does (SetColumns tables.Para id (Place place)) = set_does paras _ _ _ _ _ (place_sets id place)
+does (SetColumns tables.Para id (Flags style volume struck)) = set_does paras _ _ _ _ _ (flags_sets id style volume struck)
+does (SetColumns tables.Para id (Table tab)) = set_does paras _ _ _ _ _ (table_sets id tab)
+does (SetColumns tables.Para id (Print print)) = set_does paras _ _ _ _ _ (print_sets id print)
+does (SetColumns tables.Mark id (Span start stop touched)) = set_does marks _ _ _ _ _ (span_sets id start stop touched)
+does (SetColumns tables.Mark id (Resolved resolved)) = set_does marks _ _ _ _ _ (resolved_sets id resolved)
+does (SetColumns t key none) = absurd none

@@ -2,9 +2,8 @@ use Rattle.std.proofs.Common.{◌≡◌, ℕ, ◌+◌, ◌-◌, ◌<◌, ◌≤�
 use Rattle.std.specs.Prelude.{slice_index}
 use Rattle.std.proofs.lemmas.Bool.{cond-false, cond-true}
 use Rattle.std.proofs.lemmas.Option.{slice_get-get_or, slice_get_past}
-use Rattle.desk_book.specs.ChangePuts.{elsewhere_from, elsewhere_put, stays_in}
-use Rattle.desk_model.specs.Loans.{row_number}
-use Rattle.desk_parts.specs.Puts.{RowPut, SetPlace}
+use Rattle.desk_book.specs.ChangePuts.{elsewhere_from, elsewhere_put, place_put, stays_in}
+use Rattle.desk_parts.specs.Puts.{RowPut}
 use Rattle.desk_book.proofs.RowPuts.PutLists.{along-past, along-there}
 use Rattle.desk_book.proofs.puts.first_elsewhere.Goals as goal
 
@@ -14,7 +13,7 @@ module _ (was order : List ℕ) (index : ℕ) (within : index < length order) wh
   id = slice_index order index
 
   abbrev put : RowPut
-  put = SetPlace (row_number id) (row_number (index + 1))
+  put = place_put id (index + 1)
 
   along : elsewhere_from index was order ≡ elsewhere_put was (index + 1, id) ++ elsewhere_from (index + 1) was order
   along = along-there order index (elsewhere_put was) id (slice_get-get_or order index 0 within)
@@ -32,7 +31,7 @@ returns-then-not-stays-clause-found c =
     let index = c.loop-index.index in
     let same : index ≡ index + 1 - 1 = omega arith in
     c.loop-index.invariant ∙ (along-moved was order index (let lt = c.loop-index-test.true in omega arith) (sym c.stays.ensures ∙ c.if-not-stays.true)
-    ∙ ap (λ place. SetPlace (row_number (slice_index order place)) (row_number (index + 1)) ∷ elsewhere_from (index + 1) was order) same)
+    ∙ ap (λ place. place_put (slice_index order place) (index + 1) ∷ elsewhere_from (index + 1) was order) same)
 
 pub loop-index-preserved : goal.loop-index-preserved
 loop-index-preserved c = c.loop-index.invariant ∙ along-stayed c.args.was.now c.args.order.now c.loop-index.index (let lt = c.loop-index-test.true in omega arith) (sym c.stays.ensures ∙ c.if-not-stays.false)

@@ -15,11 +15,12 @@ returns-clause-kept g c clean l next may =
     let old = state g.S.Store c.args.conn.now in
     let new = state g.S.Store c.write.new.conn in
     let puts = c.puts.result in
-    let leads = c.puts.ensures.leads may.leads.0 next may.leads.1 in
+    let command = may.leads.0 in
+    let carries = may.leads.1 in
     on_done c.write.result _ _ _ (λ done.
     let written = done.shown in
     let writes = subst (λ (xs : List RowPut). Writes xs old new) (all_lent puts written.0 written.1) written.2.0 in
-    is_kept l may.tables puts c.args.book.now next leads old new writes done.settled may.shows)
+    is_kept l may.tables puts c.args.book.now next command (c.puts.ensures.leads command next carries) (c.puts.ensures.lent command next carries) old new writes done.settled may.shows)
     (c.write.ensures.commits clean)
 
 pub returns-clause-survives : goal.returns-clause-survives
@@ -29,7 +30,9 @@ returns-clause-survives g c =
     let puts = c.puts.result in
     survives_weaker old new _ _ (λ clean db left l next may.
     let file = subst (λ (xs : List RowPut). IsFileWith xs old db) (all_lent puts left.0 left.1) left.2.0 in
-    holds_next l may.tables puts c.args.book.now next (c.puts.ensures.leads may.leads.0 next may.leads.1) old db file may.shows)
+    let command = may.leads.0 in
+    let carries = may.leads.1 in
+    holds_next l may.tables puts c.args.book.now next command (c.puts.ensures.leads command next carries) (c.puts.ensures.lent command next carries) old db file may.shows)
     c.write.ensures.crash
 
 pub returns-clause-ran : goal.returns-clause-ran

@@ -1,10 +1,10 @@
 use Rattle.std.proofs.Common.{◌≡◌, ℕ, ◌+◌, ◌∷◌, List, Option, ap, refl, subst, sym, ◌∙◌}
 use Rattle.desk_book.specs.declared.change.Effect.{Effect}
 use Rattle.desk_command.specs.declared.command.Command.{Command}
-use Rattle.desk_parts.specs.Puts.{RowPut, SetVersion}
+use Rattle.desk_parts.specs.Puts.{RowPut}
 use Rattle.desk_model.specs.Book.{Book}
-use Rattle.desk_model.specs.Loans.{AreLent, LeadTo, row_number}
-use Rattle.desk_book.specs.ChangePuts.{effect_puts}
+use Rattle.desk_model.specs.Loans.{AreLent, LeadTo}
+use Rattle.desk_book.specs.ChangePuts.{effect_puts, version_put}
 use Rattle.desk_book.specs.Changes.{Carries, Change, change_by, change_puts, puts-change_by}
 use Rattle.desk_book.proofs.RowPuts.LentRows.{change-lent}
 use Rattle.desk_book.proofs.RowPuts.PutsLead.{change-leads}
@@ -24,7 +24,7 @@ returns-clause-these c =
     let book = c.args.book.now in
     let inside = c.self.inside in
     let version = ap (λ (n : ℕ). n + 1) c.version.ensures.version ∙ next-version book c.requires.0 c.requires.1 inside.version inside.number inside.effect c.args.self.now c.self.view_is c.requires.2 in
-    c.puts.ensures ∙ (ap (λ (n : ℕ). SetVersion (row_number n) ∷ effect_puts book inside.effect) version
+    c.puts.ensures ∙ (ap (λ (n : ℕ). version_put n ∷ effect_puts book inside.effect) version
     ∙ (sym (puts-change_by book inside.version inside.number inside.effect) ∙ ap (change_puts book) c.self.view_is))
 
 pub returns-clause-leads : goal.returns-clause-leads

@@ -4,7 +4,8 @@ use Rattle.std.specs.Prelude.{slice_get}
 use Rattle.std.proofs.Math.Facts.{to_z-of_z}
 use Rattle.desk_book.specs.ChangePuts.{further_from, further_put}
 use Rattle.desk_model.specs.Loans.{row_number}
-use Rattle.desk_parts.specs.Puts.{SetPlace}
+use Rattle.desk_parts.specs.declared.file_table.FileTable.TheVariants as tables
+use Rattle.desk_parts.specs.Puts.{Place, SetColumns}
 use Rattle.desk_model.proofs.Lists.Items.{option_copied-item}
 use Rattle.desk_book.proofs.RowPuts.PutLists.{numbered-past, numbered-there}
 use Rattle.desk_book.proofs.puts.FurtherPuts.next.Goals as goal
@@ -25,4 +26,4 @@ returns c =
     let id : to_z w64 (of_z w64 c.number.result) ≡ row_number c.in-Some.id.now = to_z-of_z {w = w64} {z = c.number.result} (search rules) ∙ c.number.ensures in
     let place : to_z w64 (of_z w64 c.number-2.result) ≡ row_number (at + 1 + 1) = to_z-of_z {w = w64} {z = c.number-2.result} (search rules) ∙ c.number-2.ensures in
     sym c.self.view_is ∙ (ap (map further_put) (numbered-there order at c.in-Some.id.now there)
-    ∙ (λ i. SetPlace (sym id i) (sym place i) ∷ further_from (at + 1) order))
+    ∙ (λ i. SetColumns tables.Para (sym id i) (Place (sym place i)) ∷ further_from (at + 1) order))
