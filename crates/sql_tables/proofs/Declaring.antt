@@ -1,6 +1,6 @@
 -- What follows where a table is declared.
-use Rattle.std.proofs.Common.{◌≡◌, ◌⊎◌, inl, inr, ◌^◌, ◌<◌, Bool, true, false, nat_le, nat_lt, cond, ◌==◌, List, [], ◌∷◌, find, Some, refl, sym, ap, ◌∙◌, true≢false, eqb-true, eq-eqb, arith}
-use Rattle.std.proofs.lemmas.Bool.Decides.{nat_tests}
+use Rattle.std.proofs.Common.{◌≡◌, inl, inr, ◌^◌, ◌<◌, true, false, nat_le, nat_lt, ◌==◌, List, [], ◌∷◌, find, Some, refl, sym, ap, eqb-true, arith}
+use Rattle.std.proofs.lemmas.Bool.{cond_both, eqb-false, lt-leb, lt-ltb}
 use Rattle.sqlite_trees.specs.Tree.{Trees}
 use Rattle.sqlite_schema.specs.declared.schema.Table.{Table}
 use Rattle.sqlite_schema.specs.declared.schema.Schema.{Schema}
@@ -14,12 +14,12 @@ use Rattle.sql_tables.specs.Tables.{IsDeclared}
 
 found_by_tree : (tables : List Table) (table : Table) → Has tables table → ((other : Table) → Has tables other → other.tree ≡ table.tree → other ≡ table) → find (λ t. t.tree == table.tree) tables ≡ Some table
 found_by_tree [] table has alone = absurd has
-found_by_tree (t ∷ ts) table has alone = go (t.tree == table.tree) refl has (λ later. found_by_tree ts table later (λ other has. alone other (inr has)))
-  where
-    go : (b : Bool) → (t.tree == table.tree) ≡ b → (table ≡ t) ⊎ Has ts table → (Has ts table → find (λ t. t.tree == table.tree) ts ≡ Some table) → cond b (Some t) (find (λ t. t.tree == table.tree) ts) ≡ Some table
-    go true e has more = ap Some (alone t (inl refl) (eqb-true t.tree table.tree e))
-    go false e (inl same) more = absurd (true≢false (sym (eq-eqb t.tree table.tree (ap (λ (t : Table). t.tree) (sym same))) ∙ e))
-    go false e (inr later) more = more later
+found_by_tree (t ∷ ts) table has alone = cond_both (t.tree == table.tree) (Some t) (find (λ t. t.tree == table.tree) ts) (λ found. found ≡ Some table)
+    (λ is. ap Some (alone t (inl refl) (eqb-true t.tree table.tree is)))
+    (λ other. elim has [
+      | inl same ↦ absurd (eqb-false t.tree table.tree other (ap (λ (t : Table). t.tree) (sym same)))
+      | inr later ↦ found_by_tree ts table later (λ other has. alone other (inr has))
+    ])
 
 module _ (schema : Schema) (table : Table) (d : IsDeclared schema table) where
   pub has_table : Has schema.tables table
@@ -29,10 +29,10 @@ module _ (schema : Schema) (table : Table) (d : IsDeclared schema table) where
   low_tree db sound = (zipped_left IsTableRow _ schema.tables table sound.lists.listed.tables has_table).2.described.low
 
   below : table.tree < 65536 → nat_le (2 ^ 31) table.tree ≡ false
-  below low = grind (arith, nat_tests)
+  below low = lt-leb (2 ^ 31) table.tree (omega arith)
 
   pub under : table.tree < 65536 → nat_lt table.tree (2 ^ 31) ≡ true
-  under low = grind (arith, nat_tests)
+  under low = lt-ltb table.tree (2 ^ 31) (omega arith)
 
   pub classes_are : table.tree < 65536 → table_classes schema [] table.tree ≡ Some (row_classes table)
   classes_are low = rw (below low, found_by_tree schema.tables table has_table d.alone)

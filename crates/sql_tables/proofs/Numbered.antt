@@ -1,12 +1,12 @@
 -- What an upsert by the rowid does to a table whose key is the rowid, in any schema that declares it so.
-use Rattle.std.proofs.Common.{◌≡◌, inl, inr, ℕ, ℤ, Bool, true, false, ◌&&◌, ◌||◌, ◌==◌, List, [], ◌∷◌, ◌++◌, Option, filter, drop, Some, Ok, refl, sym, ap, subst, ◌∙◌, is_eq, IsTrue, true≢false, eq-eqb, eqb-true, Ordering, Less, Equal, Greater, int_cmp, ◌<ℤ◌, ◌<◌}
-use Rattle.std.specs.List.{AllByRecursion, list_any}
-use Rattle.std.specs.Ordering.{MatchOrdering}
-use Rattle.std.proofs.lemmas.Bool.{and_from, and_parts}
-use Rattle.std.proofs.lemmas.Cmp.{int_ranked}
+use Rattle.std.proofs.Common.{◌≡◌, inl, inr, ℕ, ℤ, Bool, true, false, ◌&&◌, ◌==◌, List, [], ◌∷◌, ◌++◌, Option, filter, drop, Some, Ok, refl, sym, ap, subst, ◌∙◌, is_eq, IsTrue, eq-eqb, eqb-true, ◌<◌}
+use Rattle.std.specs.List.{AllByRecursion}
+use Rattle.std.specs.Ordering.{int_eq}
+use Rattle.std.proofs.lemmas.Bool.{and_from, and_parts, or_cases}
+use Rattle.std.proofs.lemmas.Bool.Decides.{Decides-int_eq}
 use Rattle.sqlite_value.specs.declared.keys.Collation.TheVariants.{Binary}
 use Rattle.sqlite_value.specs.declared.value.Value.TheVariants.{Int}
-use Rattle.sqlite_value.specs.Keys.{first_key, plain}
+use Rattle.sqlite_value.specs.Keys.{first_key}
 use Rattle.sqlite_value.specs.Order.{Row, column, value_cmp}
 use Rattle.sqlite_value.proofs.OrderLemmas.{value_cmp-Int}
 use Rattle.sqlite_trees.specs.Tree.{Trees, rowid, has_rowid}
@@ -18,7 +18,7 @@ use Rattle.sqlite_resolve.specs.Terms.{equal as equals}
 use Rattle.sqlite_schema.specs.declared.schema.Index.{Index}
 use Rattle.sqlite_schema.specs.declared.schema.Schema.{Schema}
 use Rattle.sqlite_schema.specs.declared.schema.Table.{Table}
-use Rattle.sqlite_schema.specs.Rules.{agree, equal, guards}
+use Rattle.sqlite_schema.specs.Rules.{equal, guards}
 use Rattle.sqlite_rules.specs.Cast.{cast_row}
 use Rattle.sqlite_rules.specs.Edit.{id_in}
 use Rattle.sqlite_rules.specs.Keys.{conflicts, shares}
@@ -33,25 +33,19 @@ use Rattle.sql_tables.proofs.OneTable.{Parts, program_on}
 use Rattle.sql_tables.proofs.RowLists.{only_row}
 use Rattle.sql_tables.proofs.Writing.{IsPut, Ends, task, finds, puts, updates_one}
 
+truth_of : (b : Bool) → (is_true (from_truth (Some b)) && true) ≡ b
+truth_of true = refl
+truth_of false = refl
+
 -- two numbers that SQL takes as equal are the same
-pub equal_numbers : (a b : ℤ) → equal Binary (Int a) (Int b) ≡ true → a ≡ b
+equal_numbers : (a b : ℤ) → equal Binary (Int a) (Int b) ≡ true → a ≡ b
 unfolding binary
-equal_numbers a b h = go (int_cmp a b) (rw value_cmp-Int at h) (int_ranked a b _ refl)
-  where
-    go : (o : Ordering) → is_true (from_truth (Some (is_eq o))) ≡ true → MatchOrdering o (a <ℤ b) (a ≡ b) (b <ℤ a) → a ≡ b
-    go Less h m = absurd (true≢false (sym h))
-    go Equal h m = m
-    go Greater h m = absurd (true≢false (sym h))
+equal_numbers a b h = (Decides-int_eq a b).0 (sym (truth_of (int_eq a b)) ∙ and_from _ _ (rw value_cmp-Int at h) refl)
 
 -- `WHERE key = ?n` finds the rows with that number
-pub finds_key : (given r : Row) (at : ℕ) (id n : ℤ) → column given at ≡ Int id → column r 0 ≡ Int n → finds (equals Binary (col 1 0) (col 0 at) ∷ []) given r ≡ has_rowid id r
+finds_key : (given r : Row) (at : ℕ) (id n : ℤ) → column given at ≡ Int id → column r 0 ≡ Int n → finds (equals Binary (col 1 0) (col 0 at) ∷ []) given r ≡ has_rowid id r
 unfolding binary
-finds_key given r at id n asked is = rw (asked, is) (go (value_cmp (Int n) (Int id)))
-  where
-    go : (o : Ordering) → (is_true (from_truth (Some (is_eq o))) && true) ≡ is_eq o
-    go Less = refl
-    go Equal = refl
-    go Greater = refl
+finds_key given r at id n asked is = rw (asked, is) (truth_of (is_eq (value_cmp (Int n) (Int id))))
 
 pub all_find : (given : Row) (at : ℕ) (id : ℤ) → column given at ≡ Int id → (rows : List Row) → AllByRecursion (λ r. IsTrue (is_int (rowid r))) rows
     → filter (finds (equals Binary (col 1 0) (col 0 at) ∷ []) given) rows ≡ filter (has_rowid id) rows
@@ -60,27 +54,23 @@ all_find given at id asked rows integers =
     filter_same (finds tests given) (has_rowid id) rows (all_weaker (λ r. IsTrue (is_int (rowid r))) (λ r. finds tests given r ≡ has_rowid id r)
     (λ r integer. finds_key given r at id (id_in (rowid r)) asked (int_is (rowid r) integer)) rows integers)
 
-agrees : (r new : Row) → agree plain (0 ∷ []) r (0 ∷ []) new ≡ true → equal Binary (column r 0) (column new 0) ≡ true
-unfolding first_key
-agrees r new h = (and_parts _ _ h).0
-
 module _ (schema : Schema) (table : Table) (d : IsDeclared schema table) (unkeyed : table.uniques ≡ []) where
   pub none_on : (i : Index) → Has schema.indexes i → i.is_unique ≡ true → i.table ≡ table.tree → ⊥
-  none_on i has unique is = subst (λ (is : List Index). Has is i) no_index (has_kept (λ (i : Index). guards i table) schema.indexes i has (and_from i.is_unique (i.table == table.tree) unique (eq-eqb i.table table.tree is)))
-    where
-      no_index : filter (λ i. guards i table) schema.indexes ≡ []
-      no_index = d.indexed ∙ rw unkeyed
+  none_on i has unique is =
+      let no_index : filter (λ i. guards i table) schema.indexes ≡ [] = d.indexed ∙ rw unkeyed in
+      let guarded = and_from i.is_unique (i.table == table.tree) unique (eq-eqb i.table table.tree is) in
+      subst (λ (is : List Index). Has is i) no_index (has_kept (λ (i : Index). guards i table) schema.indexes i has guarded)
 
   -- a row in the way has the number of the new one
   in_the_way : (new r : Row) (id n : ℤ) → rowid new ≡ Int id → rowid r ≡ Int n → conflicts (Some (0 ∷ [])) schema.indexes table new r ≡ true → n ≡ id
-  in_the_way new r id n is number h = go (agree plain (0 ∷ []) r (0 ∷ []) new) refl h
-    where
-      go : (b : Bool) → agree plain (0 ∷ []) r (0 ∷ []) new ≡ b → (b || list_any (shares (Some (0 ∷ [])) table new r) schema.indexes) ≡ true → n ≡ id
-      go true e h = equal_numbers n id (rw (number, is) at (agrees r new e))
-      go false e h =
-          let shared = some_has (shares (Some (0 ∷ [])) table new r) schema.indexes h in
-          let guarded = and_parts _ _ (and_parts _ _ (and_parts _ _ shared.2).0).0 in
-          absurd (none_on shared.0 shared.1 guarded.0 (eqb-true shared.0.table table.tree guarded.1))
+  unfolding first_key
+  in_the_way new r id n is number h = elim (or_cases _ _ h) [
+    | inl same ↦ let tied : equal Binary (column r 0) (column new 0) ≡ true = (and_parts _ _ same).0 in equal_numbers n id (rw (number, is) at tied)
+    | inr other ↦
+        let shared = some_has (shares (Some (0 ∷ [])) table new r) schema.indexes other in
+        let guarded = and_parts _ _ (and_parts _ _ (and_parts _ _ shared.2).0).0 in
+        absurd (none_on shared.0 shared.1 guarded.0 (eqb-true shared.0.table table.tree guarded.1))
+  ]
 
   -- what an upsert by the rowid tests and sets
   abbrev pub by_rowid : ℕ → List Term → Parts

@@ -7,16 +7,14 @@ use Rattle.std.proofs.lemmas.List.Sorted.{IsPermutation-sym, IsPermutation-trans
 use Rattle.sqlite_value.specs.declared.value.Value.TheVariants.{Int}
 use Rattle.sqlite_value.specs.Order.{Row, column, value_cmp}
 use Rattle.sqlite_value.proofs.OrderLemmas.{value_cmp-Int}
-use Rattle.sqlite_trees.specs.Tree.{Trees, rowid, has_rowid, put_row, without_rowid}
+use Rattle.sqlite_trees.specs.Tree.{rowid, has_rowid, put_row, without_rowid}
 use Rattle.sqlite_trees.proofs.ListLemmas.{filter-map, IsPermutation-filter, all_weaker, map-map}
 use Rattle.sqlite_schema.specs.declared.schema.Schema.{Schema}
 use Rattle.sqlite_schema.specs.declared.schema.Table.{Table}
-use Rattle.sqlite_rules.proofs.ListLemmas.{all_has}
 use Rattle.sql_tables.specs.Rows.{Lists}
 use Rattle.sql_tables.specs.Tables.{IsDeclared}
 use Rattle.sql_tables.proofs.Declaring.{has_table}
 use Rattle.sql_tables.proofs.RowLists.{replaced, none_left, none_pass}
-use Rattle.sql_tables.proofs.Writing.{IsPut}
 use Rattle.std.specs.List.{AllByRecursion}
 
 pub differ : (a b : List ℕ) → bytes_eq a b ≡ false → a ≢ b
@@ -25,10 +23,6 @@ differ a b other same = true≢false (sym ((bytes_eq-Decides a b).1 same) ∙ ot
 -- two tables of different names have different trees
 pub apart : (schema : Schema) (a b : Table) → IsDeclared schema a → IsDeclared schema b → a.name ≢ b.name → a.tree ≢ b.tree
 apart schema a b da db other same = other (ap (λ (t : Table). t.name) (db.alone a (has_table schema a da) same))
-
--- a put leaves the rows of a table of another name
-pub kept : (schema : Schema) (table a : Table) (row : Row) (id : ℤ) (old new : Trees) → IsDeclared schema table → IsDeclared schema a → bytes_eq a.name table.name ≡ false → IsPut schema table row id old new → new a.tree ≡ old a.tree
-kept schema table a row id old new dt da other put = all_has _ schema.tables a put.others.tables (has_table schema a da) (apart schema a table da dt (differ a.name table.name other))
 
 -- a row in place of those whose columns pass a test is listed in place of what has such columns
 pub lists_put_by : {X : Type 0} (written : X → Row) (columns : Row → Row) (passes : Row → Bool) (test : X → Bool) → ((x : X) → passes (written x) ≡ test x) → (x : X) (xs : List X) (row : Row) (id : ℤ) (rows : List Row)
@@ -68,11 +62,8 @@ module _ {X : Type 0} (written : X → Row) (columns : Row → Row) (key : X →
   becomes s = cond (is_eq (value_cmp (column s 0) (Int id))) (change s) s
 
   one_becomes : (x : X) → written (set_if x) ≡ becomes (written x)
-  one_becomes x = rw (written_key x, value_cmp-Int (key x) id) (go (int_eq (key x) id))
-    where
-      go : (b : Bool) → written (cond b (set x) x) ≡ cond b (change (written x)) (written x)
-      go true = changes x
-      go false = refl
+  one_becomes x = rw (written_key x, value_cmp-Int (key x) id)
+      (elim (int_eq (key x) id) as (λ b. written (cond b (set x) x) ≡ cond b (change (written x)) (written x)) [ true ↦ changes x | false ↦ refl ])
 
   unchanged : (rows : List Row) → AllByRecursion (λ r. has_rowid id r ≡ false) rows → AllByRecursion (λ r. becomes (columns r) ≡ columns r) rows
   unchanged = all_weaker (λ r. has_rowid id r ≡ false) (λ r. becomes (columns r) ≡ columns r) (λ r other. rw (shown_key r, other))

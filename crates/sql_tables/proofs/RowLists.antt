@@ -1,9 +1,11 @@
 -- Rows in a tree, and the lists of what they show.
-use Rattle.std.proofs.Common.{◌≡◌, inl, inr, ℤ, ◌≤◌, Bool, true, false, not, cond, List, [], ◌∷◌, filter, length, refl, sym, ap, subst, ◌∙◌, Ordering, Less, Equal, Greater, is_eq, int_cmp, true≢false, IsPermutation, arith, ◌<ℤ◌, pos, map, subst₂}
+use Rattle.std.proofs.Common.{◌≡◌, inl, inr, ℤ, ◌≤◌, Bool, true, false, not, List, [], ◌∷◌, filter, length, refl, sym, ap, subst, ◌∙◌, Ordering, Less, Equal, Greater, is_eq, true≢false, IsPermutation, arith, pos, map, subst₂}
 use Rattle.std.specs.List.{AllByRecursion, list_any}
-use Rattle.std.specs.Ordering.{match_ordering, MatchOrdering}
-use Rattle.std.proofs.lemmas.Bool.{false_from_ne_true, not-true, or_parts}
-use Rattle.std.proofs.lemmas.Cmp.{int_ranked, tied_itself}
+use Rattle.std.specs.Ordering.{match_ordering}
+use Rattle.std.proofs.lemmas.Bool.{cond_both, false_from_ne_true, not-true, or_parts}
+use Rattle.std.proofs.lemmas.Bool.Decides.{Decides-int_eq}
+use Rattle.std.proofs.lemmas.Cmp.{tied_itself}
+use Rattle.std.proofs.lemmas.List.Filters.{length-filter_both}
 use Rattle.std.proofs.lemmas.List.Sorted.{IsPermutation-refl, IsPermutation-sym, IsPermutation-trans, IsPermutation-cons, IsPermutation-middle, length_permutation, IsPermutation-map}
 use Rattle.sqlite_value.specs.declared.value.Value.TheVariants.{Int}
 use Rattle.sqlite_value.specs.Order.{Row, value_cmp}
@@ -13,6 +15,7 @@ use Rattle.sqlite_trees.proofs.ListLemmas.{all-filter, all-map, all-permutation,
 use Rattle.sqlite_rules.specs.Lists.{Has}
 use Rattle.sqlite_rules.proofs.ListLemmas.{all_from, all_has, has_filtered, has_kept, some_from}
 use Rattle.sqlite_rules.proofs.TableLemmas.{none_found}
+use Rattle.sqlite_catalog.proofs.ListFacts.{filter_swap}
 use Rattle.sql_tables.specs.Rows.{HaveRowids, Lists}
 use Rattle.std.proofs.lemmas.List.{map-id}
 use Rattle.sqlite_value.specs.declared.value.Value.{Value}
@@ -51,38 +54,28 @@ lone (y ∷ z ∷ more) x has few = absurd (omega (arith, few))
 pub has_own : (r : Row) (id : ℤ) → rowid r ≡ Int id → has_rowid id r ≡ true
 has_own r id is = rw (is, tied_itself value_cmp_total (Int id))
 
+pub same_number : (r : Row) (n id : ℤ) → rowid r ≡ Int n → has_rowid id r ≡ true → n ≡ id
+same_number r n id is has = (Decides-int_eq n id).0 (rw (is, value_cmp-Int n id) at has)
+
 -- the row with a rowid is the only one
 pub only_row : (rows : List Row) → HaveRowids rows → (r : Row) (id : ℤ) → Has rows r → rowid r ≡ Int id → filter (has_rowid id) rows ≡ r ∷ []
 only_row rows keyed r id has is = lone _ r (has_kept (has_rowid id) rows r has (has_own r id is)) (keyed.once id)
 
 -- what is left passes a test no more often
 pub filter_fewer : {X : Type 0} (p q : X → Bool) (xs : List X) → length (filter p (filter q xs)) ≤ length (filter p xs)
-filter_fewer p q [] = omega arith
-filter_fewer {X} p q (x ∷ xs) = go (q x) (filter_fewer p q xs)
-  where
-    kept : (a : Bool) (ys zs : List X) → length ys ≤ length zs → length (cond a (x ∷ ys) ys) ≤ length (cond a (x ∷ zs) zs)
-    kept true ys zs less = omega (arith, less)
-    kept false ys zs less = less
-
-    skipped : (a : Bool) (ys zs : List X) → length ys ≤ length zs → length ys ≤ length (cond a (x ∷ zs) zs)
-    skipped true ys zs less = omega (arith, less)
-    skipped false ys zs less = less
-
-    go : (b : Bool) → length (filter p (filter q xs)) ≤ length (filter p xs) → length (filter p (cond b (x ∷ filter q xs) (filter q xs))) ≤ length (filter p (x ∷ xs))
-    go true less = kept (p x) (filter p (filter q xs)) (filter p xs) less
-    go false less = skipped (p x) (filter p (filter q xs)) (filter p xs) less
+filter_fewer p q xs = omega (arith, ap length (filter_swap p q xs), length-filter_both q (λ x. not (q x)) (λ x. refl) (filter p xs))
 
 -- the rows with a number that the rows left do not have twice
 few_with : (id k : ℤ) (new : Row) → rowid new ≡ Int id → (rows : List Row) → HaveRowids rows → length (filter (has_rowid k) (new ∷ without_rowid id rows)) ≤ 1
-few_with id k new keyed rows had = rw (keyed, value_cmp-Int id k) (go (int_cmp id k) (int_ranked id k _ refl))
-  where
-    rest : length (filter (has_rowid k) (without_rowid id rows)) ≤ 1
-    rest = let fewer = filter_fewer (has_rowid k) (λ r. not (has_rowid id r)) rows in let few = had.once k in omega (arith, fewer, few)
-
-    go : (o : Ordering) → MatchOrdering o (id <ℤ k) (id ≡ k) (k <ℤ id) → length (cond (is_eq o) (new ∷ filter (has_rowid k) (without_rowid id rows)) (filter (has_rowid k) (without_rowid id rows))) ≤ 1
-    go Less m = rest
-    go Greater m = rest
-    go Equal m = let none : filter (has_rowid k) (without_rowid id rows) ≡ [] = rw m (filter_none (has_rowid k) _ (none_left (has_rowid k) rows)) in let nothing = ap length none in omega (arith, nothing)
+few_with id k new keyed rows had =
+    let left = filter (has_rowid k) (without_rowid id rows) in
+    let fewer = filter_fewer (has_rowid k) (λ r. not (has_rowid id r)) rows in
+    let few = had.once k in
+    cond_both (has_rowid k new) (new ∷ left) left (λ found. length found ≤ 1)
+    (λ own.
+    let none : left ≡ [] = rw (same_number new id k keyed own) (filter_none (has_rowid k) _ (none_left (has_rowid k) rows)) in
+    omega (arith, ap length none))
+    (λ other. omega (arith, fewer, few))
 
 -- putting a row in place of those with its rowid keeps the rowids apart
 pub rowids_stay : (id : ℤ) (new : Row) → rowid new ≡ Int id → (rows : List Row) → HaveRowids rows → HaveRowids (put_row new (without_rowid id rows))
@@ -107,13 +100,13 @@ abbrev pub integer : Value → ℤ
 integer (Int n) = n
 integer _ = pos 0
 
-module _ {X : Type 0} (written : X → Row) (back : Row → X) (undone : (x : X) → back (written x) ≡ x) (columns : Row → Row) where
-  all_undone : (xs : List X) → map back (map written xs) ≡ xs
-  all_undone xs = map-map back written xs ∙ (λ i. map (λ x. undone x i) xs) ∙ map-id xs
+pub all_undone : {X Y : Type 0} (written : X → Y) (back : Y → X) → ((x : X) → back (written x) ≡ x) → (xs : List X) → map back (map written xs) ≡ xs
+all_undone written back undone xs = map-map back written xs ∙ (λ i. map (λ x. undone x i) xs) ∙ map-id xs
 
+module _ {X : Type 0} (written : X → Row) (back : Row → X) (undone : (x : X) → back (written x) ≡ x) (columns : Row → Row) where
   pub one_list : (xs ys : List X) (rows : List Row) → Lists written columns xs rows → Lists written columns ys rows → IsPermutation xs ys
   one_list xs ys rows p q =
-      subst₂ IsPermutation (all_undone xs) (all_undone ys) (IsPermutation-map back _ _ (IsPermutation-trans _ _ _ p (IsPermutation-sym _ _ q)))
+      subst₂ IsPermutation (all_undone written back undone xs) (all_undone written back undone ys) (IsPermutation-map back _ _ (IsPermutation-trans _ _ _ p (IsPermutation-sym _ _ q)))
 
 -- the same rows in another order
 pub other_order : {X : Type 0} (written : X → Row) (columns : Row → Row) (xs ys : List X) (rows : List Row) → IsPermutation xs ys → Lists written columns xs rows → Lists written columns ys rows

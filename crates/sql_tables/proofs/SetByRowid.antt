@@ -1,5 +1,5 @@
 -- What an UPDATE of one row by the rowid means, and what it does to a table, whatever else the schema has.
-use Rattle.std.proofs.Common.{◌≡◌, ◌-◌, ◌==◌, if◌then◌else◌, nat_lt, ℕ, ℤ, suc, ◌<◌, ◌≤◌, sym, ap, subst, ◌∙◌, filter, map, length, drop, replicate, is_eq, IsTrue, arith, true, false, List, [], ◌∷◌, slice_get, Some, None, Ok, refl}
+use Rattle.std.proofs.Common.{◌≡◌, ◌-◌, ◌==◌, if◌then◌else◌, nat_lt, ℕ, ℤ, suc, ◌<◌, ◌≤◌, sym, ap, subst, ◌∙◌, filter, map, length, drop, replicate, IsTrue, arith, true, false, List, [], ◌∷◌, slice_get, Some, None, Ok, refl}
 use Rattle.sqlite_value.specs.declared.keys.Collation.TheVariants.{Binary}
 use Rattle.sqlite_sql.specs.Term.{Term, col, lit, eval_all}
 use Rattle.sqlite_ast.specs.declared.Binary.TheVariants as binary
@@ -27,10 +27,7 @@ use Rattle.sql_tables.proofs.OneTable.{Parts, draft_of, program_on, is_typed, pr
 use Rattle.sql_tables.proofs.Running.{Means, Wrote, update_ran}
 use Rattle.sqlite_ast.specs.declared.Statement.{Statement}
 use Rattle.std.specs.Ordering.{int_eq}
-use Rattle.std.proofs.lemmas.Bool.Decides.{Decides-int_eq}
-use Rattle.sqlite_value.specs.declared.value.Value.TheVariants.{Int, Null}
-use Rattle.sqlite_value.specs.Order.{Row, column, value_cmp}
-use Rattle.sqlite_value.proofs.OrderLemmas.{value_cmp-Int}
+use Rattle.sqlite_value.specs.Order.{Row, column}
 use Rattle.sqlite_trees.specs.Tree.{Trees, rowid, has_rowid}
 use Rattle.sqlite_trees.specs.View.{is_int}
 use Rattle.sqlite_rules.specs.Cast.{cast_row}
@@ -41,7 +38,7 @@ use Rattle.sqlite_catalog.specs.Listing.{IsSound}
 use Rattle.sqlite.specs.Rows.{Written, Updates}
 use Rattle.sqlite.specs.State.{State, Executes}
 use Rattle.sql_tables.specs.Rows.{HaveRowids, Lists, numbers_from, columns_at}
-use Rattle.sql_tables.proofs.RowLists.{rowids_stay, shows_one}
+use Rattle.sql_tables.proofs.RowLists.{rowids_stay, same_number, shows_one}
 use Rattle.sql_tables.proofs.PutLists.{sets_none, sets_one}
 use Rattle.sql_tables.proofs.Numbered.{all_find, none_on}
 use Rattle.sql_tables.proofs.Writing.{Spares, task, finds, updates_one, updates_none}
@@ -101,7 +98,7 @@ module _ (name : Name) (columns : List Column) (text : List ℕ) (places : List 
 
   -- the row that is made, behind the rowid: its own rowid, nothing in place of the key, and the other columns
   abbrev pub project : List Term
-  project = col 1 0 ∷ col 1 0 ∷ lit Null ∷ map (term_at 1 places) (drop 2 (numbers_from 0 (replicate (suc (length columns)) 0)))
+  project = col 1 0 ∷ col 1 0 ∷ lit value.Null ∷ map (term_at 1 places) (drop 2 (numbers_from 0 (replicate (suc (length columns)) 0)))
 
   -- what is left for resolving once each parameter is
   abbrev pub budget : ℕ
@@ -136,12 +133,8 @@ module _ (name : Name) (columns : List Column) (text : List ℕ) (places : List 
 
 -- ---- what it does to the rows of a table
 
-number_of : (r : Row) (id : ℤ) → IsTrue (is_int (rowid r)) → has_rowid id r ≡ true → rowid r ≡ Int id
-number_of r id integer has =
-    let n = id_in (rowid r) in
-    let is : rowid r ≡ Int n = int_is (rowid r) integer in
-    let same : int_eq n id ≡ true = sym (ap is_eq (value_cmp-Int n id)) ∙ sym (ap (λ v. is_eq (value_cmp v (Int id))) is) ∙ has in
-    is ∙ ap Int ((Decides-int_eq n id).0 same)
+number_of : (r : Row) (id : ℤ) → IsTrue (is_int (rowid r)) → has_rowid id r ≡ true → rowid r ≡ value.Int id
+number_of r id integer has = let is = int_is (rowid r) integer in is ∙ ap value.Int (same_number r (id_in (rowid r)) id is has)
 
 -- a row as its tree keeps it, of its columns
 abbrev pub kept : Row → Row
