@@ -1,6 +1,7 @@
 -- Lists in order, by neighbours, and that each list can be put in order.
-use Rattle.std.proofs.Common.{◌≡◌, ℕ, zero, suc, ◌+◌, ◌<◌, Bool, false, List, [], ◌∷◌, map, length, slice_index_or, sym, subst, ◌∙◌, arith, true, cond, refl, IsPermutation}
+use Rattle.std.proofs.Common.{◌≡◌, ℕ, zero, suc, ◌+◌, ◌<◌, Bool, false, List, [], ◌∷◌, map, length, slice_index_or, sym, subst, ◌∙◌, ◌↔◌, arith, true, inl, inr, IsPermutation}
 use Rattle.std.specs.List.Sorted.{IsSortedBy}
+use Rattle.std.proofs.lemmas.Bool.{cases_Bool}
 use Rattle.std.proofs.lemmas.List.Sorted.{IsPermutation-refl, IsPermutation-cons, IsPermutation-middle, IsPermutation-sym, IsPermutation-trans}
 
 -- no element is below the one before it
@@ -27,59 +28,34 @@ sorted {X} lt (x ∷ y ∷ ys) up = λ k d low high. go k d high (sorted lt (y �
     go (suc k) d high more = subst (λ n. lt (slice_index_or (x ∷ y ∷ ys) n d) (slice_index_or (y ∷ ys) k d) ≡ false) (sym (next k)) (more k d (omega arith) (omega (arith, high)))
 
 -- the same of what a map makes from them, if it keeps the order
-pub rises_map : {X Y : Type 0} (f : X → Y) (lt : X → X → Bool) (lt' : Y → Y → Bool) → ((a b : X) → lt a b ≡ lt' (f a) (f b)) → (xs : List X) → Rises lt xs → Rises lt' (map f xs)
-rises_map f lt lt' same [] up = tt
-rises_map f lt lt' same (x ∷ []) up = tt
-rises_map f lt lt' same (x ∷ y ∷ ys) up = (sym (same y x) ∙ up.0, rises_map f lt lt' same (y ∷ ys) up.1)
-
-pub rises_back : {X Y : Type 0} (f : X → Y) (lt : X → X → Bool) (lt' : Y → Y → Bool) → ((a b : X) → lt a b ≡ lt' (f a) (f b)) → (xs : List X) → Rises lt' (map f xs) → Rises lt xs
-rises_back f lt lt' same [] up = tt
-rises_back f lt lt' same (x ∷ []) up = tt
-rises_back f lt lt' same (x ∷ y ∷ ys) up = (same y x ∙ up.0, rises_back f lt lt' same (y ∷ ys) up.1)
+module _ {X Y : Type 0} (f : X → Y) (lt : X → X → Bool) (lt' : Y → Y → Bool) (same : (a b : X) → lt a b ≡ lt' (f a) (f b)) where
+  pub rises_map : (xs : List X) → Rises lt xs ↔ Rises lt' (map f xs)
+  rises_map [] = (λ up. tt, λ up. tt)
+  rises_map (x ∷ []) = (λ up. tt, λ up. tt)
+  rises_map (x ∷ y ∷ ys) = let more = rises_map (y ∷ ys) in (λ up. (sym (same y x) ∙ up.0, more.0 up.1), λ up. (same y x ∙ up.0, more.1 up.1))
 
 -- ---- each list can be put in order
 
 module _ {X : Type 0} (lt : X → X → Bool) (one_way : (a b : X) → lt a b ≡ true → lt b a ≡ false) where
-  abbrev insert : X → List X → List X
-  insert x [] = x ∷ []
-  insert x (y ∷ ys) = cond (lt y x) (y ∷ insert x ys) (x ∷ y ∷ ys)
-
-  insert_moves : (x : X) (ys : List X) → IsPermutation (x ∷ ys) (insert x ys)
-  insert_moves x [] = IsPermutation-refl (x ∷ [])
-  insert_moves x (y ∷ ys) = go (lt y x) (insert_moves x ys)
-    where
-      go : (b : Bool) → IsPermutation (x ∷ ys) (insert x ys) → IsPermutation (x ∷ y ∷ ys) (cond b (y ∷ insert x ys) (x ∷ y ∷ ys))
-      go true more = IsPermutation-trans _ _ _ (IsPermutation-sym _ _ (IsPermutation-middle (y ∷ []) x ys)) (IsPermutation-cons y _ _ more)
-      go false more = IsPermutation-refl (x ∷ y ∷ ys)
-
   rest_rises : (x : X) (xs : List X) → Rises lt (x ∷ xs) → Rises lt xs
   rest_rises x [] up = tt
   rest_rises x (y ∷ ys) up = up.1
 
-  after_first : (y x : X) (ys : List X) → lt x y ≡ false → Rises lt (y ∷ ys) → Rises lt (insert x ys) → Rises lt (y ∷ insert x ys)
-  after_first y x [] later up more = (later, tt)
-  after_first y x (z ∷ zs) later up more = go (lt z x) more
-    where
-      go : (b : Bool) → Rises lt (cond b (z ∷ insert x zs) (x ∷ z ∷ zs)) → Rises lt (y ∷ cond b (z ∷ insert x zs) (x ∷ z ∷ zs))
-      go true more = (up.0, more)
-      go false more = (later, more)
+  -- an element finds its place, which is behind each that it isn't below
+  placed : (x : X) (ys : List X) → Rises lt ys
+      → (zs : List X) × IsPermutation (x ∷ ys) zs × Rises lt zs × ((y : X) → lt x y ≡ false → Rises lt (y ∷ ys) → Rises lt (y ∷ zs))
+  placed x [] up = (x ∷ [], IsPermutation-refl (x ∷ []), tt, λ y later more. (later, tt))
+  placed x (y ∷ ys) up = elim (cases_Bool (lt y x)) [
+    | inl below ↦
+        let rest = placed x ys (rest_rises y ys up) in
+        let moved = IsPermutation-trans _ _ _ (IsPermutation-sym _ _ (IsPermutation-middle (y ∷ []) x ys)) (IsPermutation-cons y _ _ rest.1) in
+        let all = rest.3 y (one_way y x below) up in
+        (y ∷ rest.0, moved, all, λ z later more. (more.0, all))
+    | inr other ↦ (x ∷ y ∷ ys, IsPermutation-refl (x ∷ y ∷ ys), (other, up), λ z later more. (later, (other, up)))
+  ]
 
-  insert_rises : (x : X) (ys : List X) → Rises lt ys → Rises lt (insert x ys)
-  insert_rises x [] up = tt
-  insert_rises x (y ∷ ys) up = go (lt y x) refl (insert_rises x ys (rest_rises y ys up))
-    where
-      go : (b : Bool) → lt y x ≡ b → Rises lt (insert x ys) → Rises lt (cond b (y ∷ insert x ys) (x ∷ y ∷ ys))
-      go true e more = after_first y x ys (one_way y x e) up more
-      go false e more = (e, up)
-
-  abbrev pub in_order : List X → List X
-  in_order [] = []
-  in_order (x ∷ xs) = insert x (in_order xs)
-
-  pub same_list : (xs : List X) → IsPermutation xs (in_order xs)
-  same_list [] = IsPermutation-refl []
-  same_list (x ∷ xs) = IsPermutation-trans _ _ _ (IsPermutation-cons x _ _ (same_list xs)) (insert_moves x (in_order xs))
-
-  pub rises_so : (xs : List X) → Rises lt (in_order xs)
-  rises_so [] = tt
-  rises_so (x ∷ xs) = insert_rises x (in_order xs) (rises_so xs)
+  pub in_order : (xs : List X) → (ys : List X) × IsPermutation xs ys × Rises lt ys
+  in_order [] = ([], IsPermutation-refl [], tt)
+  in_order (x ∷ xs) =
+      let more = in_order xs in
+      let all = placed x more.0 more.2 in (all.0, IsPermutation-trans _ _ _ (IsPermutation-cons x _ _ more.1) all.1, all.2)

@@ -1,17 +1,13 @@
 -- A text that reads a table whole has an answer, over any connection that is open.
-use Rattle.std.specs.List.{flat_map}
-use Rattle.std.proofs.lemmas.Bool.Decides.{nat_tests}
-use Rattle.std.proofs.lemmas.List.Sorted.{IsPermutation-map}
-use Rattle.std.proofs.Common.{suc, ◌≡◌, ℕ, ◌<◌, ◌≤◌, nat_le, arith, Bool, true, false, List, [], ◌∷◌, map, length, None, IsTrue, refl, sym, ap, ap₂, subst, ◌∙◌, inl, inr, is_lt, true≢false, IsPermutation}
-use Rattle.std.specs.Ordering.{ordering_reverse, ordering_then}
-use Rattle.std.specs.declared.cmp.Ordering.{Ordering}
-use Rattle.std.specs.declared.cmp.Ordering.TheVariants.{Less, Equal, Greater}
-use Rattle.sqlite_value.specs.declared.keys.Key.{Key}
+use Rattle.std.proofs.lemmas.Bool.{leb-true}
+use Rattle.std.proofs.lemmas.List.Sorted.{ranks_by}
+use Rattle.std.proofs.Common.{◌≡◌, ℕ, ◌<◌, Bool, true, false, List, [], ◌∷◌, filter, map, length, None, IsTrue, refl, sym, ap, subst, subst₂, ◌∙◌, inl, inr, is_lt, true≢false, IsPermutation}
 use Rattle.sqlite_value.specs.declared.value.Value.{Value}
-use Rattle.sqlite_value.specs.Order.{Row, column}
-use Rattle.sqlite_value.proofs.KeyLemmas.{by_key_total}
+use Rattle.sqlite_value.specs.declared.value.Value.TheVariants.{Null}
+use Rattle.sqlite_value.specs.Order.{Row}
 use Rattle.sqlite_sql.specs.Program.{overlay, QueryOverflows}
-use Rattle.sqlite_sql.specs.Query.{IsAnswerAs, Output, end, inner, key_cmp, matches, output, output_cmp}
+use Rattle.sqlite_sql.specs.Query.{IsAnswerAs, Output, end, inner, matches, output, output_cmp}
+use Rattle.sqlite_sql.proofs.QueryLemmas.{output_cmp_total}
 use Rattle.sqlite_sql.specs.Term.{Term, eval_all}
 use Rattle.sqlite_schema.specs.declared.command.Command.{Command}
 use Rattle.sqlite_schema.specs.declared.command.Command.TheVariants.{Select as Select'}
@@ -22,6 +18,7 @@ use Rattle.sqlite_resolve.specs.Compile.{with_command}
 use Rattle.sqlite_resolve.specs.Scope.{Name}
 use Rattle.sqlite_catalog.specs.Listing.{IsSound}
 use Rattle.sqlite_trees.specs.Tree.{Trees}
+use Rattle.sqlite_trees.proofs.ListLemmas.{all_of, filter_all}
 use Rattle.sqlite_typing.specs.Types.{accepts_program}
 use Rattle.sqlite.specs.declared.error.Error.{Error}
 use Rattle.sqlite.specs.Effect.{Database, Reads, RefusesToRead}
@@ -34,25 +31,10 @@ use Rattle.sql_tables.proofs.Quiet.{IsStoreFailure, answered_fails}
 use Rattle.sql_tables.proofs.Declaring.{classes_are, low_tree, uncovered}
 use Rattle.sql_tables.proofs.Meaning.{parse_of}
 use Rattle.sql_tables.proofs.OneTable.{Parts, program_on, query_on, typed_as}
-use Rattle.sql_tables.proofs.Orders.{sorted, in_order, rises_so, same_list}
+use Rattle.sql_tables.proofs.Orders.{Rises, sorted, in_order}
 use Rattle.sql_tables.proofs.Running.{Means}
+use Rattle.sql_tables.proofs.Writing.{all_answer, finds}
 use Rattle.sql_tables.proofs.WholeTables.{IsRead, heads, parts as parts_of, reads_only, text_means}
-
--- ---- the order of a query
-
-turned : (a b : Ordering) → ordering_then (ordering_reverse a) (ordering_reverse b) ≡ ordering_reverse (ordering_then a b)
-turned Less b = refl
-turned Equal b = refl
-turned Greater b = refl
-
-keys_turned : (at : ℕ) (keys : List Key) (a b : Row) → key_cmp at keys a b ≡ ordering_reverse (key_cmp at keys b a)
-keys_turned at [] a b = refl
-keys_turned at (k ∷ ks) a b = ap₂ ordering_then ((by_key_total k).antisymm (column a at) (column b at)) (keys_turned (suc at) ks a b) ∙ turned _ _
-
-not_both : (o p : Ordering) → o ≡ ordering_reverse p → is_lt o ≡ true → is_lt p ≡ false
-not_both o Less is less = absurd (true≢false (sym less ∙ ap is_lt is))
-not_both o Equal is less = refl
-not_both o Greater is less = refl
 
 -- ---- the answer of a query on one table
 
@@ -60,34 +42,23 @@ module _ (tree : ℕ) (p : Parts) where
   abbrev below : Output → Output → Bool
   below a b = is_lt (output_cmp (query_on tree p) a b)
 
-  one_way : (a b : Output) → below a b ≡ true → below b a ≡ false
-  one_way a b = not_both _ _ (keys_turned 0 (map (λ k. k.1) p.order) a.0 b.0)
-
-  abbrev outputs : Trees → List Output
-  outputs db = map (output (query_on tree p)) (matches db p.tests (inner tree end) ([] ∷ []))
+  ordered : (outputs : List Output) → (all : List Output) × IsPermutation outputs all × Rises below all
+  ordered = in_order below ((ranks_by (output_cmp_total (query_on tree p)) (λ o. o)).one_way)
 
   abbrev answer : Trees → List Row
-  answer db = map (λ (o : Output). o.1) (in_order below one_way (outputs db))
+  answer db = map (λ (o : Output). o.1) (ordered (map (output (query_on tree p)) (matches db p.tests (inner tree end) ([] ∷ [])))).0
 
   answers : (db : Trees) (lost : Value) → IsAnswerAs lost (query_on tree p) db [] (answer db)
-  answers db lost = record {
-    staged = matches db p.tests (inner tree end) ([] ∷ []);
-    grouped = refl;
-    kept = outputs db;
-    distinct = refl;
-    ordered = in_order below one_way (outputs db);
-    same = same_list below one_way (outputs db);
-    sorted = sorted below _ (rises_so below one_way (outputs db));
-    shown = refl;
-  }
+  answers db lost =
+      let staged = matches db p.tests (inner tree end) ([] ∷ []) in
+      let kept = map (output (query_on tree p)) staged in
+      let all = ordered kept in
+      record { staged = staged; grouped = refl; kept = kept; distinct = refl; ordered = all.0; same = all.1; sorted = sorted below all.0 all.2; shown = refl }
 
   never_overflows : (db : Trees) → ¬ QueryOverflows (query_on tree p) db []
   never_overflows db h = elim h [ inl group ↦ group | inr fold ↦ fold.4 ]
 
 -- ---- a text that reads a table whole
-
-at_most : (a b : ℕ) → nat_le a b ≡ true → a ≤ b
-at_most a b h = grind (arith, h, nat_tests)
 
 module _ (t : Table) (text : List ℕ) (shown sorted : List Name) (project terms : List Term) (u : IsRead t text shown sorted project terms) (schema : Schema) (d : IsDeclared schema t)
     (s : State) (has : s.now.schema ≡ schema) (sound : IsSound schema s.now.trees) where
@@ -107,7 +78,7 @@ module _ (t : Table) (text : List ℕ) (shown sorted : List Name) (project terms
   meant = with_command (parse_of text) ([], (command, None))
 
   is_one : IsStatement s text [] meant
-  is_one = record { is = ap (λ (x : Schema). understood x text) has ∙ means.0; whole = at_most _ _ u.whole; given = sym (ap length u.unnamed); now = 0 }
+  is_one = record { is = ap (λ (x : Schema). understood x text) has ∙ means.0; whole = leb-true _ _ u.whole; given = sym (ap length u.unnamed); now = 0 }
 
   unlisted : reads_listing s.now.schema text ≡ false
   unlisted = ap (λ (x : Schema). reads_listing x text) has ∙ means.1
@@ -134,16 +105,13 @@ module _ (t : Table) (text : List ℕ) (shown sorted : List Name) (project terms
 
   -- what the query shows are the rows of the tree
   module _ (show : Row → Row) (shows : (r : Row) → eval_all project ([] ∷ r ∷ []) ≡ show r) where
-    outputs_are : (rows : List Row) → map (λ (o : Output). o.1) (map (output (query_on t.tree parts)) (flat_map (λ r. ([] ∷ r ∷ []) ∷ []) rows)) ≡ map show rows
-    outputs_are [] = refl
-    outputs_are (r ∷ rows) = rw (shows r, outputs_are rows)
-
     all_are : IsPermutation (map show (s.now.trees t.tree)) (answer t.tree parts (overlay s.now.trees []))
     all_are =
         let db = overlay s.now.trees [] in
-        let same = IsPermutation-map (λ (o : Output). o.1) _ _ (same_list (below t.tree parts) (one_way t.tree parts) (outputs t.tree parts db)) in
-        subst (λ (rows : List Row). IsPermutation (map show rows) (answer t.tree parts db)) (uncovered schema t d low s.now.trees)
-        (subst (λ (rows : List Row). IsPermutation rows (answer t.tree parts db)) (outputs_are (db t.tree)) same)
+        let all = all_answer t.tree parts db [] _ (answers t.tree parts db Null) in
+        let each = filter_all (finds [] []) (db t.tree) (all_of (λ r. finds [] [] r ≡ true) (λ r. refl) (db t.tree)) in
+        let rows : filter (finds [] []) (db t.tree) ≡ s.now.trees t.tree = each ∙ uncovered schema t d low s.now.trees in
+        subst₂ (λ (there : List Row) made. IsPermutation (map made there) (answer t.tree parts db)) rows (λ i r. shows r i) all
 
     -- there is an answer, if the connection is open
     pub answered : IsTrue s.is_open → (rows : List Row) × Shown text [] s s rows × IsPermutation (map show (s.now.trees t.tree)) rows

@@ -1,7 +1,7 @@
 -- The texts that read a table whole, whatever else the schema has.
-use Rattle.std.proofs.Common.{◌≡◌, ℕ, ◌+◌, ◌<◌, nat_le, nat_lt, true, false, is_lt, List, [], ◌∷◌, length, map, ap, subst, IsPermutation, arith, ◌∙◌}
+use Rattle.std.proofs.Common.{◌≡◌, ℕ, ◌+◌, ◌<◌, nat_le, nat_lt, true, false, is_lt, List, [], ◌∷◌, length, map, ap, subst, IsPermutation, ◌∙◌}
 use Rattle.std.specs.List.{list_all}
-use Rattle.std.proofs.lemmas.Bool.Decides.{nat_tests}
+use Rattle.std.proofs.lemmas.Bool.{ltb-true}
 use Rattle.sqlite_value.specs.declared.keys.Collation.TheVariants.{Binary}
 use Rattle.sqlite_value.specs.declared.value.Value.TheVariants.{Null}
 use Rattle.sqlite_value.specs.Keys.{ascending}
@@ -32,9 +32,6 @@ use Rattle.sql_tables.proofs.Reading.{answer_is}
 use Rattle.sql_tables.proofs.Running.{Means, plain_if}
 use Rattle.sql_tables.proofs.Selecting.{plain_select, select_command}
 
-below : (a b : ℕ) → nat_lt a b ≡ true → a < b
-below a b h = grind (arith, h, nat_tests)
-
 -- what it shows and sorts by
 abbrev pub parts : List Term → List Term → Parts
 parts project terms = record { tests = []; project = project; order = map (λ t. (t, ascending Binary)) terms }
@@ -63,7 +60,7 @@ module _ (t : Table) (text : List ℕ) (shown sorted : List Name) (project terms
     text_means low =
         let typed = program_is schema t (classes_are schema t d low) (parts project terms) u.typed in
         select_is schema text (plain_select t.name shown sorted) _ u.is_text
-        (select_command schema d.at t d.named d.there (under schema t d low) shown u.columns_are sorted u.keys_are (below _ _ u.few) [] (base_of text) (program_on t.tree (parts project terms)) (rw (u.projects, u.orders) typed))
+        (select_command schema d.at t d.named d.there (under schema t d low) shown u.columns_are sorted u.keys_are (ltb-true _ _ u.few) [] (base_of text) (program_on t.tree (parts project terms)) (rw (u.projects, u.orders) typed))
 
     -- the rows of the tree, each once, in the order
     pub rows_are : (old new : State) → old.now.schema ≡ schema → IsSound schema old.now.trees

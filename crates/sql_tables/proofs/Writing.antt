@@ -1,8 +1,8 @@
 -- What INSERT .. ON CONFLICT DO UPDATE does to a table, in any schema in which the table has no rule but its key.
-use Rattle.std.proofs.Common.{◌≡◌, ◌≢◌, ◌⊎◌, inl, inr, ℕ, zero, suc, ℤ, Bool, true, false, cond, List, [], ◌∷◌, ◌++◌, map, filter, drop, length, length-append, Some, None, Option, Ok, Err, Result, refl, sym, ap, subst, subst₂, ◌∙◌, IsTrue, IsPermutation, arith}
+use Rattle.std.proofs.Common.{◌≡◌, ◌≢◌, ◌⊎◌, inl, inr, ℕ, ℤ, Bool, true, false, cond, List, [], ◌∷◌, ◌++◌, map, filter, drop, Some, None, Option, Ok, Err, Result, refl, sym, ap, subst, subst₂, ◌∙◌, IsTrue, IsPermutation, length, ◌≤◌, arith}
 use Rattle.std.specs.List.{AllByRecursion, flat_map, list_any, list_all}
-use Rattle.std.proofs.lemmas.Bool.{and_parts, not-true}
-use Rattle.std.proofs.lemmas.List.{nil_from_length}
+use Rattle.std.proofs.lemmas.Bool.{and_parts, cases_Bool, not-true}
+use Rattle.std.proofs.lemmas.List.{length-map, nil_from_length}
 use Rattle.std.proofs.lemmas.List.Sorted.{IsPermutation-map, length_permutation}
 use Rattle.sqlite_value.specs.declared.value.Value.TheVariants.{Null, Int}
 use Rattle.sqlite_value.specs.Order.{Row, column}
@@ -19,7 +19,7 @@ use Rattle.sqlite_schema.specs.declared.schema.Keys.TheVariants.{Enforced}
 use Rattle.sqlite_schema.specs.declared.schema.Schema.{Schema}
 use Rattle.sqlite_schema.specs.declared.schema.Table.{Table}
 use Rattle.sqlite_rules.specs.declared.error.Rowids.TheVariants.{Chosen, Given}
-use Rattle.sqlite_rules.specs.Action.{works, Leads, Writes}
+use Rattle.sqlite_rules.specs.Action.{works, Writes}
 use Rattle.sqlite_rules.specs.Calls.{ids_of}
 use Rattle.sqlite_rules.specs.Cast.{cast_row}
 use Rattle.sqlite_rules.specs.Edit.{Edit, edit_of, id_in, is_taken, are_fresh, row_at, taken_by, with_rowid, Applies, IsNoIndex}
@@ -29,7 +29,7 @@ use Rattle.sqlite_rules.proofs.ActionLemmas.{no_works}
 use Rattle.sqlite_rules.proofs.PlaceLemmas.{found_at}
 use Rattle.sqlite_rules.proofs.TableLemmas.{none_to_drop, int_is, taken_is}
 use Rattle.sqlite.specs.Rows.{Written, Task, Then, Gives, Edited, Counts, count_of, rowids_for, stamped, nothing, shown, Sourced, Puts, Updates, Clears, Upserts, Meets, Resolves, Tries, TriesEach, InsertsOr, Inserts}
-use Rattle.sqlite.proofs.Callers.{one_permutation}
+use Rattle.sqlite.proofs.Callers.{one_permutation, one_step}
 use Rattle.sqlite_trees.specs.View.{is_int}
 use Rattle.sqlite_trees.proofs.ListLemmas.{map-map}
 use Rattle.sql_tables.proofs.RowLists.{put_adds}
@@ -49,11 +49,7 @@ pub settles : (schema : Schema) (db next : Trees) (edit : Edit) → ((mid : Tree
     → Writes schema Enforced db edit (Ok next) → Applies schema Enforced db edit next
 settles schema db next edit none (inl refused) = absurd (let e = refused.2 in cc)
 settles schema db next edit none (inr (inl big)) = absurd (let e = big.3 in cc)
-settles schema db next edit none (inr (inr ran)) = subst (Applies schema Enforced db edit) (ended ran.2.0 (rw (none ran.0 ran.1) at ran.2.1)) ran.1
-  where
-    ended : (n : ℕ) → Leads schema Enforced n ran.0 [] (Ok next) → ran.0 ≡ next
-    ended zero h = let e = h.1 in cc
-    ended (suc n) h = absurd (omega (arith, ap length h.2, length-append h.0 (h.1 ∷ [])))
+settles schema db next edit none (inr (inr ran)) = one_step schema Enforced db next edit (none ran.0 ran.1) (inr (inr ran))
 
 -- each other table has its rows, and so has each tree that is no index
 pub record Spares (schema : Schema) (tree : ℕ) (old new : Trees) : Type 0 where
@@ -78,17 +74,13 @@ chosen_rowids table top uncounted = rw uncounted
 
 matched : (p : Row → Bool) (f : Row → Env) (rows : List Row) → flat_map (λ r. cond (p r) (f r ∷ []) []) rows ≡ map f (filter p rows)
 matched p f [] = refl
-matched p f (r ∷ rows) = go (p r) refl (matched p f rows)
-  where
-    go : (b : Bool) → p r ≡ b → flat_map (λ r. cond (p r) (f r ∷ []) []) rows ≡ map f (filter p rows) → flat_map (λ r. cond (p r) (f r ∷ []) []) (r ∷ rows) ≡ map f (cond b (r ∷ filter p rows) (filter p rows))
-    go true e more = rw (e, more)
-    go false e more = rw (e, more)
+matched p f (r ∷ rows) = elim (cases_Bool (p r)) [ inl is ↦ rw (is, matched p f rows) | inr other ↦ rw (other, matched p f rows) ]
 
 abbrev pub finds : List Term → Row → Row → Bool
 finds tests given r = list_all (holds (given ∷ r ∷ [])) tests
 
 -- the answer of a query: what it makes of each row that passes, in some order
-all_answer : (tree : ℕ) (p : Parts) (db : Trees) (given : Row) (rows : List Row) → IsAnswer (query_on tree p) db given rows
+pub all_answer : (tree : ℕ) (p : Parts) (db : Trees) (given : Row) (rows : List Row) → IsAnswer (query_on tree p) db given rows
     → IsPermutation (map (λ r. eval_all p.project (given ∷ r ∷ [])) (filter (finds p.tests given) (db tree))) rows
 all_answer tree p db given rows a =
     let f = λ (x : Row). given ∷ x ∷ [] in
@@ -100,21 +92,52 @@ all_answer tree p db given rows a =
     ap (map first) kept ∙ map-map first (output (query_on tree p)) (map f passing) ∙ map-map (λ env. first (output (query_on tree p) env)) f passing in
     subst₂ IsPermutation made (sym a.shown) (IsPermutation-map first _ _ a.same)
 
+same_few : {X : Type 0} (xs ys : List X) → length xs ≤ 1 → IsPermutation xs ys → xs ≡ ys
+same_few [] ys few all = sym (nil_from_length ys (omega (arith, length_permutation [] ys all)))
+same_few (x ∷ []) ys few all = sym (one_permutation x ys all)
+same_few (x ∷ y ∷ more) ys few all = absurd (omega (arith, few))
+
 module _ (limit : Option ℕ) (schema : Schema) (table : Table) (params : Row) where
   abbrev pub task : Task
   task = record { limit = limit; keys = Enforced; schema = schema; table = table; params = params }
 
+  spared : (db : Trees) (edit : Edit) (next : Trees) → Applies schema Enforced db edit next → Spares schema edit.table.tree db next
+  spared db edit next step = record { tables = step.tables; aside = step.others }
+
+  -- what a step wrote that sets off no action
+  applied : (db : Trees) (edit : Edit) (rows : List Row) (last : Option ℤ) (w : Written)
+      → ((mid : Trees) → Applies schema Enforced db edit mid → works schema Enforced 0 edit.table.tree (taken_by db edit) edit.news ≡ [])
+      → Then (Edited schema Enforced db edit) (λ next. Gives (record { trees = next; rows = rows; last = last })) (Ok w) → Applies schema Enforced db edit w.trees
+  applied db edit rows last w quiet h =
+      let gave = went h in
+      subst (Applies schema Enforced db edit) (sym (ap (λ (x : Written). x.trees) (same_value gave.2))) (settles schema db gave.0 edit quiet gave.1)
+
   -- a row is put where no row has its rowid
   pub puts : (new : Row) → cast_row table new ≡ new → (id : ℤ) → rowid new ≡ Int id → (db : Trees) (w : Written) → Puts task new db (Ok w) → IsPut schema table new id db w.trees × (list_any (has_rowid id) (db table.tree) ≡ false)
   puts new cast id is db w h =
-      let gave = went h in
       let edit = edit_of db table [] Given 0 (new ∷ []) in
-      let step = settles schema db gave.0 edit (λ mid did. no_works schema Enforced 0 table.tree edit.news) gave.1 in
-      let trees : w.trees ≡ gave.0 = ap (λ (x : Written). x.trees) (same_value gave.2) in
-      let put : gave.0 table.tree ≡ put_row new (db table.tree) = step.rows ∙ ap (λ r. put_row r (db table.tree)) cast in
+      let step = applied db edit _ _ w (λ mid did. no_works schema Enforced 0 table.tree edit.news) h in
+      let put : w.trees table.tree ≡ put_row new (db table.tree) = step.rows ∙ ap (λ r. put_row r (db table.tree)) cast in
       let free : is_taken (db table.tree) new ≡ false = not-true _ (and_parts _ _ (subst (λ r. are_fresh (db table.tree) (r ∷ []) ≡ true) cast step.fresh)).0 in
       let none : list_any (has_rowid id) (db table.tree) ≡ false = rw is at free in
-      (subst (IsPut schema table new id db) (sym trees) (record { rows = put ∙ ap (put_row new) (sym (none_to_drop id (db table.tree) none)); others = record { tables = step.tables; aside = step.others } }), none)
+      (record { rows = put ∙ ap (put_row new) (sym (none_to_drop id (db table.tree) none)); others = spared db edit w.trees step }, none)
+
+  -- an UPDATE writes these rows, each in place of the one with its rowid
+  abbrev Rewrites : Trees → Written → List Row → Type 0
+  Rewrites db w rows =
+      let edit = edit_of db table (ids_of rows) Given 1 rows in
+      Then (Edited schema Enforced db edit) (λ next. Gives (record { trees = next; rows = edit.news; last = None })) (Ok w)
+
+  -- those that it makes of the rows that it finds, if there is one at most
+  rewrites : (p : Parts) (given : Row) (db : Trees) (w : Written) (found : List Row)
+      → overlay db [] table.tree ≡ db table.tree → filter (finds p.tests given) (db table.tree) ≡ found → length found ≤ 1
+      → Updates task (program_on table.tree p) given db (Ok w) → Rewrites db w (map (λ r. eval_all p.project (given ∷ r ∷ [])) found)
+  rewrites p given db w found plain is few h =
+      let asked = went h in
+      let make = λ (r : Row). eval_all p.project (given ∷ r ∷ []) in
+      let there : filter (finds p.tests given) (overlay db [] table.tree) ≡ found = rw plain is in
+      let all = subst (λ rows. IsPermutation (map make rows) asked.0) there (all_answer table.tree p (overlay db []) given asked.0 (asked.1.answer Null)) in
+      subst (Rewrites db w) (sym (same_few (map make found) asked.0 (omega (arith, few, length-map found make)) all)) asked.2
 
   -- the one row that an UPDATE finds is replaced by one with the same keys
   pub updates_one : (alone : (other : Table) → Has schema.tables other → other.tree ≡ table.tree → other ≡ table) (p : Parts) (given : Row) (db : Trees) (r new : Row) (id : ℤ) (w : Written)
@@ -123,43 +146,24 @@ module _ (limit : Option ℕ) (schema : Schema) (table : Table) (params : Row) w
       → column new 0 ≡ column r 0 → ((i : Index) → Has schema.indexes i → i.is_unique ≡ true → i.table ≡ table.tree → AreKept r new i.columns)
       → Updates task (program_on table.tree p) given db (Ok w) → IsPut schema table new id db w.trees
   updates_one alone p given db r new id w plain only there made is same kept h =
-      let asked = went h in
-      let found : filter (finds p.tests given) (overlay db [] table.tree) ≡ r ∷ [] = rw plain only in
-      let all = all_answer table.tree p (overlay db []) given asked.0 (asked.1.answer Null) in
-      let one = one_permutation (eval_all p.project (given ∷ r ∷ [])) asked.0 (subst (λ rows. IsPermutation (map (λ r. eval_all p.project (given ∷ r ∷ [])) rows) asked.0) found all) in
-      let row = eval_all p.project (given ∷ r ∷ []) in
-      replaced row made is (subst (λ rows. Then (Edited schema Enforced db (edit_of db table (ids_of rows) Given 1 rows)) (λ next. Gives (record { trees = next; rows = (edit_of db table (ids_of rows) Given 1 rows).news; last = None })) (Ok w)) one asked.2)
+      replaced (eval_all p.project (given ∷ r ∷ [])) made is (rewrites p given db w (r ∷ []) plain only (omega arith) h)
     where
-      quiet : (row : Row) → cast_row table (drop 1 row) ≡ new → id_in (rowid row) ≡ id → (mid : Trees) → Applies schema Enforced db (edit_of db table (ids_of (row ∷ [])) Given 1 (row ∷ [])) mid
-          → works schema Enforced 0 table.tree (taken_by db (edit_of db table (ids_of (row ∷ [])) Given 1 (row ∷ []))) (cast_row table (drop 1 row) ∷ []) ≡ []
-      quiet row made is mid did =
-          let old : row_at (db table.tree) (id_in (rowid row)) ≡ r = ap (λ n. row_at (db table.tree) n) is ∙ sym (found_at (db table.tree) id r there) in
-          subst₂ (λ o n. works schema Enforced 0 table.tree (o ∷ []) (n ∷ []) ≡ []) (sym old) (sym made) (updates_quietly schema table alone r new same kept did.referred)
-
-      replaced : (row : Row) → cast_row table (drop 1 row) ≡ new → id_in (rowid row) ≡ id
-          → Then (Edited schema Enforced db (edit_of db table (ids_of (row ∷ [])) Given 1 (row ∷ []))) (λ next. Gives (record { trees = next; rows = (edit_of db table (ids_of (row ∷ [])) Given 1 (row ∷ [])).news; last = None })) (Ok w)
-          → IsPut schema table new id db w.trees
+      replaced : (row : Row) → cast_row table (drop 1 row) ≡ new → id_in (rowid row) ≡ id → Rewrites db w (row ∷ []) → IsPut schema table new id db w.trees
       replaced row made is h =
-          let gave = went h in
-          let step = settles schema db gave.0 (edit_of db table (ids_of (row ∷ [])) Given 1 (row ∷ [])) (quiet row made is) gave.1 in
-          let trees : w.trees ≡ gave.0 = ap (λ (x : Written). x.trees) (same_value gave.2) in
-          let put : gave.0 table.tree ≡ put_row new (without_rowid id (db table.tree)) = step.rows ∙ ap (λ r. put_row r (without_rowid (id_in (rowid row)) (db table.tree))) made ∙ ap (λ n. put_row new (without_rowid n (db table.tree))) is in
-          subst (IsPut schema table new id db) (sym trees) (record { rows = put; others = record { tables = step.tables; aside = step.others } })
+          let old : row_at (db table.tree) (id_in (rowid row)) ≡ r = ap (λ n. row_at (db table.tree) n) is ∙ sym (found_at (db table.tree) id r there) in
+          let quiet = subst₂ (λ o n. works schema Enforced 0 table.tree (o ∷ []) (n ∷ []) ≡ []) (sym old) (sym made) in
+          let edit = edit_of db table (ids_of (row ∷ [])) Given 1 (row ∷ []) in
+          let step = applied db edit _ _ w (λ mid did. quiet (updates_quietly schema table alone r new same kept did.referred)) h in
+          let put = ap (λ r. put_row r (without_rowid (id_in (rowid row)) (db table.tree))) made ∙ ap (λ n. put_row new (without_rowid n (db table.tree))) is in
+          record { rows = step.rows ∙ put; others = spared db edit w.trees step }
 
   -- an UPDATE that finds no row changes none
   pub updates_none : (p : Parts) (given : Row) (db : Trees) (w : Written) → overlay db [] table.tree ≡ db table.tree → filter (finds p.tests given) (db table.tree) ≡ [] → Updates task (program_on table.tree p) given db (Ok w)
       → (w.trees table.tree ≡ db table.tree) × Spares schema table.tree db w.trees
   updates_none p given db w plain none h =
-      let asked = went h in
-      let found : filter (finds p.tests given) (overlay db [] table.tree) ≡ [] = rw plain none in
-      let all = all_answer table.tree p (overlay db []) given asked.0 (asked.1.answer Null) in
-      let len = length_permutation _ _ (subst (λ rows. IsPermutation (map (λ r. eval_all p.project (given ∷ r ∷ [])) rows) asked.0) found all) in
-      let empty : asked.0 ≡ [] = nil_from_length asked.0 (omega (arith, len)) in
-      let did = subst (λ rows. Then (Edited schema Enforced db (edit_of db table (ids_of rows) Given 1 rows)) (λ next. Gives (record { trees = next; rows = (edit_of db table (ids_of rows) Given 1 rows).news; last = None })) (Ok w)) empty asked.2 in
-      let gave = went did in
-      let step = settles schema db gave.0 (edit_of db table [] Given 1 []) (λ mid did. no_works schema Enforced 0 table.tree []) gave.1 in
-      let trees : w.trees ≡ gave.0 = ap (λ (x : Written). x.trees) (same_value gave.2) in
-      subst (λ (now : Trees). (now table.tree ≡ db table.tree) × Spares schema table.tree db now) (sym trees) (step.rows, record { tables = step.tables; aside = step.others })
+      let edit = edit_of db table [] Given 1 [] in
+      let step = applied db edit _ _ w (λ mid did. no_works schema Enforced 0 table.tree []) (rewrites p given db w [] plain none (omega arith) h) in
+      (step.rows, spared db edit w.trees step)
 
   -- either no row is in the way, and the new one is put, or one is, and it is updated
   abbrev pub Ends : Option (List ℕ) → Program → Row → Trees → Trees → Type 0
@@ -224,4 +228,4 @@ module _ (limit : Option ℕ) (schema : Schema) (table : Table) (params : Row) w
       let fresh : is_taken (db table.tree) row ≡ false = subst (λ r. is_taken (db table.tree) r ≡ false) made (not-true _ (and_parts _ _ step.fresh).0) in
       let free : list_any (has_rowid (id_in (rowid row))) (db table.tree) ≡ false = sym (taken_is (db table.tree) row keyed) ∙ fresh in
       let added : IsPermutation (written.0 table.tree) (row ∷ db table.tree) = subst (λ rows. IsPermutation rows (row ∷ db table.tree)) (sym put) (put_adds (id_in (rowid row)) row (int_is (rowid row) keyed) (db table.tree) free) in
-      subst (IsAdded schema table row db) (sym trees) (record { rows = added; others = record { tables = step.tables; aside = step.others } })
+      subst (IsAdded schema table row db) (sym trees) (record { rows = added; others = spared db edit written.0 step })
