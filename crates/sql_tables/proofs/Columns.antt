@@ -1,13 +1,13 @@
 -- How the columns of the one table of a query are read, where each is written by its name alone.
-use Rattle.std.proofs.Common.{◌≡◌, ℕ, suc, ◌+◌, ◌-◌, ◌<◌, ◌^◌, Bool, true, false, ◌&&◌, nat_lt, List, [], ◌∷◌, ◌++◌, length, codes, slice_get, Option, Some, None, Ok, is_some, is_none, option_map, refl, sym, ap, subst, ◌∙◌, arith, append-nil, append_assoc, map, cond, unwrap_or, bytes_eq, true≢false}
+use Rattle.std.proofs.Common.{◌≡◌, ℕ, suc, ◌+◌, ◌-◌, ◌<◌, ◌^◌, Bool, true, false, ◌&&◌, nat_lt, List, [], ◌∷◌, ◌++◌, length, codes, slice_get, Option, Some, None, Ok, is_some, is_none, option_map, refl, sym, ap, ap₂, subst, ◌∙◌, arith, append-nil, append_assoc, map, unwrap_or, bytes_eq, true≢false}
 use Rattle.std.specs.List.{list_all}
-use Rattle.std.proofs.lemmas.Bool.{and_parts}
-use Rattle.std.proofs.lemmas.Bool.Decides.{nat_tests}
+use Rattle.std.proofs.lemmas.Bool.{and_parts, cond_both, lt-ltb}
 use Rattle.std.proofs.lemmas.Slice.Eq.{bytes_eq-Decides}
 use Rattle.sqlite_value.specs.declared.keys.Key.{Key}
 use Rattle.sqlite_value.specs.declared.keys.Collation.{Collation}
 use Rattle.sqlite_value.specs.declared.keys.Collation.TheVariants.{Binary}
 use Rattle.sqlite_value.specs.Keys.{ascending}
+use Rattle.sqlite_trees.proofs.ListLemmas.{map-map}
 use Rattle.sqlite_sql.specs.Term.{Term, col}
 use Rattle.sqlite_ast.specs.declared.Expr.{Expr, out-Expr}
 use Rattle.sqlite_ast.specs.declared.Expr.TheOpen.{Expr-F, Shown-F}
@@ -23,7 +23,7 @@ use Rattle.sqlite_resolve.specs.declared.state.Carried.{Carried}
 use Rattle.sqlite_resolve.specs.declared.scope.Bound.{Bound}
 use Rattle.sqlite_resolve.specs.declared.scope.Output.{Output}
 use Rattle.sqlite_resolve.specs.declared.scope.Found.TheVariants as found
-use Rattle.sqlite_resolve.specs.Lowering.{begin, finish, spend, nothing, alone}
+use Rattle.sqlite_resolve.specs.Lowering.{Lowering, begin, finish, spend, nothing, alone}
 use Rattle.sqlite_resolve.specs.Scope.{Name, Context, find, in_level, only, hit, column_in, rowid_in, is_among, is_rowid, column, column_at, term_of, declared}
 use Rattle.sqlite_resolve.specs.Body as body
 use Rattle.sqlite_resolve.specs.Order as order
@@ -98,38 +98,43 @@ binary_is : (c : Collation) → is_binary c ≡ true → c ≡ Binary
 binary_is Binary h = refl
 binary_is c h = absurd (true≢false (sym h))
 
-can_spend : (budget : ℕ) → 1 < budget → nat_lt 1 budget ≡ true
-can_spend budget rich = grind (arith, nat_tests)
-
 -- ---- how it is read
 
 -- nothing was met but columns
 abbrev pub clear : ℕ → Carried → State
 clear budget last = record { next = 2; steps = []; aggregates = []; budget = budget; written = None; last = last }
 
-is_column : (name : Name) → body.is_column (column_expr name) ≡ true
-unfolding body.is_column
-is_column name = rw (column_out name)
+-- an expression that is a column alone, with no COLLATE, and no number
+record IsBare (x : Expr) : Type 0 where
+  pub named : body.is_column x ≡ true
+  pub peeled : order.peeled x ≡ x
+  pub uncollated : order.written_on x ≡ None
+  pub no_number : order.is_numeral x ≡ false
 
-bare : (name : Name) → order.peeled (column_expr name) ≡ column_expr name
-unfolding order.peeled
-bare name = rw (column_out name)
-
-uncollated : (name : Name) → order.written_on (column_expr name) ≡ None
-unfolding order.written_on
-uncollated name = rw (column_out name)
-
-no_number : (name : Name) → order.is_numeral (column_expr name) ≡ false
-unfolding order.is_numeral
-no_number name = rw (column_out name)
+is_bare : (name : Name) → IsBare (column_expr name)
+unfolding body.is_column order.peeled order.written_on order.is_numeral
+is_bare name = let out = column_out name in record { named = rw out; peeled = rw out; uncollated = rw out; no_number = rw out }
 
 by_bytes : (table : Table) (k : ℕ) (c : Column) → c.collation ≡ Binary → alone (declared table k c) ≡ Binary
 unfolding alone
-by_bytes table k c binary = go (is_key table.key k)
-  where
-    go : (b : Bool) → unwrap_or (cond b nothing (record { collation = Some c.collation; is_written = false })).collation Binary ≡ Binary
-    go true = refl
-    go false = binary
+by_bytes table k c binary =
+    let own : Carried = record { collation = Some c.collation; is_written = false } in
+    cond_both (is_key table.key k) nothing own (λ it. unwrap_or it.collation Binary ≡ Binary) (λ is. refl) (λ other. binary)
+
+-- Names that are read in turn make a list, an element for each, and each takes a step of resolving.
+module _ {X Y : Type 0} (walk : List Y → List X → Lowering (List Y)) (written : Name → X) (means : Name → Y) (fits : Name → Bool)
+    (none : (done : List Y) (s : State) → walk done [] s ≡ Ok (done, s))
+    (one : (name : Name) → fits name ≡ true → (more : List X) (done : List Y) (budget : ℕ) (last : Carried) → nat_lt 1 budget ≡ true
+    → (later : Carried) × (walk done (written name ∷ more) (clear budget last) ≡ walk (done ++ means name ∷ []) more (clear (budget - 1) later))) where
+  walks : (names : List Name) → list_all fits names ≡ true → (done : List Y) (budget : ℕ) (last : Carried) → length names + 1 < budget
+      → (later : Carried) × (walk done (map written names) (clear budget last) ≡ Ok (done ++ map means names, clear (budget - length names) later))
+  walks [] all done budget last rich = let same : budget - 0 ≡ budget = omega arith in (last, rw (append-nil, same) (none done (clear budget last)))
+  walks (name ∷ names) all done budget last rich =
+      let both : (fits name ≡ true) × (list_all fits names ≡ true) = and_parts _ _ all in
+      let here = one name both.0 (map written names) done budget last (lt-ltb 1 budget (omega arith)) in
+      let rest = walks names both.1 (done ++ means name ∷ []) (budget - 1) here.0 (omega arith) in
+      let left : budget - 1 - length names ≡ budget - length (name ∷ names) = omega arith in
+      (rest.0, here.1 ∙ rest.1 ∙ ap₂ (λ made b. Ok (made, clear b rest.0)) (append_assoc done (means name ∷ []) (map means names)) left)
 
 module _ (schema : Schema) (at : ℕ) (table : Table) (there : slice_get schema.tables at ≡ Some table) (alias : Name) where
   abbrev pub bound : Bound
@@ -147,23 +152,9 @@ module _ (schema : Schema) (at : ℕ) (table : Table) (there : slice_get schema.
   unfolding lower_to node opened spend begin finish column term_of column_at passes
   lowers_to depth name k c named is shown grouped budget last rich = rw (rich, column_out name, finds_column shown grouped name k named, there, is)
 
-  heads_column : (name : Name) (k : ℕ) (c : Column) → column_named table name ≡ Some k → slice_get table.columns k ≡ Some c → (shown : List Output) (grouped : Bool) → body.heading (over shown grouped) (column_expr name) name ≡ c.name
-  unfolding body.heading body.declared
-  heads_column name k c named is shown grouped = rw (column_out name, finds_column shown grouped name k named, there, is)
-
   finds_rowid : (shown : List Output) (grouped : Bool) → column_named table (codes "rowid") ≡ None → nat_lt table.tree (2 ^ 31) ≡ true → find (over shown grouped) None (codes "rowid") ≡ Ok (found.Rowid 1 at)
   unfolding find in_level only hit column_in rowid_in is_among is_rowid same_name
   finds_rowid shown grouped free low = rw (there, free, low)
-
-  lowers_rowid : column_named table (codes "rowid") ≡ None → nat_lt table.tree (2 ^ 31) ≡ true → (shown : List Output) (grouped : Bool) (budget : ℕ) (last : Carried) → nat_lt 1 budget ≡ true
-      → lower (over shown grouped) (column_expr (codes "rowid")) (clear budget last) ≡ Ok (col 1 0, clear (budget - 1) nothing)
-  unfolding lower_to node opened spend begin finish column term_of passes
-  lowers_rowid free low shown grouped budget last rich = rw (rich, column_out (codes "rowid"), finds_rowid shown grouped free low)
-
-  heads_rowid : column_named table (codes "rowid") ≡ None → nat_lt table.tree (2 ^ 31) ≡ true → table.key ≡ None → (shown : List Output) (grouped : Bool)
-      → body.heading (over shown grouped) (column_expr (codes "rowid")) (codes "rowid") ≡ codes "rowid"
-  unfolding body.heading body.declared
-  heads_rowid free low hidden shown grouped = rw (column_out (codes "rowid"), finds_rowid shown grouped free low, there, hidden)
 
   -- the name is that of this result
   record IsNamed (name : Name) (o : Output) : Type 0 where
@@ -172,15 +163,25 @@ module _ (schema : Schema) (at : ℕ) (table : Table) (there : slice_get schema.
     pub is : o ≡ record { name = o.name; is_alias = false; is_column = true; term = o.term; carried = o.carried }
 
   rowid_named : column_named table (codes "rowid") ≡ None → nat_lt table.tree (2 ^ 31) ≡ true → table.key ≡ None → IsNamed (codes "rowid") rowid_output
-  rowid_named free low hidden = record { lowers = lowers_rowid free low; heads = heads_rowid free low hidden; is = refl }
+  unfolding lower_to node opened spend begin finish column term_of passes body.heading body.declared
+  rowid_named free low hidden = record {
+    lowers = λ shown grouped budget last rich. rw (rich, column_out (codes "rowid"), finds_rowid shown grouped free low);
+    heads = λ shown grouped. rw (column_out (codes "rowid"), finds_rowid shown grouped free low, there, hidden);
+    is = refl;
+  }
 
   name_is : nat_lt table.tree (2 ^ 31) ≡ true → (name : Name) → is_shown table name ≡ true → IsNamed name (output_for table name)
+  unfolding body.heading body.declared
   name_is low name shown = by_place (column_named table name) refl shown
     where
       by_column : (k : ℕ) → column_named table name ≡ Some k → (c : Option Column) → slice_get table.columns k ≡ c → is_some (option_map (column_output table k) c) ≡ true
           → IsNamed name (unwrap_or (option_map (column_output table k) c) rowid_output)
       by_column k named None is h = absurd (true≢false (sym h))
-      by_column k named (Some c) is h = record { lowers = lowers_to 699 name k c named is; heads = heads_column name k c named is; is = refl }
+      by_column k named (Some c) is h = record {
+        lowers = lowers_to 699 name k c named is;
+        heads = λ shown grouped. rw (column_out name, finds_column shown grouped name k named, there, is);
+        is = refl;
+      }
 
       by_rowid : column_named table name ≡ None → (b : Bool) → (bytes_eq name (codes "rowid") && is_none table.key) ≡ b → is_some (rowid_if b) ≡ true → IsNamed name (unwrap_or (rowid_if b) rowid_output)
       by_rowid free false is h = absurd (true≢false (sym h))
@@ -197,26 +198,17 @@ module _ (schema : Schema) (at : ℕ) (table : Table) (there : slice_get schema.
       → body.shown lower (over shown grouped) (bound ∷ []) done (shown_column name) (clear budget last) ≡ Ok (done ++ o ∷ [], clear (budget - 1) o.carried)
   unfolding body.shown
   one_shown name o it shown done grouped budget last rich =
-      rw (out-roll-Shown (Shown-F.One (column_expr name) None name), it.lowers shown grouped budget last rich, it.heads shown grouped, is_column name) (ap (λ x. Ok (done ++ x ∷ [], clear (budget - 1) o.carried)) (sym it.is))
+      rw (out-roll-Shown (Shown-F.One (column_expr name) None name), it.lowers shown grouped budget last rich, it.heads shown grouped, (is_bare name).named) (ap (λ x. Ok (done ++ x ∷ [], clear (budget - 1) o.carried)) (sym it.is))
 
   -- the columns of the result, in turn
-  outputs_from : nat_lt table.tree (2 ^ 31) ≡ true → (names : List Name) → list_all (is_shown table) names ≡ true → (shown done : List Output) (grouped : Bool) (budget : ℕ) (last : Carried) → length names + 1 < budget
-      → (later : Carried) × (body.outputs_from lower (over shown grouped) (bound ∷ []) done (map shown_column names) (clear budget last) ≡ Ok (done ++ map (output_for table) names, clear (budget - length names) later))
-  outputs_from low [] all shown done grouped budget last rich = let same : budget - 0 ≡ budget = omega arith in (last, rw (append-nil, same))
-  outputs_from low (name ∷ names) all shown done grouped budget last rich =
-      let both : (is_shown table name ≡ true) × (list_all (is_shown table) names ≡ true) = and_parts _ _ all in
-      let o = output_for table name in
-      let outs = map (output_for table) names in
-      let rest = outputs_from low names both.1 shown (done ++ o ∷ []) grouped (budget - 1) o.carried (omega arith) in
-      let one = one_shown name o (name_is low name both.0) shown done grouped budget last (can_spend budget (omega arith)) in
-      let left : budget - 1 - length names ≡ budget - length (name ∷ names) = omega arith in
-      let longer : (done ++ o ∷ []) ++ outs ≡ done ++ o ∷ outs = append_assoc done (o ∷ []) outs in
-      (rest.0, rw one (rest.1 ∙ ap (λ xs. Ok (xs, clear (budget - 1 - length names) rest.0)) longer ∙ ap (λ b. Ok (done ++ o ∷ outs, clear b rest.0)) left))
-
   pub outputs_are : nat_lt table.tree (2 ^ 31) ≡ true → (names : List Name) → list_all (is_shown table) names ≡ true → (shown : List Output) (grouped : Bool) (budget : ℕ) (last : Carried) → length names + 1 < budget
       → (later : Carried) × (body.outputs lower (over shown grouped) (bound ∷ []) (map shown_column names) (clear budget last) ≡ Ok (map (output_for table) names, clear (budget - length names) later))
   unfolding body.outputs
-  outputs_are low names all shown grouped budget last rich = outputs_from low names all shown [] grouped budget last rich
+  outputs_are low names all shown grouped budget last rich =
+      walks (body.outputs_from lower (over shown grouped) (bound ∷ [])) shown_column (output_for table) (is_shown table) (λ done s. refl)
+      (λ name fits more done budget last rich.
+      let o = output_for table name in (o.carried, rw (one_shown name o (name_is low name fits) shown done grouped budget last rich)))
+      names all [] budget last rich
 
   -- a term of ORDER BY, which ascends by bytes
   one_key : (outs : List Output) (name : Name) (k : ℕ) (c : Column) → column_named table name ≡ Some k → slice_get table.columns k ≡ Some c → c.collation ≡ Binary → order.alias_in outs (column_expr name) ≡ None
@@ -224,7 +216,8 @@ module _ (schema : Schema) (at : ℕ) (table : Table) (there : slice_get schema.
       → order.sort lower (over outs grouped) outs done (sort_column name) (clear budget last) ≡ Ok (done ++ (col 1 (place_of table k), ascending Binary) ∷ [], clear (budget - 1) (declared table k c))
   unfolding order.sort order.key order.collation_of order.placed
   one_key outs name k c named is binary unaliased done grouped budget last rich =
-      rw (bare name, unaliased, lowers_to 699 name k c named is outs grouped budget last rich, no_number name, uncollated name, by_bytes table k c binary)
+      let bare = is_bare name in
+      rw (bare.peeled, unaliased, lowers_to 699 name k c named is outs grouped budget last rich, bare.no_number, bare.uncollated, by_bytes table k c binary)
 
   abbrev Sorts : List Output → Name → List (Term × Key) → Bool → ℕ → Carried → Term → Type 0
   Sorts outs name done grouped budget last t = (later : Carried) × (order.sort lower (over outs grouped) outs done (sort_column name) (clear budget last) ≡ Ok (done ++ (t, ascending Binary) ∷ [], clear (budget - 1) later))
@@ -241,20 +234,10 @@ module _ (schema : Schema) (at : ℕ) (table : Table) (there : slice_get schema.
       by_place None named well = absurd (true≢false (sym well))
       by_place (Some k) named well = by_column k named _ refl well
 
-  sorts_from : (outs : List Output) (names : List Name) → list_all (sorts_well table outs) names ≡ true → (done : List (Term × Key)) (grouped : Bool) (budget : ℕ) (last : Carried) → length names + 1 < budget
-      → (later : Carried) × (order.sorts_from lower (over outs grouped) outs done (map sort_column names) (clear budget last) ≡ Ok (done ++ map (λ t. (t, ascending Binary)) (map (term_for table) names), clear (budget - length names) later))
-  sorts_from outs [] all done grouped budget last rich = let same : budget - 0 ≡ budget = omega arith in (last, rw (append-nil, same))
-  sorts_from outs (name ∷ names) all done grouped budget last rich =
-      let both : (sorts_well table outs name ≡ true) × (list_all (sorts_well table outs) names ≡ true) = and_parts _ _ all in
-      let key : Term × Key = (term_for table name, ascending Binary) in
-      let keys : List (Term × Key) = map (λ t. (t, ascending Binary)) (map (term_for table) names) in
-      let one = one_sort outs name both.0 done grouped budget last (can_spend budget (omega arith)) in
-      let rest = sorts_from outs names both.1 (done ++ key ∷ []) grouped (budget - 1) one.0 (omega arith) in
-      let left : budget - 1 - length names ≡ budget - length (name ∷ names) = omega arith in
-      let longer : (done ++ key ∷ []) ++ keys ≡ done ++ key ∷ keys = append_assoc done (key ∷ []) keys in
-      (rest.0, rw one.1 (rest.1 ∙ ap (λ xs. Ok (xs, clear (budget - 1 - length names) rest.0)) longer ∙ ap (λ b. Ok (done ++ key ∷ keys, clear b rest.0)) left))
-
   pub sorts_are : (outs : List Output) (names : List Name) → list_all (sorts_well table outs) names ≡ true → (grouped : Bool) (budget : ℕ) (last : Carried) → length names + 1 < budget
       → (later : Carried) × (order.sorts lower (over outs grouped) outs (map sort_column names) (clear budget last) ≡ Ok (map (λ t. (t, ascending Binary)) (map (term_for table) names), clear (budget - length names) later))
   unfolding order.sorts
-  sorts_are outs names all grouped budget last rich = sorts_from outs names all [] grouped budget last rich
+  sorts_are outs names all grouped budget last rich = rw map-map
+      (walks (order.sorts_from lower (over outs grouped) outs) sort_column (λ name. (term_for table name, ascending Binary)) (sorts_well table outs)
+      (λ done s. refl) (λ name fits more done budget last rich. let it = one_sort outs name fits done grouped budget last rich in (it.0, rw it.1))
+      names all [] budget last rich)
