@@ -1,10 +1,11 @@
 -- What a schema declares once a table is made in it, with the database's counter of rowids where that is missing.
 use Rattle.std.proofs.Common.{◌≡◌, ◌≢◌, inl, inr, ℕ, ◌+◌, Bool, true, false, cond, ◌==◌, ◌&&◌, ◌||◌, List, [], ◌∷◌, ◌++◌, filter, length, is_some, Option, Some, None, refl, sym, ap, ◌∙◌, append-nil, arith, ◌<◌, not, if◌then◌else◌, slice_get, option_and_then, codes, ap₂, subst}
-use Rattle.std.specs.List.{position_from, list_any}
+use Rattle.std.specs.List.{position_from}
 use Rattle.std.specs.Option.{option_or}
-use Rattle.std.proofs.lemmas.Bool.{or_from, or_parts}
-use Rattle.std.proofs.lemmas.Bool.Decides.{nat_tests}
+use Rattle.std.proofs.lemmas.Bool.{and_right, cond_both, ne_eqb, or_from, or_parts}
 use Rattle.std.proofs.lemmas.List.Elements.{filter-append}
+use Rattle.std.proofs.Math.Bool.{or-false}
+use Rattle.std.proofs.lemmas.List.Folds.{list_any-append}
 use Rattle.sqlite_trees.specs.Tree.{Trees}
 use Rattle.sqlite_trees.proofs.ListLemmas.{filter_none}
 use Rattle.sqlite_schema.specs.declared.schema.Index.{Index}
@@ -25,7 +26,7 @@ use Rattle.std.proofs.lemmas.Option.{slice_get-get_or}
 use Rattle.sqlite_rules.proofs.RowLemmas.{position_within}
 use Rattle.sqlite.specs.Does.{lacks_sequence}
 use Rattle.sqlite.specs.Rows.{sequence}
-use Rattle.sql_tables.proofs.Frozen.{foreign_still}
+use Rattle.sql_tables.proofs.Frozen.{all_automatic, foreign_still}
 
 some_of_both : {X : Type 0} (a b : Option X) → is_some (option_or a b) ≡ (is_some a || is_some b)
 some_of_both None b = refl
@@ -34,25 +35,17 @@ some_of_both (Some x) b = refl
 -- a search in two lists finds the first, or else goes on in the second
 placed_in_both : {X : Type 0} (p : X → Bool) (xs ys : List X) (from : ℕ) → position_from p from (xs ++ ys) ≡ option_or (position_from p from xs) (position_from p (from + length xs) ys)
 placed_in_both p [] ys from = let same : from + 0 ≡ from = omega arith in rw same
-placed_in_both p (x ∷ xs) ys from = go (p x) (placed_in_both p xs ys (from + 1))
-  where
-    go : (b : Bool) → position_from p (from + 1) (xs ++ ys) ≡ option_or (position_from p (from + 1) xs) (position_from p (from + 1 + length xs) ys)
-        → cond b (Some from) (position_from p (from + 1) (xs ++ ys)) ≡ option_or (cond b (Some from) (position_from p (from + 1) xs)) (position_from p (from + length (x ∷ xs)) ys)
-    go true more = refl
-    go false more = let same : from + 1 + length xs ≡ from + length (x ∷ xs) = omega arith in more ∙ ap (λ at. option_or (position_from p (from + 1) xs) (position_from p at ys)) same
+placed_in_both p (x ∷ xs) ys from =
+    let same : from + 1 + length xs ≡ from + length (x ∷ xs) = omega arith in
+    let later = position_from p (from + length (x ∷ xs)) ys in
+    elim (p x) as (λ b. cond b (Some from) (position_from p (from + 1) (xs ++ ys)) ≡ option_or (cond b (Some from) (position_from p (from + 1) xs)) later)
+    [ true ↦ refl | false ↦ rw same at (placed_in_both p xs ys (from + 1)) ]
 
 pub is_in_both : {X : Type 0} (p : X → Bool) (xs ys : List X) (from : ℕ) → is_some (position_from p from (xs ++ ys)) ≡ (is_some (position_from p from xs) || is_some (position_from p (from + length xs) ys))
 is_in_both p xs ys from = ap is_some (placed_in_both p xs ys from) ∙ some_of_both (position_from p from xs) (position_from p (from + length xs) ys)
 
 pub absent_before : {X : Type 0} (p : X → Bool) (xs ys : List X) → is_some (position_from p 0 (xs ++ ys)) ≡ false → is_some (position_from p 0 xs) ≡ false
 absent_before p xs ys none = (or_parts _ _ (sym (is_in_both p xs ys 0) ∙ none)).0
-
-not_same : (m n : ℕ) → m ≢ n → (m == n) ≡ false
-not_same m n other = grind (arith, nat_tests)
-
-guards_none : (unique : Bool) (m n : ℕ) → m ≢ n → (unique && (m == n)) ≡ false
-guards_none true m n other = not_same m n other
-guards_none false m n other = refl
 
 pub sound_is_low : (s : Schema) (db : Trees) → IsSound s db → IndexesLow s
 sound_is_low s db sound i has =
@@ -61,18 +54,13 @@ sound_is_low s db sound i has =
     let is = index_owner row.table i _ row.defined in
     omega (arith, low, is)
 
-all_automatic : (table : Table) (at tree : ℕ) (keys : List (List ℕ)) (i : Index) → Has (automatics table at tree keys) i → i.table ≡ table.tree
-all_automatic table at tree [] i has = absurd has
-all_automatic table at tree (key ∷ keys) i (inl same) = ap (λ (x : Index). x.table) same
-all_automatic table at tree (key ∷ keys) i (inr later) = all_automatic table (at + 1) (tree + 1) keys i later
-
 pub low_still : (s : Schema) (table : Table) → IndexesLow s → IndexesLow (created s table)
 low_still s table low i has =
     let new : Table = record table { tree = next_tree s } in
     let above = table_below (created s table) new (has_right s.tables (new ∷ []) new (inl refl)) in
     elim (has_either s.indexes (automatics new 0 (next_tree s + 1) table.uniques) i has) [
       | inl old ↦ let before = low i old in omega (arith, above, before)
-      | inr more ↦ let is = all_automatic new 0 (next_tree s + 1) table.uniques i more in omega (arith, above, is)
+      | inr more ↦ let own = all_automatic new 0 (next_tree s + 1) table.uniques i more in omega (arith, above, own.0)
     ]
 
 module _ (before : Schema) (table : Table) where
@@ -98,7 +86,7 @@ module _ (before : Schema) (table : Table) where
     ];
     first = next_tree before + 1;
     indexed = filter-append (λ i. i.is_unique && (i.table == next_tree before)) before.indexes (automatics made 0 (next_tree before + 1) table.uniques)
-        ∙ ap (λ old. old ++ filter (λ i. i.is_unique && (i.table == next_tree before)) (automatics made 0 (next_tree before + 1) table.uniques)) (filter_none (λ (i : Index). i.is_unique && (i.table == next_tree before)) before.indexes (all_from _ before.indexes (λ i has. let low = index_low i has in guards_none i.is_unique i.table (next_tree before) (λ same. absurd (omega (arith, low, same))))))
+        ∙ ap (λ old. old ++ filter (λ i. i.is_unique && (i.table == next_tree before)) (automatics made 0 (next_tree before + 1) table.uniques)) (filter_none (λ (i : Index). i.is_unique && (i.table == next_tree before)) before.indexes (all_from _ before.indexes (λ i has. let low = index_low i has in and_right _ _ (ne_eqb i.table (next_tree before) (λ same. omega (arith, low, same))))))
         ∙ keys (next_tree before);
   }
 
@@ -146,30 +134,19 @@ named_counter s = go (table_named s (codes "sqlite_sequence")) refl
         let within = position_within (λ (t : Table). same_name t.name (codes "sqlite_sequence")) s.tables 0 at is in
         ap is_some (slice_get-get_or s.tables at (counter 0) (omega (arith, within)))
 
-counted_as_before : (tables : List Table) (table : Table) → table.is_counted ≡ false → list_any (λ t. t.is_counted) (tables ++ table ∷ []) ≡ list_any (λ t. t.is_counted) tables
-counted_as_before [] table plain = rw plain
-counted_as_before (t ∷ ts) table plain = ap (λ b. t.is_counted || b) (counted_as_before ts table plain)
-
-or_none : (b : Bool) → (b || false) ≡ b
-or_none true = refl
-or_none false = refl
-
 -- a table that doesn't count and isn't the counter changes nothing of whether the counter is missing
 pub lacks_as_before : (s : Schema) (table : Table) → table.is_counted ≡ false → same_name table.name (codes "sqlite_sequence") ≡ false → lacks_sequence (created s table) ≡ lacks_sequence s
 lacks_as_before s table plain other =
     let new : Table = record table { tree = next_tree s } in
     let named : is_some (table_named (created s table) (codes "sqlite_sequence")) ≡ is_some (table_named s (codes "sqlite_sequence")) =
-    is_in_both (λ (t : Table). same_name t.name (codes "sqlite_sequence")) s.tables (new ∷ []) 0 ∙ rw other (or_none _) in
-    ap₂ (λ some here. some && not here) (counted_as_before s.tables new plain) (named_counter (created s table) ∙ named ∙ sym (named_counter s))
+    is_in_both (λ (t : Table). same_name t.name (codes "sqlite_sequence")) s.tables (new ∷ []) 0 ∙ rw other (or-false _) in
+    let counted = list_any-append (λ (t : Table). t.is_counted) s.tables (new ∷ []) ∙ rw plain (or-false _) in
+    ap₂ (λ some here. some && not here) counted (named_counter (created s table) ∙ named ∙ sym (named_counter s))
 
 module _ (s : Schema) (table : Table) where
   -- what holds with and without the counter
   by_counter : (P : Schema → Type 0) → P (created s table) → P (created (created s table) (counter 0)) → P (first_created s table)
-  by_counter P plain more = go (lacks_sequence s)
-    where
-      go : (b : Bool) → P (if b then created (created s table) (counter 0) else created s table)
-      go true = more
-      go false = plain
+  by_counter P plain more = cond_both (lacks_sequence s) (created (created s table) (counter 0)) (created s table) P (λ lacks. more) (λ has. plain)
 
   pub free_first : (name : List ℕ) → is_used s name ≡ false → same_name table.name name ≡ false → same_name (codes "sqlite_sequence") name ≡ false
       → ((tree from : ℕ) → is_some (position_from (λ i. same_name i.name name) from (automatics (record table { tree = tree }) 0 (tree + 1) table.uniques)) ≡ false) → is_used (first_created s table) name ≡ false

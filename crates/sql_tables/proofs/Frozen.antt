@@ -1,7 +1,7 @@
 -- The trees that the database keeps as they are stay such while tables are made.
-use Rattle.std.proofs.Common.{◌≡◌, inl, inr, true, false, List, [], ◌∷◌, ◌++◌, map, refl, sym, ap, ◌∙◌, true≢false, ℕ, ◌+◌, ◌<◌, ◌≤◌, ◌%◌, ◌==◌, ◌||◌, pos, Bool, find, subst, arith}
+use Rattle.std.proofs.Common.{◌≡◌, inl, inr, true, false, List, [], ◌∷◌, ◌++◌, map, refl, sym, ap, ◌∙◌, true≢false, ℕ, ◌+◌, ◌<◌, ◌≤◌, ◌%◌, ◌==◌, ◌||◌, pos, Bool, find, Some, subst, arith}
 use Rattle.std.specs.Char.{to_ascii_lowercase}
-use Rattle.std.proofs.lemmas.Bool.{and_parts, not-true, cases_Bool}
+use Rattle.std.proofs.lemmas.Bool.{and_parts, cond_both, not-true}
 use Rattle.std.proofs.lemmas.Slice.Eq.{bytes_eq-Decides}
 use Rattle.sqlite_value.specs.Order.{Row, bytes, column}
 use Rattle.sqlite_trees.specs.Sound.{Head, are_in_order, head_at, is_sound_list, may_follow, same_name}
@@ -54,10 +54,11 @@ one_of_name objects sound = one_in_order [] objects (list_parts objects sound).1
 
 -- ---- trees that are kept as they are
 
-above : (table : Table) (at tree : ℕ) (keys : List (List ℕ)) (i : Index) → Has (automatics table at tree keys) i → tree ≤ i.tree
-above table at tree [] i has = absurd has
-above table at tree (key ∷ keys) i (inl same) = let is = ap (λ (x : Index). x.tree) same in omega (arith, is)
-above table at tree (key ∷ keys) i (inr later) = let up = above table (at + 1) (tree + 1) keys i later in omega (arith, up)
+-- the indexes for a table's keys are on it, in trees from one on
+pub all_automatic : (table : Table) (at tree : ℕ) (keys : List (List ℕ)) (i : Index) → Has (automatics table at tree keys) i → (i.table ≡ table.tree) × (tree ≤ i.tree)
+all_automatic table at tree [] i has = absurd has
+all_automatic table at tree (key ∷ keys) i (inl same) = (ap (λ (x : Index). x.table) same, omega (arith, ap (λ (x : Index). x.tree) same))
+all_automatic table at tree (key ∷ keys) i (inr later) = let own = all_automatic table (at + 1) (tree + 1) keys i later in (own.0, omega (arith, own.1))
 
 -- a new table and its indexes have other trees
 pub foreign_still : (s : Schema) (table : Table) (db : Trees) (tree : ℕ) → IsForeignTree s db tree → IsForeignTree (created s table) db tree
@@ -76,19 +77,16 @@ foreign_still s table db tree f =
       ]);
       no_index = all_from _ (created s table).indexes (λ i has same. elim (has_either s.indexes (automatics new 0 (next_tree s + 1) table.uniques) i has) [
         | inl old ↦ all_has _ s.indexes i f.no_index old same
-        | inr more ↦ let up = above new 0 (next_tree s + 1) table.uniques i more in absurd (omega (arith, low, there, same, up))
+        | inr more ↦ let own = all_automatic new 0 (next_tree s + 1) table.uniques i more in absurd (omega (arith, low, there, same, own.1))
       ]);
     }
 
 found_so : (P : Row → Type 0) (p : Row → Bool) (rows : List Row) (row : Row) → Has rows row → p row ≡ true → ((r : Row) → Has rows r → p r ≡ true → P r) → P (unwrap_or (find p rows) [])
 found_so P p [] row has own each = absurd has
-found_so P p (r ∷ rs) row has own each = elim (cases_Bool (p r)) [
-  | inl is ↦ rw is (each r (inl refl) is)
-  | inr not' ↦ rw not' (elim has [
-    | inl same ↦ absurd (true≢false (sym own ∙ ap p same ∙ not'))
-    | inr later ↦ found_so P p rs row later own (λ s there. each s (inr there))
-  ])
-]
+found_so P p (r ∷ rs) row has own each = cond_both (p r) (Some r) (find p rs) (λ found. P (unwrap_or found [])) (each r (inl refl)) (λ other. elim has [
+  | inl same ↦ absurd (true≢false (sym own ∙ ap p same ∙ other))
+  | inr later ↦ found_so P p rs row later own (λ s there. each s (inr there))
+])
 
 same_tree : (row : Row) (n tree : ℕ) → rowid row ≡ Int (pos (n + 1)) → has_rowid (pos (tree + 1)) row ≡ true → n ≡ tree
 same_tree row n tree id own = let same = same_rowid row (n + 1) (tree + 1) id own in omega (arith, same)

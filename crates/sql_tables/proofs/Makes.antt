@@ -1,8 +1,8 @@
 -- The text that makes a table, which finds its name free and frees none.
-use Rattle.std.proofs.Common.{◌≡◌, ℕ, ◌≤◌, Bool, true, false, nat_lt, if◌then◌else◌, ◌==◌, List, [], ◌∷◌, ◌++◌, length, codes, slice_range, Ok, sym, ap, subst, ◌∙◌, arith, MatchBool, Err, Result, refl, inl, inr}
+use Rattle.std.proofs.Common.{◌≡◌, ℕ, ◌≤◌, Bool, true, false, nat_lt, if◌then◌else◌, ◌==◌, List, [], ◌∷◌, length, codes, slice_range, Ok, sym, ap, subst, ◌∙◌, arith, MatchBool, Err, Result, refl}
 use Rattle.std.specs.List.{AllByRecursion}
-use Rattle.std.proofs.lemmas.Bool.Decides.{nat_tests}
 use Rattle.sqlite_trees.specs.Tree.{Trees}
+use Rattle.sqlite_trees.proofs.ListLemmas.{all-append, all_both}
 use Rattle.sqlite_ast.specs.declared.CreateTable as create
 use Rattle.sqlite_ast.specs.declared.Statement.TheVariants.{CreateTable}
 use Rattle.sqlite_schema.specs.declared.schema.Schema.{Schema}
@@ -10,7 +10,7 @@ use Rattle.sqlite_schema.specs.declared.schema.Table.{Table}
 use Rattle.sqlite_schema.specs.Names.{same_name}
 use Rattle.sqlite_resolve.specs.Compile.{is_reserved, table_defined_by}
 use Rattle.sqlite_resolve.specs.Define as define
-use Rattle.sqlite_catalog.specs.Change.{created, is_used, next_tree, KeepsRows}
+use Rattle.sqlite_catalog.specs.Change.{created, is_used, next_tree}
 use Rattle.sqlite_catalog.specs.Listing.{IsSound}
 use Rattle.sqlite.proofs.Callers.{statement_of, command_of, runs_as}
 use Rattle.sqlite.specs.Does.{lacks_sequence, Tally, MakesTable, sequence_text}
@@ -22,7 +22,7 @@ use Rattle.sql_tables.proofs.Creating.{foreign_first, lacks_as_before, rising, r
 use Rattle.sql_tables.proofs.Frozen.{is_frozen, still_frozen}
 use Rattle.sql_tables.proofs.Meaning.{IsText, parse_of, create_is, create_fails}
 use Rattle.sql_tables.proofs.Running.{Grows, create_ran, plain_if}
-use Rattle.std.proofs.lemmas.Bool.{or_parts, cases_Bool}
+use Rattle.std.proofs.lemmas.Bool.{false_from_ne_true, le-ltb, or_parts}
 use Rattle.sqlite_schema.specs.declared.command.Command.TheVariants.{CreateTable as MakeTable}
 use Rattle.sqlite.specs.Rows.{Gives}
 use Rattle.sql_tables.proofs.Writing.{went, same_value}
@@ -43,11 +43,7 @@ pub record IsMake (text : List ℕ) (table : Table) : Type 0 where
   pub other : same_name table.name (codes "sqlite_sequence") ≡ false
 
 pub none_below : (m n : ℕ) → n ≤ m → nat_lt m n ≡ false
-none_below m n low = grind (arith, nat_tests)
-
-kept_rows : (old new first : Trees) (tables : List Table) → AllByRecursion (λ t. old t.tree ≡ first t.tree) tables → KeepsRows tables old new → (more : List Table) → AllByRecursion (λ t. new t.tree ≡ first t.tree) more → AllByRecursion (λ t. new t.tree ≡ first t.tree) (tables ++ more)
-kept_rows old new first [] was same more these = these
-kept_rows old new first (t ∷ ts) was same more these = (same.0 ∙ was.0, kept_rows old new first ts was.1 same.1 more these)
+none_below = le-ltb
 
 -- what was kept aside so far is kept by one more statement
 kept_aside : (first before : Schema) (rows : Trees) (old new : Database) → ((tree : ℕ) → IsForeignTree first rows tree → IsForeignTree before old.trees tree) → IsSound before old.trees → KeepsAside first rows old.trees → SparesFrozen old new
@@ -65,7 +61,10 @@ kept_with : (first before : Schema) (rows old new : Trees) (table : Table) → n
     → AllByRecursion (λ t. new t.tree ≡ first_rows first rows t.tree) (created before table).tables
 kept_with first before rows old new table later was grows =
     let empty : new (next_tree before) ≡ first_rows first rows (next_tree before) = grows.empty ∙ rw (none_below (next_tree before) (next_tree first) later) in
-    kept_rows old new (first_rows first rows) before.tables was grows.others (record table { tree = next_tree before } ∷ []) (empty, tt)
+    let kept = λ (t : Table). new t.tree ≡ first_rows first rows t.tree in
+    let was_kept = λ (t : Table). old t.tree ≡ first_rows first rows t.tree in
+    let others = all_both was_kept (λ t. new t.tree ≡ old t.tree) kept (λ t is same. same ∙ is) before.tables was grows.others in
+    all-append kept before.tables (record table { tree = next_tree before } ∷ []) others (empty, tt)
 
 -- and so has the counter that comes with it
 kept_counting : (first before : Schema) (rows old mid new : Trees) (table : Table) (lacks : Bool) → next_tree first ≤ next_tree before → AllByRecursion (λ t. old t.tree ≡ first_rows first rows t.tree) before.tables → Grows before old mid
@@ -107,14 +106,10 @@ free_before s table name free =
 
 statement_free : (text : List ℕ) (table : Table) (m : IsMake text table) (old new : State) (count : ℕ) → Executes text [] old new (Ok count) → is_used old.now.schema table.name ≡ false
 unfolding ExecutesIn
-statement_free text table m old new count h = elim (cases_Bool (is_used old.now.schema table.name)) [
-  | inl used ↦ (
-      let fails = create_fails old.now.schema text m.def m.is_text m.always (ap (is_used old.now.schema) m.name ∙ used) in
-      let both : ◌≡◌ {A = _} (Ok h.0) (Err fails.0) = sym h.1.is ∙ fails.1 in
-      absurd (cc)
-      )
-  | inr free ↦ free
-]
+statement_free text table m old new count h = false_from_ne_true _ (λ used.
+    let fails = create_fails old.now.schema text m.def m.is_text m.always (ap (is_used old.now.schema) m.name ∙ used) in
+    let both : ◌≡◌ {A = _} (Ok h.0) (Err fails.0) = sym h.1.is ∙ fails.1 in
+    cc)
 
 sequence_frees_none : (b : Bool) (mid after : Database) → MatchBool b (MakesTable sequence_text mid (Ok after)) (Gives mid (Ok after)) → (name : List ℕ) → is_used after.schema name ≡ false → is_used mid.schema name ≡ false
 sequence_frees_none true mid after h name free = free_before mid.schema h.table name (subst (λ s. is_used s name ≡ false) h.is free)
