@@ -79,8 +79,7 @@ cast_one k v h = absurd (true≢false (sym h))
 cast_fits : (cs : List Column) (vs : Row) → fits cs vs ≡ true → cast_all cs vs ≡ vs
 cast_fits [] [] h = refl
 cast_fits (c ∷ cs) (v ∷ vs) h = let both = and_parts _ _ h in rw (cast_one c.kind v both.0, cast_fits cs vs both.1)
-cast_fits [] (v ∷ vs) h = absurd (true≢false (sym h))
-cast_fits (c ∷ cs) [] h = absurd (true≢false (sym h))
+cast_fits cs vs h = absurd (true≢false (sym h))
 
 -- a row as its tree keeps it
 abbrev pub stored : ℤ → Row → Row
@@ -89,9 +88,6 @@ stored id r = value.Int id ∷ value.Null ∷ drop 1 r
 -- it stands as it is
 pub cast_stored : (name : List ℕ) (columns : List Column) (tree : ℕ) (r : Row) (id : ℤ) → fits columns (drop 1 (stored id r)) ≡ true → cast_row (numbered_table name columns tree) (stored id r) ≡ stored id r
 cast_stored name columns tree r id suits = rw (cast_int id, cast_fits columns (drop 1 (stored id r)) suits)
-
-keeps_number : (there : List Row) (row : Row) (id : ℤ) → rowid row ≡ value.Int id → with_rowid Chosen there row ≡ row
-keeps_number there row id is = rw is
 
 -- the parameters from the second on
 abbrev pub later : ℕ → List Term
@@ -159,7 +155,7 @@ module _ (name : List ℕ) (columns : List Column) (own : List ℕ) (text : List
         let id = key x in
         let it = stored id (row x) in
         let cast = cast_stored name columns tree (row x) id (u.suits x) in
-        let chosen = ap (with_rowid Chosen (db tree)) cast ∙ keeps_number (db tree) it id refl in
+        let chosen = ap (with_rowid Chosen (db tree)) cast in
         let ran = upsert_ran schema d.at (table tree) d.there text (row x) old new count has (Some (0 ∷ [])) (program_on tree parts) terms (suc width) (means low) it it refl (u.values x tree) chosen h in
         let put = upserts schema (table tree) d refl low old.step_limit (row x) width project it cast id refl (u.asked x (shown (table tree) it)) (makes x) db new.now.trees ids ran.1 in (
           ran.0,

@@ -1,11 +1,11 @@
 -- What a text means is what its parse means, whatever the schema.
-use Rattle.std.proofs.Common.{◌≡◌, ℕ, ◌+◌, List, [], ◌∷◌, Option, Some, None, Ok, Err, Result, refl, sym, false, true, length, slice_get, is_some, Bool, ◌==◌, ◌||◌, if◌then◌else◌, true≢false}
+use Rattle.std.proofs.Common.{◌≡◌, ◌∙◌, ℕ, ◌+◌, List, [], ◌∷◌, Option, Some, None, Ok, Err, Result, refl, sym, false, true, length, slice_get, is_some, Bool, ◌==◌, ◌||◌, true≢false}
 use Rattle.sqlite_ast.specs.declared.Statement.{Statement}
 use Rattle.sqlite_ast.specs.declared.Statement.TheVariants.{Select, Insert, Update, CreateTable, Empty}
 use Rattle.sqlite_ast.specs.declared.CreateTable as create
 use Rattle.sqlite_resolve.specs.Define as define
 use Rattle.sqlite_catalog.specs.Change.{is_used}
-use Rattle.sqlite_schema.specs.Names.{index_named, view_named}
+use Rattle.std.proofs.lemmas.Bool.{cond_both, or_from}
 use Rattle.sqlite_catalog.proofs.StepLemmas.{no_index, no_table, no_view}
 use Rattle.std.specs.Option.{option_or}
 use Rattle.sqlite_ast.specs.declared.Expr.{Expr}
@@ -22,7 +22,7 @@ use Rattle.sqlite_schema.specs.declared.command.Command.TheVariants.{InsertOr, I
 use Rattle.sqlite_schema.specs.declared.command.Source.{Source}
 use Rattle.sqlite_schema.specs.declared.command.Conflict.TheVariants.{Abort}
 use Rattle.sqlite_schema.specs.declared.command.Upsert as command_upsert
-use Rattle.sqlite_schema.specs.Names.{table_named}
+use Rattle.sqlite_schema.specs.Names.{index_named, table_named, view_named}
 use Rattle.sqlite_resolve.specs.declared.compiled.Compiled.{Compiled}
 use Rattle.sqlite_resolve.specs.declared.error.CompileError.{CompileError}
 use Rattle.sqlite_resolve.specs.declared.error.CompileError.TheVariants.{Exists, Misuse, Unsupported}
@@ -119,21 +119,15 @@ Stops r = (e : CompileError) × (r ≡ Err e) × (misses_table (Err e) ≡ false
 
 not_new : (name : List ℕ) (same other : Option ℕ) → (is_some same || is_some other) ≡ true → Stops (creates false name same other)
 unfolding creates
-not_new name same other taken = go (is_reserved name) same other taken
-  where
-    go : (own : Bool) (same other : Option ℕ) → (is_some same || is_some other) ≡ true
-        → Stops (if own then Err Misuse else (if is_some other then Err Exists else (if is_some same then (if false then Ok false else Err Exists) else Ok true)))
-    go true same other taken = (Misuse, refl, refl)
-    go false same (Some at) taken = (Exists, refl, refl)
-    go false (Some at) None taken = (Exists, refl, refl)
-    go false None None taken = absurd (true≢false (sym taken))
+not_new name same other taken = cond_both (is_reserved name) _ _ Stops (λ own. (Misuse, refl, refl))
+    (λ free. cond_both (is_some other) _ _ Stops (λ some. (Exists, refl, refl))
+    (λ none. cond_both (is_some same) _ _ Stops (λ some. (Exists, refl, refl)) (λ neither. absurd (true≢false (sym taken ∙ or_from _ _ neither none)))))
 
 either_named : (table index view : Option ℕ) → (is_some table || is_some index || is_some view) ≡ true → (is_some (option_or table view) || is_some index) ≡ true
 either_named (Some at) index view taken = refl
-either_named None (Some at) None taken = refl
-either_named None (Some at) (Some other) taken = refl
-either_named None None (Some at) taken = refl
-either_named None None None taken = absurd (true≢false (sym taken))
+either_named None index (Some at) taken = refl
+either_named None (Some at) None taken = taken
+either_named None None None taken = taken
 
 -- where a table, an index or a view has the name, CREATE TABLE is refused
 create_stops : (schema : Schema) (base : ℕ) (formats : List (List ℕ)) (def : create.CreateTable) → def.if_missing ≡ false → is_used schema def.name ≡ true → Stops (command schema formats base (CreateTable def))
@@ -141,11 +135,7 @@ unfolding command create_table
 create_stops schema base formats def always used =
     let taken = either_named (table_named schema def.name) (index_named schema def.name) (view_named schema def.name) used in
     let stop = not_new def.name (option_or (table_named schema def.name) (view_named schema def.name)) (index_named schema def.name) taken in
-    rw always (go (is_attached schema def.name) _ stop _)
-  where
-    go : (attached : Bool) (r : Result Bool CompileError) → Stops r → (next : Bool → Result Command CompileError) → Stops (if attached then Err Unsupported else and_then r next)
-    go true r stop next = (Unsupported, refl, refl)
-    go false r stop next = (stop.0, rw stop.1 refl, stop.2)
+    rw always (cond_both (is_attached schema def.name) _ _ Stops (λ attached. (Unsupported, refl, refl)) (λ plain. (stop.0, rw stop.1 refl, stop.2)))
 
 pub create_fails : (schema : Schema) (text : List ℕ) (def : create.CreateTable) → IsText text (CreateTable def) → def.if_missing ≡ false → is_used schema def.name ≡ true → (e : CompileError) × (understood schema text ≡ Err e)
 unfolding returning timed
@@ -154,32 +144,23 @@ create_fails schema text def t always used =
     (stop.0, (understood_as schema text (Err stop.0) (compiled_as schema text (parse_of text) (CreateTable def) (Err stop.0) t.parsed t.statement t.timeless refl refl stop.1) stop.2).0)
 
 module _ (schema : Schema) (at : ℕ) (table : Table) (named : table_named schema table.name ≡ Some at) (there : slice_get schema.tables at ≡ Some table) (untimed : table.stamps.formats ≡ []) where
-  upsert_command : (base : ℕ) (rows : Rows) (clauses : List Upsert) (source : Source) (found : List command_upsert.Upsert) → (length clauses == 0) ≡ false
-      → new_rows schema table base [] rows ≡ Ok source → upserts schema at table base clauses ≡ Ok found
-      → command schema [] base (Insert conflict.Abort table.name [] rows clauses []) ≡ Ok (InsertOr at Abort source found)
-  unfolding command insert_or_abort insert_or
-  upsert_command base rows clauses source found some given met = rw (some, named, there, given, met)
-
   -- an upsert into a table of the schema
   pub upsert_is : (text : List ℕ) (rows : Rows) (clauses : List Upsert) (base : ℕ) (source : Source) (found : List command_upsert.Upsert)
       → IsText text (Insert conflict.Abort table.name [] rows clauses []) → base_of text ≡ base → (length clauses == 0) ≡ false
       → new_rows schema table base [] rows ≡ Ok source → upserts schema at table base clauses ≡ Ok found
       → understood schema text ≡ Ok (with_command (parse_of text) ([], (InsertOr at Abort source found, None)))
-  unfolding returning shows timed
+  unfolding command insert_or_abort insert_or returning shows timed
   upsert_is text rows clauses base source found t many some given met =
-      let means : command schema [] (base_of text) (Insert conflict.Abort table.name [] rows clauses []) ≡ Ok (InsertOr at Abort source found) = rw many (upsert_command base rows clauses source found some given met) in
-      (means_as schema text (Insert conflict.Abort table.name [] rows clauses []) (InsertOr at Abort source found) t (rw (named, there, untimed)) refl means).0
-
-  insert_command : (base : ℕ) (rows : Rows) (source : Source) → new_rows schema table base [] rows ≡ Ok source → command schema [] base (Insert conflict.Abort table.name [] rows [] []) ≡ Ok (Insert' at source)
-  unfolding command insert_or_abort insert
-  insert_command base rows source given = rw (named, there, given)
+      let s = Insert conflict.Abort table.name [] rows clauses [] in
+      (means_as schema text s (InsertOr at Abort source found) t (rw (named, there, untimed)) refl (rw (many, some, named, there, given, met))).0
 
   -- an insert into a table of the schema
   pub insert_is : (text : List ℕ) (rows : Rows) (source : Source) → IsText text (Insert conflict.Abort table.name [] rows [] []) → ((base : ℕ) → new_rows schema table base [] rows ≡ Ok source)
       → understood schema text ≡ Ok (with_command (parse_of text) ([], (Insert' at source, None)))
-  unfolding returning shows timed
+  unfolding command insert_or_abort insert returning shows timed
   insert_is text rows source t given =
-      (means_as schema text (Insert conflict.Abort table.name [] rows [] []) (Insert' at source) t (rw (named, there, untimed)) refl (insert_command (base_of text) rows source (given (base_of text)))).0
+      let s = Insert conflict.Abort table.name [] rows [] [] in
+      (means_as schema text s (Insert' at source) t (rw (named, there, untimed)) refl (rw (named, there, given (base_of text)))).0
 
 -- what one ON CONFLICT means
 pub one_upsert : (schema : Schema) (at : ℕ) (table : Table) (base : ℕ) (u : Upsert) (key : Option (List ℕ)) (draft : Draft) (p : Program) → (length u.target == 0) ≡ false → (length u.sets == 0) ≡ false

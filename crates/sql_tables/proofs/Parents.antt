@@ -23,11 +23,9 @@ abbrev pub AreKept : Row → Row → List ℕ → Type 0
 AreKept old new = AllByRecursion (λ p. column new p ≡ column old p)
 
 loses_nothing : (o : Order) (places : List ℕ) (old new : Row) → AreKept old new places → loses o places (old, new) ≡ false
-loses_nothing o places old new kept = rw (sym (agree_same o places places old old new old (agrees_itself places old) kept)) (both (agree o places old places old))
-  where
-    both : (b : Bool) → (b && not b) ≡ false
-    both true = refl
-    both false = refl
+loses_nothing o places old new kept =
+    rw (sym (agree_same o places places old old new old (agrees_itself places old) kept))
+    (elim (agree o places old places old) as (λ b. (b && not b) ≡ false) [ true ↦ refl | false ↦ refl ])
 
 module _ (schema : Schema) (table : Table) (alone : (other : Table) → Has schema.tables other → other.tree ≡ table.tree → other ≡ table) (old new : Row) (rowid_kept : column new 0 ≡ column old 0)
     (kept : (i : Index) → Has schema.indexes i → i.is_unique ≡ true → i.table ≡ table.tree → AreKept old new i.columns) where

@@ -1,5 +1,6 @@
 -- A text that is a SELECT writes nothing, whatever the schema is, and one that has an answer fails only where the store does.
-use Rattle.std.proofs.Common.{◌≡◌, ◌⊎◌, inl, inr, ℕ, ◌+◌, Bool, true, false, cond, List, None, Ok, Err, Result, OnOk, IfErr, refl, sym, ap, subst, true≢false, ◌≤◌, [], Option, length, ◌∙◌}
+use Rattle.std.proofs.Common.{Option, ◌≡◌, ◌⊎◌, inl, inr, ℕ, ◌+◌, Bool, true, false, List, None, Ok, Err, Result, OnOk, IfErr, refl, sym, ap, subst, true≢false, ◌≤◌, [], length, ◌∙◌}
+use Rattle.std.proofs.lemmas.Bool.{cond_both}
 use Rattle.sqlite_ast.specs.declared.Statement.{Statement}
 use Rattle.sqlite_ast.specs.declared.Statement.TheVariants.{Select}
 use Rattle.sqlite_syntax.specs.declared.statement.Parsed.{Parsed}
@@ -13,11 +14,11 @@ use Rattle.sqlite_resolve.specs.Lowering.{and_then}
 use Rattle.sqlite_trees.specs.declared.error.StoreError.{StoreError}
 use Rattle.sqlite_value.specs.Order.{Row}
 use Rattle.sqlite.specs.declared.error.Error.{Error}
+use Rattle.sqlite.specs.Effect.{Database, RefusesToRead}
 use Rattle.sqlite.specs.Clock.{timed as filled}
 use Rattle.sqlite.specs.Listing.{understood, reads_listing, listing_schema, if_select, is_select}
-use Rattle.sqlite.specs.State.{State, store_error, IsUnchanged, IsNotRun, FailsToShow, FailsToQuery, Shown, ShowsRows, Survives, CommitsShowing, IsNoStatement}
+use Rattle.sqlite.specs.State.{State, store_error, IsUnchanged, IsNotRun, FailsToShow, FailsToQuery, Shown, Survives, CommitsShowing, IsNoStatement}
 use Rattle.sqlite.proofs.StateLemmas.{survives_weaker}
-use Rattle.sqlite.specs.Effect.{Database, RefusesToRead}
 use Rattle.sql_tables.specs.States.{HasAnswer}
 
 abbrev pub selects : Statement → Bool
@@ -65,19 +66,14 @@ module _ (text : List ℕ) (is : reads (first text) ≡ true) where
 
   listed : (r : Result Compiled CompileError) → ((c : Compiled) → r ≡ Ok c → c.returning ≡ None) → (c : Compiled) → if_select r ≡ Ok c → c.returning ≡ None
   listed (Err x) plain c e = absurd (cc)
-  listed (Ok x) plain c e = go (is_select x.command) e
-    where
-      go : (b : Bool) → cond b (Ok x) (Err NoSuchTable) ≡ Ok c → c.returning ≡ None
-      go true same = plain c same
-      go false same = absurd (cc)
+  listed (Ok x) plain c e =
+      cond_both (is_select x.command) (Ok x) (Err NoSuchTable) (λ r. r ≡ Ok c → c.returning ≡ None) (λ is. plain c) (λ other same. absurd (cc)) e
 
   pub never_returns : (schema : Schema) (c : Compiled) → understood schema text ≡ Ok c → c.returning ≡ None
   unfolding understood
-  never_returns schema c e = go (reads_listing schema text) e
-    where
-      go : (b : Bool) → cond b (if_select (compiled listing_schema text)) (compiled schema text) ≡ Ok c → c.returning ≡ None
-      go true same = listed (compiled listing_schema text) (in_schema listing_schema) c same
-      go false same = in_schema schema c same
+  never_returns schema c e =
+      cond_both (reads_listing schema text) (if_select (compiled listing_schema text)) (compiled schema text) (λ r. r ≡ Ok c → c.returning ≡ None)
+      (λ listing. listed (compiled listing_schema text) (in_schema listing_schema) c) (λ other. in_schema schema c) e
 
   -- a query on any file commits nothing
   pub commits_nothing : (params : Row) (old new : State) → Survives old new (CommitsShowing text params old) → Survives old new (λ _. ⊥)
@@ -89,20 +85,12 @@ module _ (text : List ℕ) (is : reads (first text) ≡ true) where
   unfolding FailsToQuery IsNotRun
   refused_quietly params old new e (inl (inl h)) = inr h.1
   refused_quietly params old new e (inl (inr h)) = inl (h.0, h.1)
-  refused_quietly params old new e (inr h) =
-      let none = never_returns old.now.schema h.0 h.1.is in
-      let full = filled params h.0.formats h.1.now in
-      let shown : FailsToShow old new text h.0 full e None = subst (FailsToShow old new text h.0 full e) none h.2 in
-      inr shown.3
+  refused_quietly params old new e (inr h) = inr (rw (never_returns old.now.schema h.0 h.1.is) at h.2).3
 
   -- one that is answered leaves it as it was
   pub shown_quietly : (params : Row) (old new : State) (rows : List Row) → Shown text params old new rows → IsUnchanged old new
   unfolding Shown
-  shown_quietly params old new rows h =
-      let none = never_returns old.now.schema h.0 h.1.is in
-      let full = filled params h.0.formats h.1.now in
-      let it = subst (ShowsRows old new text h.0 full rows) none h.2 in
-      it.3
+  shown_quietly params old new rows h = (rw (never_returns old.now.schema h.0 h.1.is) at h.2).3
 
 -- ---- a query that has an answer fails only where the store does
 
@@ -110,7 +98,8 @@ module _ (text : List ℕ) (is : reads (first text) ≡ true) where
 abbrev pub IsStoreFailure : Error → Type 0
 IsStoreFailure e = (cause : StoreError) × (e ≡ store_error cause)
 
-same_refusal : (limit : Option ℕ) (c d : Compiled) (db : Database) (params : Row) (e : Error) → limit ≡ None → c ≡ d → params ≡ [] → RefusesToRead limit c.command db params e → RefusesToRead None d.command db [] e
+same_refusal : (limit : Option ℕ) (c d : Compiled) (db : Database) (params : Row) (e : Error) → limit ≡ None → c ≡ d → params ≡ []
+    → RefusesToRead limit c.command db params e → RefusesToRead None d.command db [] e
 same_refusal limit c d db params e unlimited same bare refused = rw (unlimited, same, bare) at refused
 
 module _ (text : List ℕ) (is_read : reads (first text) ≡ true) (old new : State) (can : HasAnswer text old) (unlimited : old.step_limit ≡ None) (e : Error) where
@@ -129,9 +118,7 @@ module _ (text : List ℕ) (is_read : reads (first text) ≡ true) (old new : St
   answered_fails (inl (inl h)) = absurd (is_statement h.0)
   answered_fails (inl (inr h)) = (h.0, h.1)
   answered_fails (inr h) =
-      let none = never_returns text is_read old.now.schema h.0 h.1.is in
       let same : h.0 ≡ can.compiled = same_compiled h.0 can.compiled (sym h.1.is ∙ can.is.is) in
-      let shown : FailsToShow old new text h.0 (filled [] h.0.formats h.1.now) e None = subst (FailsToShow old new text h.0 (filled [] h.0.formats h.1.now) e) none h.2 in
+      let shown : FailsToShow old new text h.0 (filled [] h.0.formats h.1.now) e None = rw (never_returns text is_read old.now.schema h.0 h.1.is) at h.2 in
       let bare : filled [] h.0.formats h.1.now ≡ [] = ap (λ formats. filled [] formats h.1.now) (ap (λ (c : Compiled). c.formats) same ∙ can.timeless) in
-      let refused = same_refusal old.step_limit h.0 can.compiled shown.0 (filled [] h.0.formats h.1.now) e unlimited same bare shown.2 in
-      absurd (can.unrefused shown.0 shown.1 e refused)
+      absurd (can.unrefused shown.0 shown.1 e (same_refusal old.step_limit h.0 can.compiled shown.0 (filled [] h.0.formats h.1.now) e unlimited same bare shown.2))

@@ -1,8 +1,7 @@
 -- The kinds of the values in a tree's rows, and their texts, by what a sound database asks of them.
-use Rattle.std.proofs.Common.{◌≡◌, ℕ, zero, suc, ◌+◌, ◌≤◌, Bool, true, false, not, cond, ◌&&◌, ◌||◌, ◌==◌, List, [], ◌∷◌, drop, map, Option, Some, None, refl, sym, ap, subst, ◌∙◌, true≢false, IsTrue, IsPermutation, arith}
+use Rattle.std.proofs.Common.{◌≡◌, if◌then◌else◌, ◌||◌, not, ℕ, zero, suc, ◌+◌, ◌≤◌, true, false, ◌&&◌, List, [], ◌∷◌, drop, map, Option, Some, None, refl, sym, ap, subst, ◌∙◌, true≢false, IsTrue, IsPermutation, arith}
 use Rattle.std.specs.List.{AllByRecursion, list_all}
-use Rattle.std.proofs.lemmas.Bool.{and_parts}
-use Rattle.std.proofs.lemmas.Bool.Decides.{nat_tests}
+use Rattle.std.proofs.lemmas.Bool.{and_parts, cond_both, ne_eqb, not-true}
 use Rattle.sqlite_value.specs.declared.value.Value.{Value}
 use Rattle.sqlite_value.specs.declared.value.Value.TheVariants as value
 use Rattle.sqlite_value.specs.Order.{Row, column}
@@ -18,7 +17,7 @@ use Rattle.sqlite_schema.specs.declared.schema.Constraint.TheVariants.{Datatype,
 use Rattle.sqlite_schema.specs.declared.schema.Schema.{Schema}
 use Rattle.sqlite_schema.specs.declared.schema.Table.{Table}
 use Rattle.sqlite_schema.specs.Names.{is_key}
-use Rattle.sqlite_schema.specs.Rules.{is_of, has_affinity, are_typed, are_present, passes, suits}
+use Rattle.sqlite_schema.specs.Rules.{is_of, are_typed, are_present, passes, suits}
 use Rattle.sqlite_rules.specs.Lists.{Has}
 use Rattle.sqlite_rules.proofs.ListLemmas.{all_from}
 use Rattle.sqlite_rules.proofs.RuleLemmas.{keeps_at}
@@ -34,14 +33,11 @@ use Rattle.sql_tables.specs.Rows.{Lists}
 of_kind : (k : Kind) (v : Value) → is_of k v ≡ true → is_null v ≡ false → (k ≡ Text → IsUtf8Text v) → IsOfKind k v
 of_kind k value.Null typed present utf8 = absurd (true≢false present)
 of_kind Integer (value.Int n) typed present utf8 = (n, refl)
-of_kind Integer v typed present utf8 = absurd (true≢false (sym typed))
 of_kind Real (value.Real x) typed present utf8 = (x, refl)
-of_kind Real v typed present utf8 = absurd (true≢false (sym typed))
 of_kind Text (value.Text t) typed present utf8 = (t, refl, utf8 refl)
-of_kind Text v typed present utf8 = absurd (true≢false (sym typed))
 of_kind Blob (value.Blob b) typed present utf8 = (b, refl)
-of_kind Blob v typed present utf8 = absurd (true≢false (sym typed))
 of_kind Any v typed present utf8 = tt
+of_kind k v typed present utf8 = absurd (true≢false (sym typed))
 
 pub integer_of : (v : Value) → IsTrue (is_int v) → IsInt v
 integer_of (value.Int n) is = (n, refl)
@@ -52,21 +48,11 @@ utf8_at [] at all = tt
 utf8_at (v ∷ row) zero all = all.0
 utf8_at (v ∷ row) (suc at) all = utf8_at row at all.1
 
-suited : (is_key strict null typed other : Bool) → cond is_key null (cond strict typed other) ≡ true → is_key ≡ false → strict ≡ true → typed ≡ true
-suited false true null typed other passes apart is_strict = passes
-suited false false null typed other passes apart is_strict = absurd (true≢false (sym is_strict))
-suited true strict null typed other passes apart is_strict = absurd (true≢false apart)
-
-there : (is_key needed null : Bool) → (is_key || not needed || not null) ≡ true → is_key ≡ false → needed ≡ true → null ≡ false
-there is_key needed false passes apart is_needed = refl
-there false true true passes apart is_needed = sym passes
-there false false true passes apart is_needed = absurd (true≢false (sym is_needed))
-there true needed true passes apart is_needed = absurd (true≢false apart)
-
 module _ (key : Option ℕ) (at : ℕ) (c : Column) (cs : List Column) where
   typed_first : (vs : Row) → are_typed key at (c ∷ cs) vs ≡ true → is_key key at ≡ false → c.is_strict ≡ true → is_of c.kind (column vs 0) ≡ true
   typed_first [] typed apart strict = refl
-  typed_first (v ∷ vs) typed apart strict = suited (is_key key at) c.is_strict (is_null v) (is_of c.kind v) (has_affinity c.kind v) (and_parts _ _ typed).0 apart strict
+  typed_first (v ∷ vs) typed apart strict =
+      let fits : (if is_key key at then is_null v else suits c v) ≡ true = (and_parts _ _ typed).0 in rw (apart, strict) at fits
 
   typed_later : (vs : Row) → are_typed key at (c ∷ cs) vs ≡ true → are_typed key (at + 1) cs (drop 1 vs) ≡ true
   typed_later [] typed = (and_parts _ _ typed).1
@@ -101,7 +87,8 @@ module _ (key : Option ℕ) (row : Row) where
       let free = apart at (omega arith) in
       let first : column vs 0 ≡ column row (at + 1) = on 0 (at + 1) (omega arith) in
       let is : is_of c.kind (column row (at + 1)) ≡ true = ap (is_of c.kind) (sym first) ∙ typed_first key at c cs vs typed free here.0 in
-      let null : is_null (column row (at + 1)) ≡ false = there (is_key key at) c.not_null (is_null (column row (at + 1))) (and_parts _ _ present).0 free here.1 in (
+      let asked : (is_key key at || not c.not_null || not (is_null (column row (at + 1)))) ≡ true = (and_parts _ _ present).0 in
+      let null : is_null (column row (at + 1)) ≡ false = not-true _ (rw (free, here.1) at asked) in (
         of_kind c.kind (column row (at + 1)) is null (λ text. subst IsUtf8Text (goes_on row at (at + 1) (omega arith)) (utf8_at (drop 1 row) at (utf8.0 text))),
         kinds_from (at + 1) cs (drop 1 vs) (later at vs row on) (λ place over. apart place (omega (arith, over))) (and_parts _ _ needed).1 utf8.1 (typed_later key at c cs vs typed) (and_parts _ _ present).1,
       )
@@ -123,10 +110,8 @@ pub numbered_kinds : (table : Table) (row : Row) (c : Column) (cs : List Column)
 numbered_kinds table row c cs kept first are needed utf8 =
     let typed : are_typed table.key 0 (c ∷ cs) (drop 1 row) ≡ true = ap (λ columns. are_typed table.key 0 columns (drop 1 row)) (sym are) ∙ kept.typed in
     let present : are_present table.key 0 (c ∷ cs) row ≡ true = ap (λ columns. are_present table.key 0 columns row) (sym are) ∙ kept.present in
-    kinds_from table.key row 1 cs (drop 1 (drop 1 row)) (later 0 (drop 1 row) row (goes_on row)) (λ place over. ap (λ key. is_key key place) first ∙ apart place over) needed utf8 (typed_later table.key 0 c cs (drop 1 row) typed) (and_parts _ _ present).1
-  where
-    apart : (place : ℕ) → 1 ≤ place → (0 == place) ≡ false
-    apart place over = grind (arith, nat_tests)
+    let apart = λ (place : ℕ) (over : 1 ≤ place). ap (λ key. is_key key place) first ∙ ne_eqb 0 place (λ same. omega (arith, over, same)) in
+    kinds_from table.key row 1 cs (drop 1 (drop 1 row)) (later 0 (drop 1 row) row (goes_on row)) apart needed utf8 (typed_later table.key 0 c cs (drop 1 row) typed) (and_parts _ _ present).1
 
 -- a fact of texts is asked of the columns of texts alone
 pub all_texts : (P : Type 0) (cs : List Column) → P → AllByRecursion (λ c. c.kind ≡ Text → P) cs
@@ -148,11 +133,8 @@ module _ (schema : Schema) (table : Table) (d : IsDeclared schema table) (db : T
 -- ---- the texts in the rows are those of their values
 
 of_null : (v : Value) → is_null v ≡ true → IsUtf8Text v
-of_null value.Null is = tt
-of_null (value.Int n) is = tt
-of_null (value.Real x) is = tt
 of_null (value.Text t) is = absurd (true≢false (sym is))
-of_null (value.Blob b) is = tt
+of_null v is = tt
 
 -- the values for these columns are so, but for the one that the rowid stands for
 abbrev AreUtf8From : Option ℕ → ℕ → List Column → Row → Type 0
@@ -164,11 +146,11 @@ module _ (key : Option ℕ) (row : Row) where
   texts_from at [] [] on shown typed = tt
   texts_from at [] (v ∷ vs) on shown typed = absurd (true≢false (sym typed))
   texts_from at (c ∷ cs) [] on shown typed = tt
-  texts_from at (c ∷ cs) (v ∷ vs) on shown typed = (here (is_key key at) refl (and_parts _ _ typed).0, texts_from (at + 1) cs vs (later at (v ∷ vs) row on) shown.1 (and_parts _ _ typed).1)
-    where
-      here : (b : Bool) → is_key key at ≡ b → cond b (is_null v) (suits c v) ≡ true → IsUtf8Text v
-      here true is fits = of_null v fits
-      here false is fits = subst IsUtf8Text (sym (on 0 (at + 1) (omega arith))) (shown.0 is)
+  texts_from at (c ∷ cs) (v ∷ vs) on shown typed = (
+    cond_both (is_key key at) (is_null v) (suits c v) (λ fits. fits ≡ true → IsUtf8Text v)
+        (λ is. of_null v) (λ other fits. subst IsUtf8Text (sym (on 0 (at + 1) (omega arith))) (shown.0 other)) (and_parts _ _ typed).0,
+    texts_from (at + 1) cs vs (later at (v ∷ vs) row on) shown.1 (and_parts _ _ typed).1,
+  )
 
 -- a row has no more than its rowid and a value for each column
 pub behind : (table : Table) (row : Row) → IsKept table row → AreUtf8From table.key 0 table.columns row → AllByRecursion IsUtf8Text (drop 1 row)
