@@ -3,7 +3,7 @@ use Rattle.std.proofs.Common.{◌≡◌, ◌≢◌, inl, inr, ℕ, ℤ, Bool, tr
 use Rattle.sqlite_value.specs.Order.{Row}
 use Rattle.sqlite_trees.specs.Tree.{Trees}
 use Rattle.sqlite_trees.specs.declared.error.StoreError.{StoreError}
-use Rattle.sqlite_trees.specs.declared.error.StoreError.TheVariants.{OutOfMemory, Io, Corrupt, Full, Broken, Unstorable}
+use Rattle.sqlite_trees.specs.declared.error.StoreError.TheVariants.{OutOfMemory, Unstorable}
 use Rattle.sqlite_schema.specs.declared.schema.Among.{Among}
 use Rattle.sqlite_schema.specs.declared.schema.Schema.{Schema}
 use Rattle.sqlite_schema.specs.declared.schema.Table.{Table}
@@ -17,11 +17,11 @@ use Rattle.sqlite_schema.specs.declared.command.Source.TheVariants.{Values, Quer
 use Rattle.sqlite_schema.specs.declared.command.Upsert.{Upsert}
 use Rattle.sqlite_schema.specs.declared.program.Program.{Program}
 use Rattle.sqlite_rules.specs.declared.error.Refusal.{Refusal}
-use Rattle.sqlite_rules.specs.declared.error.Refusal.TheVariants.{Violates, Mismatch, NoRowid, BadReference, TooDeep}
-use Rattle.sqlite_rules.specs.declared.error.Rowids.TheVariants.{Given}
-use Rattle.sqlite_rules.specs.Calls.{ids_of}
+use Rattle.sqlite_rules.specs.declared.error.Refusal.TheVariants.{Mismatch}
 use Rattle.sqlite_rules.specs.Cast.{cast_row}
+use Rattle.sqlite_rules.specs.Calls.{ids_of}
 use Rattle.sqlite_rules.specs.Edit.{Edit, edit_of, with_rowid}
+use Rattle.sqlite_rules.specs.declared.error.Rowids.TheVariants.{Given}
 use Rattle.sqlite_schema.specs.Rules.{Refers}
 use Rattle.std.specs.Option.{option_to_list}
 use Rattle.sqlite_catalog.specs.declared.error.Refusal as alter
@@ -30,10 +30,10 @@ use Rattle.sqlite.specs.declared.error.ErrorCode.TheVariants as code
 use Rattle.sqlite.specs.declared.error.Error.{Error}
 use Rattle.sqlite.specs.declared.error.Error.TheVariants.{SqliteFailure, InvalidQuery, ExecuteReturnedResults}
 use Rattle.sqlite.specs.declared.run.Mode.{Mode}
-use Rattle.sqlite.specs.Does.{AtPlace, Concludes, Counted, Defines, Does, Drops, Empties, HoldWithout, Leaves, MakesIndex, MakesTable, MakesView, OnRows, OnTable, Redefines, Returns, Shows, Tally, Tested, UncountsIn, WritesRows}
-use Rattle.sqlite.specs.Effect.{Database, IsNoText, RefusesQuery, RefusesToAlter, alter_error, edit_error}
-use Rattle.sqlite.specs.Rows.{Clears, Counter, CounterIn, Counts, CountsIn, Deletes, Edited, Gives, Inserts, InsertsOr, Judged, Meets, Outcome, Part, Puts, Queried, Refuses, Resolves, Sourced, Task, Then, Tries, TriesEach, Updates, Upserts, Written, counting, mended, rowids_for}
-use Rattle.sqlite.specs.State.{store_error, State, ExecutesIn, ExecutesInside, Executes, Fails, HasCause, IsMisplaced, IsNoStatement, IsNotRun, IsUnchanged, RunsCommand, mode_of, shows_rows, text_of}
+use Rattle.sqlite.specs.Does.{AtPlace, Concludes, Counted, Defines, Does, Drops, Empties, HoldWithout, Leaves, MakesIndex, MakesTable, MakesView, OnRows, OnTable, Redefines, Returns, Shows, Tally, Tested, Uncounts, UncountsIn, WritesRows}
+use Rattle.sqlite.specs.Effect.{Database, IsNoText, RefusesToAlter, alter_error, edit_error}
+use Rattle.sqlite.specs.Rows.{Clears, Counter, CounterIn, Counts, CountsIn, Edited, Gives, Inserts, InsertsOr, Judged, Meets, Outcome, Part, Puts, Queried, Refuses, Resolves, Sourced, Task, Then, Tries, TriesEach, Updates, Upserts, Written, mended, rowids_for, counting}
+use Rattle.sqlite.specs.State.{store_error, State, ExecutesIn, ExecutesInside, Executes, Fails, HasCause, IsNoStatement, IsNotRun, IsUnchanged, RunsCommand, mode_of, shows_rows, text_of}
 use Rattle.std.specs.Prelude.{⊤}
 use Rattle.sqlite_resolve.specs.declared.compiled.Compiled.{Compiled}
 use Rattle.sqlite.specs.Clock.{timed}
@@ -55,11 +55,7 @@ IsPlain e = of_store e ≡ false
 
 of_its_own : (cause : StoreError) → of_store (store_error cause) ≡ true
 of_its_own OutOfMemory = refl
-of_its_own Io = refl
-of_its_own Corrupt = refl
-of_its_own Full = refl
-of_its_own Broken = refl
-of_its_own Unstorable = refl
+of_its_own cause = refl
 
 pub not_of_store : (e : Error) (cause : StoreError) → IsPlain e → e ≢ store_error cause
 not_of_store e cause plain same = true≢false (sym (ap of_store same ∙ of_its_own cause) ∙ plain)
@@ -68,20 +64,12 @@ pub plain_if : (e d : Error) → e ≡ d → IsPlain d → IsPlain e
 plain_if e d same plain = ap of_store same ∙ plain
 
 edit_plain : (r : Refusal) → IsPlain (edit_error r)
-edit_plain (Violates rule) = refl
 edit_plain Mismatch = refl
-edit_plain NoRowid = refl
-edit_plain BadReference = refl
-edit_plain TooDeep = refl
+edit_plain r = refl
 
 alter_plain : (r : alter.Refusal) → IsPlain (alter_error r)
-alter_plain (why.Invalid e) = refl
 alter_plain why.NameTaken = refl
-alter_plain why.BadName = refl
-alter_plain why.BadKey = refl
-alter_plain why.BadText = refl
-alter_plain why.TooBig = refl
-alter_plain (why.Violates rule) = refl
+alter_plain r = refl
 
 -- ---- parts of a statement
 
@@ -89,24 +77,20 @@ alter_plain (why.Violates rule) = refl
 pub record IsPlainPart {A : Type 0} (P : Part A) : Type 0 where
   pub plain : (e : Error) → P (Err (Some e)) → IsPlain e
 
-abbrev stop_in : {A : Type 0} → Outcome A → Option Error
-stop_in (Ok a) = None
-stop_in (Err stop) = stop
-
-abbrev error_in : Option Error → Error
-error_in None = InvalidQuery
-error_in (Some e) = e
+-- the error with which it stops is this one
+stops_with : (e d : Error) → ◌≡◌ {A = Option Error} (Some e) (Some d) → IsPlain d → IsPlain e
+stops_with e d same = plain_if e d (cc)
 
 gives : {A : Type 0} (a : A) → IsPlainPart (Gives a)
 gives {A} a = record { plain = λ e h. absurd (let same : ◌≡◌ {A = Outcome A} (Err (Some e)) (Ok a) = h in cc) }
 
 refuses : {A : Type 0} (d : Error) → IsPlain d → IsPlainPart {A = A} (Refuses d)
-refuses {A} d plain = record { plain = λ e h. plain_if e d (ap (λ (out : Outcome A). error_in (stop_in out)) h) plain }
+refuses d plain = record { plain = λ e h. let same : e ≡ d = cc in plain_if e d same plain }
 
 then : {A B : Type 0} (First : Part A) (Next : A → Part B) → IsPlainPart First → ((a : A) → IsPlainPart (Next a)) → IsPlainPart (Then First Next)
-then {B = B} First Next first next = record {
+then First Next first next = record {
   plain = λ e h. elim h [
-    | inl stopped ↦ first.plain e (subst (λ stop. First (Err stop)) (sym (ap (λ (out : Outcome B). stop_in out) stopped.2)) stopped.1)
+    | inl stopped ↦ let same : stopped.0 ≡ Some e = cc in first.plain e (subst (λ stop. First (Err stop)) same stopped.1)
     | inr went ↦ (next went.0).plain e went.2
   ];
 }
@@ -115,47 +99,44 @@ either : {A : Type 0} (P Q : Part A) (b : Bool) → IsPlainPart P → IsPlainPar
 either P Q true p q = record { plain = λ e h. p.plain e h }
 either P Q false p q = record { plain = λ e h. q.plain e h }
 
+perhaps : {X A : Type 0} (P : Option X → Part A) (o : Option X) → IsPlainPart (P None) → ((x : X) → IsPlainPart (P (Some x))) → IsPlainPart (P o)
+perhaps P None none some = none
+perhaps P (Some x) none some = some x
+
 -- ---- what is asked
 
-query_plain : (limit : Option ℕ) (db : Database) (p : Program) (params : Row) (e : Error) → RefusesQuery limit db p params e → IsPlain e
-query_plain limit db p params e (inl wrong) = plain_if e _ wrong.0 refl
-query_plain limit db p params e (inr (inl over)) = plain_if e _ over.0 refl
-query_plain limit db p params e (inr (inr late)) = plain_if e _ late.0 refl
-
 queried : (limit : Option ℕ) (db : Database) (p : Program) (params : Row) → IsPlainPart (Queried limit db p params)
-queried limit db p params = record { plain = query_plain limit db p params }
+queried limit db p params = record {
+  plain = λ e h. elim h [ inl wrong ↦ plain_if e _ wrong.0 refl | inr (inl over) ↦ plain_if e _ over.0 refl | inr (inr late) ↦ plain_if e _ late.0 refl ];
+}
 
 sourced : (limit : Option ℕ) (db : Database) (params : Row) (from : Source) → IsPlainPart (Sourced limit db params from)
 sourced limit db params (Values terms width) = record { plain = λ e h. elim h [ inl wrong ↦ plain_if e _ wrong.0 refl | inr late ↦ plain_if e _ late.0 refl ] }
-sourced limit db params (Query q) = record { plain = query_plain limit db q params }
+sourced limit db params (Query q) = record { plain = (queried limit db q params).plain }
 
 edited : (schema : Schema) (keys : _) (db : Trees) (edit : Edit) → IsPlainPart (Edited schema keys db edit)
 edited schema keys db edit = record { plain = λ e h. go e h.0 h.2 }
   where
     go : (e : Error) (reason : Option Refusal) → Some e ≡ option_map edit_error reason → IsPlain e
     go e None same = absurd (let none = same in cc)
-    go e (Some r) same = plain_if e (edit_error r) (ap error_in same) (edit_plain r)
+    go e (Some r) same = stops_with e (edit_error r) same (edit_plain r)
 
 tested : (mode : Mode) (Holds : Among → Type 0) → IsPlainPart (Tested mode Holds)
-tested mode Holds = record { plain = λ e h. plain_if e _ (ap error_in h.1) refl }
+tested mode Holds = record { plain = λ e h. stops_with e _ h.1 refl }
 
 counted : (limit : Option ℕ) (rows : List Row) → IsPlainPart (Counted limit rows)
-counted limit rows = record { plain = λ e h. plain_if e _ (ap error_in h.1) refl }
+counted limit rows = record { plain = λ e h. stops_with e _ h.1 refl }
 
 alters : (Why : alter.Refusal → Type 0) (e : Error) → RefusesToAlter Why e → IsPlain e
 alters Why e h = plain_if e (alter_error h.0) h.2 (alter_plain h.0)
 
-no_text : (text : List ℕ) (e : Error) → IsNoText text e → IsPlain e
-no_text text e h = plain_if e _ h.1 refl
+-- a text that makes a table, an index or a view
+makes : (text : List ℕ) (Why : alter.Refusal → Type 0) (Makes : Part Database)
+    → ((e : Error) → Makes (Err (Some e)) → IsNoText text e ⊎ RefusesToAlter Why e) → IsPlainPart Makes
+makes text Why Makes because = record { plain = λ e h. elim (because e h) [ inl none ↦ plain_if e _ none.1 refl | inr refused ↦ alters Why e refused ] }
 
 makes_table : (text : List ℕ) (db : Database) → IsPlainPart (MakesTable text db)
-makes_table text db = record { plain = λ e h. elim h [ inl none ↦ no_text text e none | inr refused ↦ alters _ e refused ] }
-
-makes_index : (text : List ℕ) (db : Database) (table : Table) → IsPlainPart (MakesIndex text db table)
-makes_index text db table = record { plain = λ e h. elim h [ inl none ↦ no_text text e none | inr refused ↦ alters _ e refused ] }
-
-makes_view : (text : List ℕ) (db : Database) → IsPlainPart (MakesView text db)
-makes_view text db = record { plain = λ e h. elim h [ inl none ↦ no_text text e none | inr refused ↦ alters _ e refused ] }
+makes_table text db = makes text _ _ (λ e h. h)
 
 leaves : (schema : Schema) (db : Trees) (Refused : Error → Type 0) → ((e : Error) → Refused e → IsPlain e) → IsPlainPart (Leaves schema db Refused)
 leaves schema db Refused plain = record { plain = λ e h. plain e h }
@@ -164,31 +145,21 @@ defines : (mode : Mode) (Makes : Part Database) → IsPlainPart Makes → IsPlai
 defines mode Makes makes = then _ _ makes (λ after. gives _)
 
 at_place : {X A : Type 0} (P : X → Part A) (place : Option X) → ((x : X) → IsPlainPart (P x)) → IsPlainPart (AtPlace P place)
-at_place P None plain = refuses InvalidQuery refl
-at_place P (Some x) plain = plain x
+at_place P place = perhaps (AtPlace P) place (refuses InvalidQuery refl)
 
 -- ---- rows
 
 module _ (task : Task) where
-  counter_in : (db : Trees) (counters : Option Table) → IsPlainPart (CounterIn task db counters)
-  counter_in db None = refuses InvalidQuery refl
-  counter_in db (Some counters) = gives _
-
   counter : (db : Trees) → IsPlainPart (Counter task db)
-  counter db = either _ _ _ (counter_in db _) (gives _)
-
-  counts_in : (db : Trees) (row : Option Row) (top : ℤ) (counters : Option Table) → IsPlainPart (CountsIn task db row top counters)
-  counts_in db row top None = refuses InvalidQuery refl
-  counts_in db row top (Some counters) = edited task.schema task.keys db (counting db task.table counters top row)
+  counter db = either _ _ _ (perhaps (CounterIn task db) _ (refuses InvalidQuery refl) (λ counters. gives _)) (gives _)
 
   counts : (db : Trees) (row : Option Row) (top : ℤ) → IsPlainPart (Counts task db row top)
-  counts db row top = either _ _ _ (counts_in db row top _) (gives _)
+  counts db row top =
+      let counted = λ (counters : Table). edited task.schema task.keys db (counting db task.table counters top row) in
+      either _ _ _ (perhaps (CountsIn task db row top) _ (refuses InvalidQuery refl) counted) (gives _)
 
   updates : (q : Program) (given : Row) (db : Trees) → IsPlainPart (Updates task q given db)
   updates q given db = then _ _ (queried _ _ _ _) (λ rows. then _ _ (edited _ _ _ _) (λ next. gives _))
-
-  deletes : (q : Program) (db : Trees) → IsPlainPart (Deletes task q db)
-  deletes q db = then _ _ (queried _ _ _ _) (λ rows. then _ _ (edited _ _ _ _) (λ next. gives _))
 
   inserts : (from : Source) (db : Trees) → IsPlainPart (Inserts task from db)
   inserts from db = then _ _ (sourced _ _ _ _) (λ rows. then _ _ (counter db) (λ row. then _ _ (edited _ _ _ _) (λ mid. then _ _ (counts mid row _) (λ next. gives _))))
@@ -197,34 +168,26 @@ module _ (task : Task) where
   puts new db = then _ _ (edited _ _ _ _) (λ next. gives _)
 
   clears : (way : Conflict) (new : Row) (db : Trees) (found : List Row) → IsPlainPart (Clears task way new db found)
-  clears Abort new db [] = puts new db
-  clears Ignore new db [] = puts new db
-  clears Replace new db [] = puts new db
-  clears Abort new db (x ∷ more) = puts new db
   clears Ignore new db (x ∷ more) = gives _
   clears Replace new db (x ∷ more) = then _ _ (edited _ _ _ _) (puts new)
-
-  resolves : (new : Row) (db : Trees) (there : Row) (update : Option Program) → IsPlainPart (Resolves task new db there update)
-  resolves new db there None = gives _
-  resolves new db there (Some q) = updates q _ db
+  clears Abort new db (x ∷ more) = puts new db
+  clears way new db [] = puts new db
 
   meets : (Otherwise : Part Written) (new : Row) (db : Trees) (clause : Upsert) (found : List Row) → IsPlainPart Otherwise → IsPlainPart (Meets task Otherwise new db clause found)
   meets Otherwise new db clause [] plain = plain
-  meets Otherwise new db clause (there ∷ more) plain = resolves new db there clause.update
+  meets Otherwise new db clause (there ∷ more) plain = perhaps (Resolves task new db there) clause.update (gives _) (λ q. updates q _ db)
 
   upserts : (way : Conflict) (new : Row) (db : Trees) (clauses : List Upsert) → IsPlainPart (Upserts task way new db clauses)
   upserts way new db [] = record { plain = λ e h. (clears way new db h.0).plain e h.2 }
   upserts way new db (clause ∷ more) = record { plain = λ e h. (meets _ new db clause h.0 (upserts way new db more)).plain e h.2 }
 
-  judged : (way : Conflict) (clauses : List Upsert) (new : Row) (db : Trees) (verdict : Option Refusal) → IsPlainPart (Judged task way clauses new db verdict)
-  judged way clauses new db None = upserts way new db clauses
-  judged way clauses new db (Some r) = either _ _ _ (gives _) (refuses (edit_error r) (edit_plain r))
-
   tries : (way : Conflict) (clauses : List Upsert) (new : Row) (db : Trees) → IsPlainPart (Tries task way clauses new db)
   tries way clauses new db = record {
     plain = λ e h. elim h [
       | inl none ↦ (refuses {A = Written} (SqliteFailure code.NoRowid) refl).plain e none.1
-      | inr tried ↦ (judged way clauses new db tried.0).plain e tried.2
+      | inr (verdict, is, judged) ↦
+          let refused = λ (r : Refusal). either _ _ _ (gives _) (refuses (edit_error r) (edit_plain r)) in
+          (perhaps (Judged task way clauses new db) verdict (upserts way new db clauses) refused).plain e judged
     ];
   }
 
@@ -244,8 +207,7 @@ module _ (task : Task) where
   shows what now (row ∷ more) = then _ _ (sourced _ _ _ _) (λ first. then _ _ (shows what now more) (λ others. gives _))
 
   returns : (w : Written) (what : Option Returning) → IsPlainPart (Returns task w what)
-  returns w None = gives _
-  returns w (Some what) = then _ _ (shows what _ _) (λ rows. then _ _ (counted _ rows) (λ within. gives _))
+  returns w what = perhaps (Returns task w) what (gives _) (λ what. then _ _ (shows what _ _) (λ rows. then _ _ (counted _ rows) (λ within. gives _)))
 
   concludes : (mode : Mode) (returning : Option Returning) (w : Written) → IsPlainPart (Concludes task mode returning w)
   concludes mode returning w = then _ _ (tested mode (λ among. Refers among task.schema w.trees)) (λ in_doubt. then _ _ (returns w returning) (λ rows. gives _))
@@ -253,19 +215,19 @@ module _ (task : Task) where
   empties : (db : Trees) → IsPlainPart (Empties task db)
   empties db = either _ _ _ (edited task.schema task.keys db (edit_of db task.table (ids_of (db task.table.tree)) Given 0 [])) (gives _)
 
-  uncounts_in : (db : Trees) (counters : Option Table) → IsPlainPart (UncountsIn task db counters)
-  uncounts_in db None = gives _
-  uncounts_in db (Some counters) = then _ _ (counter db) (λ row. edited task.schema task.keys db (edit_of db counters (ids_of (option_to_list row)) Given 0 []))
+  uncounts : (db : Trees) → IsPlainPart (Uncounts task db)
+  uncounts db = perhaps (UncountsIn task db) _ (gives _) (λ counters. then _ _ (counter db) (λ row.
+      edited task.schema task.keys db (edit_of db counters (ids_of (option_to_list row)) Given 0 [])))
 
   drops : (mode : Mode) (db : Trees) → IsPlainPart (Drops task mode db)
-  drops mode db = then _ _ (empties db) (λ emptied. then _ _ (uncounts_in emptied _) (λ now. then _ _ (tested mode (HoldWithout task now)) (λ in_doubt.
-      then _ _ (leaves _ _ _ (λ e none. absurd none)) (λ after. gives _))))
+  drops mode db = then _ _ (empties db) (λ emptied. then _ _ (uncounts emptied) (λ now.
+      then _ _ (tested mode (HoldWithout task now)) (λ in_doubt. then _ _ (leaves _ _ _ (λ e none. absurd none)) (λ after. gives _))))
 
   writes_rows : (db : Trees) (command : Command) → IsPlainPart (WritesRows task db command)
   writes_rows db (Insert at from) = inserts from db
   writes_rows db (InsertOr at way from clauses) = inserts_or way clauses from db
   writes_rows db (Update at q) = updates q task.params db
-  writes_rows db (Delete at q) = deletes q db
+  writes_rows db (Delete at q) = then _ _ (queried _ _ _ _) (λ rows. then _ _ (edited _ _ _ _) (λ next. gives _))
   writes_rows db _ = refuses InvalidQuery refl
 
   on_rows : (mode : Mode) (returning : Option Returning) (command : Command) (db : Trees) → IsPlainPart (OnRows task mode returning command db)
@@ -279,23 +241,19 @@ module _ (limit : Option ℕ) (mode : Mode) (params : Row) (db : Database) where
 
   redefines : (text : List ℕ) (command : Command) → IsPlainPart (Redefines limit mode params db text command)
   redefines text CreateTable = defines mode _ (then _ _ (makes_table text db) (λ after. either _ _ _ (makes_table _ after) (gives _)))
-  redefines text (CreateIndex at) = on_table at _ (λ task. defines mode _ (makes_index text db task.table))
-  redefines text CreateView = defines mode _ (makes_view text db)
+  redefines text (CreateIndex at) = on_table at _ (λ task. defines mode _ (makes text _ (MakesIndex text db task.table) (λ e h. h)))
+  redefines text CreateView = defines mode _ (makes text _ (MakesView text db) (λ e h. h))
   redefines text (DropTable at) = on_table at _ (λ task. drops task mode db.trees)
   redefines text (DropIndex at) = at_place _ (slice_get db.schema.indexes at) (λ index. defines mode _ (leaves _ _ _ (alters _)))
   redefines text (DropView at) = at_place _ (slice_get db.schema.views at) (λ view. defines mode _ (leaves _ _ _ (λ e aside. plain_if e _ aside.1 refl)))
   redefines text _ = refuses InvalidQuery refl
 
-  does_part : (text : List ℕ) (returning : Option Returning) (command : Command) → IsPlainPart (Does limit mode params db text returning command)
-  does_part text returning (Insert at from) = on_table at _ (λ task. on_rows task mode returning (Insert at from) db.trees)
-  does_part text returning (InsertOr at way from clauses) = on_table at _ (λ task. on_rows task mode returning (InsertOr at way from clauses) db.trees)
-  does_part text returning (Update at q) = on_table at _ (λ task. on_rows task mode returning (Update at q) db.trees)
-  does_part text returning (Delete at q) = on_table at _ (λ task. on_rows task mode returning (Delete at q) db.trees)
-  does_part text returning command = either _ _ _ (refuses InvalidQuery refl) (redefines text command)
-
-  -- what a command is refused for
-  pub does : (text : List ℕ) (returning : Option Returning) (command : Command) (e : Error) → Does limit mode params db text returning command (Err (Some e)) → IsPlain e
-  does text returning command e refused = (does_part text returning command).plain e refused
+  does : (text : List ℕ) (returning : Option Returning) (command : Command) → IsPlainPart (Does limit mode params db text returning command)
+  does text returning (Insert at from) = on_table at _ (λ task. on_rows task mode returning (Insert at from) db.trees)
+  does text returning (InsertOr at way from clauses) = on_table at _ (λ task. on_rows task mode returning (InsertOr at way from clauses) db.trees)
+  does text returning (Update at q) = on_table at _ (λ task. on_rows task mode returning (Update at q) db.trees)
+  does text returning (Delete at q) = on_table at _ (λ task. on_rows task mode returning (Delete at q) db.trees)
+  does text returning command = either _ _ _ (refuses InvalidQuery refl) (redefines text command)
 
 -- ---- failures
 
@@ -305,18 +263,11 @@ IsCaused old new e = (cause : StoreError) × (e ≡ store_error cause) × HasCau
 
 weaker : (old new : State) (U : Type 0) (cause : StoreError) → HasCause old new U cause → HasCause old new ⊤ cause
 weaker old new U OutOfMemory h = tt
-weaker old new U Io h = h
-weaker old new U Corrupt h = h
-weaker old new U Full h = h
-weaker old new U Broken h = h
 weaker old new U Unstorable h = tt
+weaker old new U cause h = h
 
 pub fails_so : (old new : State) (U : Type 0) (e : Error) → Fails old new U e → IsCaused old new e
 fails_so old new U e h = (h.0, h.1, weaker old new U h.0 h.2)
-
-abbrev error_of : Result ℕ Error → Error
-error_of (Ok count) = InvalidQuery
-error_of (Err e) = e
 
 module _ (text : List ℕ) (params : Row) (old new : State) (e : Error) where
   no_statement : IsNoStatement old text params e → IsPlain e
@@ -332,21 +283,13 @@ module _ (text : List ℕ) (params : Row) (old new : State) (e : Error) where
   not_run (inl none) = inl (no_statement none.0)
   not_run (inr failed) = inr (fails_so old new ⊥ e failed)
 
-  misplaced : (command : Command) → IsMisplaced old command e → IsPlain e
-  misplaced command (inl h) = plain_if e _ h.0 refl
-  misplaced command (inr h) = plain_if e _ h.0 refl
-
-  command_fails : (c : Compiled) (given : Row) → RunsCommand old new text c given (Err e) → IsPlain e ⊎ IsCaused old new e
-  command_fails c given (inl refused) = elim refused.0 [
-    | inl wrong ↦ inl (misplaced c.command wrong)
-    | inr undone ↦ inl (does old.step_limit (mode_of old) given old.now (text_of text c) c.returning c.command e undone.1)
-  ]
-  command_fails c given (inr failed) = inr (fails_so old new _ e failed)
-
   alone : (shows : Bool) (c : Compiled) (given : Row)
       → MatchBool shows ((◌≡◌ {A = Result ℕ Error} (Err e) (Err ExecuteReturnedResults)) × IsUnchanged old new) (RunsCommand old new text c given (Err e)) → IsPlain e ⊎ IsCaused old new e
-  alone true c given h = inl (plain_if e _ (ap error_of h.0) refl)
-  alone false c given h = command_fails c given h
+  alone true c given h = let same : e ≡ ExecuteReturnedResults = cc in inl (plain_if e _ same refl)
+  alone false c given (inl (inl (inl misplaced), quiet)) = inl (plain_if e _ misplaced.0 refl)
+  alone false c given (inl (inl (inr unnamed), quiet)) = inl (plain_if e _ unnamed.0 refl)
+  alone false c given (inl (inr refused, quiet)) = inl ((does old.step_limit (mode_of old) given old.now (text_of text c) c.returning c.command).plain e refused.1)
+  alone false c given (inr failed) = inr (fails_so old new _ e failed)
 
   executes : Executes text params old new (Err e) → IsPlain e ⊎ IsCaused old new e
   unfolding ExecutesIn
