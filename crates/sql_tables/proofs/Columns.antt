@@ -211,24 +211,21 @@ module _ (schema : Schema) (at : ℕ) (table : Table) (there : slice_get schema.
       names all [] budget last rich
 
   -- a term of ORDER BY, which ascends by bytes
-  one_key : (outs : List Output) (name : Name) (k : ℕ) (c : Column) → column_named table name ≡ Some k → slice_get table.columns k ≡ Some c → c.collation ≡ Binary → order.alias_in outs (column_expr name) ≡ None
-      → (done : List (Term × Key)) (grouped : Bool) (budget : ℕ) (last : Carried) → nat_lt 1 budget ≡ true
-      → order.sort lower (over outs grouped) outs done (sort_column name) (clear budget last) ≡ Ok (done ++ (col 1 (place_of table k), ascending Binary) ∷ [], clear (budget - 1) (declared table k c))
-  unfolding order.sort order.key order.collation_of order.placed
-  one_key outs name k c named is binary unaliased done grouped budget last rich =
-      let bare = is_bare name in
-      rw (bare.peeled, unaliased, lowers_to 699 name k c named is outs grouped budget last rich, bare.no_number, bare.uncollated, by_bytes table k c binary)
-
   abbrev Sorts : List Output → Name → List (Term × Key) → Bool → ℕ → Carried → Term → Type 0
   Sorts outs name done grouped budget last t = (later : Carried) × (order.sort lower (over outs grouped) outs done (sort_column name) (clear budget last) ≡ Ok (done ++ (t, ascending Binary) ∷ [], clear (budget - 1) later))
 
   one_sort : (outs : List Output) (name : Name) → sorts_well table outs name ≡ true → (done : List (Term × Key)) (grouped : Bool) (budget : ℕ) (last : Carried) → nat_lt 1 budget ≡ true
       → Sorts outs name done grouped budget last (term_for table name)
+  unfolding order.sort order.key order.collation_of order.placed
   one_sort outs name h done grouped budget last rich = by_place (column_named table name) refl (and_parts _ _ h).1
     where
       by_column : (k : ℕ) → column_named table name ≡ Some k → (c : Option Column) → slice_get table.columns k ≡ c → is_key_column c ≡ true → Sorts outs name done grouped budget last (col 1 (place_of table k))
       by_column k named None is well = absurd (true≢false (sym well))
-      by_column k named (Some c) is well = (declared table k c, one_key outs name k c named is (binary_is c.collation well) (none_is _ (and_parts _ _ h).0) done grouped budget last rich)
+      by_column k named (Some c) is well =
+          let bare = is_bare name in
+          let term = lowers_to 699 name k c named is outs grouped budget last rich in
+          let unaliased = none_is (order.alias_in outs (column_expr name)) (and_parts _ _ h).0 in
+          (declared table k c, rw (bare.peeled, unaliased, term, bare.no_number, bare.uncollated, by_bytes table k c (binary_is c.collation well)))
 
       by_place : (k : Option ℕ) → column_named table name ≡ k → sorts_at table k ≡ true → Sorts outs name done grouped budget last (term_at table k)
       by_place None named well = absurd (true≢false (sym well))

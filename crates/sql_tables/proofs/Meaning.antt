@@ -1,5 +1,5 @@
 -- What a text means is what its parse means, whatever the schema.
-use Rattle.std.proofs.Common.{◌≡◌, ◌∙◌, ℕ, ◌+◌, List, [], ◌∷◌, Option, Some, None, Ok, Err, Result, refl, sym, false, true, length, slice_get, is_some, Bool, ◌==◌, ◌||◌, true≢false}
+use Rattle.std.proofs.Common.{◌≡◌, ◌∙◌, ℕ, ◌+◌, List, [], ◌∷◌, Option, Some, None, Ok, Err, Result, refl, sym, false, true, length, slice_get, is_some, ◌==◌, ◌||◌, true≢false}
 use Rattle.sqlite_ast.specs.declared.Statement.{Statement}
 use Rattle.sqlite_ast.specs.declared.Statement.TheVariants.{Select, Insert, Update, CreateTable, Empty}
 use Rattle.sqlite_ast.specs.declared.CreateTable as create
@@ -90,28 +90,13 @@ pub update_is : (schema : Schema) (text name : List ℕ) (sets : List (List ℕ 
 unfolding returning shows timed
 update_is schema text name sets test k t means = (means_as schema text (Update name sets test []) k t refl refl means).0
 
-is_unattached : (schema : Schema) (name : List ℕ) → view_named schema name ≡ None → is_attached schema name ≡ false
-unfolding is_attached
-is_unattached schema name free = rw free
-
-is_new : (if_missing : Bool) (name : List ℕ) (same other : Option ℕ) → is_reserved name ≡ false → same ≡ None → other ≡ None → creates if_missing name same other ≡ Ok true
-unfolding creates
-is_new if_missing name same other own none free = rw (own, none, free)
-
 -- where no table, index or view has the name, CREATE TABLE makes one
-create_command : (schema : Schema) (base : ℕ) (def : create.CreateTable) (table : Table) → is_used schema def.name ≡ false → is_reserved def.name ≡ false → define.table [] def ≡ Ok table
-    → (length table.computed == length table.stamps.places) ≡ true → def.resolves ≡ false → command schema [] base (CreateTable def) ≡ Ok MakeTable
-unfolding command create_table
-create_command schema base def table free own defined plain unresolved =
-    let unviewed = no_view schema def.name free in
-    let new = is_new def.if_missing def.name (option_or (table_named schema def.name) (view_named schema def.name)) (index_named schema def.name) own (rw (no_table schema def.name free, unviewed)) (no_index schema def.name free) in
-    rw (is_unattached schema def.name unviewed, new, defined, plain, unresolved)
-
 pub create_is : (schema : Schema) (text : List ℕ) (def : create.CreateTable) (table : Table) → IsText text (CreateTable def) → is_used schema def.name ≡ false → is_reserved def.name ≡ false
     → define.table [] def ≡ Ok table → (length table.computed == length table.stamps.places) ≡ true → def.resolves ≡ false → understood schema text ≡ Ok (with_command (parse_of text) ([], (MakeTable, None)))
-unfolding returning timed
+unfolding command create_table creates is_attached returning timed
 create_is schema text def table t free own defined plain unresolved =
-    (means_as schema text (CreateTable def) MakeTable t refl refl (create_command schema (base_of text) def table free own defined plain unresolved)).0
+    let none = no_table schema def.name free in
+    (means_as schema text (CreateTable def) MakeTable t refl refl (rw (no_view schema def.name free, own, no_index schema def.name free, none, defined, plain, unresolved))).0
 
 -- an error that isn't that of a missing table
 abbrev pub Stops : {X : Type 0} → Result X CompileError → Type 0

@@ -1,5 +1,5 @@
 -- What SELECT of columns of one table in the order of some means, whatever else the schema has.
-use Rattle.std.proofs.Common.{◌≡◌, ℕ, ◌+◌, ◌-◌, ◌<◌, ◌^◌, negsuc, true, false, nat_lt, List, [], ◌∷◌, length, map, slice_get, Option, Some, None, Ok, refl, arith}
+use Rattle.std.proofs.Common.{◌≡◌, ℕ, ◌+◌, ◌-◌, ◌<◌, ◌^◌, negsuc, true, false, nat_lt, List, [], ◌∷◌, length, map, slice_get, Option, Some, None, Ok, arith}
 use Rattle.std.specs.List.{list_all}
 use Rattle.sqlite_value.specs.declared.keys.Collation.{Collation}
 use Rattle.sqlite_value.specs.declared.keys.Collation.TheVariants.{Binary}
@@ -22,7 +22,6 @@ use Rattle.sqlite_draft.specs.declared.query.Draft.{Draft}
 use Rattle.sqlite_resolve.specs.declared.state.Carried.{Carried}
 use Rattle.sqlite_resolve.specs.declared.scope.Level.{Level}
 use Rattle.sqlite_resolve.specs.declared.scope.Output.{Output}
-use Rattle.sqlite_resolve.specs.declared.select.Clauses.{Clauses}
 use Rattle.sqlite_resolve.specs.Lowering.{fresh, max_budget, nothing, take_slot}
 use Rattle.sqlite_resolve.specs.Scope.{Name}
 use Rattle.sqlite_resolve.specs.Body as body
@@ -61,42 +60,11 @@ module _ (schema : Schema) (at : ℕ) (table : Table) (named : table_named schem
   abbrev level_of : List Output → Level
   level_of outs = record { tables = bound schema at table there table.name ∷ []; shown = outs }
 
-  bounds_are : body.bounds schema (out-Core core).from (fresh 1 max_budget) ≡ Ok (bound schema at table there table.name ∷ [], clear max_budget nothing)
-  unfolding body.bounds body.bound body.table_in take_slot
-  bounds_are = rw (out-roll-Core, out-roll-Source, named)
-
-  joins_are : (budget : ℕ) (last : Carried) → body.matching lower (sel.outermost schema) (level_of outs) core (clear budget last) ≡ Ok (record { steps = Inner table.tree ∷ []; filter = [] }, clear budget last)
-  unfolding body.matching body.joins body.join body.inner_join body.shared body.tests
-  joins_are budget last = rw (out-roll-Core, out-roll-Source, there)
-
-  result_is : (later : Carried) × (body.result lower (sel.outermost schema) (level_of []) core (clear max_budget nothing) ≡ Ok (outs, clear (max_budget - length shown) later))
-  unfolding body.result
-  result_is = let r = outputs_are schema at table there table.name low shown all_shown [] true max_budget nothing (omega arith) in (r.0, rw out-roll-Core r.1)
-
   body_is : (later : Carried) × (body.body lower (sel.outermost schema) core (fresh 1 max_budget) ≡ Ok (record { level = level_of outs; steps = Inner table.tree ∷ []; filter = [] }, clear (max_budget - length shown) later))
-  unfolding body.body
-  body_is = let r = result_is in (r.0, rw (bounds_are, r.1, joins_are (max_budget - length shown) r.0))
-
-  abbrev clauses : Clauses
-  clauses = record {
-    body = record { level = level_of outs; steps = Inner table.tree ∷ []; filter = [] };
-    is_grouped = false;
-    keys = [];
-    collations = [];
-    having = [];
-    order = map (λ t. (t, ascending Binary)) (map (term_for table) sorted);
-  }
-
-  unkept : (level : Level) (budget : ℕ) (last : Carried) → sel.having (sel.inside schema level false) None (clear budget last) ≡ Ok ([], clear budget last)
-  unfolding sel.having body.tests
-  unkept level budget last = refl
-
-  parts_are : (later : Carried) × (sel.parts schema core (map sort_column sorted) (fresh 1 max_budget) ≡ Ok (clauses, clear (max_budget - length shown - length sorted) later))
-  unfolding sel.parts order.keys
-  parts_are =
-      let r = body_is in
-      let o = sorts_are schema at table there table.name outs sorted all_sort false (max_budget - length shown) r.0 (omega arith) in
-      (o.0, rw (r.1, out-roll-Core, unkept, o.1))
+  unfolding body.body body.result body.bounds body.bound body.table_in take_slot body.matching body.joins body.join body.inner_join body.shared body.tests
+  body_is =
+      let r = outputs_are schema at table there table.name low shown all_shown [] true max_budget nothing (omega arith) in
+      (r.0, rw (out-roll-Core, out-roll-Source, named, r.1, there, out-roll-Source))
 
   abbrev pub draft : Draft
   draft = draft_of table.tree (record { tests = []; project = map (λ o. o.term) outs; order = map (λ t. (t, ascending Binary)) (map (term_for table) sorted) })
@@ -105,12 +73,11 @@ module _ (schema : Schema) (at : ℕ) (table : Table) (named : table_named schem
   result = (draft, map (λ o. o.name) outs, map (λ o. o.carried.collation) outs)
 
   named_is : sel.named schema core (map sort_column sorted) (lit (Int (negsuc 0)), number 0) ≡ Ok result
-  unfolding sel.named sel.assembled sel.ungrouped
-  named_is = let r = parts_are in rw (r.1, out-roll-Core)
-
-  page_is : sel.paging schema (plain_select table.name shown sorted) ≡ Ok (lit (Int (negsuc 0)), number 0)
-  unfolding sel.paging sel.constant_or
-  page_is = rw out-roll-Select
+  unfolding sel.named sel.assembled sel.ungrouped sel.parts order.keys sel.having body.tests
+  named_is =
+      let r = body_is in
+      let o = sorts_are schema at table there table.name outs sorted all_sort false (max_budget - length shown) r.0 (omega arith) in
+      rw (r.1, out-roll-Core, o.1)
 
   query_as : (s : Select) (source : Source) → (out-Select s).with ≡ [] → (out-Select s).others ≡ [] → (out-Core (out-Select s).first).from ≡ source ∷ [] → (out-Source source).origin ≡ origin.Table table.name
       → sel.paging schema s ≡ Ok (lit (Int (negsuc 0)), number 0) → sel.named schema (out-Select s).first (out-Select s).order (lit (Int (negsuc 0)), number 0) ≡ Ok result → program.query schema s ≡ Ok (result, [])
@@ -118,8 +85,10 @@ module _ (schema : Schema) (at : ℕ) (table : Table) (named : table_named schem
   query_as s source lone simple from by_name page is = rw (lone, page, simple, from, by_name, is)
 
   query_is : program.query schema (plain_select table.name shown sorted) ≡ Ok (result, [])
+  unfolding sel.paging sel.constant_or
   query_is =
-      query_as (plain_select table.name shown sorted) (plain_source table.name) (rw out-roll-Select) (rw out-roll-Select) (rw (out-roll-Select, out-roll-Core)) (rw out-roll-Source) page_is (rw out-roll-Select named_is)
+      query_as (plain_select table.name shown sorted) (plain_source table.name) (rw out-roll-Select) (rw out-roll-Select)
+      (rw (out-roll-Select, out-roll-Core)) (rw out-roll-Source) (rw out-roll-Select) (rw out-roll-Select named_is)
 
   pub select_command : (formats : List (List ℕ)) (base : ℕ) (p : Program) → program.program schema [] draft ≡ Ok p → command schema formats base (written.Select (plain_select table.name shown sorted)) ≡ Ok (Select' p (map (λ o. o.name) outs))
   unfolding command read

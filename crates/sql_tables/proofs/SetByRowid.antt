@@ -22,8 +22,8 @@ use Rattle.sqlite_resolve.specs.Compile.{command, update}
 use Rattle.sqlite_resolve.specs.Write.{assigned, row, picked, updated, updated_in}
 use Rattle.sql_tables.specs.Tables.{IsDeclared, numbered_table, untyped_column}
 use Rattle.sql_tables.proofs.Declaring.{classes_are, low_tree, uncovered}
-use Rattle.sql_tables.proofs.Meaning.{IsText, base_of, parse_of, update_is}
-use Rattle.sql_tables.proofs.OneTable.{Parts, draft_of, program_on, is_typed, program_is}
+use Rattle.sql_tables.proofs.Meaning.{IsText, parse_of, update_is}
+use Rattle.sql_tables.proofs.OneTable.{Parts, program_on, is_typed, program_is}
 use Rattle.sql_tables.proofs.Running.{Means, Wrote, update_ran}
 use Rattle.sqlite_ast.specs.declared.Statement.{Statement}
 use Rattle.std.specs.Ordering.{int_eq}
@@ -60,15 +60,11 @@ abbrev pub AreRich : ℕ → Type 0
 AreRich budget = (nat_lt 1 budget ≡ true) × (nat_lt 1 (budget - 1) ≡ true) × (nat_lt 1 (budget - 1 - 1) ≡ true)
 
 module _ (schema : Schema) (at : ℕ) (table : Table) (there : slice_get schema.tables at ≡ Some table) (by_rowid : table.key ≡ Some 0) where
-  lowers_parameter : (depth : ℕ) (budget : ℕ) → nat_lt 1 budget ≡ true → lower_to (suc depth) (over schema at table there table.name [] false) (roll-Expr (Expr-F.Parameter 1)) (clear budget nothing) ≡ Ok (col 0 0, clear (budget - 1) nothing)
-  unfolding lower_to node opened spend begin finish passes
-  lowers_parameter depth budget rich = rw (rich, out-roll-Expr)
-
   lowers_test : (name : Name) (c : Column) (budget : ℕ) → AreRich budget → column_named table name ≡ Some 0 → slice_get table.columns 0 ≡ Some c
       → lower (over schema at table there table.name [] false) (key_test name) (clear budget nothing) ≡ Ok (equal Binary (col 1 0) (col 0 0), clear (budget - 1 - 1 - 1) nothing)
   unfolding lower_to node opened spend begin finish passes operation both combine wanted_truth tests_truth tests_alias compared affinity_of of_column converted may_be_text chosen first_found
   lowers_test name c budget rich named is =
-      rw (rich.0, out-roll-Expr (Expr-F.Binary binary.Eq (column_expr name) (roll-Expr (Expr-F.Parameter 1))), lowers_to schema at table there table.name 698 name 0 c named is [] false (budget - 1) nothing rich.1, by_rowid, lowers_parameter 698 (budget - 1 - 1) rich.2)
+      rw (rich.0, out-roll-Expr (Expr-F.Binary binary.Eq (column_expr name) (roll-Expr (Expr-F.Parameter 1))), lowers_to schema at table there table.name 698 name 0 c named is [] false (budget - 1) nothing rich.1, by_rowid, rich.2, out-roll-Expr)
 
 -- the first column of a table
 abbrev first_of_columns : List Column → Column
@@ -120,16 +116,13 @@ module _ (name : Name) (columns : List Column) (text : List ℕ) (places : List 
     abbrev table : Table
     table = numbered_table name columns tree
 
-    draft_is : updated schema d.at table sets (Some test) ≡ Ok (draft_of tree (parts_of project))
-    unfolding updated updated_in picked tests
-    draft_is = rw (u.assigned_is schema d.at tree d.there, u.row_is tree, lowers_test schema d.at table d.there refl key_column.name key_column budget u.rich (u.named tree) u.first)
-
-    update_command : (base : ℕ) → tree < 65536 → command schema [] base (written.Update name sets (Some test) []) ≡ Ok (Update d.at (program_on tree (parts_of project)))
-    unfolding command update
-    update_command base low = rw (d.named, d.there, draft_is, program_is schema table (classes_are schema table d low) (parts_of project) (u.typed tree))
-
     pub update_means : tree < 65536 → Means schema text (Update d.at (program_on tree (parts_of project)))
-    update_means low = update_is schema text name sets (Some test) (Update d.at (program_on tree (parts_of project))) u.is_text (update_command (base_of text) low)
+    unfolding command update updated updated_in picked tests
+    update_means low =
+        let key = lowers_test schema d.at table d.there refl key_column.name key_column budget u.rich (u.named tree) u.first in
+        let typed = program_is schema table (classes_are schema table d low) (parts_of project) (u.typed tree) in
+        update_is schema text name sets (Some test) (Update d.at (program_on tree (parts_of project))) u.is_text
+        (rw (d.named, d.there, u.assigned_is schema d.at tree d.there, u.row_is tree, key, typed))
 
 -- ---- what it does to the rows of a table
 
