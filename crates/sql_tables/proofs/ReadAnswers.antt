@@ -5,7 +5,7 @@ use Rattle.std.proofs.Common.{◌≡◌, ℕ, ◌<◌, Bool, true, false, List, 
 use Rattle.sqlite_value.specs.declared.value.Value.{Value}
 use Rattle.sqlite_value.specs.declared.value.Value.TheVariants.{Null}
 use Rattle.sqlite_value.specs.Order.{Row}
-use Rattle.sqlite_sql.specs.Program.{overlay, QueryOverflows}
+use Rattle.sqlite_sql.specs.Program.{overlay}
 use Rattle.sqlite_sql.specs.Query.{IsAnswerAs, Output, end, inner, matches, output, output_cmp}
 use Rattle.sqlite_sql.proofs.QueryLemmas.{output_cmp_total}
 use Rattle.sqlite_sql.specs.Term.{Term, eval_all}
@@ -55,9 +55,6 @@ module _ (tree : ℕ) (p : Parts) where
       let all = ordered kept in
       record { staged = staged; grouped = refl; kept = kept; distinct = refl; ordered = all.0; same = all.1; sorted = sorted below all.0 all.2; shown = refl }
 
-  never_overflows : (db : Trees) → ¬ QueryOverflows (query_on tree p) db []
-  never_overflows db h = elim h [ inl group ↦ group | inr fold ↦ fold.4 ]
-
 -- ---- a text that reads a table whole
 
 module _ (t : Table) (text : List ℕ) (shown sorted : List Name) (project terms : List Term) (u : IsRead t text shown sorted project terms) (schema : Schema) (d : IsDeclared schema t)
@@ -92,7 +89,8 @@ module _ (t : Table) (text : List ℕ) (shown sorted : List Name) (project terms
       let here : RefusesToRead None command s.now [] e = subst (λ (x : Database). RefusesToRead None command x [] e) same refused in
       elim here [
         | inl wrong ↦ true≢false (sym typed ∙ wrong.1)
-        | inr (inl over) ↦ never_overflows t.tree parts (overlay s.now.trees []) over.1
+        | inr (inl (is, inl group)) ↦ group
+        | inr (inl (is, inr fold)) ↦ fold.4
         | inr (inr late) ↦ true≢false (sym late.1)
       ]
 

@@ -33,7 +33,7 @@ use Rattle.sqlite.specs.declared.run.Mode.{Mode}
 use Rattle.sqlite.specs.Does.{AtPlace, Concludes, Counted, Defines, Does, Drops, Empties, HoldWithout, Leaves, MakesIndex, MakesTable, MakesView, OnRows, OnTable, Redefines, Returns, Shows, Tally, Tested, Uncounts, UncountsIn, WritesRows}
 use Rattle.sqlite.specs.Effect.{Database, IsNoText, RefusesToAlter, alter_error, edit_error}
 use Rattle.sqlite.specs.Rows.{Clears, Counter, CounterIn, Counts, CountsIn, Edited, Gives, Inserts, InsertsOr, Judged, Meets, Outcome, Part, Puts, Queried, Refuses, Resolves, Sourced, Task, Then, Tries, TriesEach, Updates, Upserts, Written, mended, rowids_for, counting}
-use Rattle.sqlite.specs.State.{store_error, State, ExecutesIn, ExecutesInside, Executes, Fails, HasCause, IsNoStatement, IsNotRun, IsUnchanged, RunsCommand, mode_of, shows_rows, text_of}
+use Rattle.sqlite.specs.State.{store_error, State, ExecutesIn, ExecutesInside, Fails, HasCause, IsNoStatement, IsNotRun, IsUnchanged, RunsCommand, mode_of, shows_rows, text_of}
 use Rattle.std.specs.Prelude.{⊤}
 use Rattle.sqlite_resolve.specs.declared.compiled.Compiled.{Compiled}
 use Rattle.sqlite.specs.Clock.{timed}
@@ -272,16 +272,9 @@ fails_so old new U e h = (h.0, h.1, weaker old new U h.0 h.2)
 module _ (text : List ℕ) (params : Row) (old new : State) (e : Error) where
   no_statement : IsNoStatement old text params e → IsPlain e
   no_statement (inl h) = plain_if e _ h.2 refl
-  no_statement (inr h) = elim h.2 [
-    | inl many ↦ plain_if e _ many.1 refl
-    | inr (inl count) ↦ plain_if e _ count.1 refl
-    | inr (inr late) ↦ plain_if e _ late.1 refl
-  ]
-
-  not_run : IsNotRun old new text params e → IsPlain e ⊎ IsCaused old new e
-  unfolding IsNotRun
-  not_run (inl none) = inl (no_statement none.0)
-  not_run (inr failed) = inr (fails_so old new ⊥ e failed)
+  no_statement (inr (c, is, inl many)) = plain_if e _ many.1 refl
+  no_statement (inr (c, is, inr (inl count))) = plain_if e _ count.1 refl
+  no_statement (inr (c, is, inr (inr late))) = plain_if e _ late.1 refl
 
   alone : (shows : Bool) (c : Compiled) (given : Row)
       → MatchBool shows ((◌≡◌ {A = Result ℕ Error} (Err e) (Err ExecuteReturnedResults)) × IsUnchanged old new) (RunsCommand old new text c given (Err e)) → IsPlain e ⊎ IsCaused old new e
@@ -291,11 +284,9 @@ module _ (text : List ℕ) (params : Row) (old new : State) (e : Error) where
   alone false c given (inl (inr refused, quiet)) = inl ((does old.step_limit (mode_of old) given old.now (text_of text c) c.returning c.command).plain e refused.1)
   alone false c given (inr failed) = inr (fails_so old new _ e failed)
 
-  executes : Executes text params old new (Err e) → IsPlain e ⊎ IsCaused old new e
-  unfolding ExecutesIn
-  executes (inl none) = not_run none
-  executes (inr ran) = alone (shows_rows false ran.0) ran.0 (timed params ran.0.formats ran.1.now) ran.2
-
   pub answered : ExecutesInside 0 text params old new (Err e) → IsPlain e ⊎ IsCaused old new e
-  answered (inl ran) = executes ran.0
+  unfolding ExecutesIn IsNotRun
+  answered (inl (inl (inl none), undone)) = inl (no_statement none.0)
+  answered (inl (inl (inr failed), undone)) = inr (fails_so old new ⊥ e failed)
+  answered (inl (inr ran, undone)) = alone (shows_rows false ran.0) ran.0 (timed params ran.0.formats ran.1.now) ran.2
   answered (inr late) = inl (plain_if e _ late.1 refl)
