@@ -1,5 +1,5 @@
 -- What an upsert by the rowid does to a table whose key is the rowid, in any schema that declares it so.
-use Rattle.std.proofs.Common.{◌≡◌, inl, inr, ℕ, ℤ, Bool, true, false, ◌&&◌, ◌==◌, List, [], ◌∷◌, ◌++◌, Option, filter, drop, Some, Ok, refl, sym, ap, subst, ◌∙◌, is_eq, IsTrue, eq-eqb, eqb-true, ◌<◌}
+use Rattle.std.proofs.Common.{◌≡◌, inl, inr, ℕ, ℤ, Bool, true, false, ◌&&◌, ◌==◌, List, [], ◌∷◌, ◌++◌, Option, filter, drop, Some, refl, sym, ap, subst, ◌∙◌, is_eq, IsTrue, eq-eqb, eqb-true, ◌<◌}
 use Rattle.std.specs.List.{AllByRecursion}
 use Rattle.std.specs.Ordering.{int_eq}
 use Rattle.std.proofs.lemmas.Bool.{and_from, and_parts, or_cases}
@@ -25,13 +25,13 @@ use Rattle.sqlite_rules.specs.Keys.{conflicts, shares}
 use Rattle.sqlite_rules.specs.Lists.{Has}
 use Rattle.sqlite_rules.proofs.ListLemmas.{all_has, has_kept, some_has}
 use Rattle.sqlite_rules.proofs.TableLemmas.{int_is}
-use Rattle.sqlite.specs.Rows.{Written, Updates, shown}
+use Rattle.sqlite.specs.Rows.{shown}
 use Rattle.sql_tables.specs.Rows.{HaveRowids}
 use Rattle.sql_tables.specs.Tables.{IsDeclared}
 use Rattle.sql_tables.proofs.Declaring.{uncovered}
 use Rattle.sql_tables.proofs.OneTable.{Parts, program_on}
 use Rattle.sql_tables.proofs.RowLists.{only_row}
-use Rattle.sql_tables.proofs.Writing.{IsPut, Ends, task, finds, puts, updates_one}
+use Rattle.sql_tables.proofs.Writing.{IsPut, Ends, finds, puts, updates_one}
 
 truth_of : (b : Bool) → (is_true (from_truth (Some b)) && true) ≡ b
 truth_of true = refl
@@ -79,15 +79,6 @@ module _ (schema : Schema) (table : Table) (d : IsDeclared schema table) (unkeye
   module _ (low : table.tree < 65536) (limit : Option ℕ) (params : Row) (base : ℕ) (project : List Term) (new : Row) (cast : cast_row table new ≡ new) (id : ℤ) (is : rowid new ≡ Int id)
       (asked : column (params ++ Int id ∷ shown table new) base ≡ Int id)
       (made : (given r : Row) → given ≡ params ++ Int id ∷ shown table new → rowid r ≡ Int id → (cast_row table (drop 1 (eval_all project (given ∷ r ∷ []))) ≡ new) × (id_in (rowid (eval_all project (given ∷ r ∷ []))) ≡ id)) where
-    pub updates_row : (given : Row) → given ≡ params ++ Int id ∷ shown table new → (db : Trees) → HaveRowids (db table.tree) → (r : Row) → Has (db table.tree) r → rowid r ≡ Int id → (w : Written)
-        → Updates (task limit schema table params) (program_on table.tree (by_rowid base project)) given db (Ok w) → IsPut schema table new id db w.trees
-    updates_row given shows db keyed r has number w h =
-        let there = only_row (db table.tree) keyed r id has number in
-        let tests = (by_rowid base project).tests in
-        let only : filter (finds tests given) (db table.tree) ≡ r ∷ [] = all_find given base id (ap (λ g. column g base) shows ∙ asked) (db table.tree) keyed.integers ∙ there in
-        let next = made given r shows number in
-        updates_one limit schema table params d.alone (by_rowid base project) given db r new id w (uncovered schema table d low db) only there next.0 next.1 (is ∙ sym number) (λ i has unique on. absurd (none_on i has unique on)) h
-
     -- the row is put in place of the one with its number, or added
     pub upserts : (db after : Trees) → HaveRowids (db table.tree) → Ends limit schema table params (Some (0 ∷ [])) (program_on table.tree (by_rowid base project)) new db after → IsPut schema table new id db after
     upserts db after keyed (inl (free, w, h, trees)) = subst (IsPut schema table new id db) (sym trees) (puts limit schema table params new cast id is db w h).0
@@ -95,4 +86,11 @@ module _ (schema : Schema) (table : Table) (d : IsDeclared schema table) (unkeye
         let n = id_in (rowid r) in
         let integer : rowid r ≡ Int n = int_is (rowid r) (all_has _ (db table.tree) r keyed.integers has) in
         let number : rowid r ≡ Int id = integer ∙ ap Int (in_the_way new r id n is integer meets) in
-        subst (IsPut schema table new id db) (sym trees) (updates_row (params ++ rowid r ∷ shown table new) (ap (λ v. params ++ v ∷ shown table new) number) db keyed r has number w h)
+        let given = params ++ rowid r ∷ shown table new in
+        let shows : given ≡ params ++ Int id ∷ shown table new = ap (λ v. params ++ v ∷ shown table new) number in
+        let there = only_row (db table.tree) keyed r id has number in
+        let only = all_find given base id (ap (λ g. column g base) shows ∙ asked) (db table.tree) keyed.integers ∙ there in
+        let next = made given r shows number in
+        subst (IsPut schema table new id db) (sym trees)
+        (updates_one limit schema table params d.alone (by_rowid base project) given db r new id w (uncovered schema table d low db) only there
+        next.0 next.1 (is ∙ sym number) (λ i has unique on. absurd (none_on i has unique on)) h)

@@ -42,10 +42,6 @@ pub plain_if : (schema : Schema) (text : List ℕ) (command : Command) → Means
 plain_if schema text command means = subst IsPlain (sym means) (refl, refl)
 
 module _ (schema : Schema) (at : ℕ) (table : Table) (there : slice_get schema.tables at ≡ Some table) (text : List ℕ) (params : Row) (old new : State) (count : ℕ) (has : old.now.schema ≡ schema) where
-  does : (command : Command) → Means schema text command → (w : Writes old new None command (statement_of text (understood schema text)) params count)
-      → Does old.step_limit (mode_of old) params (record { schema = schema; trees = old.now.trees }) (statement_of text (understood schema text)) None command (Ok (w.tally, new.now))
-  does command means w = subst (λ s. Does old.step_limit (mode_of old) params (record old.now { schema = s }) (statement_of text (understood schema text)) None command (Ok (w.tally, new.now))) has w.changed
-
   -- what a command did that writes rows of the table
   ran : (command : Command) → Means schema text command
       → (Runs old new None command (statement_of text (understood schema text)) params count → Writes old new None command (statement_of text (understood schema text)) params count)
@@ -55,7 +51,9 @@ module _ (schema : Schema) (at : ℕ) (table : Table) (there : slice_get schema.
       → Wrote old new × ((w : Written) × WritesRows (task old.step_limit schema table params) old.now.trees command (Ok w) × (new.now.trees ≡ w.trees))
   ran command means writes on h =
       let w = writes (runs_as text params old new schema has command (ap command_of means) (plain_if schema text command means) count h) in
-      let done = went (rw there at (on _ (does command means w))) in
+      let did = λ (s : Schema).
+      Does old.step_limit (mode_of old) params (record old.now { schema = s }) (statement_of text (understood schema text)) None command (Ok (w.tally, new.now)) in
+      let done = went (rw there at (on _ (subst did has w.changed))) in
       let now = ap (λ (it : Tally × Database). it.1) (same_value (went (went done.2).2).2) in (
         record { schema = ap (λ (d : Database). d.schema) now ∙ sym has; sound = w.sound; shown = w.shown; marks = w.marks },
         (done.0, done.1, ap (λ (d : Database). d.trees) now),
