@@ -1,5 +1,5 @@
 -- A statement within a transaction fails for a cause of the store that the connection shows, or for one that is no failure of the store.
-use Rattle.std.proofs.Common.{◌≡◌, ◌≢◌, inl, inr, ℕ, ℤ, Bool, true, false, List, [], ◌∷◌, Option, Some, None, option_map, slice_get, Ok, Err, MatchBool, refl, sym, ap, subst, ◌∙◌, true≢false, ◌⊎◌, Result}
+use Rattle.std.proofs.Common.{◌≡◌, ◌≢◌, inl, inr, ℕ, ℤ, Bool, true, false, List, [], ◌∷◌, Option, Some, None, slice_get, Ok, Err, MatchBool, refl, sym, ap, ◌∙◌, true≢false, ◌⊎◌, Result, option_to_list, arith}
 use Rattle.sqlite_value.specs.Order.{Row}
 use Rattle.sqlite_trees.specs.Tree.{Trees}
 use Rattle.sqlite_trees.specs.declared.error.StoreError.{StoreError}
@@ -13,25 +13,21 @@ use Rattle.sqlite_schema.specs.declared.command.Conflict.{Conflict}
 use Rattle.sqlite_schema.specs.declared.command.Conflict.TheVariants.{Abort, Ignore, Replace}
 use Rattle.sqlite_schema.specs.declared.command.Returning.{Returning}
 use Rattle.sqlite_schema.specs.declared.command.Source.{Source}
-use Rattle.sqlite_schema.specs.declared.command.Source.TheVariants.{Values, Query}
 use Rattle.sqlite_schema.specs.declared.command.Upsert.{Upsert}
 use Rattle.sqlite_schema.specs.declared.program.Program.{Program}
 use Rattle.sqlite_rules.specs.declared.error.Refusal.{Refusal}
-use Rattle.sqlite_rules.specs.declared.error.Refusal.TheVariants.{Mismatch}
 use Rattle.sqlite_rules.specs.Cast.{cast_row}
 use Rattle.sqlite_rules.specs.Calls.{ids_of}
 use Rattle.sqlite_rules.specs.Edit.{Edit, edit_of, with_rowid}
 use Rattle.sqlite_rules.specs.declared.error.Rowids.TheVariants.{Given}
 use Rattle.sqlite_schema.specs.Rules.{Refers}
-use Rattle.std.specs.Option.{option_to_list}
 use Rattle.sqlite_catalog.specs.declared.error.Refusal as alter
-use Rattle.sqlite_catalog.specs.declared.error.Refusal.TheVariants as why
 use Rattle.sqlite.specs.declared.error.ErrorCode.TheVariants as code
 use Rattle.sqlite.specs.declared.error.Error.{Error}
 use Rattle.sqlite.specs.declared.error.Error.TheVariants.{SqliteFailure, InvalidQuery, ExecuteReturnedResults}
 use Rattle.sqlite.specs.declared.run.Mode.{Mode}
 use Rattle.sqlite.specs.Does.{AtPlace, Concludes, Counted, Defines, Does, Drops, Empties, HoldWithout, Leaves, MakesIndex, MakesTable, MakesView, OnRows, OnTable, Redefines, Returns, Shows, Tally, Tested, Uncounts, UncountsIn, WritesRows}
-use Rattle.sqlite.specs.Effect.{Database, IsNoText, RefusesToAlter, alter_error, edit_error}
+use Rattle.sqlite.specs.Effect.{Database, IsNoText, RefusesToAlter, edit_error}
 use Rattle.sqlite.specs.Rows.{Clears, Counter, CounterIn, Counts, CountsIn, Edited, Gives, Inserts, InsertsOr, Judged, Meets, Outcome, Part, Puts, Queried, Refuses, Resolves, Sourced, Task, Then, Tries, TriesEach, Updates, Upserts, Written, mended, rowids_for, counting}
 use Rattle.sqlite.specs.State.{store_error, State, ExecutesIn, ExecutesInside, Fails, HasCause, IsNoStatement, IsNotRun, IsUnchanged, RunsCommand, mode_of, shows_rows, text_of}
 use Rattle.std.specs.Prelude.{⊤}
@@ -54,22 +50,10 @@ abbrev pub IsPlain : Error → Type 0
 IsPlain e = of_store e ≡ false
 
 of_its_own : (cause : StoreError) → of_store (store_error cause) ≡ true
-of_its_own OutOfMemory = refl
-of_its_own cause = refl
+of_its_own cause = grind (arith)
 
 pub not_of_store : (e : Error) (cause : StoreError) → IsPlain e → e ≢ store_error cause
 not_of_store e cause plain same = true≢false (sym (ap of_store same ∙ of_its_own cause) ∙ plain)
-
-pub plain_if : (e d : Error) → e ≡ d → IsPlain d → IsPlain e
-plain_if e d same plain = ap of_store same ∙ plain
-
-edit_plain : (r : Refusal) → IsPlain (edit_error r)
-edit_plain Mismatch = refl
-edit_plain r = refl
-
-alter_plain : (r : alter.Refusal) → IsPlain (alter_error r)
-alter_plain why.NameTaken = refl
-alter_plain r = refl
 
 -- ---- parts of a statement
 
@@ -77,23 +61,14 @@ alter_plain r = refl
 pub record IsPlainPart {A : Type 0} (P : Part A) : Type 0 where
   pub plain : (e : Error) → P (Err (Some e)) → IsPlain e
 
--- the error with which it stops is this one
-stops_with : (e d : Error) → ◌≡◌ {A = Option Error} (Some e) (Some d) → IsPlain d → IsPlain e
-stops_with e d same = plain_if e d (cc)
-
 gives : {A : Type 0} (a : A) → IsPlainPart (Gives a)
 gives {A} a = record { plain = λ e h. absurd (let same : ◌≡◌ {A = Outcome A} (Err (Some e)) (Ok a) = h in cc) }
 
 refuses : {A : Type 0} (d : Error) → IsPlain d → IsPlainPart {A = A} (Refuses d)
-refuses d plain = record { plain = λ e h. let same : e ≡ d = cc in plain_if e d same plain }
+refuses d plain = record { plain = λ e h. grind (arith, h, plain) }
 
 then : {A B : Type 0} (First : Part A) (Next : A → Part B) → IsPlainPart First → ((a : A) → IsPlainPart (Next a)) → IsPlainPart (Then First Next)
-then First Next first next = record {
-  plain = λ e h. elim h [
-    | inl stopped ↦ let same : stopped.0 ≡ Some e = cc in first.plain e (subst (λ stop. First (Err stop)) same stopped.1)
-    | inr went ↦ (next went.0).plain e went.2
-  ];
-}
+then First Next first next = record { plain = λ e h. grind (arith, h, first.plain, λ (a : _). (next a).plain) }
 
 either : {A : Type 0} (P Q : Part A) (b : Bool) → IsPlainPart P → IsPlainPart Q → IsPlainPart (λ out. MatchBool b (P out) (Q out))
 either P Q true p q = record { plain = λ e h. p.plain e h }
@@ -106,34 +81,24 @@ perhaps P (Some x) none some = some x
 -- ---- what is asked
 
 queried : (limit : Option ℕ) (db : Database) (p : Program) (params : Row) → IsPlainPart (Queried limit db p params)
-queried limit db p params = record {
-  plain = λ e h. elim h [ inl wrong ↦ plain_if e _ wrong.0 refl | inr (inl over) ↦ plain_if e _ over.0 refl | inr (inr late) ↦ plain_if e _ late.0 refl ];
-}
+queried limit db p params = record { plain = λ e h. grind (arith, h) }
 
 sourced : (limit : Option ℕ) (db : Database) (params : Row) (from : Source) → IsPlainPart (Sourced limit db params from)
-sourced limit db params (Values terms width) = record { plain = λ e h. elim h [ inl wrong ↦ plain_if e _ wrong.0 refl | inr late ↦ plain_if e _ late.0 refl ] }
-sourced limit db params (Query q) = record { plain = (queried limit db q params).plain }
+sourced limit db params from = record { plain = λ e h. grind (arith, h) }
 
 edited : (schema : Schema) (keys : _) (db : Trees) (edit : Edit) → IsPlainPart (Edited schema keys db edit)
-edited schema keys db edit = record { plain = λ e h. go e h.0 h.2 }
-  where
-    go : (e : Error) (reason : Option Refusal) → Some e ≡ option_map edit_error reason → IsPlain e
-    go e None same = absurd (let none = same in cc)
-    go e (Some r) same = stops_with e (edit_error r) same (edit_plain r)
+edited schema keys db edit = record { plain = λ e h. grind (arith, h.2) }
 
 tested : (mode : Mode) (Holds : Among → Type 0) → IsPlainPart (Tested mode Holds)
-tested mode Holds = record { plain = λ e h. stops_with e _ h.1 refl }
+tested mode Holds = record { plain = λ e h. grind (arith, h.1) }
 
 counted : (limit : Option ℕ) (rows : List Row) → IsPlainPart (Counted limit rows)
-counted limit rows = record { plain = λ e h. stops_with e _ h.1 refl }
-
-alters : (Why : alter.Refusal → Type 0) (e : Error) → RefusesToAlter Why e → IsPlain e
-alters Why e h = plain_if e (alter_error h.0) h.2 (alter_plain h.0)
+counted limit rows = record { plain = λ e h. grind (arith, h.1) }
 
 -- a text that makes a table, an index or a view
 makes : (text : List ℕ) (Why : alter.Refusal → Type 0) (Makes : Part Database)
     → ((e : Error) → Makes (Err (Some e)) → IsNoText text e ⊎ RefusesToAlter Why e) → IsPlainPart Makes
-makes text Why Makes because = record { plain = λ e h. elim (because e h) [ inl none ↦ plain_if e _ none.1 refl | inr refused ↦ alters Why e refused ] }
+makes text Why Makes because = record { plain = λ e h. grind (arith, because e h) }
 
 makes_table : (text : List ℕ) (db : Database) → IsPlainPart (MakesTable text db)
 makes_table text db = makes text _ _ (λ e h. h)
@@ -182,14 +147,10 @@ module _ (task : Task) where
   upserts way new db (clause ∷ more) = record { plain = λ e h. (meets _ new db clause h.0 (upserts way new db more)).plain e h.2 }
 
   tries : (way : Conflict) (clauses : List Upsert) (new : Row) (db : Trees) → IsPlainPart (Tries task way clauses new db)
-  tries way clauses new db = record {
-    plain = λ e h. elim h [
-      | inl none ↦ (refuses {A = Written} (SqliteFailure code.NoRowid) refl).plain e none.1
-      | inr (verdict, is, judged) ↦
-          let refused = λ (r : Refusal). either _ _ _ (gives _) (refuses (edit_error r) (edit_plain r)) in
-          (perhaps (Judged task way clauses new db) verdict (upserts way new db clauses) refused).plain e judged
-    ];
-  }
+  tries way clauses new db =
+      let refused = λ (r : Refusal). either _ _ _ (gives _) (refuses (edit_error r) (grind (arith))) in
+      let judged = λ (verdict : Option Refusal). perhaps (Judged task way clauses new db) verdict (upserts way new db clauses) refused in
+      record { plain = λ e h. grind (arith, h, λ (verdict : Option Refusal). (judged verdict).plain e) }
 
   tries_each : (way : Conflict) (clauses : List Upsert) (rows : List Row) (top : ℤ) (done : Written) → IsPlainPart (TriesEach task way clauses rows top done)
   tries_each way clauses [] top done = gives _
@@ -244,8 +205,8 @@ module _ (limit : Option ℕ) (mode : Mode) (params : Row) (db : Database) where
   redefines text (CreateIndex at) = on_table at _ (λ task. defines mode _ (makes text _ (MakesIndex text db task.table) (λ e h. h)))
   redefines text CreateView = defines mode _ (makes text _ (MakesView text db) (λ e h. h))
   redefines text (DropTable at) = on_table at _ (λ task. drops task mode db.trees)
-  redefines text (DropIndex at) = at_place _ (slice_get db.schema.indexes at) (λ index. defines mode _ (leaves _ _ _ (alters _)))
-  redefines text (DropView at) = at_place _ (slice_get db.schema.views at) (λ view. defines mode _ (leaves _ _ _ (λ e aside. plain_if e _ aside.1 refl)))
+  redefines text (DropIndex at) = at_place _ (slice_get db.schema.indexes at) (λ index. defines mode _ (leaves _ _ _ (λ e refused. grind (arith, refused))))
+  redefines text (DropView at) = at_place _ (slice_get db.schema.views at) (λ view. defines mode _ (leaves _ _ _ (λ e aside. grind (arith, aside))))
   redefines text _ = refuses InvalidQuery refl
 
   does : (text : List ℕ) (returning : Option Returning) (command : Command) → IsPlainPart (Does limit mode params db text returning command)
@@ -271,16 +232,12 @@ fails_so old new U e h = (h.0, h.1, weaker old new U h.0 h.2)
 
 module _ (text : List ℕ) (params : Row) (old new : State) (e : Error) where
   no_statement : IsNoStatement old text params e → IsPlain e
-  no_statement (inl h) = plain_if e _ h.2 refl
-  no_statement (inr (c, is, inl many)) = plain_if e _ many.1 refl
-  no_statement (inr (c, is, inr (inl count))) = plain_if e _ count.1 refl
-  no_statement (inr (c, is, inr (inr late))) = plain_if e _ late.1 refl
+  no_statement h = grind (arith, h)
 
   alone : (shows : Bool) (c : Compiled) (given : Row)
       → MatchBool shows ((◌≡◌ {A = Result ℕ Error} (Err e) (Err ExecuteReturnedResults)) × IsUnchanged old new) (RunsCommand old new text c given (Err e)) → IsPlain e ⊎ IsCaused old new e
-  alone true c given h = let same : e ≡ ExecuteReturnedResults = cc in inl (plain_if e _ same refl)
-  alone false c given (inl (inl (inl misplaced), quiet)) = inl (plain_if e _ misplaced.0 refl)
-  alone false c given (inl (inl (inr unnamed), quiet)) = inl (plain_if e _ unnamed.0 refl)
+  alone true c given h = inl (grind (arith, h.0))
+  alone false c given (inl (inl misplaced, quiet)) = inl (grind (arith, misplaced))
   alone false c given (inl (inr refused, quiet)) = inl ((does old.step_limit (mode_of old) given old.now (text_of text c) c.returning c.command).plain e refused.1)
   alone false c given (inr failed) = inr (fails_so old new _ e failed)
 
@@ -289,4 +246,4 @@ module _ (text : List ℕ) (params : Row) (old new : State) (e : Error) where
   answered (inl (inl (inl none), undone)) = inl (no_statement none.0)
   answered (inl (inl (inr failed), undone)) = inr (fails_so old new ⊥ e failed)
   answered (inl (inr ran, undone)) = alone (shows_rows false ran.0) ran.0 (timed params ran.0.formats ran.1.now) ran.2
-  answered (inr late) = inl (plain_if e _ late.1 refl)
+  answered (inr late) = inl (grind (arith, late.1))
