@@ -1,10 +1,8 @@
 -- Rows that differ by their keys.
-use Rattle.std.proofs.Common.{◌≡◌, ℤ, ◌≤◌, Bool, true, false, List, [], ◌∷◌, map, filter, length, refl, sym, ap, subst, ◌∙◌, IsTrue, arith, true≢false}
-use Rattle.std.specs.Bool.{Decides}
+use Rattle.std.proofs.Common.{◌≡◌, ℤ, ◌≤◌, Bool, true, false, List, [], ◌∷◌, map, filter, length, refl, sym, ap, subst, ◌∙◌, IsTrue, arith, true≢false, Decides, int_eq}
 use Rattle.std.specs.List.{AllByRecursion, IsDistinct}
-use Rattle.std.specs.Ordering.{int_eq}
 use Rattle.std.proofs.lemmas.Bool.Decides.{Decides-int_eq}
-use Rattle.std.proofs.lemmas.Bool.{cond_both, false_from_ne_true}
+use Rattle.std.proofs.lemmas.Bool.{false_from_ne_true}
 use Rattle.std.proofs.lemmas.List.{length-map, nil_from_length}
 use Rattle.std.proofs.lemmas.List.Elements.{filter_agree}
 use Rattle.std.proofs.lemmas.List.Sorted.{length_permutation}
@@ -29,9 +27,9 @@ module _ {X K : Type 0} (e : K → K → Bool) (decides : (a b : K) → Decides 
   pub once : (k : K) (xs : List X) → IsDistinct e (map key xs) → length (filter (λ x. e (key x) k) xs) ≤ 1
   once k [] apart = omega arith
   once k (x ∷ xs) apart =
-      let later = λ (is : e (key x) k ≡ true). subst (λ a. AllByRecursion (λ y. e a y ≡ false) (map key xs)) ((decides (key x) k).0 is) (IsDistinct-head e _ _ apart) in
-      cond_both (e (key x) k) (x ∷ filter (λ y. e (key y) k) xs) (filter (λ y. e (key y) k) xs) (λ found. length found ≤ 1)
-      (λ is. omega (arith, ap length (none_later k xs (later is)))) (λ other. once k xs (IsDistinct-tail e _ _ apart))
+      let later = λ (is : e (key x) k ≡ true).
+      none_later k xs (subst (λ a. AllByRecursion (λ y. e a y ≡ false) (map key xs)) ((decides (key x) k).0 is) (IsDistinct-head e _ _ apart)) in
+      grind (arith, later, once k xs (IsDistinct-tail e _ _ apart))
 
   none_of : (k : K) (xs : List X) → length (filter (λ x. e (key x) k) xs) ≤ 0 → AllByRecursion (λ y. e k y ≡ false) (map key xs)
   none_of k xs few =
@@ -44,10 +42,7 @@ module _ {X K : Type 0} (e : K → K → Bool) (decides : (a b : K) → Decides 
   apart [] few = tt
   apart (x ∷ xs) few = (
     none_of (key x) xs (let one = rw ((decides (key x) (key x)).1 refl) at (few (key x)) in omega (arith, one)),
-    apart xs (λ k.
-        let there = filter (λ y. e (key y) k) xs in
-        let fewer = cond_both (e (key x) k) (x ∷ there) there (λ found. length there ≤ length found) (λ is. omega arith) (λ other. omega arith) in
-        omega (arith, fewer, few k)),
+    apart xs (λ k. grind (arith, few k)),
   )
 
 module _ {X : Type 0} (written : X → Row) (columns : Row → Row) (key : X → ℤ) (written_key : (x : X) → column (written x) 0 ≡ Int (key x)) (shown_key : (r : Row) → column (columns r) 0 ≡ rowid r) where

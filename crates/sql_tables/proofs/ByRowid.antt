@@ -1,6 +1,5 @@
 -- What an upsert by the rowid does to a table.
-use Rattle.std.proofs.Common.{◌≡◌, ℕ, suc, ℤ, ◌+◌, ◌/◌, ◌++◌, ap, ◌∙◌, ◌==◌, ◌&&◌, Bool, true, false, List, [], ◌∷◌, drop, filter, map, not, length, Some, Ok, refl, sym, true≢false, replicate, ◌<◌, cond}
-use Rattle.std.specs.Ordering.{int_eq}
+use Rattle.std.proofs.Common.{◌≡◌, ℕ, suc, ℤ, ◌+◌, ◌/◌, ◌++◌, ap, ◌∙◌, ◌==◌, ◌&&◌, Bool, true, false, List, [], ◌∷◌, drop, filter, map, not, length, Some, Ok, refl, sym, true≢false, replicate, ◌<◌, cond, int_eq, arith}
 use Rattle.std.proofs.lemmas.Bool.{and_parts}
 use Rattle.sqlite_value.specs.declared.keys.Collation.TheVariants.{Binary}
 use Rattle.sqlite_value.specs.declared.value.Value.{Value}
@@ -45,8 +44,7 @@ use Rattle.sqlite_sql.specs.Ops.{unary}
 -- ---- what STRICT leaves as it is
 
 either : (b : Bool) (x : Value) → cond b x x ≡ x
-either true x = refl
-either false x = refl
+either b x = grind (arith)
 
 pub cast_null : cast kind.Integer value.Null ≡ value.Null
 unfolding unary
@@ -70,11 +68,7 @@ fits (c ∷ cs) (v ∷ vs) = fits_kind c.kind v && fits cs vs
 fits _ _ = false
 
 cast_one : (k : Kind) (v : Value) → fits_kind k v ≡ true → cast k v ≡ v
-cast_one kind.Integer value.Null h = cast_null
-cast_one kind.Integer (value.Int n) h = cast_int n
-cast_one kind.Text (value.Text t) h = refl
-cast_one kind.Blob (value.Blob b) h = refl
-cast_one k v h = absurd (true≢false (sym h))
+cast_one k v h = grind (arith, h, cast_null, cast_int)
 
 cast_fits : (cs : List Column) (vs : Row) → fits cs vs ≡ true → cast_all cs vs ≡ vs
 cast_fits [] [] h = refl

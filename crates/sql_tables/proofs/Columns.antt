@@ -1,7 +1,7 @@
 -- How the columns of the one table of a query are read, where each is written by its name alone.
 use Rattle.std.proofs.Common.{◌≡◌, ℕ, suc, ◌+◌, ◌-◌, ◌<◌, ◌^◌, Bool, true, false, ◌&&◌, nat_lt, List, [], ◌∷◌, ◌++◌, length, codes, slice_get, Option, Some, None, Ok, is_some, is_none, option_map, refl, sym, ap, ap₂, subst, ◌∙◌, arith, append-nil, append_assoc, map, unwrap_or, bytes_eq, true≢false}
 use Rattle.std.specs.List.{list_all}
-use Rattle.std.proofs.lemmas.Bool.{and_parts, cond_both, lt-ltb}
+use Rattle.std.proofs.lemmas.Bool.{and_parts, lt-ltb}
 use Rattle.std.proofs.lemmas.Slice.Eq.{bytes_eq-Decides}
 use Rattle.sqlite_value.specs.declared.keys.Key.{Key}
 use Rattle.sqlite_value.specs.declared.keys.Collation.{Collation}
@@ -17,7 +17,7 @@ use Rattle.sqlite_ast.specs.declared.Sort.{Sort, roll-Sort}
 use Rattle.sqlite_schema.specs.declared.schema.Schema.{Schema}
 use Rattle.sqlite_schema.specs.declared.schema.Table.{Table}
 use Rattle.sqlite_schema.specs.declared.schema.Column.{Column}
-use Rattle.sqlite_schema.specs.Names.{column_named, place_of, same_name, is_key}
+use Rattle.sqlite_schema.specs.Names.{column_named, place_of, same_name}
 use Rattle.sqlite_resolve.specs.declared.state.State.{State}
 use Rattle.sqlite_resolve.specs.declared.state.Carried.{Carried}
 use Rattle.sqlite_resolve.specs.declared.scope.Bound.{Bound}
@@ -91,12 +91,10 @@ abbrev pub sorts_well : Table → List Output → Name → Bool
 sorts_well t outs name = is_none (order.alias_in outs (column_expr name)) && sorts_at t (column_named t name)
 
 none_is : {X : Type 0} (o : Option X) → is_none o ≡ true → o ≡ None
-none_is None h = refl
-none_is (Some x) h = absurd (true≢false (sym h))
+none_is o h = grind (arith, h)
 
 binary_is : (c : Collation) → is_binary c ≡ true → c ≡ Binary
-binary_is Binary h = refl
-binary_is c h = absurd (true≢false (sym h))
+binary_is c h = grind (arith, h)
 
 -- ---- how it is read
 
@@ -118,8 +116,7 @@ is_bare name = let out = column_out name in record { named = rw out; peeled = rw
 by_bytes : (table : Table) (k : ℕ) (c : Column) → c.collation ≡ Binary → alone (declared table k c) ≡ Binary
 unfolding alone
 by_bytes table k c binary =
-    let own : Carried = record { collation = Some c.collation; is_written = false } in
-    cond_both (is_key table.key k) nothing own (λ it. unwrap_or it.collation Binary ≡ Binary) (λ is. refl) (λ other. binary)
+    grind (arith, binary)
 
 -- Names that are read in turn make a list, an element for each, and each takes a step of resolving.
 module _ {X Y : Type 0} (walk : List Y → List X → Lowering (List Y)) (written : Name → X) (means : Name → Y) (fits : Name → Bool)

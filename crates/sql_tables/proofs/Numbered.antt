@@ -1,9 +1,8 @@
 -- What an upsert by the rowid does to a table whose key is the rowid, in any schema that declares it so.
-use Rattle.std.proofs.Common.{◌≡◌, inl, inr, ℕ, ℤ, Bool, true, false, ◌&&◌, ◌==◌, List, [], ◌∷◌, ◌++◌, Option, filter, drop, Some, refl, sym, ap, subst, ◌∙◌, is_eq, IsTrue, eq-eqb, eqb-true, ◌<◌}
+use Rattle.std.proofs.Common.{◌≡◌, inl, inr, ℕ, ℤ, Bool, true, ◌&&◌, List, [], ◌∷◌, ◌++◌, Option, filter, drop, Some, refl, sym, ap, subst, ◌∙◌, is_eq, IsTrue, ◌<◌, int_eq, arith}
 use Rattle.std.specs.List.{AllByRecursion}
-use Rattle.std.specs.Ordering.{int_eq}
-use Rattle.std.proofs.lemmas.Bool.{and_from, and_parts, or_cases}
-use Rattle.std.proofs.lemmas.Bool.Decides.{Decides-int_eq}
+use Rattle.std.proofs.lemmas.Bool.{and_from}
+use Rattle.std.proofs.lemmas.Bool.Decides.{Decides-int_eq, nat_tests}
 use Rattle.sqlite_value.specs.declared.keys.Collation.TheVariants.{Binary}
 use Rattle.sqlite_value.specs.declared.value.Value.TheVariants.{Int}
 use Rattle.sqlite_value.specs.Keys.{first_key}
@@ -33,9 +32,9 @@ use Rattle.sql_tables.proofs.OneTable.{Parts, program_on}
 use Rattle.sql_tables.proofs.RowLists.{only_row}
 use Rattle.sql_tables.proofs.Writing.{IsPut, Ends, finds, puts, updates_one}
 
+-- a lone test passes where it is true
 truth_of : (b : Bool) → (is_true (from_truth (Some b)) && true) ≡ b
-truth_of true = refl
-truth_of false = refl
+truth_of b = grind (arith)
 
 -- two numbers that SQL takes as equal are the same
 equal_numbers : (a b : ℤ) → equal Binary (Int a) (Int b) ≡ true → a ≡ b
@@ -58,19 +57,13 @@ module _ (schema : Schema) (table : Table) (d : IsDeclared schema table) (unkeye
   pub none_on : (i : Index) → Has schema.indexes i → i.is_unique ≡ true → i.table ≡ table.tree → ⊥
   none_on i has unique is =
       let no_index : filter (λ i. guards i table) schema.indexes ≡ [] = d.indexed ∙ rw unkeyed in
-      let guarded = and_from i.is_unique (i.table == table.tree) unique (eq-eqb i.table table.tree is) in
-      subst (λ (is : List Index). Has is i) no_index (has_kept (λ (i : Index). guards i table) schema.indexes i has guarded)
+      subst (λ (is : List Index). Has is i) no_index (has_kept (λ (i : Index). guards i table) schema.indexes i has (grind (arith, nat_tests, unique, is)))
 
   -- a row in the way has the number of the new one
   in_the_way : (new r : Row) (id n : ℤ) → rowid new ≡ Int id → rowid r ≡ Int n → conflicts (Some (0 ∷ [])) schema.indexes table new r ≡ true → n ≡ id
   unfolding first_key
-  in_the_way new r id n is number h = elim (or_cases _ _ h) [
-    | inl same ↦ let tied : equal Binary (column r 0) (column new 0) ≡ true = (and_parts _ _ same).0 in equal_numbers n id (rw (number, is) at tied)
-    | inr other ↦
-        let shared = some_has (shares (Some (0 ∷ [])) table new r) schema.indexes other in
-        let guarded = and_parts _ _ (and_parts _ _ (and_parts _ _ shared.2).0).0 in
-        absurd (none_on shared.0 shared.1 guarded.0 (eqb-true shared.0.table table.tree guarded.1))
-  ]
+  in_the_way new r id n is number h =
+      grind (arith, nat_tests, h, is, number, equal_numbers n id, some_has (shares (Some (0 ∷ [])) table new r) schema.indexes, none_on)
 
   -- what an upsert by the rowid tests and sets
   abbrev pub by_rowid : ℕ → List Term → Parts

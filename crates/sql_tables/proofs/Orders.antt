@@ -1,6 +1,5 @@
 -- Lists in order, by neighbours, and that each list can be put in order.
-use Rattle.std.proofs.Common.{◌≡◌, ℕ, zero, suc, ◌+◌, ◌<◌, Bool, false, List, [], ◌∷◌, map, length, slice_index_or, sym, subst, ◌∙◌, ◌↔◌, arith, true, inl, inr, IsPermutation}
-use Rattle.std.specs.List.Sorted.{IsSortedBy}
+use Rattle.std.proofs.Common.{◌≡◌, ℕ, zero, suc, ◌+◌, ◌<◌, Bool, false, List, [], ◌∷◌, map, length, slice_index_or, sym, ◌∙◌, ◌↔◌, arith, true, inl, inr, IsPermutation, IsSortedBy}
 use Rattle.std.proofs.lemmas.Bool.{cases_Bool}
 use Rattle.std.proofs.lemmas.List.Sorted.{IsPermutation-refl, IsPermutation-cons, IsPermutation-middle, IsPermutation-sym, IsPermutation-trans}
 
@@ -10,13 +9,10 @@ Rises lt [] = Unit {0}
 Rises lt (x ∷ []) = Unit {0}
 Rises lt (x ∷ y ∷ ys) = (lt y x ≡ false) × Rises lt (y ∷ ys)
 
-next : (k : ℕ) → suc k + 1 ≡ suc (k + 1)
-next k = omega arith
-
 pub rises : {X : Type 0} (lt : X → X → Bool) (xs : List X) → IsSortedBy lt xs → Rises lt xs
 rises lt [] up = tt
 rises lt (x ∷ []) up = tt
-rises lt (x ∷ y ∷ ys) up = (up 0 x (omega arith) (omega arith), rises lt (y ∷ ys) (λ k d low high. subst (λ n. lt (slice_index_or (x ∷ y ∷ ys) n d) (slice_index_or (y ∷ ys) k d) ≡ false) (next k) (up (suc k) d (omega arith) (omega (arith, high)))))
+rises lt (x ∷ y ∷ ys) up = (up 0 x (omega arith) (omega arith), rises lt (y ∷ ys) (λ k d low high. grind (arith, up (suc k) d, high)))
 
 pub sorted : {X : Type 0} (lt : X → X → Bool) (xs : List X) → Rises lt xs → IsSortedBy lt xs
 sorted lt [] up = λ k d low high. absurd (omega (arith, high))
@@ -25,7 +21,7 @@ sorted {X} lt (x ∷ y ∷ ys) up = λ k d low high. go k d high (sorted lt (y �
   where
     go : (k : ℕ) (d : X) → k + 1 < length (x ∷ y ∷ ys) → IsSortedBy lt (y ∷ ys) → lt (slice_index_or (x ∷ y ∷ ys) (k + 1) d) (slice_index_or (x ∷ y ∷ ys) k d) ≡ false
     go zero d high more = up.0
-    go (suc k) d high more = subst (λ n. lt (slice_index_or (x ∷ y ∷ ys) n d) (slice_index_or (y ∷ ys) k d) ≡ false) (sym (next k)) (more k d (omega arith) (omega (arith, high)))
+    go (suc k) d high more = grind (arith, more k d (omega arith) (omega (arith, high)))
 
 -- the same of what a map makes from them, if it keeps the order
 module _ {X Y : Type 0} (f : X → Y) (lt : X → X → Bool) (lt' : Y → Y → Bool) (same : (a b : X) → lt a b ≡ lt' (f a) (f b)) where
@@ -41,7 +37,7 @@ module _ {X : Type 0} (lt : X → X → Bool) (one_way : (a b : X) → lt a b �
   rest_rises x [] up = tt
   rest_rises x (y ∷ ys) up = up.1
 
-  -- an element finds its place, which is behind each that it isn't below
+  -- an element finds its place, which is after each that it isn't below
   placed : (x : X) (ys : List X) → Rises lt ys
       → (zs : List X) × IsPermutation (x ∷ ys) zs × Rises lt zs × ((y : X) → lt x y ≡ false → Rises lt (y ∷ ys) → Rises lt (y ∷ zs))
   placed x [] up = (x ∷ [], IsPermutation-refl (x ∷ []), tt, λ y later more. (later, tt))

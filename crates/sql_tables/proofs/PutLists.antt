@@ -1,8 +1,7 @@
 -- The list of a table's rows once one is put or a column of one is set, and the tables beside it.
-use Rattle.std.proofs.Common.{◌≡◌, ◌≢◌, ℕ, ℤ, Bool, not, List, ◌∷◌, map, filter, sym, ap, subst, subst₂, ◌∙◌, is_eq, IsPermutation, bytes_eq, true≢false, false, true, cond, [], ◌++◌, refl}
+use Rattle.std.proofs.Common.{◌≡◌, ◌≢◌, ℕ, ℤ, Bool, not, List, ◌∷◌, map, filter, sym, ap, subst, subst₂, ◌∙◌, is_eq, IsPermutation, bytes_eq, true≢false, false, true, cond, [], ◌++◌, refl, int_eq, arith}
 use Rattle.std.proofs.lemmas.Slice.Eq.{bytes_eq-Decides}
 use Rattle.std.proofs.lemmas.List.Elements.{filter_agree}
-use Rattle.std.specs.Ordering.{int_eq}
 use Rattle.std.proofs.lemmas.List.Sorted.{IsPermutation-sym, IsPermutation-trans, IsPermutation-cons, IsPermutation-map, IsPermutation-filter_both}
 use Rattle.sqlite_value.specs.declared.value.Value.TheVariants.{Int}
 use Rattle.sqlite_value.specs.Order.{Row, column, value_cmp}
@@ -62,8 +61,7 @@ module _ {X : Type 0} (written : X → Row) (columns : Row → Row) (key : X →
   becomes s = cond (is_eq (value_cmp (column s 0) (Int id))) (change s) s
 
   one_becomes : (x : X) → written (set_if x) ≡ becomes (written x)
-  one_becomes x = rw (written_key x, value_cmp-Int (key x) id)
-      (elim (int_eq (key x) id) as (λ b. written (cond b (set x) x) ≡ cond b (change (written x)) (written x)) [ true ↦ changes x | false ↦ refl ])
+  one_becomes x = rw (written_key x, value_cmp-Int (key x) id) (grind (arith, changes x))
 
   unchanged : (rows : List Row) → AllByRecursion (λ r. has_rowid id r ≡ false) rows → AllByRecursion (λ r. becomes (columns r) ≡ columns r) rows
   unchanged = all_weaker (λ r. has_rowid id r ≡ false) (λ r. becomes (columns r) ≡ columns r) (λ r other. rw (shown_key r, other))

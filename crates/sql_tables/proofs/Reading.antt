@@ -1,6 +1,5 @@
 -- What SELECT of a whole table in order shows, and what is read from its rows.
-use Rattle.std.proofs.Common.{◌≡◌, ℕ, List, [], ◌∷◌, map, refl, sym, ap, subst, ◌∙◌, is_lt, IsPermutation, Bool}
-use Rattle.std.specs.List.{flat_map}
+use Rattle.std.proofs.Common.{◌≡◌, ℕ, List, [], ◌∷◌, map, refl, sym, ap, subst, ◌∙◌, is_lt, IsPermutation, Bool, flat_map, IsSortedBy}
 use Rattle.sqlite_value.specs.declared.keys.Key.{Key}
 use Rattle.sqlite_value.specs.declared.keys.Collation.TheVariants.{Binary}
 use Rattle.sqlite_value.specs.Keys.{ascending}
@@ -11,7 +10,6 @@ use Rattle.sqlite_sql.specs.Term.{Term, eval_all}
 use Rattle.sqlite_sql.specs.Query.{Query, Output, IsAnswer, output, output_cmp}
 use Rattle.sql_tables.proofs.OneTable.{query_on}
 use Rattle.sql_tables.proofs.Orders.{Rises, rises, rises_map, sorted}
-use Rattle.std.specs.List.Sorted.{IsSortedBy}
 use Rattle.std.proofs.lemmas.List.Sorted.{IsPermutation-map, IsPermutation-sym}
 use Rattle.sql_tables.specs.Rows.{Lists}
 use Rattle.sql_tables.proofs.RowLists.{all_undone}

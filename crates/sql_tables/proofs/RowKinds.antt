@@ -1,7 +1,7 @@
 -- The kinds of the values in a tree's rows, and their texts, by what a sound database asks of them.
-use Rattle.std.proofs.Common.{◌≡◌, if◌then◌else◌, ◌||◌, not, ℕ, zero, suc, ◌+◌, ◌≤◌, true, false, ◌&&◌, List, [], ◌∷◌, drop, map, Option, Some, None, refl, sym, ap, subst, ◌∙◌, true≢false, IsTrue, IsPermutation, arith}
+use Rattle.std.proofs.Common.{◌≡◌, ℕ, zero, suc, ◌+◌, ◌≤◌, true, false, ◌&&◌, List, [], ◌∷◌, drop, map, Option, Some, None, refl, sym, ap, subst, ◌∙◌, true≢false, IsTrue, IsPermutation, arith}
 use Rattle.std.specs.List.{AllByRecursion, list_all}
-use Rattle.std.proofs.lemmas.Bool.{and_parts, cond_both, ne_eqb, not-true}
+use Rattle.std.proofs.lemmas.Bool.{and_parts, cond_both, ne_eqb}
 use Rattle.sqlite_value.specs.declared.value.Value.{Value}
 use Rattle.sqlite_value.specs.declared.value.Value.TheVariants as value
 use Rattle.sqlite_value.specs.Order.{Row, column}
@@ -40,23 +40,15 @@ of_kind Any v typed present utf8 = tt
 of_kind k v typed present utf8 = absurd (true≢false (sym typed))
 
 pub integer_of : (v : Value) → IsTrue (is_int v) → IsInt v
-integer_of (value.Int n) is = (n, refl)
-integer_of v is = absurd (true≢false (sym is))
+integer_of v is = grind (arith, is)
 
 utf8_at : (row : Row) (at : ℕ) → AllByRecursion IsUtf8Text row → IsUtf8Text (column row at)
 utf8_at [] at all = tt
 utf8_at (v ∷ row) zero all = all.0
 utf8_at (v ∷ row) (suc at) all = utf8_at row at all.1
 
-module _ (key : Option ℕ) (at : ℕ) (c : Column) (cs : List Column) where
-  typed_first : (vs : Row) → are_typed key at (c ∷ cs) vs ≡ true → is_key key at ≡ false → c.is_strict ≡ true → is_of c.kind (column vs 0) ≡ true
-  typed_first [] typed apart strict = refl
-  typed_first (v ∷ vs) typed apart strict =
-      let fits : (if is_key key at then is_null v else suits c v) ≡ true = (and_parts _ _ typed).0 in rw (apart, strict) at fits
-
-  typed_later : (vs : Row) → are_typed key at (c ∷ cs) vs ≡ true → are_typed key (at + 1) cs (drop 1 vs) ≡ true
-  typed_later [] typed = (and_parts _ _ typed).1
-  typed_later (v ∷ vs) typed = (and_parts _ _ typed).1
+typed_later : (key : Option ℕ) (at : ℕ) (c : Column) (cs : List Column) (vs : Row) → are_typed key at (c ∷ cs) vs ≡ true → are_typed key (at + 1) cs (drop 1 vs) ≡ true
+typed_later key at c cs vs typed = grind (arith)
 
 -- the values of a row from a place on, one for each of these columns
 abbrev pub columns_from : ℕ → List Column → Row → Row
@@ -68,13 +60,10 @@ abbrev pub GoesOn : ℕ → Row → Row → Type 0
 GoesOn at vs row = (i k : ℕ) → k ≡ at + 1 + i → column vs i ≡ column row k
 
 pub goes_on : (row : Row) → GoesOn 0 (drop 1 row) row
-goes_on [] i k e = refl
-goes_on (v ∷ row) i zero e = absurd (omega (arith, e))
-goes_on (v ∷ row) i (suc k) e = let same : i ≡ k = omega (arith, e) in ap (column row) same
+goes_on row i k e = grind (arith, e)
 
 pub later : (at : ℕ) (vs row : Row) → GoesOn at vs row → GoesOn (at + 1) (drop 1 vs) row
-later at [] row on i k e = on (suc i) k (omega (arith, e))
-later at (v ∷ vs) row on i k e = on (suc i) k (omega (arith, e))
+later at vs row on i k e = grind (arith, on (suc i) k, e)
 
 -- if the columns are STRICT and NOT NULL, and the texts UTF-8
 module _ (key : Option ℕ) (row : Row) where
@@ -83,12 +72,9 @@ module _ (key : Option ℕ) (row : Row) where
       → are_typed key at cs vs ≡ true → are_present key at cs row ≡ true → HasKinds (map (λ c. c.kind) cs) (columns_from (at + 1) cs row)
   kinds_from at [] vs on apart needed utf8 typed present = tt
   kinds_from at (c ∷ cs) vs on apart needed utf8 typed present =
-      let here : (c.is_strict ≡ true) × (c.not_null ≡ true) = and_parts _ _ (and_parts _ _ needed).0 in
       let free = apart at (omega arith) in
-      let first : column vs 0 ≡ column row (at + 1) = on 0 (at + 1) (omega arith) in
-      let is : is_of c.kind (column row (at + 1)) ≡ true = ap (is_of c.kind) (sym first) ∙ typed_first key at c cs vs typed free here.0 in
-      let asked : (is_key key at || not c.not_null || not (is_null (column row (at + 1)))) ≡ true = (and_parts _ _ present).0 in
-      let null : is_null (column row (at + 1)) ≡ false = not-true _ (rw (free, here.1) at asked) in (
+      let is : is_of c.kind (column row (at + 1)) ≡ true = grind (arith, typed, free, needed, on 0 (at + 1) (omega arith)) in
+      let null : is_null (column row (at + 1)) ≡ false = grind (arith, present, free, needed) in (
         of_kind c.kind (column row (at + 1)) is null (λ text. subst IsUtf8Text (goes_on row at (at + 1) (omega arith)) (utf8_at (drop 1 row) at (utf8.0 text))),
         kinds_from (at + 1) cs (drop 1 vs) (later at vs row on) (λ place over. apart place (omega (arith, over))) (and_parts _ _ needed).1 utf8.1 (typed_later key at c cs vs typed) (and_parts _ _ present).1,
       )

@@ -1,8 +1,8 @@
 -- Rows in a tree, and the lists of what they show.
-use Rattle.std.proofs.Common.{◌≡◌, inl, inr, ℤ, ◌≤◌, Bool, true, false, not, List, [], ◌∷◌, filter, length, refl, sym, ap, subst, ◌∙◌, Ordering, Less, Equal, Greater, is_eq, true≢false, IsPermutation, arith, pos, map, subst₂}
+use Rattle.std.proofs.Common.{◌≡◌, ℤ, ◌≤◌, Bool, true, false, not, List, [], ◌∷◌, filter, length, refl, sym, ap, subst, ◌∙◌, Ordering, Less, Equal, Greater, is_eq, true≢false, IsPermutation, arith, pos, map, subst₂, map-id}
 use Rattle.std.specs.List.{AllByRecursion, list_any}
 use Rattle.std.specs.Ordering.{match_ordering}
-use Rattle.std.proofs.lemmas.Bool.{cond_both, false_from_ne_true, not-true, or_parts}
+use Rattle.std.proofs.lemmas.Bool.{false_from_ne_true, not-true, or_parts}
 use Rattle.std.proofs.lemmas.Bool.Decides.{Decides-int_eq}
 use Rattle.std.proofs.lemmas.Cmp.{tied_itself}
 use Rattle.std.proofs.lemmas.List.Filters.{length-filter_both}
@@ -17,7 +17,6 @@ use Rattle.sqlite_rules.proofs.ListLemmas.{all_from, all_has, has_filtered, has_
 use Rattle.sqlite_rules.proofs.TableLemmas.{none_found}
 use Rattle.sqlite_catalog.proofs.ListFacts.{filter_swap}
 use Rattle.sql_tables.specs.Rows.{HaveRowids, Lists}
-use Rattle.std.proofs.lemmas.List.{map-id}
 use Rattle.sqlite_value.specs.declared.value.Value.{Value}
 
 -- what a list has fails a test that nothing of it passes
@@ -47,8 +46,7 @@ replaced id new keyed rows = put_adds id new keyed (without_rowid id rows) (none
 
 pub lone : {X : Type 0} (xs : List X) (x : X) → Has xs x → length xs ≤ 1 → xs ≡ x ∷ []
 lone [] x has few = absurd has
-lone (y ∷ []) x (inl same) few = ap (λ z. z ∷ []) (sym same)
-lone (y ∷ []) x (inr none) few = absurd none
+lone (y ∷ []) x has few = grind (arith, has)
 lone (y ∷ z ∷ more) x has few = absurd (omega (arith, few))
 
 pub has_own : (r : Row) (id : ℤ) → rowid r ≡ Int id → has_rowid id r ≡ true
@@ -71,11 +69,9 @@ few_with id k new keyed rows had =
     let left = filter (has_rowid k) (without_rowid id rows) in
     let fewer = filter_fewer (has_rowid k) (λ r. not (has_rowid id r)) rows in
     let few = had.once k in
-    cond_both (has_rowid k new) (new ∷ left) left (λ found. length found ≤ 1)
-    (λ own.
-    let none : left ≡ [] = rw (same_number new id k keyed own) (filter_none (has_rowid k) _ (none_left (has_rowid k) rows)) in
-    omega (arith, ap length none))
-    (λ other. omega (arith, fewer, few))
+    let none = λ (own : has_rowid k new ≡ true).
+    let gone : left ≡ [] = rw (same_number new id k keyed own) (filter_none (has_rowid k) _ (none_left (has_rowid k) rows)) in gone in
+    grind (arith, fewer, few, none)
 
 -- putting a row in place of those with its rowid keeps the rowids apart
 pub rowids_stay : (id : ℤ) (new : Row) → rowid new ≡ Int id → (rows : List Row) → HaveRowids rows → HaveRowids (put_row new (without_rowid id rows))

@@ -1,5 +1,5 @@
 -- What an UPDATE of one row by the rowid means, and what it does to a table, whatever else the schema has.
-use Rattle.std.proofs.Common.{◌≡◌, ◌-◌, ◌==◌, if◌then◌else◌, nat_lt, ℕ, ℤ, suc, ◌<◌, ◌≤◌, sym, ap, subst, ◌∙◌, filter, map, length, drop, replicate, IsTrue, arith, true, false, List, [], ◌∷◌, slice_get, Some, None, Ok, refl}
+use Rattle.std.proofs.Common.{◌≡◌, ◌-◌, ◌==◌, if◌then◌else◌, nat_lt, ℕ, ℤ, suc, ◌<◌, ◌≤◌, sym, ap, subst, ◌∙◌, filter, map, length, drop, replicate, IsTrue, arith, true, false, List, [], ◌∷◌, slice_get, Some, None, Ok, refl, int_eq}
 use Rattle.sqlite_value.specs.declared.keys.Collation.TheVariants.{Binary}
 use Rattle.sqlite_sql.specs.Term.{Term, col, lit, eval_all}
 use Rattle.sqlite_ast.specs.declared.Binary.TheVariants as binary
@@ -26,7 +26,6 @@ use Rattle.sql_tables.proofs.Meaning.{IsText, parse_of, update_is}
 use Rattle.sql_tables.proofs.OneTable.{Parts, program_on, is_typed, program_is}
 use Rattle.sql_tables.proofs.Running.{Means, Wrote, update_ran}
 use Rattle.sqlite_ast.specs.declared.Statement.{Statement}
-use Rattle.std.specs.Ordering.{int_eq}
 use Rattle.sqlite_value.specs.Order.{Row, column}
 use Rattle.sqlite_trees.specs.Tree.{Trees, rowid, has_rowid}
 use Rattle.sqlite_trees.specs.View.{is_int}

@@ -1,7 +1,6 @@
 -- The texts that read a table whole, whatever else the schema has.
-use Rattle.std.proofs.Common.{◌≡◌, ℕ, ◌+◌, ◌<◌, nat_le, nat_lt, true, false, is_lt, List, [], ◌∷◌, length, map, ap, subst, IsPermutation, ◌∙◌}
+use Rattle.std.proofs.Common.{◌≡◌, ℕ, ◌+◌, ◌<◌, nat_le, nat_lt, true, false, is_lt, List, [], ◌∷◌, length, map, ap, subst, IsPermutation, ◌∙◌, ltb-true}
 use Rattle.std.specs.List.{list_all}
-use Rattle.std.proofs.lemmas.Bool.{ltb-true}
 use Rattle.sqlite_value.specs.declared.keys.Collation.TheVariants.{Binary}
 use Rattle.sqlite_value.specs.declared.value.Value.TheVariants.{Null}
 use Rattle.sqlite_value.specs.Keys.{ascending}
