@@ -1,10 +1,9 @@
 -- What a schema declares once a table is made in it, with the database's counter of rowids where that is missing.
-use Rattle.std.proofs.Common.{◌≡◌, ◌≢◌, inl, inr, ℕ, ◌+◌, Bool, true, false, cond, ◌==◌, ◌&&◌, ◌||◌, List, [], ◌∷◌, ◌++◌, filter, length, is_some, Option, Some, None, refl, sym, ap, ◌∙◌, append-nil, arith, ◌<◌, not, if◌then◌else◌, slice_get, option_and_then, codes, ap₂, subst}
+use Rattle.std.proofs.Common.{◌≡◌, ◌≢◌, inl, ℕ, ◌+◌, Bool, true, false, ◌==◌, ◌&&◌, ◌||◌, List, [], ◌∷◌, ◌++◌, filter, length, is_some, refl, sym, ap, ◌∙◌, append-nil, arith, ◌<◌, if◌then◌else◌, codes, subst}
 use Rattle.std.specs.List.{position_from}
 use Rattle.std.specs.Option.{option_or}
-use Rattle.std.proofs.lemmas.Bool.{and_right, cond_both, ne_eqb, or_from, or_parts}
+use Rattle.std.proofs.lemmas.Bool.{and_right, cond_both, ne_eqb}
 use Rattle.std.proofs.lemmas.List.Elements.{filter-append}
-use Rattle.std.proofs.Math.Bool.{or-false}
 use Rattle.std.proofs.lemmas.List.Folds.{list_any-append}
 use Rattle.sqlite_trees.specs.Tree.{Trees}
 use Rattle.sqlite_trees.proofs.ListLemmas.{filter_none}
@@ -28,24 +27,13 @@ use Rattle.sqlite.specs.Does.{lacks_sequence}
 use Rattle.sqlite.specs.Rows.{sequence}
 use Rattle.sql_tables.proofs.Frozen.{all_automatic, foreign_still}
 
-some_of_both : {X : Type 0} (a b : Option X) → is_some (option_or a b) ≡ (is_some a || is_some b)
-some_of_both None b = refl
-some_of_both (Some x) b = refl
-
 -- a search in two lists finds the first, or else goes on in the second
 placed_in_both : {X : Type 0} (p : X → Bool) (xs ys : List X) (from : ℕ) → position_from p from (xs ++ ys) ≡ option_or (position_from p from xs) (position_from p (from + length xs) ys)
 placed_in_both p [] ys from = let same : from + 0 ≡ from = omega arith in rw same
-placed_in_both p (x ∷ xs) ys from =
-    let same : from + 1 + length xs ≡ from + length (x ∷ xs) = omega arith in
-    let later = position_from p (from + length (x ∷ xs)) ys in
-    elim (p x) as (λ b. cond b (Some from) (position_from p (from + 1) (xs ++ ys)) ≡ option_or (cond b (Some from) (position_from p (from + 1) xs)) later)
-    [ true ↦ refl | false ↦ rw same at (placed_in_both p xs ys (from + 1)) ]
+placed_in_both p (x ∷ xs) ys from = grind (arith, placed_in_both p xs ys (from + 1))
 
 pub is_in_both : {X : Type 0} (p : X → Bool) (xs ys : List X) (from : ℕ) → is_some (position_from p from (xs ++ ys)) ≡ (is_some (position_from p from xs) || is_some (position_from p (from + length xs) ys))
-is_in_both p xs ys from = ap is_some (placed_in_both p xs ys from) ∙ some_of_both (position_from p from xs) (position_from p (from + length xs) ys)
-
-pub absent_before : {X : Type 0} (p : X → Bool) (xs ys : List X) → is_some (position_from p 0 (xs ++ ys)) ≡ false → is_some (position_from p 0 xs) ≡ false
-absent_before p xs ys none = (or_parts _ _ (sym (is_in_both p xs ys 0) ∙ none)).0
+is_in_both p xs ys from = grind (arith, placed_in_both p xs ys from)
 
 pub sound_is_low : (s : Schema) (db : Trees) → IsSound s db → IndexesLow s
 sound_is_low s db sound i has =
@@ -58,10 +46,8 @@ pub low_still : (s : Schema) (table : Table) → IndexesLow s → IndexesLow (cr
 low_still s table low i has =
     let new : Table = record table { tree = next_tree s } in
     let above = table_below (created s table) new (has_right s.tables (new ∷ []) new (inl refl)) in
-    elim (has_either s.indexes (automatics new 0 (next_tree s + 1) table.uniques) i has) [
-      | inl old ↦ let before = low i old in omega (arith, above, before)
-      | inr more ↦ let own = all_automatic new 0 (next_tree s + 1) table.uniques i more in omega (arith, above, own.0)
-    ]
+    let indexes = automatics new 0 (next_tree s + 1) table.uniques in
+    grind (arith, above, has_either s.indexes indexes i has, low i, all_automatic new 0 (next_tree s + 1) table.uniques i)
 
 module _ (before : Schema) (table : Table) where
   abbrev made : Table
@@ -75,15 +61,9 @@ module _ (before : Schema) (table : Table) where
       → ((tree : ℕ) → filter (λ i. i.is_unique && (i.table == tree)) (automatics (record table { tree = tree }) 0 (tree + 1) table.uniques) ≡ automatics (record table { tree = tree }) 0 (tree + 1) table.uniques) → IsDeclared after made
   declares index_low free keys = record {
     at = length before.tables;
-    named =
-        let none : position_from (λ t. same_name t.name table.name) 0 before.tables ≡ None = no_table before table.name free in
-        let same : 0 + length before.tables ≡ length before.tables = omega arith in
-        placed_in_both (λ t. same_name t.name table.name) before.tables (made ∷ []) 0 ∙ rw (none, same_itself table.name) (ap Some same);
+    named = grind (arith, placed_in_both (λ t. same_name t.name table.name) before.tables (made ∷ []) 0, no_table before table.name free, same_itself table.name);
     there = got_last before.tables made;
-    alone = λ other has same. elim (has_either before.tables (made ∷ []) other has) [
-      | inl old ↦ let low = table_below before other old in absurd (omega (arith, low, same))
-      | inr new ↦ elim new [ inl is ↦ is | inr none ↦ absurd none ]
-    ];
+    alone = λ other has same. grind (arith, same, has_either before.tables (made ∷ []) other has, table_below before other);
     first = next_tree before + 1;
     indexed = filter-append (λ i. i.is_unique && (i.table == next_tree before)) before.indexes (automatics made 0 (next_tree before + 1) table.uniques)
         ∙ ap (λ old. old ++ filter (λ i. i.is_unique && (i.table == next_tree before)) (automatics made 0 (next_tree before + 1) table.uniques)) (filter_none (λ (i : Index). i.is_unique && (i.table == next_tree before)) before.indexes (all_from _ before.indexes (λ i has. let low = index_low i has in and_right _ _ (ne_eqb i.table (next_tree before) (λ same. omega (arith, low, same))))))
@@ -98,10 +78,7 @@ module _ (before : Schema) (table : Table) where
         at = d.at;
         named = placed_in_both (λ t. same_name t.name a.name) before.tables (made ∷ []) 0 ∙ ap (λ at. option_or at (position_from (λ t. same_name t.name a.name) (0 + length before.tables) (made ∷ []))) d.named;
         there = got_still before.tables (made ∷ []) after.tables d.at a refl d.there;
-        alone = λ other has same. elim (has_either before.tables (made ∷ []) other has) [
-          | inl old ↦ d.alone other old same
-          | inr new ↦ elim new [ inl is ↦ (let tree = ap (λ (t : Table). t.tree) is in absurd (omega (arith, low, same, tree))) | inr none ↦ absurd none ]
-        ];
+        alone = λ other has same. grind (arith, low, same, has_either before.tables (made ∷ []) other has, d.alone other);
         first = d.first;
         indexed = filter-append (λ i. i.is_unique && (i.table == a.tree)) before.indexes (automatics made 0 (next_tree before + 1) table.uniques)
             ∙ ap (λ more. filter (λ i. i.is_unique && (i.table == a.tree)) before.indexes ++ more) (others (next_tree before) (λ same. absurd (omega (arith, low, same))))
@@ -114,34 +91,26 @@ module _ (before : Schema) (table : Table) where
 pub free_still : (s : Schema) (table : Table) (name : List ℕ) → is_used s name ≡ false → same_name table.name name ≡ false
     → ((tree from : ℕ) → is_some (position_from (λ i. same_name i.name name) from (automatics (record table { tree = tree }) 0 (tree + 1) table.uniques)) ≡ false) → is_used (created s table) name ≡ false
 free_still s table name free other indexes =
-    let both = or_parts _ _ free in
-    let first = or_parts _ _ both.0 in
     let new : Table = record table { tree = next_tree s } in
-    let tables : is_some (position_from (λ t. same_name t.name name) 0 (s.tables ++ new ∷ [])) ≡ false =
-    is_in_both (λ t. same_name t.name name) s.tables (new ∷ []) 0 ∙ or_from _ (is_some (position_from (λ t. same_name t.name name) (0 + length s.tables) (new ∷ []))) first.0 (rw other) in
-    let keys = is_in_both (λ i. same_name i.name name) s.indexes (automatics new 0 (next_tree s + 1) table.uniques) 0 ∙ or_from _ _ first.1 (indexes (next_tree s) (0 + length s.indexes)) in
-    rw (tables, keys, both.1)
+    let tables = is_in_both (λ t. same_name t.name name) s.tables (new ∷ []) 0 in
+    let keys = is_in_both (λ i. same_name i.name name) s.indexes (automatics new 0 (next_tree s + 1) table.uniques) 0 in
+    grind (arith, free, other, tables, keys, indexes (next_tree s) (0 + length s.indexes))
 
 -- ---- the counter of rowids, which a first table brings if it is missing
 
 -- the counter is there just where a table has its name
 named_counter : (s : Schema) → is_some (sequence s) ≡ is_some (table_named s (codes "sqlite_sequence"))
-named_counter s = go (table_named s (codes "sqlite_sequence")) refl
-  where
-    go : (o : Option ℕ) → table_named s (codes "sqlite_sequence") ≡ o → is_some (option_and_then (slice_get s.tables) o) ≡ is_some o
-    go None is = refl
-    go (Some at) is =
-        let within = position_within (λ (t : Table). same_name t.name (codes "sqlite_sequence")) s.tables 0 at is in
-        ap is_some (slice_get-get_or s.tables at (counter 0) (omega (arith, within)))
+named_counter s =
+    let within = position_within (λ (t : Table). same_name t.name (codes "sqlite_sequence")) s.tables 0 in
+    grind (arith, within, λ (at : ℕ). slice_get-get_or s.tables at (counter 0))
 
 -- a table that doesn't count and isn't the counter changes nothing of whether the counter is missing
 pub lacks_as_before : (s : Schema) (table : Table) → table.is_counted ≡ false → same_name table.name (codes "sqlite_sequence") ≡ false → lacks_sequence (created s table) ≡ lacks_sequence s
 lacks_as_before s table plain other =
     let new : Table = record table { tree = next_tree s } in
-    let named : is_some (table_named (created s table) (codes "sqlite_sequence")) ≡ is_some (table_named s (codes "sqlite_sequence")) =
-    is_in_both (λ (t : Table). same_name t.name (codes "sqlite_sequence")) s.tables (new ∷ []) 0 ∙ rw other (or-false _) in
-    let counted = list_any-append (λ (t : Table). t.is_counted) s.tables (new ∷ []) ∙ rw plain (or-false _) in
-    ap₂ (λ some here. some && not here) counted (named_counter (created s table) ∙ named ∙ sym (named_counter s))
+    let named = is_in_both (λ (t : Table). same_name t.name (codes "sqlite_sequence")) s.tables (new ∷ []) 0 in
+    let counted = list_any-append (λ (t : Table). t.is_counted) s.tables (new ∷ []) in
+    grind (arith, plain, other, counted, named, named_counter (created s table), named_counter s)
 
 module _ (s : Schema) (table : Table) where
   -- what holds with and without the counter

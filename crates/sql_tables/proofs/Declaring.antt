@@ -1,6 +1,7 @@
 -- What follows where a table is declared.
-use Rattle.std.proofs.Common.{◌≡◌, inl, inr, ◌^◌, ◌<◌, true, false, nat_le, nat_lt, ◌==◌, List, [], ◌∷◌, find, Some, refl, sym, ap, eqb-true, arith}
-use Rattle.std.proofs.lemmas.Bool.{cond_both, eqb-false, lt-leb, lt-ltb}
+use Rattle.std.proofs.Common.{◌≡◌, inl, inr, ◌^◌, ◌<◌, true, false, nat_le, nat_lt, ◌==◌, List, [], ◌∷◌, find, Some, refl, arith}
+use Rattle.std.proofs.lemmas.Bool.{lt-leb, lt-ltb}
+use Rattle.std.proofs.lemmas.Bool.Decides.{nat_tests}
 use Rattle.sqlite_trees.specs.Tree.{Trees}
 use Rattle.sqlite_schema.specs.declared.schema.Table.{Table}
 use Rattle.sqlite_schema.specs.declared.schema.Schema.{Schema}
@@ -14,12 +15,9 @@ use Rattle.sql_tables.specs.Tables.{IsDeclared}
 
 found_by_tree : (tables : List Table) (table : Table) → Has tables table → ((other : Table) → Has tables other → other.tree ≡ table.tree → other ≡ table) → find (λ t. t.tree == table.tree) tables ≡ Some table
 found_by_tree [] table has alone = absurd has
-found_by_tree (t ∷ ts) table has alone = cond_both (t.tree == table.tree) (Some t) (find (λ t. t.tree == table.tree) ts) (λ found. found ≡ Some table)
-    (λ is. ap Some (alone t (inl refl) (eqb-true t.tree table.tree is)))
-    (λ other. elim has [
-      | inl same ↦ absurd (eqb-false t.tree table.tree other (ap (λ (t : Table). t.tree) (sym same)))
-      | inr later ↦ found_by_tree ts table later (λ other has. alone other (inr has))
-    ])
+found_by_tree (t ∷ ts) table has alone =
+    let rest : Has ts table → find (λ t. t.tree == table.tree) ts ≡ Some table = λ later. found_by_tree ts table later (λ other has. alone other (inr has)) in
+    grind (arith, nat_tests, alone t (inl refl), rest)
 
 module _ (schema : Schema) (table : Table) (d : IsDeclared schema table) where
   pub has_table : Has schema.tables table

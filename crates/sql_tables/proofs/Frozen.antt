@@ -1,5 +1,5 @@
 -- The trees that the database keeps as they are stay such while tables are made.
-use Rattle.std.proofs.Common.{◌≡◌, inl, inr, true, false, List, [], ◌∷◌, ◌++◌, map, refl, sym, ap, ◌∙◌, true≢false, ℕ, ◌+◌, ◌<◌, ◌≤◌, ◌%◌, ◌==◌, ◌||◌, pos, Bool, find, Some, subst, arith}
+use Rattle.std.proofs.Common.{◌≡◌, inl, inr, true, false, List, [], ◌∷◌, ◌++◌, map, refl, sym, ap, ◌∙◌, true≢false, ℕ, ◌+◌, ◌<◌, ◌≤◌, ◌%◌, ◌==◌, ◌||◌, pos, Bool, find, Some, subst, arith, unwrap_or}
 use Rattle.std.specs.Char.{to_ascii_lowercase}
 use Rattle.std.proofs.lemmas.Bool.{and_parts, cond_both, not-true}
 use Rattle.std.proofs.lemmas.Slice.Eq.{bytes_eq-Decides}
@@ -9,7 +9,6 @@ use Rattle.sqlite_rules.specs.Lists.{Has}
 use Rattle.sqlite_rules.proofs.ListLemmas.{has_left, has_right, all_from, all_has, has_either, has_filtered, has_kept}
 use Rattle.sqlite_catalog.proofs.SoundLemmas.{list_parts}
 use Rattle.sql_tables.proofs.RowLists.{none_has}
-use Rattle.std.specs.Prelude.{unwrap_or}
 use Rattle.std.proofs.lemmas.Bool.Decides.{nat_tests}
 use Rattle.sqlite_trees.specs.Objects.{catalog_tree, number_in, row_for}
 use Rattle.sqlite_value.specs.declared.value.Value.TheVariants.{Int}
@@ -44,10 +43,10 @@ not_both earlier a rows b up has same =
 
 one_in_order : (earlier : List Head) (rows : List Row) → are_in_order earlier (map (head_at 1) rows) ≡ true → (a b : Row) → Has rows a → Has rows b → column a 2 ≡ column b 2 → a ≡ b
 one_in_order earlier [] up a b has has' same = absurd has
-one_in_order earlier (r ∷ rows) up a b (inl first) (inl first') same = first ∙ sym first'
-one_in_order earlier (r ∷ rows) up a b (inl first) (inr later) same = absurd (not_both earlier r rows b (and_parts _ _ up).1 later (ap (λ (x : Row). column x 2) (sym first) ∙ same))
-one_in_order earlier (r ∷ rows) up a b (inr later) (inl first) same = absurd (not_both earlier r rows a (and_parts _ _ up).1 later (ap (λ (x : Row). column x 2) (sym first) ∙ sym same))
-one_in_order earlier (r ∷ rows) up a b (inr later) (inr later') same = one_in_order (earlier ++ head_at 1 r ∷ []) rows (and_parts _ _ up).1 a b later later' same
+one_in_order earlier (r ∷ rows) up a b has has' same =
+    let clash = λ (x : Row). not_both earlier r rows x (and_parts _ _ up).1 in
+    let rest = λ (later : Has rows a) (later' : Has rows b). one_in_order (earlier ++ head_at 1 r ∷ []) rows (and_parts _ _ up).1 a b later later' same in
+    grind (arith, has, has', same, clash a, clash b, rest)
 
 pub one_of_name : (objects : List Row) → is_sound_list objects ≡ true → (a b : Row) → Has objects a → Has objects b → column a 2 ≡ column b 2 → a ≡ b
 one_of_name objects sound = one_in_order [] objects (list_parts objects sound).1
@@ -71,14 +70,11 @@ foreign_still s table db tree f =
       listed = f.listed;
       there = there;
       frozen = f.frozen;
-      no_table = all_from _ (created s table).tables (λ t has same. elim (has_either s.tables (new ∷ []) t has) [
-        | inl old ↦ all_has _ s.tables t f.no_table old same
-        | inr last ↦ elim last [ inl is ↦ (let at = ap (λ (u : Table). u.tree) is in absurd (omega (arith, low, there, same, at))) | inr none ↦ absurd none ]
-      ]);
-      no_index = all_from _ (created s table).indexes (λ i has same. elim (has_either s.indexes (automatics new 0 (next_tree s + 1) table.uniques) i has) [
-        | inl old ↦ all_has _ s.indexes i f.no_index old same
-        | inr more ↦ let own = all_automatic new 0 (next_tree s + 1) table.uniques i more in absurd (omega (arith, low, there, same, own.1))
-      ]);
+      no_table = all_from _ (created s table).tables (λ t has same.
+          grind (arith, low, there, same, has_either s.tables (new ∷ []) t has, all_has _ s.tables t f.no_table));
+      no_index = all_from _ (created s table).indexes (λ i has same.
+          let own = automatics new 0 (next_tree s + 1) table.uniques in
+          grind (arith, low, there, same, has_either s.indexes own i has, all_has _ s.indexes i f.no_index, all_automatic new 0 (next_tree s + 1) table.uniques i));
     }
 
 found_so : (P : Row → Type 0) (p : Row → Bool) (rows : List Row) (row : Row) → Has rows row → p row ≡ true → ((r : Row) → Has rows r → p r ≡ true → P r) → P (unwrap_or (find p rows) [])

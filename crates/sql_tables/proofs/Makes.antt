@@ -1,5 +1,5 @@
 -- The text that makes a table, which finds its name free and frees none.
-use Rattle.std.proofs.Common.{◌≡◌, ℕ, ◌≤◌, Bool, true, false, nat_lt, if◌then◌else◌, ◌==◌, List, [], ◌∷◌, length, codes, slice_range, Ok, sym, ap, subst, ◌∙◌, arith, MatchBool, Err, Result, refl}
+use Rattle.std.proofs.Common.{◌≡◌, ℕ, ◌≤◌, Bool, true, false, nat_lt, if◌then◌else◌, ◌==◌, List, [], ◌∷◌, length, codes, slice_range, Ok, sym, ap, subst, ◌∙◌, arith, MatchBool, Err, Result, refl, ◌+◌}
 use Rattle.std.specs.List.{AllByRecursion}
 use Rattle.sqlite_trees.specs.Tree.{Trees}
 use Rattle.sqlite_trees.proofs.ListLemmas.{all-append, all_both}
@@ -10,7 +10,7 @@ use Rattle.sqlite_schema.specs.declared.schema.Table.{Table}
 use Rattle.sqlite_schema.specs.Names.{same_name}
 use Rattle.sqlite_resolve.specs.Compile.{is_reserved, table_defined_by}
 use Rattle.sqlite_resolve.specs.Define as define
-use Rattle.sqlite_catalog.specs.Change.{created, is_used, next_tree}
+use Rattle.sqlite_catalog.specs.Change.{automatics, created, is_used, next_tree}
 use Rattle.sqlite_catalog.specs.Listing.{IsSound}
 use Rattle.sqlite.proofs.Callers.{statement_of, command_of, runs_as}
 use Rattle.sqlite.specs.Does.{lacks_sequence, Tally, MakesTable, sequence_text}
@@ -18,11 +18,11 @@ use Rattle.sqlite.specs.Effect.{Database, SparesFrozen}
 use Rattle.sqlite.specs.State.{State, ExecutesInside, ExecutesIn, Executes}
 use Rattle.sql_tables.specs.Making.{IsForeignTree, IsMaking, KeepsAside, first_created, first_rows, AreFree, FreesNone}
 use Rattle.sql_tables.specs.Tables.{counter}
-use Rattle.sql_tables.proofs.Creating.{foreign_first, lacks_as_before, rising, rising_first, views_first, absent_before}
+use Rattle.sql_tables.proofs.Creating.{foreign_first, lacks_as_before, rising, rising_first, views_first, is_in_both}
 use Rattle.sql_tables.proofs.Frozen.{is_frozen, still_frozen}
 use Rattle.sql_tables.proofs.Meaning.{IsText, parse_of, create_is, create_fails}
 use Rattle.sql_tables.proofs.Running.{Grows, create_ran, plain_if}
-use Rattle.std.proofs.lemmas.Bool.{false_from_ne_true, le-ltb, or_parts}
+use Rattle.std.proofs.lemmas.Bool.{le-ltb}
 use Rattle.sqlite_schema.specs.declared.command.Command.TheVariants.{CreateTable as MakeTable}
 use Rattle.sqlite.specs.Rows.{Gives}
 use Rattle.sql_tables.proofs.Writing.{went, same_value}
@@ -100,16 +100,13 @@ makes_first text table m committed first rows before old new count was free h =
 
 free_before : (s : Schema) (table : Table) (name : List ℕ) → is_used (created s table) name ≡ false → is_used s name ≡ false
 free_before s table name free =
-    let both = or_parts _ _ free in
-    let first = or_parts _ _ both.0 in
-    rw (absent_before _ s.tables _ first.0, absent_before _ s.indexes _ first.1, both.1)
+    let new : Table = record table { tree = next_tree s } in
+    let tables = is_in_both (λ t. same_name t.name name) s.tables (new ∷ []) 0 in
+    grind (arith, tables, is_in_both (λ i. same_name i.name name) s.indexes (automatics new 0 (next_tree s + 1) table.uniques) 0)
 
 statement_free : (text : List ℕ) (table : Table) (m : IsMake text table) (old new : State) (count : ℕ) → Executes text [] old new (Ok count) → is_used old.now.schema table.name ≡ false
 unfolding ExecutesIn
-statement_free text table m old new count h = false_from_ne_true _ (λ used.
-    let fails = create_fails old.now.schema text m.def m.is_text m.always (ap (is_used old.now.schema) m.name ∙ used) in
-    let both : ◌≡◌ {A = _} (Ok h.0) (Err fails.0) = sym h.1.is ∙ fails.1 in
-    cc)
+statement_free text table m old new count h = grind (arith, h.1.is, m.name, create_fails old.now.schema text m.def m.is_text m.always)
 
 sequence_frees_none : (b : Bool) (mid after : Database) → MatchBool b (MakesTable sequence_text mid (Ok after)) (Gives mid (Ok after)) → (name : List ℕ) → is_used after.schema name ≡ false → is_used mid.schema name ≡ false
 sequence_frees_none true mid after h name free = free_before mid.schema h.table name (subst (λ s. is_used s name ≡ false) h.is free)

@@ -1,11 +1,11 @@
 -- What a text means is what its parse means, whatever the schema.
-use Rattle.std.proofs.Common.{◌≡◌, ◌∙◌, ℕ, ◌+◌, List, [], ◌∷◌, Option, Some, None, Ok, Err, Result, refl, sym, false, true, length, slice_get, is_some, ◌==◌, ◌||◌, true≢false}
+use Rattle.std.proofs.Common.{arith, ◌≡◌, ℕ, ◌+◌, List, [], ◌∷◌, Option, Some, None, Ok, Err, Result, refl, false, true, length, slice_get, is_some, ◌==◌, ◌||◌}
 use Rattle.sqlite_ast.specs.declared.Statement.{Statement}
 use Rattle.sqlite_ast.specs.declared.Statement.TheVariants.{Select, Insert, Update, CreateTable, Empty}
 use Rattle.sqlite_ast.specs.declared.CreateTable as create
 use Rattle.sqlite_resolve.specs.Define as define
 use Rattle.sqlite_catalog.specs.Change.{is_used}
-use Rattle.std.proofs.lemmas.Bool.{cond_both, or_from}
+use Rattle.std.proofs.lemmas.Bool.{cond_both}
 use Rattle.sqlite_catalog.proofs.StepLemmas.{no_index, no_table, no_view}
 use Rattle.std.specs.Option.{option_or}
 use Rattle.sqlite_ast.specs.declared.Expr.{Expr}
@@ -66,8 +66,7 @@ base_of text = small (parse_of text).names + small []
 compiled_as : (schema : Schema) (sql : List ℕ) (p : Parsed) (s : Statement) (r : Result Command CompileError) → first sql ≡ Ok p → p.statement ≡ s → p.formats ≡ [] → timed schema [] s ≡ []
     → returning schema (small p.names + small []) s ≡ Ok None → command schema [] (small p.names + small []) s ≡ r → compiled schema sql ≡ and_then r (λ k. Ok (with_command p ([], (k, None))))
 unfolding compiled planned meaning
-compiled_as schema sql p s (Ok k) parsed is timeless untimed bare means = rw (parsed, is, timeless, untimed, bare, means)
-compiled_as schema sql p s (Err e) parsed is timeless untimed bare means = rw (parsed, is, timeless, untimed, bare, means)
+compiled_as schema sql p s r parsed is timeless untimed bare means = rw (parsed, is, timeless, untimed, bare, means) (grind (arith))
 
 understood_as : (schema : Schema) (sql : List ℕ) (r : Result Compiled CompileError) → compiled schema sql ≡ r → misses_table r ≡ false → (understood schema sql ≡ r) × (reads_listing schema sql ≡ false)
 unfolding understood
@@ -106,13 +105,10 @@ not_new : (name : List ℕ) (same other : Option ℕ) → (is_some same || is_so
 unfolding creates
 not_new name same other taken = cond_both (is_reserved name) _ _ Stops (λ own. (Misuse, refl, refl))
     (λ free. cond_both (is_some other) _ _ Stops (λ some. (Exists, refl, refl))
-    (λ none. cond_both (is_some same) _ _ Stops (λ some. (Exists, refl, refl)) (λ neither. absurd (true≢false (sym taken ∙ or_from _ _ neither none)))))
+    (λ none. cond_both (is_some same) _ _ Stops (λ some. (Exists, refl, refl)) (λ neither. absurd (grind (arith, taken, neither, none)))))
 
 either_named : (table index view : Option ℕ) → (is_some table || is_some index || is_some view) ≡ true → (is_some (option_or table view) || is_some index) ≡ true
-either_named (Some at) index view taken = refl
-either_named None index (Some at) taken = refl
-either_named None (Some at) None taken = taken
-either_named None None None taken = taken
+either_named table index view taken = grind (arith)
 
 -- where a table, an index or a view has the name, CREATE TABLE is refused
 create_stops : (schema : Schema) (base : ℕ) (formats : List (List ℕ)) (def : create.CreateTable) → def.if_missing ≡ false → is_used schema def.name ≡ true → Stops (command schema formats base (CreateTable def))

@@ -1,5 +1,5 @@
 -- A row that keeps the columns of its keys sets off no action of a foreign key.
-use Rattle.std.proofs.Common.{◌≡◌, ℕ, Bool, true, false, not, ◌==◌, ◌&&◌, ◌||◌, List, [], ◌∷◌, length, Option, Some, None, refl, sym, subst, ◌∙◌, inl, inr, eqb-true}
+use Rattle.std.proofs.Common.{arith, ◌≡◌, ℕ, Bool, true, false, ◌==◌, ◌&&◌, ◌||◌, List, [], ◌∷◌, length, Option, Some, None, refl, sym, subst, ◌∙◌, inl, inr, eqb-true}
 use Rattle.std.specs.List.{AllByRecursion, list_all, filter_map, flat_map}
 use Rattle.std.proofs.lemmas.Bool.{and_parts, or_cases}
 use Rattle.std.proofs.lemmas.Slice.Eq.{bytes_eq-Decides}
@@ -11,7 +11,7 @@ use Rattle.sqlite_schema.specs.declared.schema.Reference.{Reference}
 use Rattle.sqlite_schema.specs.declared.schema.Schema.{Schema}
 use Rattle.sqlite_schema.specs.declared.schema.Table.{Table}
 use Rattle.sqlite_schema.specs.Names.{same_name}
-use Rattle.sqlite_schema.specs.Rules.{ParentKey, agree, parent_key, is_index_for, is_unique_key, is_key_if_to, references_fit}
+use Rattle.sqlite_schema.specs.Rules.{ParentKey, parent_key, is_index_for, is_unique_key, is_key_if_to, references_fit}
 use Rattle.sqlite_rules.specs.Lists.{Has}
 use Rattle.sqlite_rules.specs.declared.action.Deed.{Deed}
 use Rattle.sqlite_rules.specs.Action.{works, work_for, work_by, deed_for, loses}
@@ -23,9 +23,7 @@ abbrev pub AreKept : Row → Row → List ℕ → Type 0
 AreKept old new = AllByRecursion (λ p. column new p ≡ column old p)
 
 loses_nothing : (o : Order) (places : List ℕ) (old new : Row) → AreKept old new places → loses o places (old, new) ≡ false
-loses_nothing o places old new kept =
-    rw (sym (agree_same o places places old old new old (agrees_itself places old) kept))
-    (elim (agree o places old places old) as (λ b. (b && not b) ≡ false) [ true ↦ refl | false ↦ refl ])
+loses_nothing o places old new kept = rw (sym (agree_same o places places old old new old (agrees_itself places old) kept)) (grind (arith))
 
 module _ (schema : Schema) (table : Table) (alone : (other : Table) → Has schema.tables other → other.tree ≡ table.tree → other ≡ table) (old new : Row) (rowid_kept : column new 0 ≡ column old 0)
     (kept : (i : Index) → Has schema.indexes i → i.is_unique ≡ true → i.table ≡ table.tree → AreKept old new i.columns) where
@@ -53,9 +51,8 @@ module _ (schema : Schema) (table : Table) (alone : (other : Table) → Has sche
           rw (loses_nothing key.2 key.1 old new (kept_by_key key (length ref.columns) ours unique))
 
       go : (deed : Option Deed) (key : Option ParentKey) → parent_key schema.tables ref ≡ key → work_by 0 table.tree ((old, new) ∷ []) child ref deed key ≡ None
-      go None key is = refl
-      go (Some deed) None is = refl
-      go (Some deed) (Some key) is = rw (loses_none key is (key.0 == table.tree) refl)
+      go deed None is = grind (arith)
+      go deed (Some key) is = grind (arith, loses_none key is (key.0 == table.tree) refl)
 
   no_work : (child : Table) (refs : List Reference) → list_all (is_key_if_to schema table) refs ≡ true → filter_map (work_for schema Enforced 0 table.tree (old ∷ []) (new ∷ []) child) refs ≡ []
   no_work child [] fit = refl

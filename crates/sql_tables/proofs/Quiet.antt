@@ -1,6 +1,5 @@
 -- A text that is a SELECT writes nothing, whatever the schema is, and one that has an answer fails only where the store does.
-use Rattle.std.proofs.Common.{Option, ◌≡◌, ◌⊎◌, inl, inr, ℕ, ◌+◌, Bool, true, false, List, None, Ok, Err, Result, OnOk, IfErr, refl, sym, ap, subst, true≢false, ◌≤◌, [], length, ◌∙◌}
-use Rattle.std.proofs.lemmas.Bool.{cond_both}
+use Rattle.std.proofs.Common.{Option, ◌≡◌, ◌⊎◌, inl, inr, ℕ, ◌+◌, Bool, true, false, List, None, Ok, Err, Result, OnOk, IfErr, sym, ap, true≢false, [], ◌∙◌, arith}
 use Rattle.sqlite_ast.specs.declared.Statement.{Statement}
 use Rattle.sqlite_ast.specs.declared.Statement.TheVariants.{Select}
 use Rattle.sqlite_syntax.specs.declared.statement.Parsed.{Parsed}
@@ -8,7 +7,6 @@ use Rattle.sqlite_schema.specs.declared.command.Command.{Command}
 use Rattle.sqlite_schema.specs.declared.schema.Schema.{Schema}
 use Rattle.sqlite_resolve.specs.declared.compiled.Compiled.{Compiled}
 use Rattle.sqlite_resolve.specs.declared.error.CompileError.{CompileError}
-use Rattle.sqlite_resolve.specs.declared.error.CompileError.TheVariants.{NoSuchTable}
 use Rattle.sqlite_resolve.specs.Compile.{compiled, first, planned, meaning, returning, command, small, timed, with_command}
 use Rattle.sqlite_resolve.specs.Lowering.{and_then}
 use Rattle.sqlite_trees.specs.declared.error.StoreError.{StoreError}
@@ -16,7 +14,7 @@ use Rattle.sqlite_value.specs.Order.{Row}
 use Rattle.sqlite.specs.declared.error.Error.{Error}
 use Rattle.sqlite.specs.Effect.{Database, RefusesToRead}
 use Rattle.sqlite.specs.Clock.{timed as filled}
-use Rattle.sqlite.specs.Listing.{understood, reads_listing, listing_schema, if_select, is_select}
+use Rattle.sqlite.specs.Listing.{understood, listing_schema, if_select}
 use Rattle.sqlite.specs.State.{State, store_error, IsUnchanged, IsNotRun, FailsToShow, FailsToQuery, Shown, Survives, CommitsShowing, IsNoStatement}
 use Rattle.sqlite.proofs.StateLemmas.{survives_weaker}
 use Rattle.sql_tables.specs.States.{HasAnswer}
@@ -32,16 +30,14 @@ reads (Err e) = false
 
 none_by : (schema : Schema) (base : ℕ) (s : Statement) → selects s ≡ true → returning schema base s ≡ Ok None
 unfolding returning
-none_by schema base (Select s) h = refl
-none_by schema base s h = absurd (true≢false (sym h))
+none_by schema base s h = grind (arith, h)
 
 pub same_compiled : (a b : Compiled) → ◌≡◌ {A = Result Compiled CompileError} (Ok a) (Ok b) → a ≡ b
 same_compiled a b e = cc
 
 carried : (p : Parsed) (formats : List (List ℕ)) (k : Result Command CompileError) (c : Compiled)
     → and_then (and_then (and_then k (λ c. Ok (c, None))) (λ found. Ok (formats, found))) (λ plan. Ok (with_command p plan)) ≡ Ok c → c.returning ≡ None
-carried p formats (Ok k) c e = ap (λ (x : Compiled). x.returning) (sym (same_compiled (with_command p (formats, (k, None))) c e))
-carried p formats (Err k) c e = absurd (cc)
+carried p formats k c e = grind (arith, e)
 
 plain_from : (schema : Schema) (r : Result Parsed CompileError) (c : Compiled) → reads r ≡ true → and_then r (λ p. and_then (planned schema p) (λ plan. Ok (with_command p plan))) ≡ Ok c → c.returning ≡ None
 unfolding planned meaning
@@ -65,15 +61,11 @@ module _ (text : List ℕ) (is : reads (first text) ≡ true) where
   in_schema schema c e = plain_from schema (first text) c is e
 
   listed : (r : Result Compiled CompileError) → ((c : Compiled) → r ≡ Ok c → c.returning ≡ None) → (c : Compiled) → if_select r ≡ Ok c → c.returning ≡ None
-  listed (Err x) plain c e = absurd (cc)
-  listed (Ok x) plain c e =
-      cond_both (is_select x.command) (Ok x) (Err NoSuchTable) (λ r. r ≡ Ok c → c.returning ≡ None) (λ is. plain c) (λ other same. absurd (cc)) e
+  listed r plain c e = grind (arith, plain c)
 
   pub never_returns : (schema : Schema) (c : Compiled) → understood schema text ≡ Ok c → c.returning ≡ None
   unfolding understood
-  never_returns schema c e =
-      cond_both (reads_listing schema text) (if_select (compiled listing_schema text)) (compiled schema text) (λ r. r ≡ Ok c → c.returning ≡ None)
-      (λ listing. listed (compiled listing_schema text) (in_schema listing_schema) c) (λ other. in_schema schema c) e
+  never_returns schema c e = grind (arith, listed (compiled listing_schema text) (in_schema listing_schema) c, in_schema schema c)
 
   -- a query on any file commits nothing
   pub commits_nothing : (params : Row) (old new : State) → Survives old new (CommitsShowing text params old) → Survives old new (λ _. ⊥)
@@ -104,14 +96,7 @@ same_refusal limit c d db params e unlimited same bare refused = rw (unlimited, 
 
 module _ (text : List ℕ) (is_read : reads (first text) ≡ true) (old new : State) (can : HasAnswer text old) (unlimited : old.step_limit ≡ None) (e : Error) where
   is_statement : ¬ IsNoStatement old text [] e
-  is_statement (inl h) = absurd (let both = sym can.is.is ∙ h.1 in cc)
-  is_statement (inr h) =
-      let same : h.0 ≡ can.compiled = same_compiled h.0 can.compiled (sym h.1 ∙ can.is.is) in
-      elim h.2 [
-        | inl long ↦ long.0 (subst (λ (c : Compiled). length text ≤ c.tail) (sym same) can.is.whole)
-        | inr (inl count) ↦ count.0 (can.is.given ∙ ap (λ (c : Compiled). length c.names) (sym same))
-        | inr (inr late) ↦ late.0 (ap (λ (c : Compiled). c.formats) same ∙ can.timeless)
-      ]
+  is_statement h = grind (arith, h, can.is.is, can.is.whole, can.is.given, can.timeless)
 
   pub answered_fails : FailsToQuery text [] old new e → IsStoreFailure e
   unfolding FailsToQuery IsNotRun

@@ -1,7 +1,6 @@
 -- A text that reads a table whole has an answer, over any connection that is open.
-use Rattle.std.proofs.lemmas.Bool.{leb-true}
 use Rattle.std.proofs.lemmas.List.Sorted.{ranks_by}
-use Rattle.std.proofs.Common.{◌≡◌, ℕ, ◌<◌, Bool, true, false, List, [], ◌∷◌, filter, map, length, None, IsTrue, refl, sym, ap, subst, subst₂, ◌∙◌, inl, inr, is_lt, true≢false, IsPermutation}
+use Rattle.std.proofs.Common.{◌≡◌, ℕ, ◌<◌, Bool, true, false, List, [], ◌∷◌, filter, map, length, None, IsTrue, refl, sym, ap, subst, subst₂, ◌∙◌, is_lt, IsPermutation, leb-true, arith}
 use Rattle.sqlite_value.specs.declared.value.Value.{Value}
 use Rattle.sqlite_value.specs.declared.value.Value.TheVariants.{Null}
 use Rattle.sqlite_value.specs.Order.{Row}
@@ -87,12 +86,7 @@ module _ (t : Table) (text : List ℕ) (shown sorted : List Name) (project terms
   unrefused db from e refused =
       let same : db ≡ s.now = subst (λ (b : Bool). IsSourceOf b s.now db) unlisted from in
       let here : RefusesToRead None command s.now [] e = subst (λ (x : Database). RefusesToRead None command x [] e) same refused in
-      elim here [
-        | inl wrong ↦ true≢false (sym typed ∙ wrong.1)
-        | inr (inl (is, inl group)) ↦ group
-        | inr (inl (is, inr fold)) ↦ fold.4
-        | inr (inr late) ↦ true≢false (sym late.1)
-      ]
+      grind (arith, here, typed)
 
   pub can_answer : HasAnswer text s
   can_answer = record { compiled = meant; is = is_one; timeless = refl; unrefused = unrefused }
