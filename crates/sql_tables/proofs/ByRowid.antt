@@ -44,7 +44,7 @@ use Rattle.sqlite_sql.specs.Ops.{unary}
 -- ---- what STRICT leaves as it is
 
 either : (b : Bool) (x : Value) → cond b x x ≡ x
-either b x = grind (arith)
+either b x = grind arith
 
 pub cast_null : cast kind.Integer value.Null ≡ value.Null
 unfolding unary

@@ -66,7 +66,7 @@ base_of text = small (parse_of text).names + small []
 compiled_as : (schema : Schema) (sql : List ℕ) (p : Parsed) (s : Statement) (r : Result Command CompileError) → first sql ≡ Ok p → p.statement ≡ s → p.formats ≡ [] → timed schema [] s ≡ []
     → returning schema (small p.names + small []) s ≡ Ok None → command schema [] (small p.names + small []) s ≡ r → compiled schema sql ≡ and_then r (λ k. Ok (with_command p ([], (k, None))))
 unfolding compiled planned meaning
-compiled_as schema sql p s r parsed is timeless untimed bare means = rw (parsed, is, timeless, untimed, bare, means) (grind (arith))
+compiled_as schema sql p s r parsed is timeless untimed bare means = rw (parsed, is, timeless, untimed, bare, means) (grind arith)
 
 understood_as : (schema : Schema) (sql : List ℕ) (r : Result Compiled CompileError) → compiled schema sql ≡ r → misses_table r ≡ false → (understood schema sql ≡ r) × (reads_listing schema sql ≡ false)
 unfolding understood
@@ -108,7 +108,7 @@ not_new name same other taken = cond_both (is_reserved name) _ _ Stops (λ own. 
     (λ none. cond_both (is_some same) _ _ Stops (λ some. (Exists, refl, refl)) (λ neither. absurd (grind (arith, taken, neither, none)))))
 
 either_named : (table index view : Option ℕ) → (is_some table || is_some index || is_some view) ≡ true → (is_some (option_or table view) || is_some index) ≡ true
-either_named table index view taken = grind (arith)
+either_named table index view taken = grind arith
 
 -- where a table, an index or a view has the name, CREATE TABLE is refused
 create_stops : (schema : Schema) (base : ℕ) (formats : List (List ℕ)) (def : create.CreateTable) → def.if_missing ≡ false → is_used schema def.name ≡ true → Stops (command schema formats base (CreateTable def))

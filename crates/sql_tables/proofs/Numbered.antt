@@ -34,7 +34,7 @@ use Rattle.sql_tables.proofs.Writing.{IsPut, Ends, finds, puts, updates_one}
 
 -- a lone test passes where it is true
 truth_of : (b : Bool) → (is_true (from_truth (Some b)) && true) ≡ b
-truth_of b = grind (arith)
+truth_of b = grind arith
 
 -- two numbers that SQL takes as equal are the same
 equal_numbers : (a b : ℤ) → equal Binary (Int a) (Int b) ≡ true → a ≡ b

@@ -23,7 +23,7 @@ abbrev pub AreKept : Row → Row → List ℕ → Type 0
 AreKept old new = AllByRecursion (λ p. column new p ≡ column old p)
 
 loses_nothing : (o : Order) (places : List ℕ) (old new : Row) → AreKept old new places → loses o places (old, new) ≡ false
-loses_nothing o places old new kept = rw (sym (agree_same o places places old old new old (agrees_itself places old) kept)) (grind (arith))
+loses_nothing o places old new kept = rw (sym (agree_same o places places old old new old (agrees_itself places old) kept)) (grind arith)
 
 module _ (schema : Schema) (table : Table) (alone : (other : Table) → Has schema.tables other → other.tree ≡ table.tree → other ≡ table) (old new : Row) (rowid_kept : column new 0 ≡ column old 0)
     (kept : (i : Index) → Has schema.indexes i → i.is_unique ≡ true → i.table ≡ table.tree → AreKept old new i.columns) where
@@ -51,7 +51,7 @@ module _ (schema : Schema) (table : Table) (alone : (other : Table) → Has sche
           rw (loses_nothing key.2 key.1 old new (kept_by_key key (length ref.columns) ours unique))
 
       go : (deed : Option Deed) (key : Option ParentKey) → parent_key schema.tables ref ≡ key → work_by 0 table.tree ((old, new) ∷ []) child ref deed key ≡ None
-      go deed None is = grind (arith)
+      go deed None is = grind arith
       go deed (Some key) is = grind (arith, loses_none key is (key.0 == table.tree) refl)
 
   no_work : (child : Table) (refs : List Reference) → list_all (is_key_if_to schema table) refs ≡ true → filter_map (work_for schema Enforced 0 table.tree (old ∷ []) (new ∷ []) child) refs ≡ []

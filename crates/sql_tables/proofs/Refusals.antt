@@ -50,7 +50,7 @@ abbrev pub IsPlain : Error → Type 0
 IsPlain e = of_store e ≡ false
 
 of_its_own : (cause : StoreError) → of_store (store_error cause) ≡ true
-of_its_own cause = grind (arith)
+of_its_own cause = grind arith
 
 pub not_of_store : (e : Error) (cause : StoreError) → IsPlain e → e ≢ store_error cause
 not_of_store e cause plain same = true≢false (sym (ap of_store same ∙ of_its_own cause) ∙ plain)
@@ -68,7 +68,7 @@ refuses : {A : Type 0} (d : Error) → IsPlain d → IsPlainPart {A = A} (Refuse
 refuses d plain = record { plain = λ e h. grind (arith, h, plain) }
 
 then : {A B : Type 0} (First : Part A) (Next : A → Part B) → IsPlainPart First → ((a : A) → IsPlainPart (Next a)) → IsPlainPart (Then First Next)
-then First Next first next = record { plain = λ e h. grind (arith, h, first.plain, λ (a : _). (next a).plain) }
+then {A} First Next first next = record { plain = λ e h. grind (arith, h, first.plain, λ (a : A). (next a).plain) }
 
 either : {A : Type 0} (P Q : Part A) (b : Bool) → IsPlainPart P → IsPlainPart Q → IsPlainPart (λ out. MatchBool b (P out) (Q out))
 either P Q true p q = record { plain = λ e h. p.plain e h }
@@ -148,7 +148,7 @@ module _ (task : Task) where
 
   tries : (way : Conflict) (clauses : List Upsert) (new : Row) (db : Trees) → IsPlainPart (Tries task way clauses new db)
   tries way clauses new db =
-      let refused = λ (r : Refusal). either _ _ _ (gives _) (refuses (edit_error r) (grind (arith))) in
+      let refused = λ (r : Refusal). either _ _ _ (gives _) (refuses (edit_error r) (grind arith)) in
       let judged = λ (verdict : Option Refusal). perhaps (Judged task way clauses new db) verdict (upserts way new db clauses) refused in
       record { plain = λ e h. grind (arith, h, λ (verdict : Option Refusal). (judged verdict).plain e) }
 

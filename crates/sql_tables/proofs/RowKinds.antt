@@ -48,7 +48,7 @@ utf8_at (v ∷ row) zero all = all.0
 utf8_at (v ∷ row) (suc at) all = utf8_at row at all.1
 
 typed_later : (key : Option ℕ) (at : ℕ) (c : Column) (cs : List Column) (vs : Row) → are_typed key at (c ∷ cs) vs ≡ true → are_typed key (at + 1) cs (drop 1 vs) ≡ true
-typed_later key at c cs vs typed = grind (arith)
+typed_later key at c cs vs typed = grind arith
 
 -- the values of a row from a place on, one for each of these columns
 abbrev pub columns_from : ℕ → List Column → Row → Row

@@ -201,8 +201,7 @@ module _ (limit : Option ℕ) (schema : Schema) (table : Table) (params : Row) w
         let top = count_of counter.0 in
         let rows = subst (λ rows. TriesEach task Abort (clause ∷ []) rows top (nothing db) (Ok tried.0)) (only given.0 given.1) tried.1 in
         let one = went rows in
-        let chosen : rowids_for table top ≡ Chosen = chosen_rowids table top uncounted in
-        let row : with_rowid (rowids_for table top) (db table.tree) (cast_row table source) ≡ new = ap (λ how. with_rowid how (db table.tree) (cast_row table source)) chosen ∙ made in
+        let row : with_rowid (rowids_for table top) (db table.tree) (cast_row table source) ≡ new = rw (chosen_rowids table top uncounted) made in
         let end = tries new db one.0 (subst (λ r. Tries task Abort (clause ∷ []) r db (Ok one.0)) row one.1) in
         let next : counted.0 ≡ tried.0.0.trees = counts_nothing task tried.0.0.trees counted.0 counter.0 tried.0.1 uncounted counted.1 in
         let trees : w.trees ≡ one.0.trees = ap (λ (x : Written). x.trees) (same_value counted.2) ∙ next ∙ ap (λ (x : Written × ℤ). x.0.trees) (same_value one.2) in
