@@ -2,7 +2,8 @@
 use Rattle.std.proofs.Common.{◌≡◌, ◌≢◌, inl, ℕ, ◌+◌, Bool, true, false, ◌==◌, ◌&&◌, ◌||◌, List, [], ◌∷◌, ◌++◌, filter, length, is_some, refl, sym, ap, ◌∙◌, append-nil, arith, ◌<◌, if◌then◌else◌, codes, subst}
 use Rattle.std.specs.List.{position_from}
 use Rattle.std.specs.Option.{option_or}
-use Rattle.std.proofs.lemmas.Bool.{and_right, cond_both, ne_eqb}
+use Rattle.std.proofs.lemmas.Bool.{cond_both}
+use Rattle.std.proofs.lemmas.Bool.Decides.{nat_tests}
 use Rattle.std.proofs.lemmas.List.Elements.{filter-append}
 use Rattle.std.proofs.lemmas.List.Folds.{list_any-append}
 use Rattle.sqlite_trees.specs.Tree.{Trees}
@@ -65,9 +66,10 @@ module _ (before : Schema) (table : Table) where
     there = got_last before.tables made;
     alone = λ other has same. grind (arith, same, has_either before.tables (made ∷ []) other has, table_below before other);
     first = next_tree before + 1;
-    indexed = filter-append (λ i. i.is_unique && (i.table == next_tree before)) before.indexes (automatics made 0 (next_tree before + 1) table.uniques)
-        ∙ ap (λ old. old ++ filter (λ i. i.is_unique && (i.table == next_tree before)) (automatics made 0 (next_tree before + 1) table.uniques)) (filter_none (λ (i : Index). i.is_unique && (i.table == next_tree before)) before.indexes (all_from _ before.indexes (λ i has. let low = index_low i has in and_right _ _ (ne_eqb i.table (next_tree before) (λ same. omega (arith, low, same))))))
-        ∙ keys (next_tree before);
+    indexed =
+        let own = λ (i : Index). i.is_unique && (i.table == next_tree before) in
+        let none = filter_none own before.indexes (all_from (λ i. own i ≡ false) before.indexes (λ i has. grind (arith, nat_tests, index_low i has))) in
+        filter-append own before.indexes (automatics made 0 (next_tree before + 1) table.uniques) ∙ rw none (keys (next_tree before));
   }
 
   -- and those that were declared stay so
@@ -81,8 +83,7 @@ module _ (before : Schema) (table : Table) where
         alone = λ other has same. grind (arith, low, same, has_either before.tables (made ∷ []) other has, d.alone other);
         first = d.first;
         indexed = filter-append (λ i. i.is_unique && (i.table == a.tree)) before.indexes (automatics made 0 (next_tree before + 1) table.uniques)
-            ∙ ap (λ more. filter (λ i. i.is_unique && (i.table == a.tree)) before.indexes ++ more) (others (next_tree before) (λ same. absurd (omega (arith, low, same))))
-            ∙ append-nil (filter (λ i. i.is_unique && (i.table == a.tree)) before.indexes) ∙ d.indexed;
+            ∙ rw (others (next_tree before) (λ same. absurd (omega (arith, low, same)))) (append-nil _ ∙ d.indexed);
       }
 
 -- ---- what a making needs, once more
