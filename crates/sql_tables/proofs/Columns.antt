@@ -93,9 +93,6 @@ sorts_well t outs name = is_none (order.alias_in outs (column_expr name)) && sor
 none_is : {X : Type 0} (o : Option X) → is_none o ≡ true → o ≡ None
 none_is o h = grind (arith, h)
 
-binary_is : (c : Collation) → is_binary c ≡ true → c ≡ Binary
-binary_is c h = grind (arith, h)
-
 -- ---- how it is read
 
 -- nothing was met but columns
@@ -113,7 +110,7 @@ is_bare : (name : Name) → IsBare (column_expr name)
 unfolding body.is_column order.peeled order.written_on order.is_numeral
 is_bare name = let out = column_out name in record { named = rw out; peeled = rw out; uncollated = rw out; no_number = rw out }
 
-by_bytes : (table : Table) (k : ℕ) (c : Column) → c.collation ≡ Binary → alone (declared table k c) ≡ Binary
+by_bytes : (table : Table) (k : ℕ) (c : Column) → is_binary c.collation ≡ true → alone (declared table k c) ≡ Binary
 unfolding alone
 by_bytes table k c binary =
     grind (arith, binary)
@@ -222,7 +219,7 @@ module _ (schema : Schema) (at : ℕ) (table : Table) (there : slice_get schema.
           let bare = is_bare name in
           let term = lowers_to 699 name k c named is outs grouped budget last rich in
           let unaliased = none_is (order.alias_in outs (column_expr name)) (and_parts _ _ h).0 in
-          (declared table k c, rw (bare.peeled, unaliased, term, bare.no_number, bare.uncollated, by_bytes table k c (binary_is c.collation well)))
+          (declared table k c, rw (bare.peeled, unaliased, term, bare.no_number, bare.uncollated, by_bytes table k c well))
 
       by_place : (k : Option ℕ) → column_named table name ≡ k → sorts_at table k ≡ true → Sorts outs name done grouped budget last (term_at table k)
       by_place None named well = absurd (true≢false (sym well))

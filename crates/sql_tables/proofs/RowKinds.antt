@@ -47,9 +47,6 @@ utf8_at [] at all = tt
 utf8_at (v ∷ row) zero all = all.0
 utf8_at (v ∷ row) (suc at) all = utf8_at row at all.1
 
-typed_later : (key : Option ℕ) (at : ℕ) (c : Column) (cs : List Column) (vs : Row) → are_typed key at (c ∷ cs) vs ≡ true → are_typed key (at + 1) cs (drop 1 vs) ≡ true
-typed_later key at c cs vs typed = grind arith
-
 -- the values of a row from a place on, one for each of these columns
 abbrev pub columns_from : ℕ → List Column → Row → Row
 columns_from at [] row = []
@@ -76,7 +73,7 @@ module _ (key : Option ℕ) (row : Row) where
       let is : is_of c.kind (column row (at + 1)) ≡ true = grind (arith, typed, free, needed, on 0 (at + 1) (omega arith)) in
       let null : is_null (column row (at + 1)) ≡ false = grind (arith, present, free, needed) in (
         of_kind c.kind (column row (at + 1)) is null (λ text. subst IsUtf8Text (goes_on row at (at + 1) (omega arith)) (utf8_at (drop 1 row) at (utf8.0 text))),
-        kinds_from (at + 1) cs (drop 1 vs) (later at vs row on) (λ place over. apart place (omega (arith, over))) (and_parts _ _ needed).1 utf8.1 (typed_later key at c cs vs typed) (and_parts _ _ present).1,
+        kinds_from (at + 1) cs (drop 1 vs) (later at vs row on) (λ place over. apart place (omega (arith, over))) (and_parts _ _ needed).1 utf8.1 (grind (arith, typed)) (and_parts _ _ present).1,
       )
 
 -- a row as a sound database has it
@@ -97,7 +94,7 @@ numbered_kinds table row c cs kept first are needed utf8 =
     let typed : are_typed table.key 0 (c ∷ cs) (drop 1 row) ≡ true = ap (λ columns. are_typed table.key 0 columns (drop 1 row)) (sym are) ∙ kept.typed in
     let present : are_present table.key 0 (c ∷ cs) row ≡ true = ap (λ columns. are_present table.key 0 columns row) (sym are) ∙ kept.present in
     let apart = λ (place : ℕ) (over : 1 ≤ place). ap (λ key. is_key key place) first ∙ ne_eqb 0 place (λ same. omega (arith, over, same)) in
-    kinds_from table.key row 1 cs (drop 1 (drop 1 row)) (later 0 (drop 1 row) row (goes_on row)) apart needed utf8 (typed_later table.key 0 c cs (drop 1 row) typed) (and_parts _ _ present).1
+    kinds_from table.key row 1 cs (drop 1 (drop 1 row)) (later 0 (drop 1 row) row (goes_on row)) apart needed utf8 (grind (arith, typed)) (and_parts _ _ present).1
 
 -- a fact of texts is asked of the columns of texts alone
 pub all_texts : (P : Type 0) (cs : List Column) → P → AllByRecursion (λ c. c.kind ≡ Text → P) cs
