@@ -1,51 +1,45 @@
 -- What the statement that puts a braille table by its name does to `tab`, whose rowid is hidden.
-use Rattle.std.proofs.Common.{◌≡◌, inl, inr, ℕ, ℤ, ◌+◌, ◌<◌, ◌≤◌, false, ◌==◌, List, [], ◌∷◌, ◌++◌, Option, filter, drop, length, codes, bytes_eq, not, Some, Ok, refl, sym, ap, subst, ◌∙◌}
+use Rattle.std.proofs.Common.{◌≡◌, inl, inr, ℕ, ℤ, ◌<◌, ◌≤◌, false, ◌==◌, List, [], ◌∷◌, ◌++◌, Option, filter, drop, length, bytes_eq, not, Some, Ok, refl, sym, ap, subst, ◌∙◌}
 use Rattle.sqlite_value.specs.declared.keys.Collation.TheVariants.{Binary}
 use Rattle.sqlite_value.specs.declared.value.Value.TheVariants.{Null, Int, Text, Blob}
 use Rattle.sqlite_value.specs.Order.{Row, column}
 use Rattle.sqlite_trees.specs.Tree.{Trees, rowid, without_rowid}
 use Rattle.sqlite_ast.specs.declared.Rows.{Rows}
-use Rattle.sqlite_ast.specs.declared.Statement.TheVariants.{Insert}
 use Rattle.sqlite_ast.specs.declared.Upsert.{Upsert}
-use Rattle.sqlite_ast.specs.declared.Conflict.TheVariants as conflict
 use Rattle.sqlite_sql.specs.Term.{Term, lit, col, eval_all}
 use Rattle.sqlite_schema.specs.declared.command.Command.TheVariants.{InsertOr}
 use Rattle.sqlite_schema.specs.declared.command.Conflict.TheVariants.{Abort}
 use Rattle.sqlite_schema.specs.declared.command.Source.TheVariants.{Values}
 use Rattle.sqlite_schema.specs.declared.schema.Index.{Index}
 use Rattle.sqlite_schema.specs.declared.schema.Schema.{Schema}
-use Rattle.sqlite_resolve.specs.Compile.{small, new_rows}
-use Rattle.sqlite_resolve.specs.Given.{do_update, key_meant, key_at}
+use Rattle.sqlite_resolve.specs.Given.{key_meant, key_at}
 use Rattle.sqlite_resolve.specs.Terms.{equal}
 use Rattle.sqlite_resolve.specs.Write.{places}
-use Rattle.sqlite_rules.specs.declared.error.Rowids.TheVariants.{Chosen}
 use Rattle.sqlite_rules.specs.Cast.{cast_row}
-use Rattle.sqlite_rules.specs.Edit.{id_in, next_rowid, with_rowid}
+use Rattle.sqlite_rules.specs.Edit.{id_in, next_rowid}
 use Rattle.sqlite_rules.specs.Lists.{Has}
 use Rattle.sqlite_rules.proofs.ListLemmas.{all_has}
 use Rattle.sqlite_rules.proofs.TableLemmas.{int_is}
 use Rattle.sqlite.specs.Rows.{Written, Updates, shown}
-use Rattle.sqlite.specs.State.{State, Executes}
 use Rattle.sqlite_tied.specs.Compute.{everything}
-use Rattle.sqlite_catalog.specs.Listing.{IsSound}
 use Rattle.desk_parts.specs.declared.file_table.FileTable.TheVariants as tables
 use Rattle.desk_parts.specs.Puts.{put_by_key}
 use Rattle.desk_parts.specs.Rows.{Tab}
 use Rattle.sql_tables.specs.Rows.{HaveRowids, Lists}
 use Rattle.sql_tables.specs.Tables.{IsDeclared}
 use Rattle.desk_rows.specs.Descriptions.{description_of}
-use Rattle.sql_tables.proofs.Declaring.{low_tree, classes_are, uncovered}
-use Rattle.sql_tables.proofs.Meaning.{IsText, parse_of, rows_in, clause_in, upsert_is, one_upsert}
-use Rattle.desk_rows.proofs.RowPuts.Named.{names_once, tab, tab_row, tab_columns, is_its_index, key_index, gets_in_the_way, in_the_way, row_of, name_of, named, lists_put, unnamed_rows, named_rows}
+use Rattle.sql_tables.proofs.Declaring.{classes_are, uncovered}
+use Rattle.sql_tables.proofs.Meaning.{parse_of, rows_in, clause_in, upsert_is, one_upsert}
+use Rattle.desk_rows.proofs.RowPuts.Named.{tab, tab_row, tab_columns, is_its_index, key_index, gets_in_the_way, in_the_way, row_of, name_of, named, lists_put, unnamed_rows, named_rows}
 use Rattle.sql_tables.proofs.Numbered.{all_find}
 use Rattle.sql_tables.proofs.OneTable.{Parts, draft_of, program_on, program_is}
 use Rattle.sql_tables.proofs.Parents.{AreKept}
 use Rattle.sql_tables.proofs.RowLists.{only_row, rowids_stay}
-use Rattle.sql_tables.proofs.Running.{Means, Wrote, upsert_ran}
-use Rattle.sql_tables.proofs.ByRowid.{cast_null, cast_int}
-use Rattle.sql_tables.proofs.Writing.{IsPut, Ends, task, finds, puts, updates_one}
+use Rattle.sql_tables.proofs.Running.{Means}
+use Rattle.sql_tables.proofs.ByRowid.{cast_int}
+use Rattle.sql_tables.proofs.Writing.{IsPut, Ends, Spares, task, finds, puts, updates_one}
 
-abbrev text : List ℕ
+abbrev pub text : List ℕ
 text = (description_of tables.Tab).put
 
 abbrev rows : Rows
@@ -54,72 +48,49 @@ rows = rows_in (parse_of text).statement
 abbrev clause : Upsert
 clause = clause_in (parse_of text).statement
 
-abbrev terms : List Term
+abbrev pub terms : List Term
 terms = lit Null ∷ col 0 0 ∷ col 0 1 ∷ []
 
-abbrev project : List Term
+abbrev pub project : List Term
 project = col 1 0 ∷ col 1 0 ∷ col 1 1 ∷ col 0 1 ∷ []
 
-abbrev parts : Parts
+abbrev pub parts : Parts
 parts = record { tests = equal Binary (col 1 0) (col 0 2) ∷ []; project = project; order = [] }
 
-is_text : IsText text (Insert conflict.Abort (codes "tab") [] rows (clause ∷ []) [])
+target_is : (tree : ℕ) → ((length clause.target == 0) ≡ false) × (places (tab tree) clause.target ≡ Ok (1 ∷ []))
 unfolding everything
-is_text = record { parsed = refl; statement = refl; timeless = refl }
-
-many : small (parse_of text).names + small [] ≡ 2
-unfolding everything
-many = refl
-
-source_is : (schema : Schema) (tree base : ℕ) → new_rows schema (tab tree) base [] rows ≡ Ok (Values terms 3)
-unfolding everything
-source_is schema tree base = refl
-
-aims : ((length clause.target == 0) ≡ false) × ((length clause.sets == 0) ≡ false)
-unfolding everything
-aims = (refl, refl)
-
-places_are : (tree : ℕ) → places (tab tree) clause.target ≡ Ok (1 ∷ [])
-unfolding everything
-places_are tree = refl
-
-draft_is : (schema : Schema) (at tree : ℕ) → do_update schema at (tab tree) 2 clause ≡ Ok (draft_of tree parts)
-unfolding everything
-draft_is schema at tree = refl
+target_is tree = (refl, refl)
 
 module _ (schema : Schema) (tree : ℕ) (d : IsDeclared schema (tab tree)) where
   key_is : key_meant schema (tab tree) clause.target ≡ Ok (Some (1 ∷ []))
   unfolding key_meant key_at
-  key_is = rw (aims.0, places_are tree, key_index schema tree d)
+  key_is = rw ((target_is tree).0, (target_is tree).1, key_index schema tree d)
 
-  means : tree < 65536 → Means schema text (InsertOr d.at Abort (Values terms 3) (record { target = Some (1 ∷ []); update = Some (program_on tree parts) } ∷ []))
+  pub means : tree < 65536 → Means schema text (InsertOr d.at Abort (Values terms 3) (record { target = Some (1 ∷ []); update = Some (program_on tree parts) } ∷ []))
+  unfolding everything
   means low =
-      upsert_is schema d.at (tab tree) d.named d.there refl text rows (clause ∷ []) 2 _ _ is_text many refl (source_is schema tree 2)
-      (one_upsert schema d.at (tab tree) 2 clause (Some (1 ∷ [])) (draft_of tree parts) (program_on tree parts) aims.0 aims.1 key_is (draft_is schema d.at tree) (program_is schema (tab tree) (classes_are schema (tab tree) d low) parts refl))
+      upsert_is schema d.at (tab tree) d.named d.there refl text rows (clause ∷ []) 2 _ _
+      (record { parsed = refl; statement = refl; timeless = refl }) refl refl refl
+      (one_upsert schema d.at (tab tree) 2 clause (Some (1 ∷ [])) (draft_of tree parts) (program_on tree parts) refl refl key_is refl
+      (program_is schema (tab tree) (classes_are schema (tab tree) d low) parts refl))
 
 -- a row as its tree keeps it
-abbrev stored : ℤ → Tab → Row
+abbrev pub stored : ℤ → Tab → Row
 stored id t = Int id ∷ Text t.name ∷ Blob t.body ∷ []
 
 cast : (id : ℤ) (t : Tab) (tree : ℕ) → cast_row (tab tree) (stored id t) ≡ stored id t
 cast id t tree = rw (cast_int id)
 
-chosen : (t : Tab) (tree : ℕ) (there : List Row) → with_rowid Chosen there (cast_row (tab tree) (Null ∷ Text t.name ∷ Blob t.body ∷ [])) ≡ stored (next_rowid there) t
-chosen t tree there = rw cast_null
-
 module _ (schema : Schema) (tree : ℕ) (d : IsDeclared schema (tab tree)) (low : tree < 65536) (limit : Option ℕ) (t : Tab) (tabs : List Tab) (db after : Trees)
     (lists : Lists tab_row tab_columns tabs (db tree)) (few : length (filter (λ s. bytes_eq s.name t.name) tabs) ≤ 1) (keyed : HaveRowids (db tree)) where
-  -- the row is put under some rowid, and the rows show it in place of the one with its name
+  -- the rows show it in place of the one with its name
   abbrev IsTabPut : Type 0
-  IsTabPut = (id : ℤ) × IsPut schema (tab tree) (stored id t) id db after × Lists tab_row tab_columns (put_by_key (λ s. bytes_eq s.name t.name) t tabs) (after tree) × HaveRowids (after tree)
+  IsTabPut = Lists tab_row tab_columns (put_by_key (λ s. bytes_eq s.name t.name) t tabs) (after tree) × HaveRowids (after tree) × Spares schema tree db after
 
   concluded : (id : ℤ) → IsPut schema (tab tree) (stored id t) id db after → without_rowid id (db tree) ≡ filter (λ r. not (named t.name (tab_columns r))) (db tree) → IsTabPut
-  concluded id put same = (
-    id,
-    put,
-    rw put.rows (lists_put t tabs (db tree) lists few (stored id t) id refl refl same),
-    rw put.rows (rowids_stay id (stored id t) refl (db tree) keyed),
-  )
+  concluded id put same =
+      let listed = lists_put t tabs (db tree) lists few (stored id t) id refl refl same in
+      (rw put.rows listed, rw put.rows (rowids_stay id (stored id t) refl (db tree) keyed), put.others)
 
   updated : (r : Row) (id : ℤ) → Has (db tree) r → rowid r ≡ Int id → column r 1 ≡ Text t.name → (w : Written) (given : Row) → given ≡ tab_row t ++ Int id ∷ shown (tab tree) (stored (next_rowid (db tree)) t)
       → Updates (task limit schema (tab tree) (tab_row t)) (program_on tree parts) given db (Ok w) → after ≡ w.trees → IsTabPut
@@ -145,13 +116,3 @@ module _ (schema : Schema) (tree : ℕ) (d : IsDeclared schema (tab tree)) (low 
       let id = id_in (rowid r) in
       let number : rowid r ≡ Int id = int_is (rowid r) (all_has _ (db tree) r keyed.integers has) in
       updated r id has number name w (tab_row t ++ rowid r ∷ shown (tab tree) new) (ap (λ v. tab_row t ++ v ∷ shown (tab tree) new) number) h trees
-
-pub tab_puts : (schema : Schema) (tree : ℕ) (d : IsDeclared schema (tab tree)) (old new : State) (count : ℕ) (t : Tab) (ts : List Tab) → old.now.schema ≡ schema → IsSound schema old.now.trees → HaveRowids (old.now.trees tree)
-    → Lists tab_row tab_columns ts (old.now.trees tree) → Executes text (tab_row t) old new (Ok count)
-    → Wrote old new × ((id : ℤ) × (row : Row) × IsPut schema (tab tree) row id old.now.trees new.now.trees × Lists tab_row tab_columns (put_by_key (λ s. bytes_eq s.name t.name) t ts) (new.now.trees tree) × HaveRowids (new.now.trees tree))
-tab_puts schema tree d old new count t ts has sound ids lists h =
-    let low = low_tree schema (tab tree) d old.now.trees sound in
-    let there = old.now.trees tree in
-    let ran = upsert_ran schema d.at (tab tree) d.there text (tab_row t) old new count has (Some (1 ∷ [])) (program_on tree parts) terms 3 (means schema tree d low) (Null ∷ Text t.name ∷ Blob t.body ∷ []) (stored (next_rowid there) t) refl refl (chosen t tree there) h in
-    let put = puts_tab schema tree d low old.step_limit t ts old.now.trees new.now.trees lists (names_once schema tree d old.now.trees sound ids ts lists t.name) ids ran.1 in
-    (ran.0, (put.0, stored put.0 t, put.1, put.2, put.3))

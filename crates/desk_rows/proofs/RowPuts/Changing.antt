@@ -1,13 +1,14 @@
 -- What a statement that puts rows does to the contents.
-use Rattle.std.proofs.Common.{◌≡◌, ◌++◌, inl, inr, ℕ, true, false, List, [], ◌∷◌, Ok, Err, IfErr, OnOk, refl, sym, subst, ◌∙◌, bytes_eq, Result}
+use Rattle.std.proofs.Common.{◌≡◌, ◌++◌, inl, inr, true, false, List, [], ◌∷◌, Ok, Err, IfErr, OnOk, refl, sym, subst, ◌∙◌, bytes_eq, Result}
 use Rattle.sqlite_trees.specs.Tree.{Trees}
 use Rattle.sqlite_trees.proofs.ListLemmas.{all_both}
-use Rattle.sqlite_value.specs.Order.{Row}
-use Rattle.sqlite_rules.proofs.ListLemmas.{all_has}
+use Rattle.sqlite_rules.specs.Lists.{Has}
+use Rattle.sqlite_rules.proofs.ListLemmas.{all_from, all_has, has_left, has_right}
+use Rattle.std.proofs.lemmas.List.Sums.{fold_push}
 use Rattle.sqlite_catalog.specs.Listing.{IsSound}
 use Rattle.sqlite.specs.declared.error.Error.{Error}
 use Rattle.sqlite.specs.Effect.{Database}
-use Rattle.sqlite.specs.State.{State, ExecutesInside}
+use Rattle.sqlite.specs.State.{State}
 use Rattle.sqlite.proofs.InsideLemmas.{inside_keeps}
 use Rattle.desk_parts.specs.declared.file_table.FileTable.{FileTable}
 use Rattle.desk_parts.specs.declared.file_table.FileTable.TheVariants as tables
@@ -21,7 +22,7 @@ use Rattle.sql_tables.proofs.Writing.{Spares}
 use Rattle.desk_rows.specs.Descriptions.{description_of, table_of}
 use Rattle.desk_rows.specs.Layout.{Layout, AreDeclared}
 use Rattle.desk_rows.specs.Contents.{Contents, Holds, with_rows}
-use Rattle.desk_rows.specs.Puts.{HasThem, IsPut, PutsAll, PutsRow, RunsTo, put_into, puts_into, row_put, statement}
+use Rattle.desk_rows.specs.Puts.{IsPut, PutsAll, PutsRow, RunsTo, put_into, puts_into, row_put, statement}
 use Rattle.desk_rows.specs.Turns.{FailsWith, Ran}
 use Rattle.desk_rows.specs.Rows.{columns_of, set_at}
 use Rattle.desk_parts.specs.Rows.{RowOf}
@@ -72,8 +73,9 @@ goes_on old new l c next committed was wrote all = record {
 }
 
 module _ (it : RowPut) (old new : State) where
-  put_ok : (v : Unit {0}) (count : ℕ) → ExecutesInside 0 (statement it).text (statement it).params old new (Ok count) → IsPut {V = Unit {0}} (Ok v) it old new
-  put_ok v count h = record {
+  -- its statement ran, or failed
+  pub put_ran : (r : Result (Unit {0}) Error) → RunsTo r (statement it).text (statement it).params old new → IsPut r it old new
+  put_ran (Ok v) (count, h) = record {
     put = λ committed l c there was.
         let t = table_put it in
         let file = was.shows.is in
@@ -85,15 +87,7 @@ module _ (it : RowPut) (old new : State) where
     kept = inside_keeps old new 0 false (statement it).text (statement it).params (Ok count) h;
     told = λ was. tt;
   }
-
-  -- its statement ran, or failed
-  pub put_ran : (r : Result (Unit {0}) Error) → RunsTo r (statement it).text (statement it).params old new → IsPut r it old new
-  put_ran (Ok v) ran = put_ok v ran.0 ran.1
   put_ran (Err e) ran = record { put = λ committed l c there was. tt; ran = tt; is_open = tt; inside = tt; kept = ran.0; told = λ was. inl (ran.1 was) }
-
-  -- it ran, or failed, with what are its parameters
-  pub put_as : (r : Result (Unit {0}) Error) (params : Row) → RunsTo r (statement it).text params old new → params ≡ (statement it).params → IsPut r it old new
-  put_as r params ran same = put_ran r (subst (λ p. RunsTo r (statement it).text p old new) same ran)
 
 module _ (x : BookRow) (old new : State) where
   pub puts_row : (r : Result (Unit {0}) Error) → IsPut r (PutRow tables.Book x) old new → OnOk r (PutsRow tables.Book x old new × Ran (row_put tables.Book x) old new)
@@ -107,17 +101,11 @@ module _ (x : BookRow) (old new : State) where
 
 -- ---- puts in turn
 
-with_one_more : (xs : List RowPut) (x : RowPut) (c : Contents) → puts_into (xs ++ x ∷ []) c ≡ put_into (puts_into xs c) x
-with_one_more [] x c = refl
-with_one_more (y ∷ ys) x c = with_one_more ys x (put_into c y)
-
-have_one_more : (l : Layout) (xs : List RowPut) (x : RowPut) → HasThem l (xs ++ x ∷ []) → HasThem l xs × (l.has (table_put x) ≡ true)
-have_one_more l [] x all = (tt, all.0)
-have_one_more l (y ∷ ys) x all = let more = have_one_more l ys x all.1 in ((all.0, more.0), more.1)
-
 -- one is put after others
 pub puts_more : (xs : List RowPut) (x : RowPut) (old mid new : State) → PutsAll xs old mid
     → ((committed : Database) (l : Layout) (c : Contents) → l.has (table_put x) ≡ true → IsUnder committed l c mid → IsUnder committed l (put_into c x) new) → PutsAll (xs ++ x ∷ []) old new
 puts_more xs x old mid new first last committed l c there was =
-    let have = have_one_more l xs x there in
-    subst (λ d. IsUnder committed l d new) (sym (with_one_more xs x c)) (last committed l (puts_into xs c) have.1 (first committed l c have.0 was))
+    let has : (it : RowPut) → Has (xs ++ x ∷ []) it → l.has (table_put it) ≡ true = λ it. all_has _ (xs ++ x ∷ []) it there in
+    subst (λ d. IsUnder committed l d new) (sym (fold_push put_into c xs x))
+    (last committed l (puts_into xs c) (has x (has_right xs (x ∷ []) x (inl refl)))
+    (first committed l c (all_from _ xs (λ it among. has it (has_left xs (x ∷ []) it among))) was))

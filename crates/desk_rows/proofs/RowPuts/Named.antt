@@ -3,7 +3,7 @@ use Rattle.std.proofs.Common.{◌≡◌, inl, inr, ℕ, ℤ, ◌≤◌, Bool, tr
 use Rattle.std.proofs.lemmas.List.{length-map}
 use Rattle.std.specs.List.{list_any}
 use Rattle.std.specs.Cmp.{both_ways}
-use Rattle.std.proofs.lemmas.Bool.{and_from, and_parts, cases_Bool, not-true}
+use Rattle.std.proofs.lemmas.Bool.{and_from, and_parts, false_from_ne_true, not-true}
 use Rattle.std.proofs.lemmas.List.Elements.{filter_agree}
 use Rattle.std.proofs.lemmas.List.Sorted.{length_permutation}
 use Rattle.std.proofs.lemmas.Map.Text.{is_eq-slice_cmp}
@@ -41,6 +41,7 @@ use Rattle.std.proofs.lemmas.Cmp.{int_ranked}
 use Rattle.sqlite_schema.specs.declared.schema.Constraint.TheVariants.{Unique}
 use Rattle.sqlite_rules.specs.Edit.{id_in}
 use Rattle.sqlite_rules.proofs.RuleLemmas.{keeps_at}
+use Rattle.sqlite_tied.proofs.RuleLemmas.{and_true}
 use Rattle.sql_tables.proofs.Declaring.{has_table}
 
 -- ---- the table, and a row of it as its columns and as its tree keeps it
@@ -69,11 +70,11 @@ equal_texts a b = go (value_cmp (Text a) (Text b)) (same_text a b)
 
 pub agrees_by_name : (r new : Row) (a b : List ℕ) → column r 1 ≡ Text a → column new 1 ≡ Text b → agree plain (1 ∷ []) r (1 ∷ []) new ≡ bytes_eq a b
 unfolding first_key
-agrees_by_name r new a b is is' = rw (is, is', equal_texts a b) (go (bytes_eq a b))
-  where
-    go : (x : Bool) → (x && true) ≡ x
-    go true = refl
-    go false = refl
+agrees_by_name r new a b is is' = rw (is, is', equal_texts a b) (and_true (bytes_eq a b))
+
+-- what a list of one has
+the_one : {X : Type 0} (x y : X) → Has (x ∷ []) y → y ≡ x
+the_one x y has = elim has [ inl is ↦ is | inr none ↦ absurd none ]
 
 module _ (schema : Schema) (tree : ℕ) (d : IsDeclared schema (tab tree)) where
   -- the index of the key
@@ -84,11 +85,9 @@ module _ (schema : Schema) (tree : ℕ) (d : IsDeclared schema (tab tree)) where
   own = eq-eqb tree tree refl
 
   pub is_its_index : (i : Index) → Has schema.indexes i → i.is_unique ≡ true → i.table ≡ tree → i ≡ its_index
-  is_its_index i has unique on = go (subst (λ (is : List Index). Has is i) d.indexed (has_kept (λ (i : Index). guards i (tab tree)) schema.indexes i has (and_from i.is_unique (i.table == tree) unique (eq-eqb i.table tree on))))
-    where
-      go : Has (its_index ∷ []) i → i ≡ its_index
-      go (inl same) = same
-      go (inr none) = absurd none
+  is_its_index i has unique on =
+      let on_it = and_from i.is_unique (i.table == tree) unique (eq-eqb i.table tree on) in
+      the_one its_index i (subst (λ (is : List Index). Has is i) d.indexed (has_kept (λ (i : Index). guards i (tab tree)) schema.indexes i has on_it))
 
   pub key_index : find (is_key_at (tab tree) (1 ∷ [])) schema.indexes ≡ Some its_index
   unfolding is_key_at
@@ -130,16 +129,15 @@ as_many_named : (name : List ℕ) (tabs : List Tab) (rows : List Row) → Lists 
 as_many_named name tabs rows lists =
     let left : filter (named name) (map tab_row tabs) ≡ map tab_row (filter (λ t. bytes_eq t.name name) tabs) = filter-map (named name) tab_row tabs ∙ ap (map tab_row) (filter_agree (λ t. named name (tab_row t)) (λ t. bytes_eq t.name name) (λ t. same_text t.name name) tabs) in
     let right : filter (named name) (map tab_columns rows) ≡ map tab_columns (filter (λ r. named name (tab_columns r)) rows) = filter-map (named name) tab_columns rows in
-    let same = length_permutation _ _ (IsPermutation-filter (named name) _ _ lists) in
-    let a = ap length left in
-    let b = ap length right in
-    let a' = length-map (filter (λ t. bytes_eq t.name name) tabs) tab_row in
-    let b' = length-map (filter (λ r. named name (tab_columns r)) rows) tab_columns in
-    omega (arith, same, a, b, a', b')
+    sym (length-map _ _) ∙ sym (ap length left) ∙ sym (length_permutation _ _ (IsPermutation-filter (named name) _ _ lists)) ∙ ap length right ∙ length-map _ _
 
--- at most one row of the tree has the name
-few_named : (name : List ℕ) (tabs : List Tab) (rows : List Row) → Lists tab_row tab_columns tabs rows → length (filter (λ t. bytes_eq t.name name) tabs) ≤ 1 → length (filter (λ r. named name (tab_columns r)) rows) ≤ 1
-few_named name tabs rows lists few = let same = as_many_named name tabs rows lists in omega (arith, few, same)
+-- a row that is shown with the name has it
+named_is : (name : List ℕ) (tabs : List Tab) (rows : List Row) → Lists tab_row tab_columns tabs rows → (r : Row) → Has rows r
+    → named name (tab_columns r) ≡ true → column r 1 ≡ Text name
+named_is name tabs rows lists r has is =
+    let u = row_of tabs rows lists r has in
+    let same : bytes_eq u.0.name name ≡ true = sym (same_text u.0.name name) ∙ sym (ap (λ v. named name (v ∷ [])) (name_of u.0 r u.1)) ∙ is in
+    name_of u.0 r u.1 ∙ ap Text ((bytes_eq-Decides u.0.name name).0 same)
 
 -- the rows without that name
 module _ (t : Tab) (tabs : List Tab) (rows : List Row) (lists : Lists tab_row tab_columns tabs rows) (few : length (filter (λ s. bytes_eq s.name t.name) tabs) ≤ 1) where
@@ -150,16 +148,9 @@ module _ (t : Tab) (tabs : List Tab) (rows : List Row) (lists : Lists tab_row ta
 
   -- if no row has the name, and none the number
   pub unnamed_rows : (id : ℤ) → list_any (has_rowid id) rows ≡ false → ((r : Row) → Has rows r → column r 1 ≡ Text t.name → ⊥) → without_rowid id rows ≡ filter (λ r. not (named t.name (tab_columns r))) rows
-  unnamed_rows id none free = none_to_drop id rows none ∙ sym (filter_all _ rows (all_from _ rows other))
-    where
-      other : (r : Row) → Has rows r → not (named t.name (tab_columns r)) ≡ true
-      other r has = elim (cases_Bool (named t.name (tab_columns r))) [
-        | inl is ↦
-            let u = row_of tabs rows lists r has in
-            let name : bytes_eq u.0.name t.name ≡ true = sym (same_text u.0.name t.name) ∙ sym (ap (λ v. is_eq (value_cmp v (Text t.name))) (name_of u.0 r u.1)) ∙ is in
-            absurd (free r has (name_of u.0 r u.1 ∙ ap Text ((bytes_eq-Decides u.0.name t.name).0 name)))
-        | inr is ↦ ap not is
-      ]
+  unnamed_rows id none free =
+      none_to_drop id rows none
+      ∙ sym (filter_all _ rows (all_from _ rows (λ r has. ap not (false_from_ne_true _ (λ is. free r has (named_is t.name tabs rows lists r has is))))))
 
   -- if a row has both
   pub named_rows : HaveRowids rows → (r : Row) (id : ℤ) → Has rows r → rowid r ≡ Int id → column r 1 ≡ Text t.name → without_rowid id rows ≡ filter (λ r. not (named t.name (tab_columns r))) rows
@@ -169,17 +160,14 @@ module _ (t : Tab) (tabs : List Tab) (rows : List Row) (lists : Lists tab_row ta
       has_name = rw name (same_text t.name t.name ∙ (bytes_eq-Decides t.name t.name).1 refl)
 
       one : filter (λ x. named t.name (tab_columns x)) rows ≡ r ∷ []
-      one = lone _ r (has_kept (λ x. named t.name (tab_columns x)) rows r has has_name) (few_named t.name tabs rows lists few)
-
-      is_it : (x : Row) → Has (r ∷ []) x → x ≡ r
-      is_it x (inl same) = same
-      is_it x (inr none) = absurd none
+      one = lone _ r (has_kept (λ x. named t.name (tab_columns x)) rows r has has_name) (let same = as_many_named t.name tabs rows lists in omega (arith, few, same))
 
       alike : (x : Row) → Has rows x → not (has_rowid id x) ≡ not (named t.name (tab_columns x))
       alike x within =
           ap not (both_ways (has_rowid id x) (named t.name (tab_columns x))
-          (λ so. ap (λ y. named t.name (tab_columns y)) (is_it x (subst (λ xs. Has xs x) (only_row rows keyed r id has is) (has_kept (has_rowid id) rows x within so))) ∙ has_name)
-          (λ so. ap (has_rowid id) (is_it x (subst (λ xs. Has xs x) one (has_kept (λ y. named t.name (tab_columns y)) rows x within so))) ∙ has_own r id is))
+          (λ so. ap (λ y. named t.name (tab_columns y))
+          (the_one r x (subst (λ xs. Has xs x) (only_row rows keyed r id has is) (has_kept (has_rowid id) rows x within so))) ∙ has_name)
+          (λ so. ap (has_rowid id) (the_one r x (subst (λ xs. Has xs x) one (has_kept (λ y. named t.name (tab_columns y)) rows x within so))) ∙ has_own r id is))
 
 -- ---- no two rows have one name, since the key has an index
 
@@ -201,12 +189,6 @@ module _ (schema : Schema) (tree : ℕ) (d : IsDeclared schema (tab tree)) (db :
       let one = test_has (λ i. not (guards i (tab tree) && clashes i.order i.columns (db tree) r)) schema.indexes (its_index schema tree d) passes it.0 in
       not-true (clashes plain (1 ∷ []) (db tree) r) (rw (eq-eqb tree tree refl) at one)
 
-  named_is : (name : List ℕ) (r : Row) → Has (db tree) r → named name (tab_columns r) ≡ true → column r 1 ≡ Text name
-  named_is name r has is =
-      let u = row_of tabs (db tree) lists r has in
-      let same : bytes_eq u.0.name name ≡ true = sym (same_text u.0.name name) ∙ sym (ap (λ v. named name (v ∷ [])) (name_of u.0 r u.1)) ∙ is in
-      name_of u.0 r u.1 ∙ ap Text ((bytes_eq-Decides u.0.name name).0 same)
-
   -- two rows with one name have one rowid
   one_rowid : (r s : Row) (n m : ℤ) (name : List ℕ) → Has (db tree) r → Has (db tree) s → rowid r ≡ Int n → rowid s ≡ Int m → column r 1 ≡ Text name → column s 1 ≡ Text name → m ≡ n
   one_rowid r s n m name in_r in_s rn sm rt st =
@@ -226,7 +208,7 @@ module _ (schema : Schema) (tree : ℕ) (d : IsDeclared schema (tab tree)) (db :
           let n = id_in (rowid r) in
           let rn : rowid r ≡ Int n = int_is (rowid r) (all_has _ (db tree) r keyed.integers of_r.0) in
           let sm = int_is (rowid s) (all_has _ (db tree) s keyed.integers of_s.0) in
-          let same = one_rowid r s n (id_in (rowid s)) name of_r.0 of_s.0 rn sm (named_is name r of_r.0 of_r.1) (named_is name s of_s.0 of_s.1) in
+          let same = one_rowid r s n (id_in (rowid s)) name of_r.0 of_s.0 rn sm (named_is name tabs (db tree) lists r of_r.0 of_r.1) (named_is name tabs (db tree) lists s of_s.0 of_s.1) in
           let fewer = filter_fewer (has_rowid n) (λ r. named name (tab_columns r)) (db tree) in
           let few = keyed.once n in
           let both : length (filter (has_rowid n) (r ∷ s ∷ more)) ≤ length (filter (has_rowid n) (db tree)) = rw e at fewer in
