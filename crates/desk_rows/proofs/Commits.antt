@@ -66,15 +66,20 @@ module _ {S V : Type 0} (g : Ghosts S) (work : Work S) (old first last : Held S)
   was_put : HasCleanDisk (state g last) → OnOk ran (work.putting.puts (with_transaction old) last)
   was_put clean = subst (λ h. OnOk ran (work.putting.puts h last)) begun (put clean)
 
-  pub leaves : ((s : State) → work.Shown old s → work.Left old s.now.trees) → Survives (state g old) new (work.Left old)
-  leaves left = leaves_what_ran g ran old last new (work.Left old) survives ended (λ clean. on_ok_weaker ran (λ it. left (state g last) (shows (state g last) refl it)) (was_put clean))
-
-  pub commits : StopsLost g work.putting → (IsTrue (state g old).is_open → (state g old).now ≡ (state g old).committed) → (HasCleanDisk (state g last) → KeepsCommit (state g first) (state g last))
+  -- it comes to what it says of its work, and a crash leaves what that does
+  pub comes_to : StopsLost g work.putting → (IsTrue (state g old).is_open → (state g old).now ≡ (state g old).committed)
+      → (HasCleanDisk (state g last) → KeepsCommit (state g first) (state g last))
       → (HasCleanDisk (state g last) → (state g first).in_transaction ≡ true → OnOk ran ((state g last).in_transaction ≡ true))
       → (HasCleanDisk (state g last) → (state g first).in_transaction ≡ true → IfErr ran (work.putting.stops first (state g last)))
-      → (HasCleanDisk new → Ends ran result (state g last) new) → HasCleanDisk new → Commits g work old new result
-  commits lost settled kept inside stopped ends clean =
-      let early : HasCleanDisk (state g last) = omega (arith, clean, ended.clean) in
-      ends_so g old last new (subst (λ h. KeepsCommit (state g h) (state g last)) begun (kept early)) settled work lost ran result (ends clean) clean survives ended (was_put early)
-      (subst (λ h. (state g h).in_transaction ≡ true → OnOk ran ((state g last).in_transaction ≡ true)) begun (inside early) refl)
-      (subst (λ h. (state g h).in_transaction ≡ true → IfErr ran (work.putting.stops h (state g last))) begun (stopped early) refl) (shows new)
+      → (HasCleanDisk new → Ends ran result (state g last) new) → ((s : State) → work.Shown old s → work.Left old s.now.trees)
+      → (HasCleanDisk new → Commits g work old new result) × Survives (state g old) new (work.Left old)
+  comes_to lost settled kept inside stopped ends left = (
+    (λ clean.
+        let early : HasCleanDisk (state g last) = omega (arith, clean, ended.clean) in
+        ends_so g old last new (subst (λ h. KeepsCommit (state g h) (state g last)) begun (kept early)) settled work lost ran result
+        (ends clean) clean survives ended (was_put early)
+        (subst (λ h. (state g h).in_transaction ≡ true → OnOk ran ((state g last).in_transaction ≡ true)) begun (inside early) refl)
+        (subst (λ h. (state g h).in_transaction ≡ true → IfErr ran (work.putting.stops h (state g last))) begun (stopped early) refl) (shows new)),
+    leaves_what_ran g ran old last new (work.Left old) survives ended
+        (λ clean. on_ok_weaker ran (λ it. left (state g last) (shows (state g last) refl it)) (was_put clean)),
+  )
