@@ -1,5 +1,5 @@
 -- The file once tables are made.
-use Rattle.std.proofs.Common.{ap, ◌≡◌, ◌⊎◌, ◌||◌, true≢false, ◌≢◌, ℕ, ◌&&◌, ◌+◌, ◌<◌, ◌≤◌, true, false, ◌==◌, List, [], ◌∷◌, ◌++◌, map, filter, codes, is_some, refl, sym, subst, ◌∙◌, arith, nat_lt, eq-eqb, inl, inr, bytes_eq}
+use Rattle.std.proofs.Common.{ap, Bool, ◌≡◌, ◌⊎◌, ◌||◌, true≢false, ◌≢◌, ℕ, ◌&&◌, ◌+◌, ◌<◌, ◌≤◌, true, false, ◌==◌, List, [], ◌∷◌, ◌++◌, map, filter, codes, is_some, refl, sym, subst, ◌∙◌, arith, nat_lt, eq-eqb, inl, inr, bytes_eq}
 use Rattle.std.specs.List.{AllByRecursion, position_from}
 use Rattle.std.specs.Fmt.{digits}
 use Rattle.std.proofs.lemmas.Bool.Decides.{nat_tests}
@@ -21,9 +21,10 @@ use Rattle.sqlite.specs.Effect.{Database}
 use Rattle.sqlite.specs.State.{State, IsLive}
 use Rattle.desk_parts.specs.declared.file_table.FileTable.{FileTable}
 use Rattle.desk_parts.specs.declared.file_table.FileTable.TheVariants as tables
+use Rattle.desk_parts.specs.Rows.{RowOf}
 use Rattle.sqlite_catalog.specs.Listing.{IsSound}
 use Rattle.sql_tables.specs.Making.{AreFree, IndexesLow, IsForeignTree, IsMaking, KeepsAside, first_created}
-use Rattle.sql_tables.specs.Rows.{HaveRowids}
+use Rattle.sql_tables.specs.Rows.{HaveRowids, Lists, columns_at}
 use Rattle.sql_tables.specs.Tables.{IsDeclared, counter}
 use Rattle.sql_tables.proofs.Creating.{declared_first, foreign_first, free_first, has_counter, has_first, low_first, rising, rising_first, declares, declared_stays, sound_is_low}
 use Rattle.sql_tables.proofs.Declaring.{has_table}
@@ -32,6 +33,7 @@ use Rattle.desk_rows.specs.Descriptions.{description_of, table_of}
 use Rattle.desk_rows.specs.Commits.{making_file}
 use Rattle.desk_rows.specs.Making.{AreAbsent, CountsNone, Differ, MakesTables, after, creation, first_contents, first_row, is_among, making, new_tables, new_layout, no_contents, tree_in}
 use Rattle.desk_rows.specs.Puts.{row_put}
+use Rattle.desk_rows.specs.Rows.{columns_of}
 use Rattle.desk_rows.specs.States.{IsUnder}
 use Rattle.desk_rows.specs.Turns.{with_transaction}
 use Rattle.desk_rows.proofs.Transactions.Committing.{shows_on}
@@ -155,19 +157,17 @@ pub foreign_after : (tables : List FileTable) (s : Schema) (db : Trees) (tree : 
 foreign_after [] s db tree is = is
 foreign_after (v ∷ tables) s db tree is = foreign_after tables (first_created s (table_of v 0)) db tree (foreign_first s (table_of v 0) db tree is)
 
--- the tree of the first
-tree_first : (v : FileTable) (tables : List FileTable) (s : Schema) → tree_in (v ∷ tables) s v ≡ next_tree s
-tree_first v tables s = rw (itself_named v)
-
 -- a table that is made is declared, in a tree that no table had
-pub declared_after : (tables : List FileTable) (s : Schema) → Differ tables → IndexesLow s → AllByRecursion (λ t. is_used s (name t) ≡ false) tables → (t : FileTable) → Has tables t → IsDeclared (after tables s) (table_of t (tree_in tables s t)) × (next_tree s ≤ tree_in tables s t)
+abbrev IsMadeIn : List FileTable → Schema → FileTable → Type 0
+IsMadeIn tables s t = IsDeclared (after tables s) (table_of t (tree_in tables s t)) × (next_tree s ≤ tree_in tables s t)
+
+declared_after : (tables : List FileTable) (s : Schema) → Differ tables → IndexesLow s → AllByRecursion (λ t. is_used s (name t) ≡ false) tables
+    → (t : FileTable) → Has tables t → IsMadeIn tables s t
 declared_after [] s apart low free t has = absurd has
 declared_after (v ∷ tables) s apart low free t (inl is) =
     let next = first_created s (table_of v 0) in
-    let here = declares s (table_of v 0) low free.0 (keys_of v) in
-    let there : IsDeclared (after tables next) (table_of v (next_tree s)) = through tables next (table_of v (next_tree s)) (declared_first s (table_of v 0) (table_of v (next_tree s)) here) in
-    let at_v : IsDeclared (after tables next) (table_of v (tree_in (v ∷ tables) s v)) × (next_tree s ≤ tree_in (v ∷ tables) s v) = rw (tree_first v tables s) (there, omega arith) in
-    subst (λ (t : FileTable). IsDeclared (after tables next) (table_of t (tree_in (v ∷ tables) s t)) × (next_tree s ≤ tree_in (v ∷ tables) s t)) (sym is) at_v
+    let here = declared_first s (table_of v 0) (table_of v (next_tree s)) (declares s (table_of v 0) low free.0 (keys_of v)) in
+    subst (IsMadeIn (v ∷ tables) s) (sym is) (rw (itself_named v) (through tables next (table_of v (next_tree s)) here, omega arith))
 declared_after (v ∷ tables) s apart low free t (inr later) =
     let next = first_created s (table_of v 0) in
     let other : AreApart v t = all_has (AreApart v) tables t apart.0 later in
@@ -178,23 +178,51 @@ declared_after (v ∷ tables) s apart low free t (inr later) =
 
 -- ---- what is there once tables are made
 
-module _ (tables : List FileTable) (s : Schema) (apart : Differ tables) (low : IndexesLow s) (free : AllByRecursion (λ t. is_used s (name t) ≡ false) tables)
-    (committed : Database) (rows : Trees) (now : State) (m : IsMaking committed s rows (after tables s) now) where
-  pub each_made : (t : FileTable) → is_among tables t ≡ true → IsDeclared (after tables s) (table_of t (tree_in tables s t)) × (next_tree s ≤ tree_in tables s t)
-  each_made t is = declared_after tables s apart low free t (among_has tables t is)
+no_rowids : HaveRowids []
+no_rowids = record { integers = tt; once = λ id. omega arith }
 
-  -- a table that is made has no row
-  pub empty : (t : FileTable) → is_among tables t ≡ true → now.now.trees (tree_in tables s t) ≡ []
-  empty t is =
-      let it = each_made t is in
-      all_has _ (after tables s).tables (table_of t (tree_in tables s t)) m.kept (has_table (after tables s) (table_of t (tree_in tables s t)) it.0) ∙ rw (none_below (tree_in tables s t) (next_tree s) it.1) refl
+-- the table is declared in this tree, which has these rows
+abbrev pub IsHeld : Schema → Trees → (t : FileTable) → ℕ → List (RowOf t) → Type 0
+IsHeld s db t tree xs =
+    IsDeclared s (table_of t tree) × Lists (columns_of t) (columns_at (description_of t).own) xs (db tree)
+    × ((description_of t).is_changed ≡ true → HaveRowids (db tree))
 
+module _ (tables : List FileTable) (s : Schema) (committed : Database) (rows : Trees) (now : State) (m : IsMaking committed s rows (after tables s) now) where
   -- a table that was there has its rows
   pub keeps_row : (t : Table) → Has s.tables t → now.now.trees t.tree ≡ rows t.tree
   keeps_row t has = all_has _ (after tables s).tables t m.kept (has_after tables s t has) ∙ rw (is_below t.tree (next_tree s) (table_below s t has)) refl
 
-pub no_rowids : HaveRowids []
-no_rowids = record { integers = tt; once = λ id. omega arith }
+  -- one that is made has none
+  pub made_empty : Differ tables → IndexesLow s → AllByRecursion (λ t. is_used s (name t) ≡ false) tables
+      → (t : FileTable) → is_among tables t ≡ true → IsHeld (after tables s) now.now.trees t (tree_in tables s t) []
+  made_empty apart low free t is =
+      let at = tree_in tables s t in
+      let it = declared_after tables s apart low free t (among_has tables t is) in
+      let none : now.now.trees at ≡ [] =
+      all_has _ (after tables s).tables (table_of t at) m.kept (has_table (after tables s) (table_of t at) it.0) ∙ rw (none_below at (next_tree s) it.1) refl in
+      (it.0, rw none (IsPermutation-refl []), λ changed. rw none no_rowids)
+
+  -- what is held is shown, beside all else that is there
+  pub shows_held : (has : FileTable → Bool) (tree : FileTable → ℕ) (held : (t : FileTable) → List (RowOf t))
+      → ((t : FileTable) → has t ≡ true → IsHeld (after tables s) now.now.trees t (tree t) (held t))
+      → IsUnder committed (record { schema = after tables s; has = has; tree = tree }) (record { rows = held; others = now.now.trees }) now
+  shows_held has tree held each = record {
+    shows = record {
+      schema = m.schema;
+      is = record {
+        declared = λ t is. (each t is).0;
+        sound = m.sound;
+        holds = record {
+          tables = λ t is. (each t is).1;
+          ids = λ t is. (each t is).2;
+          others = all_of _ (λ t other. refl) (after tables s).tables;
+          aside = λ tree other none. refl;
+        };
+      };
+    };
+    inside = m.inside;
+    over = m.over;
+  }
 
 -- ---- the tables of a new file
 
@@ -211,29 +239,13 @@ module _ (s : Schema) (none : AreAbsent s) (low : IndexesLow s) (committed : Dat
       all_has _ (after new_tables s).tables (counter at) m.kept (has_after rest (first_created s (table_of tables.Book 0)) (counter at) (has_counter s (table_of tables.Book 0) lacks)) ∙ rw (none_below at (next_tree s) (omega (arith, above)))
 
   finished : IsUnder committed (new_layout s) (no_contents now.now.trees) now × KeepsRows s.tables rows now.now.trees × CountsNone s now.now.trees × KeepsAside s rows now.now.trees
-  finished =
-      let none_in = empty new_tables s differ low none committed rows now m in (
-        record {
-          shows = record {
-            schema = m.schema;
-            is = record {
-              declared = λ t is. (each_made new_tables s differ low none committed rows now m t is).0;
-              sound = m.sound;
-              holds = record {
-                tables = λ t is. rw (none_in t is) (IsPermutation-refl []);
-                ids = λ t is changed. rw (none_in t is) no_rowids;
-                others = all_of _ (λ t other. refl) (after new_tables s).tables;
-                aside = λ tree other none. refl;
-              };
-            };
-          };
-          inside = m.inside;
-          over = m.over;
-        },
-        all_from _ s.tables (keeps_row new_tables s differ low none committed rows now m),
-        counts_none,
-        m.aside,
-      )
+  finished = (
+    shows_held new_tables s committed rows now m (is_among new_tables) (tree_in new_tables s) (λ t. [])
+        (made_empty new_tables s committed rows now m differ low none),
+    all_from _ s.tables (keeps_row new_tables s committed rows now m),
+    counts_none,
+    m.aside,
+  )
 
 -- a transaction begins with what is there
 pub begins_making : (committed : Database) (s : Schema) (old : State) → old.now.schema ≡ s → IsSound s old.now.trees → old.in_transaction ≡ true → old.committed ≡ committed → IsMaking committed s old.now.trees s old

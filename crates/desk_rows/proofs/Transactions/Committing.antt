@@ -9,7 +9,7 @@ use Rattle.desk_parts.specs.Puts.{RowPut}
 use Rattle.desk_rows.specs.Commits.{putting_items}
 use Rattle.desk_rows.specs.Contents.{Contents}
 use Rattle.desk_rows.specs.Layout.{Layout}
-use Rattle.desk_rows.specs.Puts.{IsFileWith, PutsAll, Writes, puts_into}
+use Rattle.desk_rows.specs.Puts.{PutsAll, Writes, puts_into}
 use Rattle.desk_rows.specs.States.{IsFile, IsUnder, ShowsContents}
 use Rattle.desk_rows.specs.Turns.{with_transaction}
 use Rattle.desk_rows.proofs.Transactions.Turns.{is_left}
@@ -25,14 +25,10 @@ shows_on old new l c same was = record { schema = ap (λ (d : Database). d.schem
 pub writes_on : {S : Type 0} (g : Ghosts S) (old last : Held S) (new : State) (puts : List RowPut) → PutsAll puts (state g (record old { in_transaction = true })) (state g last) → new.now ≡ (state g last).now → Writes puts (state g old) new
 writes_on g old last new puts all same l c there was = shows_on (state g last) new l (puts_into puts c) same (all (state g old).committed l c there (begins g old l c was)).shows
 
--- a file that was shown is what the trees are
-pub file_with : (old new : State) (puts : List RowPut) → Writes puts old new → IsFileWith puts old new.now.trees
-file_with old new puts writes l c there was = (writes l c there was).is
-
 -- what an iterator gave is shown once it is committed, and left by a crash
 module _ {S I : Type 0} (g : Ghosts S) (gives : I → Option Put → I → Type 0) (it : I) (old last : Held S) where
   pub shows_items : (new : State) → new.now ≡ (state g last).now → (putting_items g gives it).putting.puts (with_transaction old) last → (putting_items g gives it).Shown old new
   shows_items new same put = (put.0, put.1, (writes_on g old last new put.0 put.2.0 same, (last, put.2.1, same)))
 
   pub left_items : (new : State) → (putting_items g gives it).Shown old new → (putting_items g gives it).Left old new.now.trees
-  left_items new shown = (shown.0, shown.1, (file_with (state g old) new shown.0 shown.2.0, is_left g _ old new shown.2.1))
+  left_items new shown = (shown.0, shown.1, ((λ l c there was. (shown.2.0 l c there was).is), is_left g _ old new shown.2.1))
