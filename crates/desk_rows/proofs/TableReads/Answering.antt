@@ -1,6 +1,7 @@
 -- What a read of a table answers, from what its query showed.
-use Rattle.std.proofs.Common.{◌≡◌, ◌≢◌, Bool, true, false, MatchBool, OnErr, ap, ap₂, ℕ, List, [], ◌∷◌, map, drop, None, Ok, Err, Result, IfOk, IfErr, refl, sym, subst, ◌∙◌, subst₂, IsPermutation, inl, inr}
+use Rattle.std.proofs.Common.{◌≡◌, ◌≢◌, Bool, true, false, MatchBool, OnErr, ap, ap₂, ℕ, List, [], ◌∷◌, map, drop, None, Ok, Err, Result, IfOk, IfErr, refl, sym, subst, ◌∙◌, subst₂, is_lt, IsPermutation, inl, inr}
 use Rattle.std.specs.List.{AllByRecursion}
+use Rattle.std.specs.List.Sorted.{IsSortedBy}
 use Rattle.sqlite_value.proofs.OrderLemmas.{value_cmp-Int, value_cmp-Text, then-Equal}
 use Rattle.std.proofs.lemmas.List.Sorted.{IsPermutation-map}
 use Rattle.std.proofs.lemmas.Result.{IfOk-weaker}
@@ -13,7 +14,7 @@ use Rattle.std.specs.declared.alloc.AllocError.{AllocError}
 use Rattle.sqlite_schema.specs.declared.schema.Schema.{Schema}
 use Rattle.sqlite_catalog.specs.Listing.{IsSound}
 use Rattle.sqlite.specs.declared.error.Error.{Error}
-use Rattle.sqlite.specs.State.{State, Shown, FailsToQuery, IsUnchanged, store_error}
+use Rattle.sqlite.specs.State.{State, Shown, FailsToQuery, IsUnchanged}
 use Rattle.desk_rows.specs.Fault.{IsToldAs}
 use Rattle.sql_tables.specs.Kinds.{HasKinds}
 use Rattle.sql_tables.specs.Tables.{IsDeclared}
@@ -22,7 +23,7 @@ use Rattle.desk_rows.specs.declared.fault.DatabaseFault.{DatabaseFault}
 use Rattle.desk_rows.specs.declared.fault.DatabaseFault.TheVariants.{NoMemory, Lost, Refused}
 use Rattle.desk_rows.proofs.TableReads.OneList.{one_list}
 use Rattle.sql_tables.proofs.Quiet.{answered_fails, on_ok, on_err, shown_quietly, reads, refused_quietly}
-use Rattle.desk_rows.specs.TableQuery.{AnswersRows, AnyRows, AreReadable, BeginWith, FailsAs, Gives, failed, given, no_memory, query_of, together, unreadable, TableQuery}
+use Rattle.desk_rows.specs.TableQuery.{AnswersRows, AnyRows, BeginWith, FailsAs, Gives, failed, given, no_memory, query_of, together, unreadable, TableQuery}
 use Rattle.desk_rows.specs.Whole.{IsUtf8Row}
 use Rattle.desk_rows.specs.Descriptions.{description_of, table_of}
 use Rattle.sql_tables.specs.Rows.{Lists, columns_at}
@@ -30,9 +31,8 @@ use Rattle.desk_rows.specs.Layout.{Layout}
 use Rattle.desk_rows.specs.Contents.{Contents}
 use Rattle.desk_rows.specs.States.{ShowsContents}
 use Rattle.desk_rows.specs.Rows.{ShownOf, shown_columns, own, order, columns_of}
-use Rattle.desk_rows.proofs.TableReads.WholeReads.{rows_cmp, reads_only, table_read, table_kinds, table_fails}
+use Rattle.desk_rows.proofs.TableReads.WholeReads.{rows_cmp, reads_only, table_answers, table_read, table_kinds}
 use Rattle.sqlite_resolve.specs.Compile.{first}
-use Rattle.sqlite_trees.specs.declared.error.StoreError.{StoreError}
 
 head_or : {X : Type 0} → X → List X → X
 head_or d [] = d
@@ -48,11 +48,6 @@ module _ {X : Type 0} (query : TableQuery) (written : X → Row) (before after :
   fails_to_read rows shown (Err NoMemory) not_lost kinds begins = no_memory rows shown (begins refl) refl
   fails_to_read rows shown (Err Lost) not_lost kinds begins = absurd (not_lost refl)
   fails_to_read rows shown (Err Refused) not_lost kinds begins = unreadable rows shown (λ all. absurd (let none = kinds all in cc)) refl
-
--- if only the store makes a query fail, it is reported as that
-never_refused : (text : List ℕ) (params : Row) (old new : State) (fault : DatabaseFault) → ((e : Error) → FailsToQuery text params old new e → (cause : StoreError) × (e ≡ store_error cause))
-    → (e : Error) × FailsToQuery text params old new e × IsToldAs e fault → fault ≢ Refused
-never_refused text params old new fault fails (e, fails_so, told) refused = let store = fails e fails_so in subst (IsToldAs e) refused told store.0 store.1
 
 -- a failed allocation isn't a refusal
 not_refused : {A : Type 0} (r : Result A DatabaseFault) → IfErr r (λ fault. fault ≡ NoMemory) → IfErr r (λ fault. fault ≢ Refused)
@@ -103,15 +98,21 @@ pub maps_shown : {X : Type 0} (t : FileTable) (view : X → ShownOf t) (xs : Lis
 maps_shown t view [] = refl
 maps_shown t view (x ∷ xs) = rw (owned t (view x), maps_shown t view xs)
 
--- nothing is read: why not, that all is as it was if it was refused, and that it isn't refused under these conditions
+-- what a query gives of a table that is declared are its rows, in order
+gives_rows : {X : Type 0} (t : FileTable) (view : X → ShownOf t) (old new : State) (tree : ℕ) → HasTable (table_of t tree) old
+    → (xs : List X) → Gives (query_of t) (λ x. shown_columns t (view x)) old new xs
+    → Lists (λ x. shown_columns t (view x)) (columns_at (description_of t).shown) xs (old.now.trees tree) × IsSortedBy (λ a b. is_lt (order t (view a) (view b))) xs
+gives_rows t view old new tree has xs gives =
+    table_read t old.now.schema tree has.declared old new refl has.sound (λ x. shown_columns t (view x)) (λ a b. order t (view a) (view b))
+    (λ a b. ordered t (view a) (view b)) gives.0 xs gives.1 gives.2
+
+-- nothing is read: why not, that all is as it was if it was refused, and that it isn't refused where the statement has an answer
 module _ {V X : Type 0} (items : V → List X) (t : FileTable) (view : X → ShownOf t) (Apart : List X → Type 0) (old new : State) (fault : DatabaseFault) where
   not_read : FailsAs (query_of t) (λ x. shown_columns t (view x)) Apart old new fault → (fault ≡ Refused → IsUnchanged old new)
-      → ((tree : ℕ) → HasTable (table_of t tree) old → old.step_limit ≡ None → AreReadable t (old.now.trees tree)
-      → ((xs : List X) → Lists (λ x. shown_columns t (view x)) (columns_at (description_of t).shown) xs (old.now.trees tree) → Apart xs) → fault ≢ Refused)
       → (HasAnswer (query_of t).text old → old.step_limit ≡ None → ((rows : List Row) → Shown (query_of t).text [] old new rows → AllByRecursion (HasKinds (query_of t).kinds) rows)
       → ((xs : List X) → Gives (query_of t) (λ x. shown_columns t (view x)) old new xs → Apart xs) → fault ≢ Refused)
       → AnswersRows (Err fault) items t view Apart old new
-  not_read told refused cause answered = record {
+  not_read told refused answered = record {
     gives = tt;
     apart = tt;
     utf8 = tt;
@@ -120,7 +121,10 @@ module _ {V X : Type 0} (items : V → List X) (t : FileTable) (view : X → Sho
     unchanged = tt;
     told = told;
     refused = refused;
-    cause = cause;
+    cause = λ tree has unlimited readable apart.
+        answered (table_answers t old.now.schema tree has.declared old new refl has.sound) unlimited
+        (λ rows seen. table_kinds t old.now.schema tree has.declared old new refl has.sound rows seen readable)
+        (λ xs gives. apart xs (gives_rows t view old new tree has xs gives).0);
     answered = answered;
   }
 
@@ -130,7 +134,8 @@ module _ {V X : Type 0} (items : V → List X) (t : FileTable) (view : X → Sho
       → IfErr r (λ fault. fault ≡ NoMemory → BeginWith (query_of t).kinds rows)
       → IfOk r (λ xs. AllByRecursion (λ x. IsUtf8Row t (own t (view x))) (items xs)) → AnswersRows r items t view AnyRows old new
   answers rows seen r reads kinds not_lost begins utf8 =
-      let read = λ (tree : ℕ) (has : HasTable (table_of t tree) old). IfOk-weaker r _ _ (λ xs made. table_read t old.now.schema tree has.declared old new refl has.sound (λ x. shown_columns t (view x)) (λ a b. order t (view a) (view b)) (λ a b. ordered t (view a) (view b)) rows (items xs) seen made) reads in record {
+      let read = λ (tree : ℕ) (has : HasTable (table_of t tree) old).
+      IfOk-weaker r _ _ (λ xs made. gives_rows t view old new tree has (items xs) (rows, seen, made)) reads in record {
         gives = IfOk-weaker r _ _ (λ xs made. (rows, seen, made)) reads;
         apart = on_ok r _ tt;
         utf8 = utf8;
@@ -147,8 +152,9 @@ module _ {V X : Type 0} (items : V → List X) (t : FileTable) (view : X → Sho
   pub fails : (fault : DatabaseFault) → (e : Error) × FailsToQuery (description_of t).read [] old new e × IsToldAs e fault → AnswersRows (Err fault) items t view AnyRows old new
   fails fault why =
       not_read items t view AnyRows old new fault (failed why.0 why.1 why.2) (refused_as_it_was (description_of t).read (reads_only t) [] old new fault why)
-      (λ tree has unlimited readable apart. never_refused (description_of t).read [] old new fault (table_fails t old.now.schema tree has.declared old new refl has.sound unlimited) why)
-      (λ can unlimited readable apart. never_refused (description_of t).read [] old new fault (answered_fails (description_of t).read (reads_only t) old new can unlimited) why)
+      (λ can unlimited readable apart refused.
+      let store = answered_fails (description_of t).read (reads_only t) old new can unlimited why.0 why.1 in
+      subst (IsToldAs why.0) refused why.2 store.0 store.1)
 
 -- ---- rows that have to be apart
 
@@ -175,18 +181,16 @@ module _ {V X : Type 0} (items : V → List X) (t : FileTable) (view : X → Sho
 
   pub still_not_read : (fault : DatabaseFault) → AnswersRows (Err fault) items t view AnyRows old new → AnswersRows (Err fault) items t view Apart old new
   still_not_read fault a =
-      not_read items t view Apart old new fault (still_fails fault a.told) a.refused
-      (λ tree has unlimited readable apart. a.cause tree has unlimited readable (λ xs all. tt)) (λ can unlimited readable apart. a.answered can unlimited readable (λ xs all. tt))
+      not_read items t view Apart old new fault (still_fails fault a.told) a.refused (λ can unlimited readable apart. a.answered can unlimited readable (λ xs all. tt))
 
   are_together : (xs : V) → AnswersRows (Ok xs) items t view AnyRows old new → ¬ Apart (items xs) → AnswersRows (Err Refused) items t view Apart old new
   are_together xs a not =
       not_read items t view Apart old new Refused (together (items xs) a.gives not refl) (λ is. a.unchanged)
-      (λ tree has unlimited readable apart. absurd (not (apart (items xs) (a.rows tree has).0))) (λ can unlimited readable apart. absurd (not (apart (items xs) a.gives)))
+      (λ can unlimited readable apart. absurd (not (apart (items xs) a.gives)))
 
   not_judged : (xs : V) (a : AnswersRows (Ok xs) items t view AnyRows old new) → BeginWith (query_of t).kinds a.gives.0 → AnswersRows (Err NoMemory) items t view Apart old new
   not_judged xs a begins =
-      not_read items t view Apart old new NoMemory (no_memory a.gives.0 a.gives.1 begins refl) (λ is. a.unchanged)
-      (λ tree has unlimited readable apart is. absurd (cc)) (λ can unlimited readable apart is. absurd (cc))
+      not_read items t view Apart old new NoMemory (no_memory a.gives.0 a.gives.1 begins refl) (λ is. a.unchanged) (λ can unlimited readable apart is. absurd (cc))
 
   -- by whether they were found to be apart, where memory for that is asked only once the first row begins with values of its kinds
   pub judged : (xs : V) (apart : Result Bool AllocError) (r : Result V DatabaseFault) (a : AnswersRows (Ok xs) items t view AnyRows old new)

@@ -23,8 +23,7 @@ begin_more kinds (first ∷ rows) (suc i) row lt is so one = so
 pub begin_with : (kinds : List Kind) (rows : List Row) (i : ℕ) (row : Row) → i < length rows → row ≡ get_or rows i row
     → MayBegin kinds (take i rows) → Begins 0 kinds row → BeginWith kinds rows
 begin_with kinds [] i row lt is so one = absurd (omega (arith, lt))
-begin_with kinds (first ∷ rows) zero row lt is so one = subst (Begins 0 kinds) is one
-begin_with kinds (first ∷ rows) (suc i) row lt is so one = so
+begin_with kinds (first ∷ rows) i row lt is so one = begin_more kinds (first ∷ rows) i row lt is so one
 
 -- a row of these kinds has a value of the kind in each place
 shifted : (kinds : List Kind) (at : ℕ) (v : Value) (row : Row) → AreOfKinds at kinds row → AreOfKinds (suc at) kinds (v ∷ row)

@@ -1,5 +1,5 @@
 -- What is read of any of the tables.
-use Rattle.std.proofs.Common.{◌≡◌, drop, Bool, IsTrue, ℕ, true, List, [], ◌∷◌, map, None, refl, ap, ◌∙◌, is_lt, IsPermutation}
+use Rattle.std.proofs.Common.{◌≡◌, drop, Bool, IsTrue, ℕ, true, List, [], ◌∷◌, map, refl, ap, ◌∙◌, is_lt, IsPermutation}
 use Rattle.std.specs.List.{AllByRecursion}
 use Rattle.std.specs.List.Sorted.{IsSortedBy}
 use Rattle.std.specs.Ordering.{ordering_then}
@@ -14,19 +14,19 @@ use Rattle.sqlite_sql.specs.Term.{col, eval_all}
 use Rattle.sqlite_sql.specs.Query.{output_cmp}
 use Rattle.sqlite_resolve.specs.Compile.{first}
 use Rattle.sqlite_catalog.specs.Listing.{IsSound}
-use Rattle.sqlite.specs.declared.error.Error.{Error}
-use Rattle.sqlite.specs.State.{State, Shown, FailsToQuery}
+use Rattle.sqlite.specs.State.{State, Shown}
 use Rattle.desk_parts.specs.declared.file_table.FileTable.{FileTable}
 use Rattle.desk_parts.specs.declared.file_table.FileTable.TheVariants as tables
 use Rattle.sql_tables.specs.Rows.{Lists}
 use Rattle.sql_tables.specs.Kinds.{IsUtf8Text, HasKinds}
+use Rattle.sql_tables.specs.States.{HasAnswer}
 use Rattle.sql_tables.specs.Tables.{IsDeclared}
-use Rattle.sql_tables.proofs.Quiet.{IsStoreFailure, reads}
+use Rattle.sql_tables.proofs.Quiet.{reads}
 use Rattle.sql_tables.proofs.OneTable.{query_on}
 use Rattle.sql_tables.proofs.Orders.{Rises}
 use Rattle.sql_tables.proofs.Reading.{parsed}
 use Rattle.sql_tables.proofs.RowKinds.{IsKept, integer_of, numbered_kinds, hidden_kinds, all_texts, all_shown}
-use Rattle.sql_tables.proofs.ReadAnswers.{fails_by_store}
+use Rattle.sql_tables.proofs.ReadAnswers.{can_answer}
 use Rattle.sql_tables.proofs.WholeTables.{parts, reads_only as only_reads, rows_are}
 use Rattle.sql_tables.specs.Rows.{columns_at}
 use Rattle.desk_rows.specs.TableQuery.{AreReadable, given, query_of}
@@ -109,6 +109,6 @@ module _ (t : FileTable) (schema : Schema) (tree : ℕ) (d : IsDeclared schema (
       (all_both (λ r. shows_rowid t ≡ true → IsTrue (is_int (rowid r))) (λ r. has_texts t ≡ true → AllByRecursion IsUtf8Text (drop 1 r)) (IsReadable t) (λ r ids texts. (ids, texts)) (old.now.trees tree)
       (all_if (shows_rowid t) _ _ readable.ids) (all_if (has_texts t) _ _ readable.texts)) (found rows h).0
 
-  -- only the store makes the reading fail
-  pub table_fails : old.step_limit ≡ None → (e : Error) → FailsToQuery (description_of t).read [] old new e → IsStoreFailure e
-  table_fails = fails_by_store (table_of t tree) (description_of t).read _ _ _ _ (is_read t tree) schema d old has sound new
+  -- the text has an answer
+  pub table_answers : HasAnswer (description_of t).read old
+  table_answers = can_answer (table_of t tree) (description_of t).read _ _ _ _ (is_read t tree) schema d old has sound
