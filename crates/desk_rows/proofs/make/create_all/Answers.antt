@@ -1,4 +1,4 @@
-use Rattle.std.proofs.Common.{◌≡◌, ◌+◌, ◌++◌, List, arith, sym, subst, take, drop, map, true, ap, ◌∙◌, take_all, get_or}
+use Rattle.std.proofs.Common.{◌≡◌, ◌+◌, ◌++◌, List, arith, sym, subst, take, drop, true, ap, ◌∙◌, take_all, get_or}
 use Rattle.std.proofs.lemmas.List.{drop_more, take-append-drop, take_more}
 use Rattle.std.proofs.lemmas.Result.{err_from_is_err_and}
 use Rattle.sqlite.specs.State.{HasCleanDisk}
@@ -8,8 +8,7 @@ use Rattle.desk_parts.specs.declared.file_table.FileTable.{FileTable}
 use Rattle.desk_parts.specs.declared.file_table.FileTable.TheVariants as tables
 use Rattle.sql_tables.specs.States.{seen}
 use Rattle.desk_rows.specs.Descriptions.{description_of}
-use Rattle.desk_rows.specs.Making.{AreMade, MakesTables, creation}
-use Rattle.desk_rows.specs.Turns.{RunInTurn}
+use Rattle.desk_rows.specs.Making.{AreMade, creation}
 use Rattle.sqlite_trees.proofs.ListLemmas.{all-get_or}
 use Rattle.desk_rows.proofs.Schema.MadeTables.{makes_more}
 use Rattle.desk_rows.proofs.Transactions.Turns.{one_more_ran}
@@ -26,26 +25,25 @@ loop-table-preserved g c =
     let given = c.args.tables.now in
     let at = c.loop-table.table-index in
     let next = get_or given at tables.Book in
-    let more = sym (take_more given at tables.Book c.loop-table-test.true) in
+    let early : HasCleanDisk new → HasCleanDisk now = λ clean. omega (arith, clean, c.create.ensures.survives.clean) in
     record {
       same = c.create.ensures.same_reference ∙ c.loop-table.invariant.same;
       survives = survives_then old now new _ _ _ (λ _ db none. none) (λ _ db none. none) c.loop-table.invariant.survives c.create.ensures.survives;
-      kept = λ clean. keeps_then old now new (c.loop-table.invariant.kept (omega (arith, c.create.ensures.survives.clean))) (c.create.ensures.makes clean).kept;
+      kept = λ clean. keeps_then old now new (c.loop-table.invariant.kept (early clean)) (c.create.ensures.makes clean).kept;
       inside = λ clean was. (c.in_ok-create.ensures.makes clean).inside;
       made = λ clean.
-          let early : HasCleanDisk now = omega (arith, c.create.ensures.survives.clean) in
-          let both = makes_more (take at given) next old now new (c.loop-table.invariant.made early) (c.in_ok-create.ensures.makes clean).made in
-          subst (λ tables. MakesTables tables old new) more both;
-      ran = λ clean.
-          let early : HasCleanDisk now = omega (arith, c.create.ensures.survives.clean) in
-          let both = one_more_ran g.S.Store creation (take at given) next c.args.tx.now.conn.now c.loop-table.tx.conn.now c.create.new.tx.conn.now (c.loop-table.invariant.ran early) (c.in_ok-create.ensures.makes clean).ran c.create.ensures.survives in
-          subst (λ tables. RunInTurn g.S.Store (map creation tables) c.args.tx.now.conn.now c.create.new.tx.conn.now) more both;
+          let before = c.loop-table.invariant.made (early clean) in
+          let it = c.in_ok-create.ensures.makes clean in
+          let ran = one_more_ran g.S.Store creation (take at given) next
+          c.args.tx.now.conn.now c.loop-table.tx.conn.now c.create.new.tx.conn.now before.1 it.ran c.create.ensures.survives in
+          subst (λ ts. AreMade g.S.Store ts c.args.tx.now.conn.now c.create.new.tx.conn.now) (sym (take_more given at tables.Book c.loop-table-test.true))
+          (makes_more (take at given) next old now new before.0 it.made, ran);
     }
 
 pub returns-clause-makes : goal.returns-clause-makes
 returns-clause-makes g c clean =
     let whole : take c.loop-table.table-index c.args.tables.now ≡ c.args.tables.now = take_all c.loop-table.table-index c.args.tables.now c.loop-table-test.false in
-    subst (λ ts. AreMade g.S.Store ts c.args.tx.now.conn.now c.loop-table.tx.conn.now) whole (c.loop-table.invariant.made clean, c.loop-table.invariant.ran clean)
+    subst (λ ts. AreMade g.S.Store ts c.args.tx.now.conn.now c.loop-table.tx.conn.now) whole (c.loop-table.invariant.made clean)
 
 pub returns-in_err-create-clause-told : goal.returns-in_err-create-clause-told
 returns-in_err-create-clause-told g c clean was =
@@ -61,9 +59,9 @@ returns-in_err-create-clause-told g c clean was =
       all = sym (take-append-drop at given) ∙ ap (λ (later : List FileTable). take at given ++ later) (drop_more given at tables.Book c.loop-table-test.true);
       stops = record {
         before = c.loop-table.tx.conn.now;
-        ran = c.loop-table.invariant.ran early;
+        ran = (c.loop-table.invariant.made early).1;
         failed = (c.in_err-create.ensures.makes clean).told (c.loop-table.invariant.inside early was);
         left = c.create.ensures.survives;
       };
-      made = c.loop-table.invariant.made early;
+      made = (c.loop-table.invariant.made early).0;
     })

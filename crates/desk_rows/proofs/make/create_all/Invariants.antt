@@ -1,7 +1,6 @@
-use Rattle.std.proofs.Common.{◌≡◌, true, map, take}
+use Rattle.std.proofs.Common.{◌≡◌, true, take}
 use Rattle.sqlite.specs.State.{HasCleanDisk, KeepsCommit, Survives}
-use Rattle.desk_rows.specs.Making.{MakesTables, creation}
-use Rattle.desk_rows.specs.Turns.{RunInTurn}
+use Rattle.desk_rows.specs.Making.{AreMade}
 use Rattle.sql_tables.specs.States.{seen}
 use Rattle.desk_rows.proofs.make.create_all.Given as goal
 
@@ -15,6 +14,5 @@ invariant-loop-table g l =
       survives : Survives old now (λ _. ⊥);
       kept : HasCleanDisk now → KeepsCommit old now;
       inside : HasCleanDisk now → old.in_transaction ≡ true → now.in_transaction ≡ true;
-      made : HasCleanDisk now → MakesTables (take l.table-index l.tables) old now;
-      ran : HasCleanDisk now → RunInTurn g.S.Store (map creation (take l.table-index l.tables)) l.fn.tx.conn.now l.tx.conn.now;
+      made : HasCleanDisk now → AreMade g.S.Store (take l.table-index l.tables) l.fn.tx.conn.now l.tx.conn.now;
     }

@@ -7,8 +7,7 @@ use Rattle.sqlite.proofs.InsideLemmas.{keeps_then}
 use Rattle.sqlite.proofs.StateLemmas.{survives_then}
 use Rattle.sql_tables.specs.States.{seen}
 use Rattle.desk_parts.specs.Puts.{put_of}
-use Rattle.desk_rows.specs.Puts.{PutsAll, statement}
-use Rattle.desk_rows.specs.Turns.{RunInTurn}
+use Rattle.desk_rows.specs.Puts.{ArePut, statement}
 use Rattle.desk_rows.proofs.RowPuts.Changing.{puts_more}
 use Rattle.desk_rows.proofs.Transactions.Turns.{one_more_ran}
 use Rattle.desk_rows.proofs.put_statements.put_all.Goals as goal
@@ -18,19 +17,21 @@ loop-one-preserved g c =
     let old = seen g.S.Store c.args.tx.now in
     let now = seen g.S.Store c.loop-one.tx in
     let new = seen g.S.Store c.put.new.tx in
+    let puts = map put_of c.loop-one.yielded in
+    let next = put_of c.in-Some.one in
+    let early : HasCleanDisk new → HasCleanDisk now = λ clean. omega (arith, clean, c.put.ensures.survives.clean) in
     record {
       same = c.put.ensures.same_reference ∙ c.loop-one.invariant.same;
       survives = survives_then old now new _ _ _ (λ _ db none. none) (λ _ db none. none) c.loop-one.invariant.survives c.put.ensures.survives;
-      kept = λ clean. keeps_then old now new (c.loop-one.invariant.kept (omega (arith, c.put.ensures.survives.clean))) (c.put.ensures.put clean).kept;
+      kept = λ clean. keeps_then old now new (c.loop-one.invariant.kept (early clean)) (c.put.ensures.put clean).kept;
       inside = λ clean was. (c.in_ok-put.ensures.put clean).inside;
       put = λ clean.
-          let early : HasCleanDisk now = omega (arith, c.put.ensures.survives.clean) in
-          subst (λ xs. PutsAll xs old new) (sym (map_push put_of c.loop-one.yielded c.in-Some.one))
-          (puts_more (map put_of c.loop-one.yielded) (put_of c.in-Some.one) old now new (c.loop-one.invariant.put early) (λ committed l contents there was. (c.in_ok-put.ensures.put clean).put committed l contents there was));
-      ran = λ clean.
-          let early : HasCleanDisk now = omega (arith, c.put.ensures.survives.clean) in
-          subst (λ xs. RunInTurn g.S.Store (map statement xs) c.args.tx.now.conn.now c.put.new.tx.conn.now) (sym (map_push put_of c.loop-one.yielded c.in-Some.one))
-          (one_more_ran g.S.Store statement (map put_of c.loop-one.yielded) (put_of c.in-Some.one) c.args.tx.now.conn.now c.loop-one.tx.conn.now c.put.new.tx.conn.now (c.loop-one.invariant.ran early) (c.in_ok-put.ensures.put clean).ran c.put.ensures.survives);
+          let before = c.loop-one.invariant.put (early clean) in
+          let it = c.in_ok-put.ensures.put clean in
+          let ran = one_more_ran g.S.Store statement puts next
+          c.args.tx.now.conn.now c.loop-one.tx.conn.now c.put.new.tx.conn.now before.1 it.ran c.put.ensures.survives in
+          subst (λ xs. ArePut g.S.Store xs c.args.tx.now.conn.now c.put.new.tx.conn.now) (sym (map_push put_of c.loop-one.yielded c.in-Some.one))
+          (puts_more puts next old now new before.0 it.put, ran);
     }
 
 pub returns-clause-put : goal.returns-clause-put
@@ -38,7 +39,7 @@ returns-clause-put g c clean =
     let given = subst (λ it. Yields g.I.Iterator.next_gives it c.loop-one.yielded c.loop-one.one-iterator) c.into_iter-one-iterator.ensures.into_iter_gives c.loop-one.yielded_by in (
       map put_of c.loop-one.yielded,
       record { lent = c.loop-one.yielded; drained = (c.next.new.self, (c.loop-one.one-iterator, given, c.in-None.ensures.steps)); are = refl },
-      (c.loop-one.invariant.put clean, c.loop-one.invariant.ran clean),
+      c.loop-one.invariant.put clean,
     )
 
 pub returns-in_err-put-clause-told : goal.returns-in_err-put-clause-told
@@ -55,10 +56,10 @@ returns-in_err-put-clause-told g c clean was =
       record {
         stops = record {
           before = c.loop-one.tx.conn.now;
-          ran = c.loop-one.invariant.ran early;
+          ran = (c.loop-one.invariant.put early).1;
           failed = (c.in_err-put.ensures.put clean).told (c.loop-one.invariant.inside early was);
           left = c.put.ensures.survives;
         };
-        put = c.loop-one.invariant.put early;
+        put = (c.loop-one.invariant.put early).0;
       },
     )

@@ -1,8 +1,7 @@
 use Rattle.std.proofs.Common.{◌≡◌, map, true}
 use Rattle.sqlite.specs.State.{HasCleanDisk, KeepsCommit, Survives}
 use Rattle.desk_parts.specs.Puts.{put_of}
-use Rattle.desk_rows.specs.Puts.{PutsAll, statement}
-use Rattle.desk_rows.specs.Turns.{RunInTurn}
+use Rattle.desk_rows.specs.Puts.{ArePut}
 use Rattle.sql_tables.specs.States.{seen}
 use Rattle.desk_rows.proofs.put_statements.put_all.Given as goal
 
@@ -16,6 +15,5 @@ invariant-loop-one g l =
       survives : Survives old now (λ _. ⊥);
       kept : HasCleanDisk now → KeepsCommit old now;
       inside : HasCleanDisk now → old.in_transaction ≡ true → now.in_transaction ≡ true;
-      put : HasCleanDisk now → PutsAll (map put_of l.yielded) old now;
-      ran : HasCleanDisk now → RunInTurn g.S.Store (map statement (map put_of l.yielded)) l.fn.tx.conn.now l.tx.conn.now;
+      put : HasCleanDisk now → ArePut g.S.Store (map put_of l.yielded) l.fn.tx.conn.now l.tx.conn.now;
     }
