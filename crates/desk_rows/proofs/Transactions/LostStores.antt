@@ -22,7 +22,7 @@ use Rattle.desk_rows.specs.Turns.{FailsWith, RunInTurn, Statement, Stops}
 
 -- ---- one error
 
-memory_alone : (cause : StoreError) → cause ≢ OutOfMemory → store_error cause ≢ store_error OutOfMemory
+pub memory_alone : (cause : StoreError) → cause ≢ OutOfMemory → store_error cause ≢ store_error OutOfMemory
 memory_alone OutOfMemory other same = other refl
 memory_alone cause other same = absurd (cc)
 
@@ -49,7 +49,7 @@ not_put it old new e (inr none) = λ is_open told. absurd (memory_alone told.0 t
 
 -- ---- in turn
 
-more_after : (a b c : ℕ) → a ≤ b → MoreFaults b c → MoreFaults a c
+pub more_after : (a b c : ℕ) → a ≤ b → MoreFaults b c → MoreFaults a c
 more_after a b c up more = omega (arith, up, more)
 
 more_before : (a b c : ℕ) → MoreFaults a b → b ≤ c → MoreFaults a c

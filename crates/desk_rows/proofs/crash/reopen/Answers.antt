@@ -1,14 +1,10 @@
-use Rattle.std.proofs.Common.{◌≡◌, ◌≤◌, ℕ, inl, inr, Result, Ok, Err, IfErr, arith, refl, sym, ◌∙◌, rules, subst}
+use Rattle.std.proofs.Common.{◌≤◌, ℕ, inl, inr, Result, Ok, Err, IfErr, arith, refl, sym, ◌∙◌, rules, subst}
 use Rattle.sqlite_catalog.specs.Listing.{IsSound}
 use Rattle.sqlite_disk.specs.Disk.{MoreFaults}
 use Rattle.sqlite_schema.specs.declared.schema.Schema.{Schema}
 use Rattle.sqlite_trees.specs.Tree.{Trees}
-use Rattle.sqlite_trees.specs.declared.error.StoreError.{StoreError}
 use Rattle.sqlite_trees.specs.declared.error.StoreError.TheVariants.{OutOfMemory, Io, Corrupt, Full, Broken, Unstorable}
 use Rattle.sqlite.specs.declared.error.Error.{Error}
-use Rattle.sqlite.specs.declared.error.Error.TheVariants.{SqliteFailure}
-use Rattle.sqlite.specs.declared.error.ErrorCode.TheVariants.{NotADatabase}
-use Rattle.sqlite.specs.State.{store_error}
 use Rattle.sqlite.specs.Steps.{FailsToOpen}
 use Rattle.desk_rows.specs.Fault.{FailsToReopen, IsToldAs}
 use Rattle.desk_rows.specs.declared.fault.DatabaseFault.{DatabaseFault}
@@ -16,28 +12,19 @@ use Rattle.desk_rows.specs.declared.fault.DatabaseFault.TheVariants.{NoMemory, L
 use Rattle.std.proofs.lemmas.Result.{IfOk-weaker}
 use Rattle.sqlite.specs.Held.{state}
 use Rattle.sqlite_trees.specs.View.{IsClean}
+use Rattle.sql_tables.proofs.Refusals.{not_of_store, plain_if}
 use Rattle.desk_rows.proofs.Schema.Schemas.{shows_own}
+use Rattle.desk_rows.proofs.Transactions.LostStores.{memory_alone, more_after}
 use Rattle.desk_rows.proofs.crash.reopen.Goals as goal
 
-no_database : (cause : StoreError) → ¬ (◌≡◌ {A = Error} (SqliteFailure NotADatabase) (store_error cause))
-no_database OutOfMemory is = absurd (cc)
-no_database cause is = absurd (cc)
-
-only_memory : (cause : StoreError) → store_error OutOfMemory ≡ store_error cause → cause ≡ OutOfMemory
-only_memory OutOfMemory is = refl
-only_memory cause is = absurd (cc)
-
 module _ (a mid b : ℕ) (up : a ≤ mid) (db : Trees) (e : Error) where
-  counted : MoreFaults mid b → MoreFaults a b
-  counted more = omega (arith, up, more)
-
   fails_again : (f : DatabaseFault) → (schema : Schema) × IsSound schema db → FailsToOpen db (MoreFaults mid b) e → IsToldAs e f → FailsToReopen a b f
   fails_again NoMemory is fails told = tt
-  fails_again Lost is (inl none) told = absurd (no_database told.0 (sym none.0 ∙ told.2))
-  fails_again Lost is (inr (OutOfMemory, same, excuse)) told = absurd (told.1 (only_memory told.0 (sym same ∙ told.2)))
-  fails_again Lost is (inr (Io, same, excuse)) told = counted excuse
-  fails_again Lost is (inr (Corrupt, same, excuse)) told = counted excuse
-  fails_again Lost is (inr (Full, same, excuse)) told = counted excuse
+  fails_again Lost is (inl none) told = absurd (not_of_store e told.0 (plain_if e _ none.0 refl) told.2)
+  fails_again Lost is (inr (OutOfMemory, same, excuse)) told = absurd (memory_alone told.0 told.1 (sym told.2 ∙ same))
+  fails_again Lost is (inr (Io, same, excuse)) told = more_after a mid b up excuse
+  fails_again Lost is (inr (Corrupt, same, excuse)) told = more_after a mid b up excuse
+  fails_again Lost is (inr (Full, same, excuse)) told = more_after a mid b up excuse
   fails_again Lost is (inr (Broken, same, excuse)) told = absurd excuse
   fails_again Lost is (inr (Unstorable, same, excuse)) told = absurd excuse
   fails_again Refused is (inl none) told = absurd (none.1 is.0 is.1)
