@@ -1,5 +1,5 @@
 -- What an upsert by the name does to `tab`, whose rowid is hidden, in any schema that declares it so.
-use Rattle.std.proofs.Common.{◌≡◌, inl, inr, ℕ, ℤ, ◌≤◌, Bool, true, false, not, ◌&&◌, ◌==◌, List, [], ◌∷◌, map, filter, find, length, Some, refl, sym, ap, subst, ◌∙◌, is_eq, eq-eqb, eqb-true, bytes_eq, Ordering, Less, Equal, Greater, arith, true≢false, int_cmp, ◌<ℤ◌}
+use Rattle.std.proofs.Common.{◌≡◌, inl, inr, ℕ, ℤ, ◌≤◌, Bool, true, false, not, ◌&&◌, ◌==◌, List, [], ◌∷◌, map, filter, find, length, Some, refl, sym, ap, subst, ◌∙◌, is_eq, eq-eqb, eqb-true, bytes_eq, arith}
 use Rattle.std.proofs.lemmas.List.{length-map}
 use Rattle.std.specs.List.{list_any}
 use Rattle.std.specs.Cmp.{both_ways}
@@ -15,7 +15,7 @@ use Rattle.sqlite_value.specs.Order.{Row, column, value_cmp}
 use Rattle.sqlite_value.proofs.OrderLemmas.{value_cmp-Text, value_cmp-Int}
 use Rattle.sqlite_trees.specs.Tree.{rowid, has_rowid, put_row, without_rowid, Trees}
 use Rattle.sqlite_trees.proofs.ListLemmas.{filter_all, filter_same, filter-map, IsPermutation-filter}
-use Rattle.sqlite_sql.specs.Ops.{binary, is_true, from_truth}
+use Rattle.sqlite_sql.specs.Ops.{binary}
 use Rattle.sqlite_schema.specs.declared.schema.Index.{Index}
 use Rattle.sqlite_schema.specs.declared.schema.Schema.{Schema}
 use Rattle.sqlite_schema.specs.Rules.{agree, equal, guards, clashes, differ}
@@ -36,8 +36,7 @@ use Rattle.sql_tables.proofs.RowLists.{only_row, has_own, lone, shows_one, filte
 use Rattle.sqlite_schema.specs.declared.schema.Table.{Table}
 use Rattle.desk_rows.specs.Descriptions.{description_of, table_of}
 use Rattle.desk_rows.specs.Rows.{columns_of}
-use Rattle.std.specs.Ordering.{MatchOrdering, is_ne}
-use Rattle.std.proofs.lemmas.Cmp.{int_ranked}
+use Rattle.std.proofs.lemmas.Int.{ints}
 use Rattle.sqlite_schema.specs.declared.schema.Constraint.TheVariants.{Unique}
 use Rattle.sqlite_rules.specs.Edit.{id_in}
 use Rattle.sqlite_rules.proofs.RuleLemmas.{keeps_at}
@@ -61,12 +60,7 @@ same_text a b = ap is_eq (value_cmp-Text a b) ∙ is_eq-slice_cmp a b
 
 equal_texts : (a b : List ℕ) → equal Binary (Text a) (Text b) ≡ bytes_eq a b
 unfolding binary
-equal_texts a b = go (value_cmp (Text a) (Text b)) (same_text a b)
-  where
-    go : (o : Ordering) → is_eq o ≡ bytes_eq a b → is_true (from_truth (Some (is_eq o))) ≡ bytes_eq a b
-    go Less e = e
-    go Equal e = e
-    go Greater e = e
+equal_texts a b = rw (same_text a b) (grind arith)
 
 pub agrees_by_name : (r new : Row) (a b : List ℕ) → column r 1 ≡ Text a → column new 1 ≡ Text b → agree plain (1 ∷ []) r (1 ∷ []) new ≡ bytes_eq a b
 unfolding first_key
@@ -173,12 +167,7 @@ module _ (t : Tab) (tabs : List Tab) (rows : List Row) (lists : Lists tab_row ta
 
 differ_numbers : (a b : ℤ) → differ (Int a) (Int b) ≡ false → a ≡ b
 unfolding binary
-differ_numbers a b h = go (int_cmp a b) (rw value_cmp-Int at h) (int_ranked a b _ refl)
-  where
-    go : (o : Ordering) → is_true (from_truth (Some (is_ne o))) ≡ false → MatchOrdering o (a <ℤ b) (a ≡ b) (b <ℤ a) → a ≡ b
-    go Less h m = absurd (true≢false h)
-    go Equal h m = m
-    go Greater h m = absurd (true≢false h)
+differ_numbers a b h = let other = rw value_cmp-Int at h in grind (arith, ints)
 
 module _ (schema : Schema) (tree : ℕ) (d : IsDeclared schema (tab tree)) (db : Trees) (sound : IsSound schema db) (keyed : HaveRowids (db tree)) (tabs : List Tab) (lists : Lists tab_row tab_columns tabs (db tree)) where
   -- no other row has the key of a row

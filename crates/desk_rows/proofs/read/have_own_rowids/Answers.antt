@@ -1,10 +1,12 @@
-use Rattle.std.proofs.Common.{◌≡◌, ℤ, Bool, ◌||◌, List, [], ◌∷◌, ◌++◌, true, false, cond, inl, refl, sym, ◌∙◌, true≢false, ◌+◌, ◌<◌, ℕ, get_or, length, map, take, drop, rules, ap, subst}
+use Rattle.std.proofs.Common.{◌≡◌, ℤ, List, ◌∷◌, [], ◌++◌, true, false, cond, sym, ◌∙◌, true≢false, ◌+◌, ◌<◌, ℕ, get_or, length, map, take, drop, rules, arith, ap, subst}
 use Rattle.std.specs.List.{IsDistinct, list_any}
 use Rattle.std.specs.Ordering.{int_eq, int_cmp}
-use Rattle.std.proofs.lemmas.Bool.{or_parts, not-false, not-true}
+use Rattle.std.proofs.lemmas.Bool.{not-false, not-true}
+use Rattle.std.proofs.lemmas.Cmp.{int_eq_equiv}
 use Rattle.std.proofs.lemmas.List.Folds.{list_any-append}
-use Rattle.sqlite_trees.proofs.ListLemmas.{all-append}
-use Rattle.sqlite_rules.proofs.ListLemmas.{all_has, has_right}
+use Rattle.std.proofs.lemmas.List.Sorted.{IsPermutation-middle}
+use Rattle.std.proofs.lemmas.Map.Keys.{IsDistinct-IsPermutation, IsDistinct-head, IsDistinct-push}
+use Rattle.sqlite_rules.proofs.ListLemmas.{all_has, has_left, some_has}
 use Rattle.std.proofs.Math.Facts.{to_z-of_z}
 use Rattle.std.proofs.lemmas.List.{drop_more, map-append, map_more, take-append-drop}
 use mir.Syntax.{w64}
@@ -13,33 +15,16 @@ use Rattle.std.specs.BTreeSet.{contains}
 use Rattle.desk_parts.specs.Rows.{StoredTab}
 use Rattle.desk_rows.proofs.read.have_own_rowids.Goals as goal
 
--- a number that is none of those before it differs from them
-more_apart : (ks : List ℤ) (k : ℤ) → IsDistinct int_eq ks → list_any (λ j. int_eq j k) ks ≡ false → IsDistinct int_eq (ks ++ k ∷ [])
-unfolding IsDistinct
-more_apart [] k apart none = (tt, tt)
-more_apart (j ∷ js) k apart none =
-    let others = or_parts _ _ none in
-    (all-append (λ i. int_eq j i ≡ false) js (k ∷ []) apart.0 (others.0, tt), more_apart js k apart.1 others.1)
-
--- one that is among those before it doesn't
-not_apart : (ks : List ℤ) (k : ℤ) (more : List ℤ) → list_any (λ j. int_eq j k) ks ≡ true → ¬ IsDistinct int_eq (ks ++ k ∷ more)
-unfolding IsDistinct
-not_apart [] k more found apart = true≢false (sym found)
-not_apart (j ∷ js) k more found apart = among (int_eq j k) found (all_has (λ i. int_eq j i ≡ false) (js ++ k ∷ more) k apart.0 (has_right js (k ∷ more) k (inl refl))) (λ later. not_apart js k more later apart.1)
-  where
-    among : (b : Bool) → (b || list_any (λ j. int_eq j k) js) ≡ true → b ≡ false → ¬ (list_any (λ j. int_eq j k) js ≡ true) → ⊥
-    among true found other none = true≢false other
-    among false found other none = none found
+-- a number that is among those before it doesn't differ from them
+not_apart : (ks : List ℤ) (k : ℤ) (more : List ℤ) → list_any (int_eq k) ks ≡ true → ¬ IsDistinct int_eq (ks ++ k ∷ more)
+not_apart ks k more found apart =
+    let first = IsDistinct-head int_eq k (ks ++ more) (IsDistinct-IsPermutation int_eq int_eq_equiv.symm _ _ (IsPermutation-middle ks k more) apart) in
+    let same = some_has (int_eq k) ks found in
+    true≢false (sym same.2 ∙ all_has (λ j. int_eq k j ≡ false) (ks ++ more) same.0 first (has_left ks more same.0 same.1))
 
 -- whether a number is among some of which one is put last
-among_more : (ks : List ℤ) (k q : ℤ) → cond (int_eq k q) true (list_any (λ j. int_eq j q) ks) ≡ list_any (λ j. int_eq j q) (ks ++ k ∷ [])
-among_more ks k q = either (int_eq k q) (list_any (λ j. int_eq j q) ks) ∙ sym (list_any-append (λ j. int_eq j q) ks (k ∷ []))
-  where
-    either : (a b : Bool) → cond a true b ≡ (b || (a || false))
-    either true true = refl
-    either false true = refl
-    either true false = refl
-    either false false = refl
+among_more : (ks : List ℤ) (k q : ℤ) → cond (int_eq k q) true (list_any (int_eq q) ks) ≡ list_any (int_eq q) (ks ++ k ∷ [])
+among_more ks k q = grind (arith, list_any-append (int_eq q) ks (k ∷ []), int_eq_equiv.symm k q)
 
 -- the rowids of these, as far as the next row, and all of them
 abbrev rowids : List StoredTab → List ℤ
@@ -84,7 +69,7 @@ loop-tab-preserved c =
     let none = sym (held t.rowid) ∙ new in
     record {
       held = λ q.
-          subst (λ ks. contains int_cmp c.insert.new.self q ≡ list_any (λ k. int_eq k q) ks) more
+          subst (λ ks. contains int_cmp c.insert.new.self q ≡ list_any (int_eq q) ks) more
           ((rw whole_number at c.in_ok-insert.ensures.updates.0 q) ∙ ap (cond (int_eq t.rowid q) true) (held q) ∙ among_more before t.rowid q);
-      apart = subst (IsDistinct int_eq) more (more_apart before t.rowid c.loop-tab.invariant.apart none);
+      apart = subst (IsDistinct int_eq) more (IsDistinct-push int_eq_equiv before t.rowid c.loop-tab.invariant.apart none);
     }

@@ -9,6 +9,6 @@ use Rattle.desk_rows.proofs.read.have_own_rowids.Given as goal
 -- the set holds the rowids so far, which differ
 abbrev pub invariant-loop-tab : goal.invariant-loop-tab
 invariant-loop-tab l = record {
-  held : (q : ℤ) → contains int_cmp l.seen q ≡ list_any (λ k. int_eq k q) (map (λ (t : StoredTab). t.rowid) (take l.tab-index l.tabs));
+  held : (q : ℤ) → contains int_cmp l.seen q ≡ list_any (int_eq q) (map (λ (t : StoredTab). t.rowid) (take l.tab-index l.tabs));
   apart : HaveOwnRowids (take l.tab-index l.tabs);
 }
