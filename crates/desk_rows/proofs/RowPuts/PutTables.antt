@@ -88,6 +88,7 @@ module _ (t : FileTable) (n : IsNumbered t) where
 
 -- ---- an entry that is added
 
+-- no rowid, and the parameters in turn
 abbrev entry_terms : List Term
 entry_terms = lit Null ∷ map (col 0) (numbers_from 0 (description_of tables.NamedCorr).own)
 
@@ -98,10 +99,11 @@ entry_puts e schema tree d old new count xs has sound ids lists h =
     let text = (description_of tables.NamedCorr).put in
     let columns = columns_of tables.NamedCorr e in
     let row = Int (next_rowid (old.now.trees tree)) ∷ columns in
+    let width = length entry_terms in
     let is_text : IsText text _ = record { parsed = refl; statement = refl; timeless = refl } in
-    let means = insert_is schema d.at table d.named d.there refl text (rows_in (parse_of text).statement) (Values entry_terms 8) is_text (λ base. refl) in
+    let means = insert_is schema d.at table d.named d.there refl text (rows_in (parse_of text).statement) (Values entry_terms width) is_text (λ base. refl) in
     let ran = insert_ran schema d.at table d.there text columns old new count has
-    entry_terms 8 means (Null ∷ columns) row refl refl (simp (cast_null, cast_int)) h in
+    entry_terms width means (Null ∷ columns) row refl refl (simp (cast_null, cast_int)) h in
     let added : IsAdded schema table row old.now.trees new.now.trees = ran.1 in
     let first = IsPermutation-cons columns _ _ lists in
     record {
