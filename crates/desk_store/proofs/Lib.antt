@@ -1,5 +1,6 @@
 pub mod AnyFile
 pub mod BookKeeps
+pub mod Exits
 pub mod Filled
 pub mod StandingBooks
 pub mod Completed

@@ -1,8 +1,8 @@
 use Rattle.std.proofs.Common.{◌∙◌, sym}
-use Rattle.std.proofs.lemmas.Result.{err_from_is_err_and}
 use Rattle.desk_parts.specs.declared.file_table.FileTable.TheVariants as tables
 use Rattle.desk_store.specs.Opening.{format_read}
 use Rattle.desk_store.proofs.TablesRead.{cells_read, reads_cells, reads_none, reads_table, table_fails}
+use Rattle.desk_store.proofs.Exits.{told_is}
 use Rattle.desk_store.proofs.book_file.read_cells.Goals as goal
 
 pub returns-then-not-has_table-clause-read : goal.returns-then-not-has_table-clause-read
@@ -13,8 +13,7 @@ pub returns-in_err-cells-clause-fails : goal.returns-in_err-cells-clause-fails
 returns-in_err-cells-clause-fails g c clean =
     let f = format_read c.args.format in
     let there = sym c.has_table.ensures ∙ c.if-not-has_table.false in
-    let p = err_from_is_err_and c.from_residual.result c.from_residual.ensures.1 in
-    rw (p.1, p.2)
+    rw (told_is _ c.from_residual.ensures.1)
     (table_fails g.S.Store f tables.Cache c.args.conn.now (cells_read f _ there) (c.in_err-cells.ensures.answers clean))
 
 pub returns-clause-read : goal.returns-clause-read

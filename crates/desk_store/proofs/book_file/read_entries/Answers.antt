@@ -1,19 +1,17 @@
-use Rattle.std.proofs.lemmas.Result.{err_from_is_err_and}
 use Rattle.desk_parts.specs.declared.file_table.FileTable.TheVariants as tables
 use Rattle.desk_store.specs.Formats.{named, unnamed}
 use Rattle.desk_store.proofs.TablesRead.{reads_named, reads_table, reads_unnamed, table_fails}
+use Rattle.desk_store.proofs.Exits.{told_is}
 use Rattle.desk_store.proofs.book_file.read_entries.Goals as goal
 
 pub returns-in_err-entries-in-Unnamed-clause-fails : goal.returns-in_err-entries-in-Unnamed-clause-fails
 returns-in_err-entries-in-Unnamed-clause-fails g c clean =
-    let p = err_from_is_err_and c.from_residual.result c.from_residual.ensures.1 in
-    rw (p.1, p.2, c.in-Unnamed.is)
+    rw (told_is _ c.from_residual.ensures.1, c.in-Unnamed.is)
     (table_fails g.S.Store unnamed tables.Corr c.args.conn.now tt (c.in_err-entries-in-Unnamed.ensures.answers clean))
 
 pub returns-in_err-entries-in-Named-clause-fails : goal.returns-in_err-entries-in-Named-clause-fails
 returns-in_err-entries-in-Named-clause-fails g c clean =
-    let p = err_from_is_err_and c.from_residual-in_err-entries-in-Named.result c.from_residual-in_err-entries-in-Named.ensures.1 in
-    rw (p.1, p.2, c.in-Named.is)
+    rw (told_is _ c.from_residual-in_err-entries-in-Named.ensures.1, c.in-Named.is)
     (table_fails g.S.Store named tables.NamedCorr c.args.conn.now tt (c.in_err-entries-in-Named.ensures.answers clean))
 
 pub returns-in_ok-entries-in-Unnamed-clause-read : goal.returns-in_ok-entries-in-Unnamed-clause-read

@@ -1,5 +1,4 @@
 use Rattle.std.proofs.Common.{arith, rules, w64, SFits, refl, sym, subst, true≢false, ◌∙◌}
-use Rattle.std.proofs.lemmas.Result.{err_from_is_err_and}
 use Rattle.std.proofs.lemmas.Int.{to_z-of_z}
 use Rattle.sqlite.proofs.StateLemmas.{survives_then}
 use Rattle.sqlite.specs.Held.{state}
@@ -13,6 +12,7 @@ use Rattle.desk_store.proofs.AnyFile.{can_all_still, readable_still}
 use Rattle.desk_store.proofs.JudgedTables.{file_rows, has_books, has_its_tables, judged, kept_by_row, lacks_readable, lacks_tables, of_the_row, read_told, read_whole, refusal_is, row_is_sound, row_refuses, row_told, tables_there}
 use Rattle.desk_store.proofs.Opened.{as_it_was, as_listed, needs_books, shows_still, stays_then, stops_after}
 use Rattle.desk_store.proofs.TablesRead.{needed_fails, reads_table, table_fails}
+use Rattle.desk_store.proofs.Exits.{told_is}
 use Rattle.desk_store.proofs.book_file.read_parts.Goals as goal
 
 -- ---- `book` isn't read
@@ -21,14 +21,12 @@ pub returns-in_err-books-clause-unrefused : goal.returns-in_err-books-clause-unr
 returns-in_err-books-clause-unrefused g c clean book shows =
     let f = format_kept shows.rows.entries in
     let fails = needed_fails g.S.Store f tables.Book c.args.conn.now (needs_books f) (c.in_err-books.ensures.answers clean) in
-    let p = err_from_is_err_and c.from_residual.result c.from_residual.ensures.1 in
-    rw (p.1, p.2) (λ is. fails.answered (refusal_is _ is) c.requires.unlimited shows.answer)
+    rw (told_is _ c.from_residual.ensures.1) (λ is. fails.answered (refusal_is _ is) c.requires.unlimited shows.answer)
 
 pub returns-in_err-books-clause-stops : goal.returns-in_err-books-clause-stops
 returns-in_err-books-clause-stops g c clean =
     let fails = table_fails g.S.Store named tables.Book c.args.conn.now tt (c.in_err-books.ensures.answers clean) in
-    let p = err_from_is_err_and c.from_residual.result c.from_residual.ensures.1 in
-    rw (p.1, p.2) (λ none. reading _ fails.stops refl)
+    rw (told_is _ c.from_residual.ensures.1) (λ none. reading _ fails.stops refl)
 
 -- ---- its row is refused
 
@@ -36,21 +34,18 @@ pub returns-in_err-book-clause-unrefused : goal.returns-in_err-book-clause-unref
 returns-in_err-book-clause-unrefused g c clean book shows =
     let are = (reads_table named tables.Book tt (c.in_ok-books.ensures.answers clean)).given in
     let told = rw c.deref.ensures.value at c.in_err-book.ensures.told in
-    let p = err_from_is_err_and c.from_residual-in_err-book.result c.from_residual-in_err-book.ensures.1 in
-    rw (p.1, p.2) (λ is. row_is_sound _ book shows _ are c.in_err-book.field-0.0 told)
+    rw (told_is _ c.from_residual-in_err-book.ensures.1) (λ is. row_is_sound _ book shows _ are c.in_err-book.field-0.0 told)
 
 pub returns-in_err-book-clause-told : goal.returns-in_err-book-clause-told
 returns-in_err-book-clause-told g c clean l file those was =
     let there = has_books l file _ those was (sym c.has_table.ensures ∙ c.if-not-has_table.false) in
     let same = as_listed _ _ ((c.in_ok-books.ensures.answers clean).shows l file there was) in
     let told = rw c.deref.ensures.value at c.in_err-book.ensures.told in
-    let p = err_from_is_err_and c.from_residual-in_err-book.result c.from_residual-in_err-book.ensures.1 in
-    rw (p.1, p.2) (row_told l file _ there same c.in_err-book.field-0.0 told)
+    rw (told_is _ c.from_residual-in_err-book.ensures.1) (row_told l file _ there same c.in_err-book.field-0.0 told)
 
 pub returns-in_err-book-clause-stops : goal.returns-in_err-book-clause-stops
 returns-in_err-book-clause-stops g c clean =
-    let p = err_from_is_err_and c.from_residual-in_err-book.result c.from_residual-in_err-book.ensures.1 in
-    rw (p.1, p.2)
+    rw (told_is _ c.from_residual-in_err-book.ensures.1)
     (λ none. absurd (none (row_refuses c.deref.result.now c.in_err-book.field-0.0 c.in_err-book.ensures.told)))
 
 -- ---- a table of its format isn't there
@@ -75,8 +70,7 @@ returns-in_err-parts-clause-unrefused g c clean book shows =
     let it = judged c.has_table.ensures c.if-not-has_table.false answers c.deref.ensures.value c.in_ok-book.ensures.book in
     let kept = kept_by_row _ book shows _ it.are _ it.is ∙ sym c.format_of-format.ensures in
     let all = subst (λ (f : Format). CanAllAnswer f (state g.S.Store c.args.conn.now)) kept shows.answer in
-    let p = err_from_is_err_and c.from_residual-in_err-parts.result c.from_residual-in_err-parts.ensures.1 in
-    rw (p.1, p.2)
+    rw (told_is _ c.from_residual-in_err-parts.ensures.1)
     (λ refusal. (c.in_err-parts.ensures.fails clean).answered (refusal_is _ refusal)
     (c.read_rows.ensures.survives.limit ∙ c.requires.unlimited) (can_all_still _ _ it.so_far _ all))
 
@@ -84,8 +78,7 @@ pub returns-in_err-parts-clause-told : goal.returns-in_err-parts-clause-told
 returns-in_err-parts-clause-told g c clean l file those was =
     let answers = c.in_ok-books.ensures.answers (omega (arith, clean, c.read_rest.ensures.survives.clean)) in
     let it = judged c.has_table.ensures c.if-not-has_table.false answers c.deref.ensures.value c.in_ok-book.ensures.book in
-    let p = err_from_is_err_and c.from_residual-in_err-parts.result c.from_residual-in_err-parts.ensures.1 in
-    rw (p.1, p.2)
+    rw (told_is _ c.from_residual-in_err-parts.ensures.1)
     (read_told l file c.in_err-parts.field-0.0 (λ refused.
     lacks_readable it l file those was c.requires.unlimited (λ can.
     let asked = subst (λ (f : Format). ShowsReadable f (state g.S.Store c.args.conn.now)) (sym c.format_of-format.ensures) can in
@@ -94,16 +87,14 @@ returns-in_err-parts-clause-told g c clean l file those was =
 pub returns-in_err-parts-clause-refused : goal.returns-in_err-parts-clause-refused
 returns-in_err-parts-clause-refused g c clean =
     let answers = c.in_ok-books.ensures.answers (omega (arith, clean, c.read_rest.ensures.survives.clean)) in
-    let p = err_from_is_err_and c.from_residual-in_err-parts.result c.from_residual-in_err-parts.ensures.1 in
-    rw (p.1, p.2)
+    rw (told_is _ c.from_residual-in_err-parts.ensures.1)
     (λ refusal. stays_then _ _ _ (as_it_was _ _ answers.unchanged) ((c.in_err-parts.ensures.fails clean).refused (refusal_is _ refusal)).0)
 
 pub returns-in_err-parts-clause-stops : goal.returns-in_err-parts-clause-stops
 returns-in_err-parts-clause-stops g c clean =
     let answers = c.in_ok-books.ensures.answers (omega (arith, clean, c.read_rest.ensures.survives.clean)) in
     let stops = (c.in_err-parts.ensures.fails clean).stops in
-    let p = err_from_is_err_and c.from_residual-in_err-parts.result c.from_residual-in_err-parts.ensures.1 in
-    rw (p.1, p.2)
+    rw (told_is _ c.from_residual-in_err-parts.ensures.1)
     (λ none. reading _ (stops_after g.S.Store c.args.conn.now c.read_rows.new.conn _ _ (as_it_was _ _ answers.unchanged) stops) refl)
 
 -- ---- all of it is read

@@ -1,25 +1,23 @@
 use Rattle.std.proofs.Common.{refl}
-use Rattle.std.proofs.lemmas.Result.{err_from_is_err_and}
 use Rattle.desk_parts.specs.declared.file_table.FileTable.TheVariants as tables
 use Rattle.desk_store.specs.Opening.{format_read}
 use Rattle.desk_store.proofs.AnyFile.{cells_before, entries_before}
 use Rattle.desk_store.proofs.Opened.{needs_marks, needs_paras, needs_tabs}
 use Rattle.desk_store.proofs.TablesRead.{and_then, fails_after, needed_fails, on_table, reads_on, reads_rest}
+use Rattle.desk_store.proofs.Exits.{told_is}
 use Rattle.desk_store.proofs.book_file.read_rest.Goals as goal
 
 pub returns-in_err-tabs-clause-fails : goal.returns-in_err-tabs-clause-fails
 returns-in_err-tabs-clause-fails g c clean =
     let f = format_read c.args.format in
-    let p = err_from_is_err_and c.from_residual.result c.from_residual.ensures.1 in
-    rw (p.1, p.2)
+    rw (told_is _ c.from_residual.ensures.1)
     (needed_fails g.S.Store f tables.Tab c.args.conn.now (needs_tabs f) (c.in_err-tabs.ensures.answers clean))
 
 pub returns-in_err-paras-clause-fails : goal.returns-in_err-paras-clause-fails
 returns-in_err-paras-clause-fails g c clean =
     let f = format_read c.args.format in
     let tabs = on_table f tables.Tab (needs_tabs f) c.read_tabs.ensures.survives c.in_ok-tabs.ensures.answers in
-    let p = err_from_is_err_and c.from_residual-in_err-paras.result c.from_residual-in_err-paras.ensures.1 in
-    rw (p.1, p.2)
+    rw (told_is _ c.from_residual-in_err-paras.ensures.1)
     (fails_after g.S.Store c.args.conn.now c.read_tabs.new.conn tabs c.read_rows.ensures.survives clean
     (needed_fails g.S.Store f tables.Para c.read_tabs.new.conn (needs_paras f) (c.in_err-paras.ensures.answers clean)))
 
@@ -28,8 +26,7 @@ returns-in_err-entries-clause-fails g c clean =
     let f = format_read c.args.format in
     let tabs = on_table f tables.Tab (needs_tabs f) c.read_tabs.ensures.survives c.in_ok-tabs.ensures.answers in
     let paras = on_table f tables.Para (needs_paras f) c.read_rows.ensures.survives c.in_ok-paras.ensures.answers in
-    let p = err_from_is_err_and c.from_residual-in_err-entries.result c.from_residual-in_err-entries.ensures.1 in
-    rw (p.1, p.2)
+    rw (told_is _ c.from_residual-in_err-entries.ensures.1)
     (fails_after g.S.Store c.args.conn.now c.read_rows.new.conn (and_then tabs paras) c.read_entries.ensures.survives clean
     (c.in_err-entries.ensures.fails clean))
 
@@ -39,8 +36,7 @@ returns-in_err-marks-clause-fails g c clean =
     let tabs = on_table f tables.Tab (needs_tabs f) c.read_tabs.ensures.survives c.in_ok-tabs.ensures.answers in
     let paras = on_table f tables.Para (needs_paras f) c.read_rows.ensures.survives c.in_ok-paras.ensures.answers in
     let entries = reads_on c.read_entries.ensures.survives c.in_ok-entries.ensures.read (λ a b same. entries_before a b same _) in
-    let p = err_from_is_err_and c.from_residual-in_err-marks.result c.from_residual-in_err-marks.ensures.1 in
-    rw (p.1, p.2)
+    rw (told_is _ c.from_residual-in_err-marks.ensures.1)
     (fails_after g.S.Store c.args.conn.now c.read_entries.new.conn (and_then (and_then tabs paras) entries) c.read_rows-2.ensures.survives clean
     (needed_fails g.S.Store f tables.Mark c.read_entries.new.conn (needs_marks f) (c.in_err-marks.ensures.answers clean)))
 
@@ -51,8 +47,7 @@ returns-in_err-cache-clause-fails g c clean =
     let paras = on_table f tables.Para (needs_paras f) c.read_rows.ensures.survives c.in_ok-paras.ensures.answers in
     let entries = reads_on c.read_entries.ensures.survives c.in_ok-entries.ensures.read (λ a b same. entries_before a b same _) in
     let marks = on_table f tables.Mark (needs_marks f) c.read_rows-2.ensures.survives c.in_ok-marks.ensures.answers in
-    let p = err_from_is_err_and c.from_residual-in_err-cache.result c.from_residual-in_err-cache.ensures.1 in
-    rw (p.1, p.2)
+    rw (told_is _ c.from_residual-in_err-cache.ensures.1)
     (fails_after g.S.Store c.args.conn.now c.read_rows-2.new.conn (and_then (and_then (and_then tabs paras) entries) marks) c.read_cells.ensures.survives clean
     (c.in_err-cache.ensures.fails clean))
 

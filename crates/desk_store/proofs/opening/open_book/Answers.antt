@@ -1,5 +1,4 @@
 use Rattle.std.proofs.Common.{◌≡◌, ◌∙◌, arith, inl, inr, refl, sym}
-use Rattle.std.proofs.lemmas.Result.{err_from_is_err_and}
 use Rattle.sqlite.proofs.StateLemmas.{survives_weaker}
 use Rattle.sqlite.specs.Held.{state}
 use Rattle.sqlite.specs.State.{HasCleanDisk}
@@ -10,6 +9,7 @@ use Rattle.desk_model.specs.declared.fault.PartsFault.{PartsFault}
 use Rattle.desk_model.specs.declared.fault.PartsFault.TheVariants as rebuilt
 use Rattle.desk_store.specs.Opening.{IsRefusal, rebuilt_as}
 use Rattle.desk_store.specs.declared.fault.OpenFault.TheVariants.{NoMemory}
+use Rattle.desk_store.proofs.Exits.{told_is}
 use Rattle.desk_store.proofs.opening.open_book.Goals as goal
 
 -- of what is reported of rows that are read only a failed allocation is no refusal
@@ -21,9 +21,8 @@ only_memory rebuilt.NoMemory none = refl
 
 pub returns-in_err-parts-clause-opens : goal.returns-in_err-parts-clause-opens
 returns-in_err-parts-clause-opens g c clean make =
-    let p = err_from_is_err_and c.from_residual.result c.from_residual.ensures.1 in
     let read = c.in_err-parts.ensures in
-    rw (p.1, p.2)
+    rw (told_is _ c.from_residual.ensures.1)
     (refuses g.S.Store make c.args.conn.now c.requires.there (state g.S.Store c.read_parts.new.conn) _ (read.unrefused clean)
     (read.told clean) (λ refusal is_open. (read.refused clean refusal).now))
 
@@ -35,8 +34,7 @@ returns-in_err-parts-clause-crash g c make =
 
 pub returns-in_err-book-clause-opens : goal.returns-in_err-book-clause-opens
 returns-in_err-book-clause-opens g c clean make =
-    let p = err_from_is_err_and c.from_residual-in_err-book.result c.from_residual-in_err-book.ensures.1 in
-    rw (p.1, p.2)
+    rw (told_is _ c.from_residual-in_err-book.ensures.1)
     (refuses_damaged g.S.Store make c.args.conn.now c.requires.there (c.in_ok-parts.ensures.read clean) _ c.in_err-book.ensures.damaged)
 
 pub returns-in_err-book-clause-crash : goal.returns-in_err-book-clause-crash
@@ -47,9 +45,8 @@ returns-in_err-book-clause-crash g c make =
 
 pub returns-in_err-complete-clause-opens : goal.returns-in_err-complete-clause-opens
 returns-in_err-complete-clause-opens g c clean make =
-    let p = err_from_is_err_and c.from_residual-in_err-complete.result c.from_residual-in_err-complete.ensures.1 in
     let none = c.in_err-complete.ensures.told in
-    rw (p.1, p.2)
+    rw (told_is _ c.from_residual-in_err-complete.ensures.1)
     (refuses g.S.Store make c.args.conn.now c.requires.there (state g.S.Store c.complete.new.conn) _ (λ book shows. none)
     (λ l contents those shows. tells_no_refusal l contents _ none) (λ refusal. absurd (none refusal)))
 
@@ -60,8 +57,7 @@ returns-in_err-complete-clause-crash g c make =
 
 pub returns-in_err-complete-clause-refused : goal.returns-in_err-complete-clause-refused
 returns-in_err-complete-clause-refused g c clean =
-    let p = err_from_is_err_and c.from_residual-in_err-complete.result c.from_residual-in_err-complete.ensures.1 in
-    rw (p.1, p.2) (λ refusal. absurd (c.in_err-complete.ensures.told refusal))
+    rw (told_is _ c.from_residual-in_err-complete.ensures.1) (λ refusal. absurd (c.in_err-complete.ensures.told refusal))
 
 -- ---- the book is there
 
@@ -84,21 +80,18 @@ returns-clause-crash g c make =
 
 pub returns-in_err-parts-clause-stopped : goal.returns-in_err-parts-clause-stopped
 returns-in_err-parts-clause-stopped g c clean =
-    let p = err_from_is_err_and c.from_residual.result c.from_residual.ensures.1 in
-    rw (p.1, p.2) (c.in_err-parts.ensures.stops clean)
+    rw (told_is _ c.from_residual.ensures.1) (c.in_err-parts.ensures.stops clean)
 
 pub returns-in_err-book-clause-stopped : goal.returns-in_err-book-clause-stopped
 returns-in_err-book-clause-stopped g c clean =
     let read = c.in_ok-parts.ensures.read clean in
-    let p = err_from_is_err_and c.from_residual-in_err-book.result c.from_residual-in_err-book.ensures.1 in
-    rw (p.1, p.2)
+    rw (told_is _ c.from_residual-in_err-book.ensures.1)
     (λ none. rebuilding (rows_in c.in_ok-parts.parts) read.found read.stays (only_memory c.in_err-book.field-0.0 none))
 
 pub returns-in_err-complete-clause-stopped : goal.returns-in_err-complete-clause-stopped
 returns-in_err-complete-clause-stopped g c clean =
     let read = c.in_ok-parts.ensures.read (omega (arith, clean, c.complete.ensures.crash.clean)) in
     let stops = c.in_err-complete.ensures.stops clean in
-    let p = err_from_is_err_and c.from_residual-in_err-complete.result c.from_residual-in_err-complete.ensures.1 in
-    rw (p.1, p.2)
+    rw (told_is _ c.from_residual-in_err-complete.ensures.1)
     (λ none. filling (rows_in c.in_ok-parts.parts) c.in_ok-book.book stops.0 c.read_parts.new.conn read.found
     c.in_ok-book.ensures.shown (sym c.lacked_by-lacked.ensures ∙ stops.1) read.stays stops.2)

@@ -1,8 +1,8 @@
 use Rattle.std.proofs.Common.{◌≡◌, Err, Result, refl, true}
-use Rattle.std.proofs.lemmas.Result.{err_from_is_err_and}
 use Rattle.sqlite.specs.Held.{state}
 use Rattle.desk_store.specs.declared.fault.OpenFault.{OpenFault}
 use Rattle.desk_store.proofs.Openings.{makes, refuses_new, tells_new}
+use Rattle.desk_store.proofs.Exits.{told_is}
 use Rattle.desk_store.proofs.opening.open_new.Goals as goal
 
 same_fault : {X : Type 0} (a b : OpenFault) → ◌≡◌ {A = Result X OpenFault} (Err a) (Err b) → a ≡ b
@@ -13,10 +13,9 @@ returns-in_err-make_book-clause-opens g c clean =
     let old = c.args.conn.now in
     let new = state g.S.Store c.make_book.new.conn in
     let none = c.requires.bare in
-    let p = err_from_is_err_and c.from_residual.result c.from_residual.ensures.1 in
     let failed = c.in_err-make_book.ensures in
     let told = tells_new g.S.Store true old none new _ refl (λ there. same_fault _ _ (failed.beside there).0) (failed.told clean) in
-    rw (p.1, p.2) (refuses_new g.S.Store true old none new _ told (λ refusal. failed.as_before clean))
+    rw (told_is _ c.from_residual.ensures.1) (refuses_new g.S.Store true old none new _ told (λ refusal. failed.as_before clean))
 
 pub returns-clause-opens : goal.returns-clause-opens
 returns-clause-opens g c clean =

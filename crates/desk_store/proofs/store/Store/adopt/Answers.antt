@@ -1,11 +1,10 @@
-use Rattle.std.proofs.lemmas.Result.{err_from_is_err_and}
+use Rattle.desk_store.proofs.Exits.{told_is}
 use Rattle.desk_store.proofs.store.Store.adopt.Goals as goal
 
 pub returns-in_err-book-clause-told : goal.returns-in_err-book-clause-told
 returns-in_err-book-clause-told g c =
     let left = c.in_err-book.ensures in
-    let p = err_from_is_err_and c.from_residual.result c.from_residual.ensures.1 in
-    rw (p.1, p.2)
+    rw (told_is _ c.from_residual.ensures.1)
     (c.open_on.new.connection, record { opens = left.opens; crash = left.crash; refused = left.refused; stopped = left.stopped })
 
 pub returns-clause-opens : goal.returns-clause-opens
