@@ -13,13 +13,14 @@ use Rattle.desk_model.proofs.Callers.{new-shown}
 use Rattle.desk_store.specs.BookFile.{rows_of}
 use Rattle.desk_store.specs.Books.{HasNewTables, HoldsBook, ShowsBook}
 use Rattle.desk_rows.specs.Contents.{Contents}
-use Rattle.desk_store.specs.Formats.{Format, IsOfFormat, needed, presence}
+use Rattle.desk_store.specs.Formats.{Format, IsOfFormat, IsPresent, needed}
 use Rattle.desk_rows.specs.Layout.{Layout}
 use Rattle.desk_rows.specs.Making.{IsMade, IsNew, first_contents, is_among, new_layout}
 use Rattle.desk_store.proofs.Exact.{stays_there}
-use Rattle.desk_store.proofs.Opened.{has_needed, needs_books, needs_marks, needs_paras, needs_tabs}
+use Rattle.desk_store.proofs.Opened.{has_in_both}
 use Rattle.desk_store.specs.Opened.{have_names, lacked_by, lacking, missing_tables, which_lacked, with_missing_tables}
 use Rattle.desk_rows.specs.States.{ShowsContents}
+use Rattle.desk_rows.specs.Tables.{is_there}
 
 -- ---- a new file
 
@@ -37,21 +38,20 @@ made_holds s db is = (first_contents is.1.0, is.1.4, new-shown)
 gains : (names cells : Bool) → ((if is_among (which_lacked (lacking names cells)) tables.Cache then true else cells) ≡ true)
     × ((if is_among (which_lacked (lacking names cells)) tables.NamedCorr then true else names) ≡ true)
 gains false false = (refl, refl)
-gains false true = (refl, refl)
-gains true false = (refl, refl)
-gains true true = (refl, refl)
-
-all_new : (l : Layout) → l.has tables.Book ≡ true → l.has tables.Tab ≡ true → l.has tables.Para ≡ true → l.has tables.Mark ≡ true
-    → l.has tables.Cache ≡ true → l.has tables.NamedCorr ≡ true → HasNewTables l
-all_new l book tab para mark cache names = (book, (tab, (para, (mark, (cache, (names, tt))))))
+gains names false = (refl, refl)
+gains names cells = (refl, refl)
 
 pub completed_tables : (f : Format) (l : Layout) → IsOfFormat f l → HasNewTables (with_missing_tables l)
 completed_tables f l of =
-    let has : (t : FileTable) → presence f t ≡ needed → (with_missing_tables l).has t ≡ true =
-    λ t is. stays_there (is_among (missing_tables l) t) (l.has t) (has_needed f l t of is) in
-    let gained = gains (l.has tables.NamedCorr) (l.has tables.Cache) in
-    all_new (with_missing_tables l) (has tables.Book (needs_books f)) (has tables.Tab (needs_tabs f))
-    (has tables.Para (needs_paras f)) (has tables.Mark (needs_marks f)) gained.0 gained.1
+    let has : (t : FileTable) → IsPresent needed (l.has t) (is_there l.schema t) → (with_missing_tables l).has t ≡ true =
+    λ t present. stays_there (is_among (missing_tables l) t) (l.has t) present.1 in
+    let gained = gains (l.has tables.NamedCorr) (l.has tables.Cache) in (
+      has tables.Book (has_in_both f l tables.Book of refl),
+      (
+        has tables.Tab (has_in_both f l tables.Tab of refl),
+        (has tables.Para (has_in_both f l tables.Para of refl), (has tables.Mark (has_in_both f l tables.Mark of refl), (gained.0, (gained.1, tt)))),
+      ),
+    )
 
 -- ---- what the rows say of it
 
@@ -60,21 +60,18 @@ lacked_rows l c = by_tables (l.has tables.NamedCorr) (l.has tables.Cache) refl r
   where
     by_tables : (entries cells : Bool) → l.has tables.NamedCorr ≡ entries → l.has tables.Cache ≡ cells → lacked_by (rows_of l c) ≡ lacking (l.has tables.NamedCorr) (l.has tables.Cache)
     by_tables true true e k = rw (e, k) refl
-    by_tables true false e k = rw (e, k) refl
-    by_tables false true e k = rw (e, k) refl
-    by_tables false false e k = rw (e, k) refl
+    by_tables entries true e k = rw (e, k) refl
+    by_tables entries cells e k = rw (e, k) refl
 
 same_names : (x y : EntryRows) → AreSameEntries x y → have_names x ≡ have_names y
 same_names (Unnamed x) (Unnamed y) same = refl
 same_names (Named x) (Named y) same = refl
-same_names (Unnamed x) (Named y) same = absurd same
-same_names (Named x) (Unnamed y) same = absurd same
+same_names x y same = absurd same
 
 same_cells : (p q : Option (List ParaCells)) → AreSameCaches p q → is_some p ≡ is_some q
 same_cells None None same = refl
 same_cells (Some p) (Some q) same = refl
-same_cells None (Some q) same = absurd same
-same_cells (Some p) None same = absurd same
+same_cells p q same = absurd same
 
 pub lacked_same : (a b : FileRows) → AreSameRows a b → lacked_by a ≡ lacked_by b
 lacked_same a b same =

@@ -1,5 +1,5 @@
 -- When a file shows a book, and that at most one refusal is reported of any other.
-use Rattle.std.proofs.Common.{◌≡◌, ◌∙◌, ℤ, pos, ◌≤ℤ◌, true, List, [], ◌∷◌, map, inl, inr, arith, refl, sym, subst, ap, ap₂, true≢false}
+use Rattle.std.proofs.Common.{◌≡◌, ◌∙◌, ℤ, pos, ◌≤ℤ◌, List, [], ◌∷◌, map, inl, inr, arith, refl, sym, subst, ap, ap₂, true≢false}
 use Rattle.std.specs.List.{AllByRecursion}
 use Rattle.std.proofs.lemmas.Int.{ints}
 use Rattle.std.proofs.lemmas.List.Elements.{All-from_recursion}
@@ -14,14 +14,14 @@ use Rattle.desk_rows.specs.Contents.{Contents}
 use Rattle.desk_rows.specs.Layout.{Layout}
 use Rattle.desk_rows.specs.Whole.{IsUtf8Row}
 use Rattle.desk_store.specs.BookFile.{rows_of}
-use Rattle.desk_store.specs.Formats.{Format, HasThoseRead, IsOfFormat, Presence, named, needed, presence, unnamed}
+use Rattle.desk_store.specs.Formats.{Format, HasThoseRead, IsOfFormat, Presence, named, presence, unnamed}
 use Rattle.desk_store.specs.Opened.{LacksTables, TellsOf}
 use Rattle.desk_store.specs.Opening.{CanAllBeRead, CanBeRead, IsBookRow, IsNewer, IsRefusal, format_in}
 use Rattle.desk_store.specs.Undamaged.{HasBook, IsUndamaged}
 use Rattle.desk_store.specs.declared.fault.OpenFault.{OpenFault}
 use Rattle.desk_store.specs.declared.fault.OpenFault.TheVariants.{NotABook, Damaged, NewerFormat, Lost, NoMemory}
 use Rattle.desk_store.proofs.JudgedTables.{number_of as row_number, of_read, same_head}
-use Rattle.desk_store.proofs.Opened.{needs_marks, needs_paras, needs_tabs}
+use Rattle.desk_store.proofs.Opened.{in_both}
 use Rattle.desk_store.proofs.StandingBooks.{AreTextsIf, can_be_read, entries_are, low_format, never_refused, row_is}
 
 -- ---- the row of `book`
@@ -53,8 +53,9 @@ unrefused l c fault ((f, of), (book, shows)) = never_refused l c book shows f of
 -- ---- and one without damage shows a book
 
 module _ (l : Layout) (c : Contents) where
-  texts_in : (f : Format) (t : FileTable) → presence f t ≡ needed → CanAllBeRead f l c → AllByRecursion (IsUtf8Row t) (c.rows t)
-  texts_in f t has_to can = (subst (λ (p : Presence). CanBeRead p (l.has t) (AllByRecursion (IsUtf8Row t) (c.rows t))) has_to (can t)).1
+  readable_in_both : (f : Format) (t : FileTable) → CanAllBeRead f l c → presence unnamed t ≡ presence named t
+      → CanBeRead (presence named t) (l.has t) (AllByRecursion (IsUtf8Row t) (c.rows t))
+  readable_in_both f t can alike = subst (λ (p : Presence). CanBeRead p (l.has t) (AllByRecursion (IsUtf8Row t) (c.rows t))) (in_both f t alike) (can t)
 
   unnamed_texts : (rows : List Corr) → AllByRecursion (IsUtf8Row tables.Corr) rows → AllByRecursion HasEntryTexts (map without_name rows)
   unnamed_texts [] all = tt
@@ -66,10 +67,10 @@ module _ (l : Layout) (c : Contents) where
 
   texts : (f : Format) → IsOfFormat f l → CanAllBeRead f l c → AreTexts (rows_of l c)
   texts f of can = record {
-    tabs = All-from_recursion _ _ (texts_in f tables.Tab (needs_tabs f) can);
-    paras = All-from_recursion _ _ (texts_in f tables.Para (needs_paras f) can);
+    tabs = All-from_recursion _ _ (readable_in_both f tables.Tab can refl).1;
+    paras = All-from_recursion _ _ (readable_in_both f tables.Para can refl).1;
     entries = All-from_recursion _ _ (entry_texts f of can);
-    marks = All-from_recursion _ _ (texts_in f tables.Mark (needs_marks f) can);
+    marks = All-from_recursion _ _ (readable_in_both f tables.Mark can refl).1;
   }
 
   pub has_book : HasThoseRead l → IsUndamaged l c → HasBook l c
@@ -83,13 +84,9 @@ module _ (l : Layout) (c : Contents) where
 
   -- ---- at most one refusal is reported
 
-  readable_books : (f : Format) → CanAllBeRead f l c → l.has tables.Book ≡ true
-  readable_books unnamed can = (can tables.Book).0
-  readable_books named can = (can tables.Book).0
-
   lacks_damaged : (table : FileTable) (id : ℤ) → LacksTables l c → ¬ TellsOf l c (Damaged table id)
   lacks_damaged table id (inl none) (inl (has, is_book, damaged, known)) = true≢false (sym has ∙ none)
-  lacks_damaged table id (inl none) (inr at) = true≢false (sym (readable_books (format_in at.row.format) at.readable) ∙ none)
+  lacks_damaged table id (inl none) (inr at) = true≢false (sym (readable_in_both (format_in at.row.format) tables.Book at.readable refl).0 ∙ none)
   lacks_damaged table id (inr (row, there, is, not)) (inl (has, is_book, damaged, known)) = not_damaged (c.rows tables.Book) row id is damaged
   lacks_damaged table id (inr (row, there, is, not)) (inr at) =
       not (subst (λ (r : BookRow). CanAllBeRead (format_in r.format) l c) (same_head at.row row (sym at.book.alone ∙ is.alone)) at.readable)

@@ -29,7 +29,7 @@ use Rattle.desk_rows.specs.Puts.{HasThem, put_into, puts_into}
 use Rattle.desk_rows.specs.States.{IsFile, ShowsContents}
 use Rattle.desk_rows.specs.Tables.{AreWritten}
 use Rattle.desk_store.proofs.BookPuts.{all_put}
-use Rattle.desk_store.proofs.Opened.{has_book_table}
+use Rattle.desk_store.proofs.Opened.{has_in_both}
 
 -- ---- the tables of what is put
 
@@ -56,8 +56,8 @@ module _ (l : Layout) where
 
 pub new_there : (t : NewTables) (f : Format) (l : Layout) → IsOfFormat f l → (book : Book) (puts : List RowPut) → Fills t book puts → HasThem (with_tables (which_new t) l) puts
 new_there EntriesAndBraille f l of book puts fills =
-    fills_there (with_tables (which_new EntriesAndBraille) l) EntriesAndBraille book puts fills (has_book_table f l of).1 (refl, (refl, tt))
-new_there t f l of book puts fills = fills_there (with_tables (which_new t) l) t book puts fills (has_book_table f l of).1 (refl, tt)
+    fills_there (with_tables (which_new EntriesAndBraille) l) EntriesAndBraille book puts fills (has_in_both f l tables.Book of refl).1 (refl, (refl, tt))
+new_there t f l of book puts fills = fills_there (with_tables (which_new t) l) t book puts fills (has_in_both f l tables.Book of refl).1 (refl, tt)
 
 -- ---- none of the new tables is `corr`
 

@@ -1,5 +1,5 @@
 -- Which format a file is of whose rows were found.
-use Rattle.std.proofs.Common.{◌≡◌, Bool, ◌&&◌, true, refl, sym, ◌∙◌, subst, inl, inr}
+use Rattle.std.proofs.Common.{◌≡◌, Bool, ◌&&◌, true, refl, sym, subst, inl, inr}
 use Rattle.std.proofs.lemmas.Bool.{and_parts, not-true}
 use Rattle.sqlite_schema.specs.declared.schema.Schema.{Schema}
 use Rattle.sqlite.specs.State.{State}
@@ -13,7 +13,7 @@ use Rattle.desk_rows.specs.Layout.{Layout}
 use Rattle.desk_store.specs.Opening.{has_tables}
 use Rattle.desk_rows.specs.States.{ShowsContents}
 use Rattle.desk_rows.specs.Tables.{is_there}
-use Rattle.desk_store.proofs.Opened.{has_book_table}
+use Rattle.desk_store.proofs.Opened.{has_in_both, is_here}
 
 three : (a b c : Bool) → (a && b && c) ≡ true → (a ≡ true) × (b ≡ true) × (c ≡ true)
 three a b c is = let all = and_parts (a && b) c is in let first = and_parts a b all.0 in (first.0, first.1, all.1)
@@ -52,4 +52,4 @@ of_format s rows l c are (inl exact) shows =
     )
 
 pub books_there : (f : Format) (l : Layout) → IsOfFormat f l → is_there l.schema tables.Book ≡ true
-books_there f l of = let it = has_book_table f l of in sym it.0 ∙ it.1
+books_there f l of = is_here (has_in_both f l tables.Book of refl)

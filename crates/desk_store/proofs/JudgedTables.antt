@@ -1,5 +1,5 @@
 -- How the tables of a book's file are checked, from what was read of `book`.
-use Rattle.std.proofs.Common.{arith, ◌≡◌, ◌≢◌, ℕ, ℤ, pos, ◌≤ℤ◌, Bool, true, false, ◌&&◌, not, if◌then◌else◌, List, [], ◌∷◌, length, None, Ok, inl, inr, refl, sym, subst, ap, ◌∙◌, true≢false, IsPermutation}
+use Rattle.std.proofs.Common.{arith, ◌≡◌, ◌≢◌, ℕ, ℤ, pos, ◌≤ℤ◌, Bool, true, false, if◌then◌else◌, List, [], ◌∷◌, length, None, Ok, inl, inr, refl, sym, subst, ap, ◌∙◌, true≢false, IsPermutation}
 use Rattle.std.specs.List.{AllByRecursion}
 use Rattle.std.specs.Ordering.{int_eq}
 use Rattle.std.proofs.lemmas.Bool.{and_parts, not-true}
@@ -37,7 +37,7 @@ use Rattle.desk_store.specs.declared.fault.OpenFault.{OpenFault}
 use Rattle.desk_store.specs.declared.fault.OpenFault.TheVariants.{Damaged, NewerFormat, Lost, NoMemory}
 use Rattle.desk_store.proofs.AnyFile.{cells_before, entries_before, gives_before}
 use Rattle.desk_store.proofs.TablesRead.{reads_table}
-use Rattle.desk_store.proofs.Opened.{as_it_was, as_listed, has_book_table, same_state}
+use Rattle.desk_store.proofs.Opened.{as_it_was, as_listed, has_in_both, is_here, same_state}
 
 -- ---- one row
 
@@ -73,9 +73,6 @@ row_told l c rows has same told tells = absurd tells
 
 -- ---- the row that a book's rows have
 
-same_fields : (row : BookRow) (id format version : ℤ) → id ≡ row.id → format ≡ row.format → version ≡ row.version → ◌≡◌ {A = BookRow} (record { id = id; format = format; version = version }) row
-same_fields row id format version p q r = λ i. record { id = p i; format = q i; version = r i }
-
 -- the row of `book` gives the format of the entries
 pub numbered : (entries : EntryRows) → format_in (pos (format_of entries)) ≡ format_kept entries
 numbered (Unnamed rows) = refl
@@ -92,16 +89,16 @@ number_of n low high entries kept = go (int_eq n (pos 1)) (Decides-int_eq n (pos
   where
     go : (b : Bool) → (b ≡ true → n ≡ pos 1) → (n ≡ pos 1 → b ≡ true) → (entries : EntryRows) → format_kept entries ≡ (if b then unnamed else named) → pos (format_of entries) ≡ n
     go true is back (Unnamed rows) same = sym (is refl)
-    go true is back (Named rows) same = absurd (cc)
-    go false is back (Unnamed rows) same = absurd (cc)
     go false is back (Named rows) same =
         let other : n ≢ pos 1 = λ one. true≢false (sym (back one)) in
         omega (arith, ints, low, high, other)
+    go b is back entries same = absurd (cc)
 
 books_of : (row : BookRow) (rows : List BookRow) (parts : Parts) → IsBookRow rows row → parts.version ≡ row.version → format_kept (entry_rows parts.entries) ≡ format_in row.format → (rows_in parts).books ≡ rows
 books_of row rows parts is version kept =
-    ap (λ (r : BookRow). r ∷ []) (same_fields row (pos 1) (pos (format_of (entry_rows parts.entries))) parts.version (sym is.sound.id) (number_of row.format is.sound.format is.format (entry_rows parts.entries) kept) version)
-    ∙ sym is.alone
+    let number = number_of row.format is.sound.format is.format (entry_rows parts.entries) kept in
+    let same : (rows_in parts).books ≡ row ∷ [] = λ i. record { id = sym is.sound.id i; format = number i; version = version i } ∷ [] in
+    same ∙ sym is.alone
 
 -- ---- the tables of a format
 
@@ -122,29 +119,23 @@ of_read f l c (inr other) can = go f other.0 other.1 can
     go named unnamed of can = absurd (true≢false (sym (can tables.NamedCorr).0 ∙ (of tables.NamedCorr).1))
     go named named of can = of
 
-all_but_one : (t p m c n : Bool) → t ≡ true → p ≡ true → m ≡ true → c ≡ true → n ≡ false → ((t && p && m) && (c && not n)) ≡ true
-all_but_one t p m c n is_t is_p is_m is_c is_n = rw (is_t, is_p, is_m, is_c, is_n) refl
-
-all_of_them : (t p m n : Bool) → t ≡ true → p ≡ true → m ≡ true → n ≡ true → ((t && p && m) && n) ≡ true
-all_of_them t p m n is_t is_p is_m is_n = rw (is_t, is_p, is_m, is_n) refl
-
 pub tables_of : (f : Format) (l : Layout) → IsOfFormat f l → has_tables f l.schema ≡ true
 tables_of unnamed l of =
-    all_but_one _ _ _ _ _ (sym (of tables.Tab).0 ∙ (of tables.Tab).1) (sym (of tables.Para).0 ∙ (of tables.Para).1) (sym (of tables.Mark).0 ∙ (of tables.Mark).1) (sym (of tables.Corr).0 ∙ (of tables.Corr).1) (sym (of tables.NamedCorr).0 ∙ (of tables.NamedCorr).1)
-tables_of named l of =
-    all_of_them _ _ _ _ (sym (of tables.Tab).0 ∙ (of tables.Tab).1) (sym (of tables.Para).0 ∙ (of tables.Para).1) (sym (of tables.Mark).0 ∙ (of tables.Mark).1) (sym (of tables.NamedCorr).0 ∙ (of tables.NamedCorr).1)
+    let names = of tables.NamedCorr in
+    rw (is_here (of tables.Tab), is_here (of tables.Para), is_here (of tables.Mark), is_here (of tables.Corr), sym names.0 ∙ names.1) refl
+tables_of named l of = rw (is_here (of tables.Tab), is_here (of tables.Para), is_here (of tables.Mark), is_here (of tables.NamedCorr)) refl
 
 -- the tables that are there are those of one format
 pub one_format : (f g : Format) (l : Layout) → has_tables f l.schema ≡ true → IsOfFormat g l → g ≡ f
 one_format unnamed unnamed l all of = refl
 one_format unnamed named l all of =
-    absurd (true≢false (sym (of tables.NamedCorr).1 ∙ (of tables.NamedCorr).0 ∙ not-true (is_there l.schema tables.NamedCorr) (and_parts (is_there l.schema tables.Corr) _ (and_parts _ _ all).1).1))
+    absurd (true≢false (sym (is_here (of tables.NamedCorr)) ∙ not-true (is_there l.schema tables.NamedCorr) (and_parts (is_there l.schema tables.Corr) _ (and_parts _ _ all).1).1))
 one_format named unnamed l all of = absurd (true≢false (sym (and_parts _ (is_there l.schema tables.NamedCorr) all).1 ∙ sym (of tables.NamedCorr).0 ∙ (of tables.NamedCorr).1))
 one_format named named l all of = refl
 
 pub books_there : (l : Layout) → HasThoseRead l → l.has tables.Book ≡ is_there l.schema tables.Book
 books_there l (inl exact) = exact tables.Book
-books_there l (inr other) = (has_book_table other.0 l other.1).0
+books_there l (inr other) = (has_in_both other.0 l tables.Book other.1 refl).0
 
 -- ---- what is reported
 

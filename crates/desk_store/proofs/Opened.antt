@@ -1,17 +1,16 @@
 -- What stays of a file that is read, and which tables it has by its format.
-use Rattle.std.proofs.Common.{◌≡◌, true, List, map, map-id, refl, sym, subst, ap, ◌∙◌, IsPermutation}
+use Rattle.std.proofs.Common.{◌≡◌, Bool, true, List, map, map-id, refl, sym, subst, ap, ◌∙◌, IsPermutation}
 use Rattle.sqlite_trees.specs.declared.store.Store.{Ghosts}
 use Rattle.sqlite.specs.Effect.{Database}
 use Rattle.sqlite.specs.Held.{Held, state}
 use Rattle.sqlite.specs.State.{IsUnchanged, State}
 use Rattle.desk_parts.specs.declared.file_table.FileTable.{FileTable}
-use Rattle.desk_parts.specs.declared.file_table.FileTable.TheVariants as tables
 use Rattle.desk_rows.specs.Contents.{Contents}
 use Rattle.desk_rows.specs.Layout.{Layout}
 use Rattle.desk_rows.specs.States.{IsFile, ShowsContents}
 use Rattle.desk_rows.specs.Tables.{is_there}
 use Rattle.desk_rows.specs.declared.fault.DatabaseFault.{DatabaseFault}
-use Rattle.desk_store.specs.Formats.{Format, IsOfFormat, IsPresent, Presence, named, needed, optional, presence, unnamed}
+use Rattle.desk_store.specs.Formats.{Format, IsOfFormat, IsPresent, Presence, named, needed, presence, unnamed}
 use Rattle.desk_store.specs.Opened.{StopsReading}
 use Rattle.desk_store.specs.Opening.{Stays}
 
@@ -48,31 +47,15 @@ as_listed xs ys p = subst (λ (zs : List _). IsPermutation xs zs) (map-id ys) p
 
 -- ---- the tables of a format
 
-pub optional_caches : (f : Format) → presence f tables.Cache ≡ optional
-optional_caches unnamed = refl
-optional_caches named = refl
+-- one that both formats treat alike
+pub in_both : (f : Format) (t : FileTable) → presence unnamed t ≡ presence named t → presence f t ≡ presence named t
+in_both unnamed t alike = alike
+in_both named t alike = refl
 
-pub needs_books : (f : Format) → presence f tables.Book ≡ needed
-needs_books unnamed = refl
-needs_books named = refl
+pub has_in_both : (f : Format) (l : Layout) (t : FileTable) → IsOfFormat f l → presence unnamed t ≡ presence named t
+    → IsPresent (presence named t) (l.has t) (is_there l.schema t)
+has_in_both f l t of alike = subst (λ (p : Presence). IsPresent p (l.has t) (is_there l.schema t)) (in_both f t alike) (of t)
 
-pub needs_tabs : (f : Format) → presence f tables.Tab ≡ needed
-needs_tabs unnamed = refl
-needs_tabs named = refl
-
-pub needs_paras : (f : Format) → presence f tables.Para ≡ needed
-needs_paras unnamed = refl
-needs_paras named = refl
-
-pub needs_marks : (f : Format) → presence f tables.Mark ≡ needed
-needs_marks unnamed = refl
-needs_marks named = refl
-
-pub has_needed : (f : Format) (l : Layout) (t : FileTable) → IsOfFormat f l → presence f t ≡ needed → l.has t ≡ true
-has_needed f l t of is = (subst (λ (p : Presence). IsPresent p (l.has t) (is_there l.schema t)) is (of t)).1
-
-pub has_caches : (f : Format) (l : Layout) → IsOfFormat f l → l.has tables.Cache ≡ is_there l.schema tables.Cache
-has_caches f l of = subst (λ (p : Presence). IsPresent p (l.has tables.Cache) (is_there l.schema tables.Cache)) (optional_caches f) (of tables.Cache)
-
-pub has_book_table : (f : Format) (l : Layout) → IsOfFormat f l → IsPresent needed (l.has tables.Book) (is_there l.schema tables.Book)
-has_book_table f l of = subst (λ (p : Presence). IsPresent p (l.has tables.Book) (is_there l.schema tables.Book)) (needs_books f) (of tables.Book)
+-- one that has to be there is there
+pub is_here : {has there : Bool} → IsPresent needed has there → there ≡ true
+is_here present = sym present.0 ∙ present.1

@@ -44,7 +44,7 @@ use Rattle.desk_store.specs.Opening.{CanAllBeRead, has_tables}
 use Rattle.desk_store.proofs.FoundFormats.{books_there}
 use Rattle.desk_store.proofs.JudgedTables.{one_format, same_one, tables_of}
 use Rattle.desk_store.proofs.TablesRead.{is_had, told_apart, utf8_if}
-use Rattle.desk_store.proofs.Opened.{as_listed, has_book_table, has_caches, has_needed, needs_marks, needs_paras, needs_tabs}
+use Rattle.desk_store.proofs.Opened.{as_listed, has_in_both}
 use Rattle.sql_tables.proofs.ReadAnswers.{answered, can_answer}
 use Rattle.desk_store.proofs.StandingBooks.{can_be_read}
 
@@ -144,7 +144,7 @@ module _ (l : Layout) (c : Contents) (s : State) (is_open : IsTrue s.is_open) (s
   entries_in_file named of = let got = rows_in tables.NamedCorr (of tables.NamedCorr).1 in (Named got.0, refl, got.1)
 
   caches_there : (f : Format) → IsOfFormat f l → l.has tables.Cache ≡ is_there s.now.schema tables.Cache
-  caches_there f of = has_caches f l of ∙ ap (λ (x : Schema). is_there x tables.Cache) (sym shows.schema)
+  caches_there f of = has_in_both f l tables.Cache of refl ∙ ap (λ (x : Schema). is_there x tables.Cache) (sym shows.schema)
 
   cells_in_file : (f : Format) → IsOfFormat f l → (has : Bool) → l.has tables.Cache ≡ has → (cells : Option (List ParaCells)) × AreCellsIn s cells
   cells_in_file f of true is = let got = rows_in tables.Cache is in (Some got.0, (sym (caches_there f of) ∙ is, got.1))
@@ -153,11 +153,11 @@ module _ (l : Layout) (c : Contents) (s : State) (is_open : IsTrue s.is_open) (s
   -- some rows of the file
   some_rows : (f : Format) → IsOfFormat f l → (rows : FileRows) × AreFileRows s rows × (format_kept rows.entries ≡ f)
   some_rows f of =
-      let head = rows_in tables.Book (has_book_table f l of).1 in
-      let stored = rows_in tables.Tab (has_needed f l tables.Tab of (needs_tabs f)) in
-      let texts = rows_in tables.Para (has_needed f l tables.Para of (needs_paras f)) in
+      let head = rows_in tables.Book (has_in_both f l tables.Book of refl).1 in
+      let stored = rows_in tables.Tab (has_in_both f l tables.Tab of refl).1 in
+      let texts = rows_in tables.Para (has_in_both f l tables.Para of refl).1 in
       let entries = entries_in_file f of in
-      let notes = rows_in tables.Mark (has_needed f l tables.Mark of (needs_marks f)) in
+      let notes = rows_in tables.Mark (has_in_both f l tables.Mark of refl).1 in
       let cells = cells_in_file f of (l.has tables.Cache) refl in
       let rows : FileRows = record { books = head.0; tabs = map (λ (tab : StoredTab). tab.row) stored.0; paras = texts.0; entries = entries.0; marks = notes.0; caches = cells.0 } in
       let others : AreOtherRows s rows =
@@ -172,9 +172,8 @@ module _ (l : Layout) (c : Contents) (s : State) (is_open : IsTrue s.is_open) (s
 
   same_entries : (f : Format) → IsOfFormat f l → (entries : EntryRows) → f ≡ format_kept entries → AreEntriesIn s entries → AreSameEntries (rows_of l c).entries entries
   same_entries unnamed of (Unnamed rows) is are = rw (of tables.NamedCorr).1 (as_listed _ _ (same_rows tables.Corr (of tables.Corr).1 rows are.0))
-  same_entries unnamed of (Named rows) is are = absurd (cc)
-  same_entries named of (Unnamed rows) is are = absurd (cc)
   same_entries named of (Named rows) is are = rw (of tables.NamedCorr).1 (as_listed _ _ (same_rows tables.NamedCorr (of tables.NamedCorr).1 rows are.0))
+  same_entries f of entries is are = absurd (cc)
 
   same_cells : (f : Format) → IsOfFormat f l → (cells : Option (List ParaCells)) → AreCellsIn s cells → AreSameCaches (rows_of l c).caches cells
   same_cells f of None none = let lacks : l.has tables.Cache ≡ false = caches_there f of ∙ none in rw lacks tt
@@ -185,16 +184,16 @@ module _ (l : Layout) (c : Contents) (s : State) (is_open : IsTrue s.is_open) (s
   same_file : (f : Format) (book : Book) → IsOfFormat f l → RowsShow (rows_of l c) book → (others : FileRows) → AreFileRows s others → AreSameRows (rows_of l c) others
   same_file f book of stands others are =
       let row = book_row_of (format_of (rows_of l c).entries) book.version in
-      let heads = as_listed _ _ (same_rows tables.Book (has_book_table f l of).1 others.books are.books.0) in
+      let heads = as_listed _ _ (same_rows tables.Book (has_in_both f l tables.Book of refl).1 others.books are.books.0) in
       let its : has_tables (format_kept others.entries) l.schema ≡ true = subst (λ (x : Schema). has_tables (format_kept others.entries) x ≡ true) shows.schema are.tables in
       let rest = are.others in
-      let names = same_rows tables.Tab (has_needed f l tables.Tab of (needs_tabs f)) rest.stored rest.tabs.0 in
+      let names = same_rows tables.Tab (has_in_both f l tables.Tab of refl).1 rest.stored rest.tabs.0 in
       record {
         books = stands.row ∙ sym (same_one others.books (c.rows tables.Book) row (IsPermutation-sym _ _ heads) stands.row);
         tabs = subst (IsPermutation (c.rows tables.Tab)) (sym rest.tabs_are) names;
-        paras = as_listed _ _ (same_rows tables.Para (has_needed f l tables.Para of (needs_paras f)) others.paras rest.paras.0);
+        paras = as_listed _ _ (same_rows tables.Para (has_in_both f l tables.Para of refl).1 others.paras rest.paras.0);
         entries = same_entries f of others.entries (one_format (format_kept others.entries) f l its of) rest.entries;
-        marks = as_listed _ _ (same_rows tables.Mark (has_needed f l tables.Mark of (needs_marks f)) others.marks rest.marks.0);
+        marks = as_listed _ _ (same_rows tables.Mark (has_in_both f l tables.Mark of refl).1 others.marks rest.marks.0);
         caches = same_cells f of others.caches rest.caches;
       }
 

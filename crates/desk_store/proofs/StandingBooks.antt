@@ -24,11 +24,11 @@ use Rattle.desk_store.specs.Opening.{CanAllBeRead, IsRefusal, format_in}
 use Rattle.desk_store.specs.Reading.{AreEntriesReadable}
 use Rattle.desk_rows.specs.Whole.{IsUtf8Row}
 use Rattle.desk_store.specs.declared.fault.OpenFault.{OpenFault}
-use Rattle.desk_store.specs.declared.fault.OpenFault.TheVariants.{NotABook, Damaged, NewerFormat, Lost, NoMemory}
+use Rattle.desk_store.specs.declared.fault.OpenFault.TheVariants.{NotABook, Damaged, NewerFormat}
 use Rattle.desk_store.proofs.AnyFile.{all_readable}
 use Rattle.desk_store.proofs.FoundFormats.{books_there}
 use Rattle.desk_store.proofs.JudgedTables.{at_most_two, numbered, same_head}
-use Rattle.desk_store.proofs.Opened.{has_book_table}
+use Rattle.desk_store.proofs.Opened.{has_in_both}
 
 -- ---- its texts
 
@@ -72,14 +72,13 @@ module _ (l : Layout) (c : Contents) (book : Book) (shows : RowsShow (rows_of l 
   row_is f of row is = ap (λ (r : BookRow). format_in r.format) (head_is row is) ∙ numbered (rows_of l c).entries ∙ entries_are l c f of
 
   pub never_refused : (f : Format) → IsOfFormat f l → (told : OpenFault) → TellsOf l c told → ¬ IsRefusal told
-  never_refused f of NotABook (inl none) is = absurd (true≢false (sym (has_book_table f l of).1 ∙ none))
+  never_refused f of NotABook (inl none) is = absurd (true≢false (sym (has_in_both f l tables.Book of refl).1 ∙ none))
   never_refused f of NotABook (inr (row, there, book_row, not)) is =
       not (subst (λ (g : Format). CanAllBeRead g l c) (sym (row_is f of row book_row.alone)) (can_be_read f of))
   never_refused f of (Damaged table id) (inl (there, is_book, damaged, known)) is = sound (rows_of l c) book shows tables.Book id damaged
   never_refused f of (Damaged table id) (inr damage) is = sound (rows_of l c) book shows table id damage.first.damaged
   never_refused f of NewerFormat (there, (row, one, later)) is = let low = low_format row one in omega (arith, ints, low, later)
-  never_refused f of Lost tells is = is
-  never_refused f of NoMemory tells is = is
+  never_refused f of told tells is = is
 
 not_bare : (f : Format) (l : Layout) → IsOfFormat f l → ¬ HasNone l.schema
 not_bare f l of none = let there = books_there f l of in absurd (true≢false (rw there at none))

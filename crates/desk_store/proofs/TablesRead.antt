@@ -28,12 +28,12 @@ use Rattle.desk_rows.proofs.TableReads.FileTexts.{readable_table}
 use Rattle.desk_rows.proofs.TableReads.WholeFile.{tabs_apart}
 use Rattle.desk_rows.proofs.TableReads.WholeReads.{reads_only}
 use Rattle.desk_store.specs.BookFile.{rows_of}
-use Rattle.desk_store.specs.Formats.{Format, IsOfFormat, IsPresent, Presence, foreign, named, needed, optional, presence, unnamed, unread}
+use Rattle.desk_store.specs.Formats.{Format, IsOfFormat, IsPresent, Presence, named, needed, optional, presence, unnamed}
 use Rattle.desk_store.specs.Found.{AreCellsIn, AreEntriesIn, AreOtherRows, AreRowsIn, AreToldApart, IsReadAs}
 use Rattle.desk_store.specs.Opening.{CanBeRead, Stays}
 use Rattle.desk_store.specs.Reading.{AreFileCells, AreFileEntries, AreRest, AreTableRows, FailsToRead, IsReadFrom, ReadsCells, ReadsEntries, ReadsTable, ShowsReadable}
 use Rattle.desk_store.proofs.AnyFile.{all_readable, can_all_still, gives_before, readable_still, shown_before}
-use Rattle.desk_store.proofs.Opened.{as_it_was, as_listed, has_caches, same_state, shows_still, stays_then, stops_after}
+use Rattle.desk_store.proofs.Opened.{as_it_was, as_listed, has_in_both, in_both, same_state, shows_still, stays_then, stops_after}
 
 -- ---- a table that is read in a file of a format
 
@@ -41,14 +41,12 @@ use Rattle.desk_store.proofs.Opened.{as_it_was, as_listed, has_caches, same_stat
 has_if : (p : Presence) (has there : Bool) → IsPresent p has there → IsReadAs p there → has ≡ true
 has_if needed has there present read = present.1
 has_if optional has there present read = present ∙ read
-has_if foreign has there present read = absurd read
-has_if unread has there present read = absurd read
+has_if p has there present read = absurd read
 
 pub utf8_if : (p : Presence) (has there : Bool) (Utf8 : Type 0) → IsReadAs p there → has ≡ true → CanBeRead p has Utf8 → Utf8
 utf8_if needed has there Utf8 read is can = can.1
 utf8_if optional has there Utf8 read is can = can is
-utf8_if foreign has there Utf8 read is can = absurd read
-utf8_if unread has there Utf8 read is can = absurd read
+utf8_if p has there Utf8 read is can = absurd read
 
 pub is_had : (f : Format) (t : FileTable) (s : State) → IsReadAs (presence f t) (is_there s.now.schema t)
     → (l : Layout) (c : Contents) → IsOfFormat f l → ShowsContents l c s → l.has t ≡ true
@@ -63,13 +61,10 @@ pub told_apart : (t : FileTable) (l : Layout) (c : Contents) (s : State) → Sho
 told_apart tables.Tab l c s shows has rows lists = tabs_apart l c s.now.trees shows.is has rows lists
 told_apart t l c s shows has rows lists = tt
 
--- which tables are read
-needed_read : (f : Format) (t : FileTable) (there : Bool) → presence f t ≡ needed → IsReadAs (presence f t) there
-needed_read f t there is = subst (λ (p : Presence). IsReadAs p there) (sym is) tt
-
-pub cells_read : (f : Format) (there : Bool) → there ≡ true → IsReadAs (presence f tables.Cache) there
-cells_read unnamed there is = is
-cells_read named there is = is
+-- one that both formats treat alike is read in each as in the second
+pub read_in_both : (f : Format) (t : FileTable) (there : Bool) → presence unnamed t ≡ presence named t → IsReadAs (presence named t) there
+    → IsReadAs (presence f t) there
+read_in_both f t there alike = subst (λ (p : Presence). IsReadAs p there) (sym (in_both f t alike))
 
 -- ---- one read
 
@@ -110,40 +105,35 @@ table_fails g f t old {new} {why} read answers =
 
 -- ---- the entries, and the cells
 
+-- what is read gives this too, and is this in each file
+read_as : {f : Format} {old new : State} {P Q : State → Type 0} {A B : Layout → Contents → Type 0} → (P old → Q old)
+    → ((l : Layout) (c : Contents) → IsOfFormat f l → ShowsContents l c old → A l c → B l c)
+    → IsReadFrom f old new P A → IsReadFrom f old new Q B
+read_as given of read = record {
+  stays = read.stays;
+  given = given read.given;
+  of = λ l c is_of shows. of l c is_of shows (read.of l c is_of shows);
+}
+
 pub reads_unnamed : {old new : State} (rows : List Corr) → ReadsTable unnamed tables.Corr rows old new
     → ReadsEntries unnamed (Unnamed rows) old new
-reads_unnamed rows read = record {
-  stays = read.stays;
-  given = read.given;
-  of = λ l c of shows.
-      let it = read.of l c of shows in (rw (of tables.NamedCorr).1 (as_listed _ _ it.0), it.1);
-}
+reads_unnamed rows = read_as (λ are. are) (λ l c of shows it. (rw (of tables.NamedCorr).1 (as_listed _ _ it.0), it.1))
 
 pub reads_named : {old new : State} (rows : List NamedCorr) → ReadsTable named tables.NamedCorr rows old new
     → ReadsEntries named (Named rows) old new
-reads_named rows read = record {
-  stays = read.stays;
-  given = read.given;
-  of = λ l c of shows.
-      let it = read.of l c of shows in (rw (of tables.NamedCorr).1 (as_listed _ _ it.0), it.1);
-}
+reads_named rows = read_as (λ are. are) (λ l c of shows it. (rw (of tables.NamedCorr).1 (as_listed _ _ it.0), it.1))
 
 pub reads_cells : (f : Format) {old new : State} (rows : List ParaCells) → is_there old.now.schema tables.Cache ≡ true
     → ReadsTable f tables.Cache rows old new → ReadsCells f (Some rows) old new
-reads_cells f {old} rows there read = record {
-  stays = read.stays;
-  given = (there, read.given);
-  of = λ l c of shows.
-      let has = is_had f tables.Cache old (cells_read f _ there) l c of shows in
-      rw has (as_listed _ _ (read.of l c of shows).0);
-}
+reads_cells f {old} rows there = read_as (λ are. (there, are)) (λ l c of shows it.
+    let has = is_had f tables.Cache old (read_in_both f tables.Cache _ refl there) l c of shows in rw has (as_listed _ _ it.0))
 
 pub reads_none : (f : Format) (s : State) → is_there s.now.schema tables.Cache ≡ false → ReadsCells f None s s
 reads_none f s none = record {
   stays = same_state s;
   given = none;
   of = λ l c of shows.
-      let lacks : l.has tables.Cache ≡ false = has_caches f l of ∙ ap (λ (x : Schema). is_there x tables.Cache) (sym shows.schema) ∙ none in
+      let lacks : l.has tables.Cache ≡ false = has_in_both f l tables.Cache of refl ∙ ap (λ (x : Schema). is_there x tables.Cache) (sym shows.schema) ∙ none in
       rw lacks tt;
 }
 
@@ -155,19 +145,16 @@ pub record ReadsOn (f : Format) (old new : State) (Given : State → Type 0) (Of
   pub survives : Survives old new (λ _. ⊥)
   pub read : HasCleanDisk new → IsReadFrom f old new Given Of
 
-pub on_table : (f : Format) (t : FileTable) {V : Type 0} {items : V → List (ShownOf t)} {v : V} {old new : State}
-    → presence f t ≡ needed → Survives old new (λ _. ⊥)
-    → (HasCleanDisk new → AnswersRows (Ok v) items t (λ x. x) (AreToldApart t) old new)
-    → ReadsOn f old new (λ s. AreRowsIn s t (items v)) (λ l c. AreTableRows t (items v) c)
-on_table f t {items} {v} is survives answers = record {
-  back = λ a b same are. (gives_before a b same t b (items v) are.0, are.1);
-  survives = survives;
-  read = λ clean. reads_table f t (needed_read f t _ is) (answers clean);
-}
-
 pub reads_on : {f : Format} {old new : State} {P : State → Type 0} {A : Layout → Contents → Type 0} → Survives old new (λ _. ⊥)
     → (HasCleanDisk new → IsReadFrom f old new P A) → ((a b : State) → Stays a b → P b → P a) → ReadsOn f old new P A
 reads_on survives read back = record { back = back; survives = survives; read = read }
+
+pub on_table : (f : Format) (t : FileTable) {V : Type 0} {items : V → List (ShownOf t)} {v : V} {old new : State}
+    → IsReadAs (presence f t) (is_there old.now.schema t) → Survives old new (λ _. ⊥)
+    → (HasCleanDisk new → AnswersRows (Ok v) items t (λ x. x) (AreToldApart t) old new)
+    → ReadsOn f old new (λ s. AreRowsIn s t (items v)) (λ l c. AreTableRows t (items v) c)
+on_table f t {items} {v} read survives answers =
+    reads_on survives (λ clean. reads_table f t read (answers clean)) (λ a b same are. (gives_before a b same t b (items v) are.0, are.1))
 
 module _ {f : Format} {P : State → Type 0} {A : Layout → Contents → Type 0} where
   pub and_then : {Q : State → Type 0} {B : Layout → Contents → Type 0} {a b c : State} → ReadsOn f a b P A → ReadsOn f b c Q B → ReadsOn f a c (λ s. P s × Q s) (λ l d. A l d × B l d)
@@ -203,11 +190,6 @@ module _ {f : Format} {P : State → Type 0} {A : Layout → Contents → Type 0
         stops = stops_after g old mid new why stays fails.stops;
       }
 
-pub needed_fails : {S : Type 0} (g : Ghosts S) (f : Format) (t : FileTable) {V : Type 0} {items : V → List (ShownOf t)}
-    (old : Held S) {new : State} {why : DatabaseFault} → presence f t ≡ needed
-    → AnswersRows (Err why) items t (λ x. x) (AreToldApart t) (state g old) new → FailsToRead g f old new why
-needed_fails g f t old is answers = table_fails g f t old (needed_read f t _ is) answers
-
 -- ---- all tables but `book`
 
 pub reads_rest : (f : Format) {old new : State} (stored : List StoredTab) (rows : FileRows)
@@ -218,24 +200,19 @@ pub reads_rest : (f : Format) {old new : State} (stored : List StoredTab) (rows 
     (λ l c. (((AreTableRows tables.Tab stored c × AreTableRows tables.Para rows.paras c) × AreFileEntries f rows.entries l c)
     × AreTableRows tables.Mark rows.marks c) × AreFileCells rows.caches l c)
     → IsReadFrom f old new (λ s. AreOtherRows s rows) (AreRest f rows)
-reads_rest f stored rows tabs_are read = record {
-  stays = read.stays;
-  given =
-      let it = read.given in
-      record { stored = stored; tabs_are = tabs_are; tabs = it.0.0.0.0; paras = it.0.0.0.1; entries = it.0.0.1; marks = it.0.1; caches = it.1 };
-  of = λ l c of shows.
-      let it = read.of l c of shows in
-      let tabs = it.0.0.0.0 in
-      let paras = it.0.0.0.1 in
-      let entries = it.0.0.1 in
-      let marks = it.0.1 in
-      let same : AreSameRows (record (rows_of l c) { books = rows.books }) rows = record {
-        books = refl;
-        tabs = subst (IsPermutation (c.rows tables.Tab)) (sym tabs_are) tabs.0;
-        paras = as_listed _ _ paras.0;
-        entries = entries.0;
-        marks = as_listed _ _ marks.0;
-        caches = it.1;
-      } in
-      (same, all_readable f l c of tabs.1 paras.1 entries.1 marks.1);
-}
+reads_rest f stored rows tabs_are = read_as
+    (λ it. record { stored = stored; tabs_are = tabs_are; tabs = it.0.0.0.0; paras = it.0.0.0.1; entries = it.0.0.1; marks = it.0.1; caches = it.1 })
+    (λ l c of shows it.
+    let tabs = it.0.0.0.0 in
+    let paras = it.0.0.0.1 in
+    let entries = it.0.0.1 in
+    let marks = it.0.1 in
+    let same : AreSameRows (record (rows_of l c) { books = rows.books }) rows = record {
+      books = refl;
+      tabs = subst (IsPermutation (c.rows tables.Tab)) (sym tabs_are) tabs.0;
+      paras = as_listed _ _ paras.0;
+      entries = entries.0;
+      marks = as_listed _ _ marks.0;
+      caches = it.1;
+    } in
+    (same, all_readable f l c of tabs.1 paras.1 entries.1 marks.1))

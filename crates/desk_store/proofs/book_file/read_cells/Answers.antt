@@ -1,7 +1,7 @@
-use Rattle.std.proofs.Common.{◌∙◌, sym}
+use Rattle.std.proofs.Common.{◌∙◌, refl, sym}
 use Rattle.desk_parts.specs.declared.file_table.FileTable.TheVariants as tables
 use Rattle.desk_store.specs.Opening.{format_read}
-use Rattle.desk_store.proofs.TablesRead.{cells_read, reads_cells, reads_none, reads_table, table_fails}
+use Rattle.desk_store.proofs.TablesRead.{read_in_both, reads_cells, reads_none, reads_table, table_fails}
 use Rattle.desk_store.proofs.Exits.{told_is}
 use Rattle.desk_store.proofs.book_file.read_cells.Goals as goal
 
@@ -14,11 +14,11 @@ returns-in_err-cells-clause-fails g c clean =
     let f = format_read c.args.format in
     let there = sym c.has_table.ensures ∙ c.if-not-has_table.false in
     rw (told_is _ c.from_residual.ensures.1)
-    (table_fails g.S.Store f tables.Cache c.args.conn.now (cells_read f _ there) (c.in_err-cells.ensures.answers clean))
+    (table_fails g.S.Store f tables.Cache c.args.conn.now (read_in_both f tables.Cache _ refl there) (c.in_err-cells.ensures.answers clean))
 
 pub returns-clause-read : goal.returns-clause-read
 returns-clause-read g c clean =
     let f = format_read c.args.format in
     let there = sym c.has_table.ensures ∙ c.if-not-has_table.false in
     reads_cells f c.in_ok-cells.cells.items there
-    (reads_table f tables.Cache (cells_read f _ there) (c.in_ok-cells.ensures.answers clean))
+    (reads_table f tables.Cache (read_in_both f tables.Cache _ refl there) (c.in_ok-cells.ensures.answers clean))

@@ -10,8 +10,8 @@ use Rattle.desk_store.specs.Opening.{CanAllBeRead}
 use Rattle.desk_store.specs.Reading.{ShowsReadable}
 use Rattle.desk_store.proofs.AnyFile.{can_all_still, readable_still}
 use Rattle.desk_store.proofs.JudgedTables.{file_rows, has_books, has_its_tables, judged, kept_by_row, lacks_readable, lacks_tables, of_the_row, read_told, read_whole, refusal_is, row_is_sound, row_refuses, row_told, tables_there}
-use Rattle.desk_store.proofs.Opened.{as_it_was, as_listed, needs_books, shows_still, stays_then, stops_after}
-use Rattle.desk_store.proofs.TablesRead.{needed_fails, reads_table, table_fails}
+use Rattle.desk_store.proofs.Opened.{as_it_was, as_listed, shows_still, stays_then, stops_after}
+use Rattle.desk_store.proofs.TablesRead.{read_in_both, reads_table, table_fails}
 use Rattle.desk_store.proofs.Exits.{told_is}
 use Rattle.desk_store.proofs.book_file.read_parts.Goals as goal
 
@@ -20,7 +20,7 @@ use Rattle.desk_store.proofs.book_file.read_parts.Goals as goal
 pub returns-in_err-books-clause-unrefused : goal.returns-in_err-books-clause-unrefused
 returns-in_err-books-clause-unrefused g c clean book shows =
     let f = format_kept shows.rows.entries in
-    let fails = needed_fails g.S.Store f tables.Book c.args.conn.now (needs_books f) (c.in_err-books.ensures.answers clean) in
+    let fails = table_fails g.S.Store f tables.Book c.args.conn.now (read_in_both f tables.Book _ refl tt) (c.in_err-books.ensures.answers clean) in
     rw (told_is _ c.from_residual.ensures.1) (λ is. fails.answered (refusal_is _ is) c.requires.unlimited shows.answer)
 
 pub returns-in_err-books-clause-stops : goal.returns-in_err-books-clause-stops
