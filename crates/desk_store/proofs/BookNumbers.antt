@@ -29,16 +29,12 @@ moved : (ns : List ℕ) (ks : List ℤ) → IsDistinct nat_eq ns → IsPermutati
 moved ns ks apart other = IsDistinct-IsPermutation int_eq (λ x y. int_eq_equiv.symm x y) (map pos ns) ks other (rows_apart ns apart)
 
 -- texts that are spelled leave the numbers
-kept : {X : Type 0} (key : X → ℤ) (spelled : X → X) → ((x : X) → key (spelled x) ≡ key x) → (xs : List X) → map key (map spelled xs) ≡ map key xs
-kept key spelled same [] = refl
-kept key spelled same (x ∷ xs) = let one = same x in let more = kept key spelled same xs in cc
-
-differ : {X : Type 0} (key : X → ℤ) (spelled : X → X) → ((x : X) → key (spelled x) ≡ key x) → (rows shown : List X) (ns : List ℕ)
+differ : {X : Type 0} (key : X → ℤ) (spelled : X → X) (rows shown : List X) (ns : List ℕ) → map key (map spelled rows) ≡ map key rows
     → IsPermutation (map spelled rows) shown → map key shown ≡ map pos ns → IsDistinct nat_eq ns → DifferBy key rows
-differ key spelled same rows shown ns other is apart =
+differ key spelled rows shown ns same other is apart =
     let there = IsPermutation-map key (map spelled rows) shown other in
     let back = IsPermutation-sym (map key (map spelled rows)) (map key shown) there in
-    moved ns (map key rows) apart (subst (λ ks. IsPermutation ks (map key rows)) is (subst (IsPermutation (map key shown)) (kept key spelled same rows) back))
+    moved ns (map key rows) apart (subst (λ ks. IsPermutation ks (map key rows)) is (subst (IsPermutation (map key shown)) same back))
 
 -- ---- the parts of a book
 
@@ -49,9 +45,6 @@ para_numbers place (p ∷ ps) = let more = para_numbers (place + 1) ps in cc
 mark_numbers : (ms : List Mark) → map (λ (m : MarkRow). m.id) (map mark_row_of ms) ≡ map pos (map (λ (m : Mark). m.id) ms)
 mark_numbers ms = map-map (λ (m : MarkRow). m.id) mark_row_of ms ∙ sym (map-map pos (λ (m : Mark). m.id) ms)
 
-cache_numbers : (ps : List Paragraph) → map (λ (p : Paragraph). pos p.id) ps ≡ map pos (map (λ (p : Paragraph). p.id) ps)
-cache_numbers ps = sym (map-map pos (λ (p : Paragraph). p.id) ps)
-
 pub differ_by_numbers : (rows : FileRows) (book : Book) → Shows rows book → HaveOwnNumbers rows
 unfolding IsDistinct
 differ_by_numbers rows book shows =
@@ -59,11 +52,13 @@ differ_by_numbers rows book shows =
     let ids = IsDistinct-numbers _ (map (λ (p : Paragraph). p.id) book.paragraphs) sound.ids in
     record {
       books = subst (DifferBy (λ b. b.id)) (sym shows.row) (tt, tt);
-      paras = differ (λ (p : Para). p.id) spelled_para (λ p. refl) rows.paras (paras_of book.paragraphs) _ shows.paragraphs (para_numbers 1 book.paragraphs) ids;
-      marks = differ (λ (m : MarkRow). m.id) spelled_mark (λ m. refl) rows.marks (map mark_row_of book.marks) _ shows.marks (mark_numbers book.marks)
-          (subst (IsDistinct nat_eq) (sym sound.numbers) (IsDistinct-range 1 _));
+      paras = differ (λ (p : Para). p.id) spelled_para rows.paras (paras_of book.paragraphs) _ (map-map (λ (p : Para). p.id) spelled_para rows.paras)
+          shows.paragraphs (para_numbers 1 book.paragraphs) ids;
+      marks = differ (λ (m : MarkRow). m.id) spelled_mark rows.marks (map mark_row_of book.marks) _ (map-map (λ (m : MarkRow). m.id) spelled_mark rows.marks)
+          shows.marks (mark_numbers book.marks) (subst (IsDistinct nat_eq) (sym sound.numbers) (IsDistinct-range 1 _));
       caches = λ caches there.
           let cached = shows.caches caches there in
+          let numbers = sym (map-map pos (λ (p : Paragraph). p.id) book.paragraphs) in
           moved (map (λ (p : Paragraph). p.id) book.paragraphs) (map (λ (c : ParaCells). c.para) caches) ids
-          (subst (λ ks. IsPermutation ks (map (λ (c : ParaCells). c.para) caches)) (cache_numbers book.paragraphs) (IsPermutation-sym _ _ cached.one_each));
+          (subst (λ ks. IsPermutation ks (map (λ (c : ParaCells). c.para) caches)) numbers (IsPermutation-sym _ _ cached.one_each));
     }

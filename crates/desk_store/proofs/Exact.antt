@@ -1,13 +1,13 @@
 -- Which tables are there once some are made.
-use Rattle.std.proofs.Common.{◌≡◌, ℕ, ◌+◌, Bool, ◌||◌, List, [], ◌∷◌, ◌++◌, true, false, cond, if◌then◌else◌, bytes_eq, is_some, Some, refl, ap, sym, ◌∙◌}
-use Rattle.std.specs.List.{position_from}
+use Rattle.std.proofs.Common.{◌≡◌, ℕ, Bool, ◌||◌, List, [], ◌∷◌, true, false, cond, if◌then◌else◌, bytes_eq, is_some, None, Some, refl, ap, sym, ◌∙◌}
 use Rattle.sqlite.specs.Does.{lacks_sequence}
-use Rattle.sqlite_catalog.specs.Change.{created}
+use Rattle.sqlite_catalog.specs.Change.{created, next_tree}
 use Rattle.sqlite_schema.specs.Names.{same_name}
 use Rattle.sqlite_schema.specs.declared.schema.Schema.{Schema}
 use Rattle.sqlite_schema.specs.declared.schema.Table.{Table}
 use Rattle.desk_parts.specs.declared.file_table.FileTable.{FileTable}
 use Rattle.desk_parts.specs.declared.file_table.FileTable.TheVariants as tables
+use Rattle.sql_tables.proofs.Creating.{is_in_both}
 use Rattle.sql_tables.specs.Making.{first_created}
 use Rattle.sql_tables.specs.Tables.{counter}
 use Rattle.desk_rows.specs.Descriptions.{description_of, table_of}
@@ -16,31 +16,11 @@ use Rattle.desk_rows.specs.Layout.{Layout}
 use Rattle.desk_rows.specs.Making.{after, is_among, with_tables}
 use Rattle.desk_rows.specs.Tables.{is_there}
 
--- a search of a longer list finds what one of the list finds, or what was added
-found_with : {X : Type 0} (p : X → Bool) (xs : List X) (x : X) (i : ℕ) → is_some (position_from p i (xs ++ x ∷ [])) ≡ (p x || is_some (position_from p i xs))
-found_with p [] x i = alone (p x) i
-  where
-    alone : (b : Bool) (i : ℕ) → is_some (cond b (Some i) (position_from p (i + 1) [])) ≡ (b || false)
-    alone true i = refl
-    alone false i = refl
-found_with p (y ∷ ys) x i = beside (p y) (p x) i (found_with p ys x (i + 1))
-  where
-    beside : (b c : Bool) (i : ℕ) → is_some (position_from p (i + 1) (ys ++ x ∷ [])) ≡ (c || is_some (position_from p (i + 1) ys))
-        → is_some (cond b (Some i) (position_from p (i + 1) (ys ++ x ∷ []))) ≡ (c || is_some (cond b (Some i) (position_from p (i + 1) ys)))
-    beside true true i more = refl
-    beside true false i more = refl
-    beside false c i more = more
-
 -- our names are the same only where they are equal, and none is that of the counter
 same_as_equal : (t other : FileTable) → same_name (description_of t).name (description_of other).name ≡ bytes_eq (description_of t).name (description_of other).name
 unfolding same_name
 same_as_equal tables.Book tables.Book = refl
-same_as_equal tables.Tab tables.Book = refl
-same_as_equal tables.Para tables.Book = refl
-same_as_equal tables.Corr tables.Book = refl
-same_as_equal tables.Mark tables.Book = refl
-same_as_equal tables.Cache tables.Book = refl
-same_as_equal tables.NamedCorr tables.Book = refl
+same_as_equal t tables.Book = refl
 same_as_equal t other = refl
 
 no_counter : (other : FileTable) → same_name (counter 0).name (description_of other).name ≡ false
@@ -48,12 +28,16 @@ unfolding same_name
 no_counter tables.Book = refl
 no_counter other = refl
 
-lasts : (a b c d : Bool) → a ≡ (b || c) → (a || d) ≡ (b || (c || d))
-lasts a true c d is = ap (λ x. x || d) is
-lasts a false c d is = ap (λ x. x || d) is
+-- what is found once one more is there
+lasts : (a b c d : Bool) (i : ℕ) → a ≡ (b || is_some (cond c (Some i) None)) → (a || d) ≡ (c || (b || d))
+lasts a true true d i is = ap (λ x. x || d) is
+lasts a b true d i is = ap (λ x. x || d) is
+lasts a b c d i is = ap (λ x. x || d) is
 
 there_created : (s : Schema) (table : Table) (other : FileTable) → is_there (created s table) other ≡ (same_name table.name (description_of other).name || is_there s other)
-there_created s table other = lasts _ _ _ _ (found_with (λ (t : Table). same_name t.name (description_of other).name) s.tables _ 0)
+there_created s table other =
+    lasts _ _ (same_name table.name (description_of other).name) _ _
+    (is_in_both (λ (t : Table). same_name t.name (description_of other).name) s.tables (record table { tree = next_tree s } ∷ []) 0)
 
 there_made : (s : Schema) (t other : FileTable) → is_there (created s (table_of t 0)) other ≡ (bytes_eq (description_of t).name (description_of other).name || is_there s other)
 there_made s t other = there_created s (table_of t 0) other ∙ ap (λ b. b || is_there s other) (same_as_equal t other)
@@ -70,9 +54,8 @@ there_first s t other = go (lacks_sequence s)
 
 turned : (a b c : Bool) → (a || (b || c)) ≡ ((b || a) || c)
 turned true true c = refl
-turned true false c = refl
-turned false true c = refl
-turned false false c = refl
+turned a true c = refl
+turned a b c = refl
 
 pub there_after : (tables : List FileTable) (s : Schema) (other : FileTable) → is_there (after tables s) other ≡ (is_among tables other || is_there s other)
 there_after [] s other = refl

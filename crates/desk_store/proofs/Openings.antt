@@ -37,7 +37,7 @@ use Rattle.desk_rows.specs.Tables.{is_there}
 use Rattle.desk_rows.specs.Turns.{with_transaction}
 use Rattle.desk_rows.specs.declared.fault.DatabaseFault.TheVariants as fault
 use Rattle.desk_store.specs.declared.fault.OpenFault.{OpenFault}
-use Rattle.desk_store.specs.declared.fault.OpenFault.TheVariants.{NotABook, Damaged, NewerFormat, Lost, NoMemory}
+use Rattle.desk_store.specs.declared.fault.OpenFault.TheVariants.{NotABook, Lost, NoMemory}
 use Rattle.desk_store.proofs.BookKeeps.{serves_shown}
 use Rattle.desk_store.proofs.Completed.{completed_tables, lacked_rows, lacked_same, made_holds, new_shows, new_tables_there}
 use Rattle.desk_store.proofs.FoundFormats.{books_there, of_format}
@@ -71,9 +71,7 @@ tells_no_refusal l c fault none = absurd (none tt)
 gained_same : (tables others : List FileTable) (l : Layout) (c : Contents) (a b : Book) (x y : Database) (P : Layout → Contents → Type 0) → tables ≡ others → a ≡ b → x ≡ y
     → HasGained tables l c a x.trees P → HasGained others l c b y.trees P
 gained_same tables others l c a b x y P same_tables same_book same_rows gained =
-    subst (λ (d : Database). HasGained others l c b d.trees P) same_rows
-    (subst (λ (book : Book). HasGained others l c book x.trees P) same_book
-    (subst (λ (these : List FileTable). HasGained these l c a x.trees P) same_tables gained))
+    rw (← same_tables, ← same_book, ← same_rows) gained
 
 module _ {S : Type 0} (g : Ghosts S) (make : Bool) (old : Held S) (there : ¬ HasNone (state g old).now.schema) where
   abbrev s : State
@@ -222,7 +220,6 @@ module _ {S : Type 0} (g : Ghosts S) (make : Bool) (old : Held S) (none : HasNon
 
   pub only_no_book : (new : State) (told : OpenFault) → TellsOfNone make g old new told → IsRefusal told → told ≡ NotABook
   only_no_book new NotABook it refusal = refl
-  only_no_book new (Damaged table id) it refusal = absurd it
-  only_no_book new NewerFormat it refusal = absurd it
   only_no_book new Lost it refusal = absurd refusal
   only_no_book new NoMemory it refusal = absurd refusal
+  only_no_book new told it refusal = absurd it

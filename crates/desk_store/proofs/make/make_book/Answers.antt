@@ -11,9 +11,8 @@ use Rattle.desk_store.proofs.make.make_book.Goals as goal
 
 -- only a refusal is reported as no book
 is_refused : (e : Error) (why : DatabaseFault) → opened_as why ≡ NotABook → IsToldAs e why → IsToldAs e fault.Refused
-is_refused e fault.NoMemory is told = absurd (cc is)
-is_refused e fault.Lost is told = absurd (cc is)
 is_refused e fault.Refused is told = told
+is_refused e why is told = absurd (cc is)
 
 -- ---- it isn't made
 
