@@ -1,13 +1,13 @@
 -- What a change that is put into a file does to its book.
-use Rattle.std.proofs.Common.{◌≡◌, true, List, [], ◌∷◌, inl, inr, refl, sym, subst, true≢false}
-use Rattle.std.proofs.lemmas.List.Elements.{All-head, All-tail}
+use Rattle.std.proofs.Common.{◌≡◌, true, List, inl, inr, refl, sym, subst, true≢false}
+use Rattle.std.proofs.lemmas.List.Elements.{All-weaker, recursion_from_All}
 use Rattle.sqlite_trees.specs.Tree.{Trees}
 use Rattle.sqlite.specs.State.{HasCleanDisk, State, Survives}
 use Rattle.sql_tables.specs.States.{IsSettled}
 use Rattle.desk_model.specs.Book.{Book}
 use Rattle.desk_command.specs.declared.command.Command.{Command}
 use Rattle.desk_model.specs.Loans.{AreLent, IsLent, LeadTo}
-use Rattle.desk_book.specs.Changes.{Change}
+use Rattle.desk_book.specs.Changes.{Carries, Change}
 use Rattle.desk_parts.specs.declared.file_table.FileTable.{FileTable}
 use Rattle.desk_parts.specs.declared.file_table.FileTable.TheVariants as tables
 use Rattle.desk_parts.specs.Puts.{RowPut, PutRow, SetColumns, table_put}
@@ -54,30 +54,32 @@ put_among book next command it lent = refl
 
 module _ (l : Layout) (has : HasNewTables l) where
   has_them : (book next : Book) (command : Command) (puts : List RowPut) → AreLent book next command puts → HasThem l puts
-  has_them book next command [] lent = tt
-  has_them book next command (it ∷ puts) lent =
-      let P = IsLent book next command in
-      (has_new l has (table_put it) (put_among book next command it (All-head P it puts lent)), has_them book next command puts (All-tail P it puts lent))
+  has_them book next command puts lent =
+      recursion_from_All _ puts
+      (All-weaker (IsLent book next command) _ (λ it one. has_new l has (table_put it) (put_among book next command it one)) puts lent)
 
   named_entries : (c : Contents) → table_of (rows_of l c).entries ≡ tables.NamedCorr
   named_entries c = rw (has_new l has tables.NamedCorr refl) refl
 
-  -- ---- the book of the file with these put
+-- ---- the book of the file with what a change puts
 
-  module _ (puts : List RowPut) (book next : Book) (command : Command) (leads : LeadTo book puts next) (lent : AreLent book next command puts) where
-    rows_show : (c : Contents) → RowsShow (rows_of l c) book → RowsShow (rows_of l (puts_into puts c)) next
-    rows_show c was =
-        subst (λ (rows : FileRows). RowsShow rows next) (sym (all_put l c puts))
-        (leads (rows_of l c) was (λ row put. named_entries c))
+module _ (book : Book) (change : Change) (puts : List RowPut)
+    (leads : (command : Command) (next : Book) → Carries book command next change → LeadTo book puts next)
+    (lent : (command : Command) (next : Book) → Carries book command next change → AreLent book next command puts)
+    (l : Layout) (next : Book) (old : State) (may : MayKeep l book change next old) where
+  there : HasThem l puts
+  there = has_them l may.tables book next may.leads.0 puts (lent may.leads.0 next may.leads.1)
 
-    shows_next : (old new : State) → Writes puts old new → ShowsBook l book old → ShowsBook l next new
-    shows_next old new writes was = (puts_into puts was.0, writes l was.0 (has_them book next command puts lent) was.1, rows_show was.0 was.2)
+  rows_show : RowsShow (rows_of l (puts_into puts may.shows.0)) next
+  rows_show =
+      subst (λ (rows : FileRows). RowsShow rows next) (sym (all_put l may.shows.0 puts))
+      (leads may.leads.0 next may.leads.1 (rows_of l may.shows.0) may.shows.2 (λ row put. named_entries l may.tables may.shows.0))
 
-    pub holds_next : (old : State) (db : Trees) → IsFileWith puts old db → ShowsBook l book old → HoldsBook l next db
-    holds_next old db with_them was = (puts_into puts was.0, with_them l was.0 (has_them book next command puts lent) was.1, rows_show was.0 was.2)
+  pub holds_next : (db : Trees) → IsFileWith puts old db → HoldsBook l next db
+  holds_next db with_them = (puts_into puts may.shows.0, with_them l may.shows.0 there may.shows.1, rows_show)
 
-    pub is_kept : (old new : State) → Writes puts old new → IsSettled new → ShowsBook l book old → MayServe l next new
-    is_kept old new writes settled was = serves_shown l next new has (shows_next old new writes was) settled
+  pub is_kept : (new : State) → Writes puts old new → IsSettled new → MayServe l next new
+  is_kept new writes = serves_shown l next new may.tables (puts_into puts may.shows.0, writes l may.shows.0 there may.shows.1, rows_show)
 
 -- ---- what a crash leaves
 

@@ -1,14 +1,19 @@
 -- What is put into a file, as what is put into the rows of a book.
-use Rattle.std.proofs.Common.{◌≡◌, Bool, true, false, if◌then◌else◌, List, [], ◌∷◌, Option, Some, None, option_map, refl, ap, ◌∙◌}
+use Rattle.std.proofs.Common.{◌≡◌, Bool, true, false, if◌then◌else◌, List, [], ◌∷◌, Option, Some, None, option_map, refl, subst, ap, ◌∙◌}
 use Rattle.desk_parts.specs.declared.file_table.FileTable.{FileTable}
 use Rattle.desk_parts.specs.declared.file_table.FileTable.TheVariants as tables
 use Rattle.desk_parts.specs.FileRows.{EntryRows, Named, Unnamed}
-use Rattle.desk_parts.specs.Puts.{RowPut, change_of, table_put, with_named, with_puts, with_rows_of, with_unnamed}
+use Rattle.desk_parts.specs.Puts.{LendsFirst, RowPut, change_of, table_put, with_named, with_puts, with_rows_of, with_unnamed}
 use Rattle.desk_parts.specs.Rows.{ParaCells, RowOf}
 use Rattle.desk_store.specs.BookFile.{rows_of}
 use Rattle.desk_rows.specs.Contents.{Contents, with_rows}
 use Rattle.desk_rows.specs.Layout.{Layout}
-use Rattle.desk_rows.specs.Puts.{put_into, puts_into}
+use Rattle.desk_rows.specs.Puts.{OfItems, put_into, puts_into}
+use Rattle.desk_rows.proofs.RowPuts.LentPuts.{all_lent}
+
+-- what holds of what is put, for an iterator that lends the first of what is left
+pub lent : (puts : List RowPut) (P Q : List RowPut → Type 0) → OfItems LendsFirst puts (λ xs. P xs × Q xs) → P puts × Q puts
+lent puts P Q (xs, lends, are) = subst (λ (ys : List RowPut). P ys × Q ys) (all_lent puts xs lends) are
 
 -- what is changed in either case is what there is in it, changed
 either_changed : {X : Type 0} (change : X → X) (x y : X) (b : Bool) → (if b then change x else change y) ≡ change (if b then x else y)
@@ -18,16 +23,13 @@ either_changed change x y false = refl
 module _ (l : Layout) where
   -- other rows in one table
   rows_changed : (t : FileTable) (change : List (RowOf t) → List (RowOf t)) (c : Contents) → rows_of l (with_rows t change c) ≡ with_rows_of t change (rows_of l c)
-  rows_changed tables.Book change c = refl
-  rows_changed tables.Tab change c = refl
-  rows_changed tables.Para change c = refl
   rows_changed tables.Corr change c =
       ap (λ (entries : EntryRows). record (rows_of l c) { entries = entries }) (either_changed (with_unnamed change) (Named (c.rows tables.NamedCorr)) (Unnamed (c.rows tables.Corr)) (l.has tables.NamedCorr))
-  rows_changed tables.Mark change c = refl
   rows_changed tables.Cache change c =
       ap (λ (caches : Option (List ParaCells)). record (rows_of l c) { caches = caches }) (either_changed (option_map change) (Some (c.rows tables.Cache)) None (l.has tables.Cache))
   rows_changed tables.NamedCorr change c =
       ap (λ (entries : EntryRows). record (rows_of l c) { entries = entries }) (either_changed (with_named change) (Named (c.rows tables.NamedCorr)) (Unnamed (c.rows tables.Corr)) (l.has tables.NamedCorr))
+  rows_changed t change c = refl
 
   pub all_put : (c : Contents) (puts : List RowPut) → rows_of l (puts_into puts c) ≡ with_puts puts (rows_of l c)
   all_put c [] = refl

@@ -22,7 +22,7 @@ use Rattle.desk_store.specs.BookFile.{rows_of}
 use Rattle.desk_rows.specs.Contents.{Contents}
 use Rattle.desk_store.specs.Formats.{Format, IsOfFormat}
 use Rattle.desk_rows.specs.Layout.{Layout}
-use Rattle.desk_rows.specs.Making.{Differ, IsFileWithTables, IsGrown, WritesWithTables, is_among, new_layout, new_tables, with_none, with_tables}
+use Rattle.desk_rows.specs.Making.{Differ, IsFileWithTables, IsGrown, is_among, new_layout, new_tables, with_none, with_tables}
 use Rattle.desk_store.specs.Filling.{HoldsWith}
 use Rattle.desk_store.specs.Opened.{HasGained, Keeps, Stands, which_new}
 use Rattle.desk_rows.specs.Puts.{HasThem, put_into, puts_into}
@@ -120,21 +120,16 @@ module _ (t : NewTables) (l : Layout) (book : Book) (puts : List RowPut) (fills 
 -- ---- what is written, and what a crash leaves
 
 module _ (t : NewTables) (book : Book) (puts : List RowPut) (fills : Fills t book puts) (ts : List FileTable) (are : ts ≡ which_new t) (old : State) where
-  pub shows_gained : (new : State) → WritesWithTables ts puts old new
-      → (l : Layout) (stands : Stands l book old) → HasGained (which_new t) l stands.1.0 book old.now.trees (λ after d. ShowsContents after d new)
-  shows_gained new writes l stands =
-      let writes_new = subst (λ (tables : List FileTable). WritesWithTables tables puts old new) are writes in
-      gained t l book puts fills old stands (λ after d. ShowsContents after d new)
-      (writes_new l stands.1.0 (new_differ t) (new_there t stands.0.0 l stands.0.1 book puts fills) stands.1.1)
+  -- a file that is grown by them holds the book
+  pub gains : (P : Layout → Contents → Type 0)
+      → ((l : Layout) (c : Contents) → Differ ts → HasThem (with_tables ts l) puts → ShowsContents l c old → IsGrown ts puts l c old.now.trees P)
+      → (l : Layout) (stands : Stands l book old) → HasGained (which_new t) l stands.1.0 book old.now.trees P
+  gains P grows l stands =
+      let it = λ (tables : List FileTable). Differ tables → HasThem (with_tables tables l) puts → ShowsContents l stands.1.0 old
+      → IsGrown tables puts l stands.1.0 old.now.trees P in
+      gained t l book puts fills old stands P
+      (subst it are (grows l stands.1.0) (new_differ t) (new_there t stands.0.0 l stands.0.1 book puts fills) stands.1.1)
 
-  holds_gained : (db : Trees) → IsFileWithTables ts puts old db → HoldsWith (which_new t) book old db
-  holds_gained db file l stands =
-      let file_new = subst (λ (tables : List FileTable). IsFileWithTables tables puts old db) are file in
-      gained t l book puts fills old stands (λ after d. IsFile after d db)
-      (file_new l stands.1.0 (new_differ t) (new_there t stands.0.0 l stands.0.1 book puts fills) stands.1.1)
-
-  pub crash_gained : {P : Trees → Type 0} {new : State}
-      → ((db : Trees) → P db → (xs : List RowPut) × (xs ≡ puts) × IsFileWithTables ts xs old db)
+  pub crash_gained : {P : Trees → Type 0} {new : State} → ((db : Trees) → P db → IsFileWithTables ts puts old db)
       → Survives old new P → Survives old new (HoldsWith (which_new t) book old)
-  crash_gained file = survives_weaker old _ _ _ (λ clean db left.
-      let it = file db left in holds_gained db (subst (λ (xs : List RowPut). IsFileWithTables ts xs old db) it.1 it.2))
+  crash_gained file = survives_weaker old _ _ _ (λ clean db left. gains (λ after d. IsFile after d db) (file db left))

@@ -1,12 +1,12 @@
 use Rattle.std.proofs.Common.{List, refl, subst}
 use Rattle.sqlite.specs.Held.{state}
 use Rattle.desk_parts.specs.declared.file_table.FileTable.{FileTable}
-use Rattle.desk_parts.specs.Puts.{LendsFirst, RowPut}
+use Rattle.desk_parts.specs.Puts.{LendsFirst}
 use Rattle.desk_rows.specs.Failing.{FailsToChange, of_items}
 use Rattle.desk_rows.specs.Turns.{with_transaction}
-use Rattle.desk_rows.specs.Making.{WritesWithTables}
-use Rattle.desk_rows.proofs.RowPuts.LentPuts.{all_lent}
-use Rattle.desk_store.proofs.Filled.{are_written, crash_gained, shows_gained}
+use Rattle.desk_rows.specs.States.{ShowsContents}
+use Rattle.desk_store.proofs.BookPuts.{lent}
+use Rattle.desk_store.proofs.Filled.{are_written, crash_gained, gains}
 use Rattle.desk_store.proofs.fill.fill.Goals as goal
 
 pub write_with_tables-requires : goal.write_with_tables-requires
@@ -14,13 +14,9 @@ write_with_tables-requires g c κs =
     ((refl, tt), (c.requires, (are_written c.args.tables c.file_tables.result.now c.file_tables.ensures, (tt, tt))))
 
 pub returns-in-Ok-clause-filled : goal.returns-in-Ok-clause-filled
-returns-in-Ok-clause-filled g c clean l stands =
-    let old = state g.S.Store c.args.conn.now in
-    let new = state g.S.Store c.write_with_tables.new.conn in
-    let puts = c.filling.result in
-    let written = (c.in-Ok.ensures.commits clean).shown in
-    let writes = subst (λ (xs : List RowPut). WritesWithTables c.file_tables.result.now xs old new) (all_lent puts written.0 written.1) written.2.0 in
-    shows_gained c.args.tables c.args.book.now puts c.filling.ensures c.file_tables.result.now c.file_tables.ensures old new writes l stands
+returns-in-Ok-clause-filled g c clean =
+    gains c.args.tables c.args.book.now c.filling.result c.filling.ensures c.file_tables.result.now c.file_tables.ensures _
+    (λ after d. ShowsContents after d (state g.S.Store c.write_with_tables.new.conn)) (lent c.filling.result _ _ (c.in-Ok.ensures.commits clean).shown).0
 
 pub returns-in-Ok-clause-open : goal.returns-in-Ok-clause-open
 returns-in-Ok-clause-open g c clean = (c.in-Ok.ensures.commits clean).committed
@@ -31,12 +27,12 @@ returns-in-Ok-clause-settled g c clean = (c.in-Ok.ensures.commits clean).settled
 pub returns-in-Ok-clause-crash : goal.returns-in-Ok-clause-crash
 returns-in-Ok-clause-crash g c =
     crash_gained c.args.tables c.args.book.now c.filling.result c.filling.ensures c.file_tables.result.now c.file_tables.ensures _
-    (λ db left. (left.0, all_lent c.filling.result left.0 left.1, left.2.0)) c.write_with_tables.ensures.crash
+    (λ db left. (lent c.filling.result _ _ left).0) c.write_with_tables.ensures.crash
 
 pub returns-in-Err-clause-crash : goal.returns-in-Err-clause-crash
 returns-in-Err-clause-crash g c =
     crash_gained c.args.tables c.args.book.now c.filling.result c.filling.ensures c.file_tables.result.now c.file_tables.ensures _
-    (λ db left. (left.0, all_lent c.filling.result left.0 left.1, left.2.0)) c.write_with_tables.ensures.crash
+    (λ db left. (lent c.filling.result _ _ left).0) c.write_with_tables.ensures.crash
 
 pub returns-in-Err-clause-stops : goal.returns-in-Err-clause-stops
 returns-in-Err-clause-stops g c clean = record {
