@@ -1,5 +1,5 @@
 -- The book of a new file, and a file that has all tables of one.
-use Rattle.std.proofs.Common.{◌≡◌, Bool, true, false, if◌then◌else◌, List, Option, Some, None, is_some, refl, ap₂}
+use Rattle.std.proofs.Common.{◌≡◌, Bool, true, false, if◌then◌else◌, List, Option, Some, None, is_some, refl, sym, subst, ap₂, ◌∙◌}
 use Rattle.sqlite_schema.specs.declared.schema.Schema.{Schema}
 use Rattle.sqlite_trees.specs.Tree.{Trees}
 use Rattle.sqlite.specs.State.{State}
@@ -13,11 +13,11 @@ use Rattle.desk_model.proofs.Callers.{new-shown}
 use Rattle.desk_store.specs.BookFile.{rows_of}
 use Rattle.desk_store.specs.Books.{HasNewTables, HoldsBook, ShowsBook}
 use Rattle.desk_rows.specs.Contents.{Contents}
-use Rattle.desk_store.specs.Formats.{Format, IsOfFormat, IsPresent, needed}
+use Rattle.desk_store.specs.Formats.{Format, IsOfFormat, IsPresent, Presence, named, needed, presence, unnamed}
 use Rattle.desk_rows.specs.Layout.{Layout}
 use Rattle.desk_rows.specs.Making.{IsMade, IsNew, first_contents, is_among, new_layout}
 use Rattle.desk_store.proofs.Exact.{stays_there}
-use Rattle.desk_store.proofs.Opened.{has_in_both}
+use Rattle.desk_store.proofs.Opened.{in_both}
 use Rattle.desk_store.specs.Opened.{have_names, lacked_by, lacking, missing_tables, which_lacked, with_missing_tables}
 use Rattle.desk_rows.specs.States.{ShowsContents}
 use Rattle.desk_rows.specs.Tables.{is_there}
@@ -43,15 +43,11 @@ gains names cells = (refl, refl)
 
 pub completed_tables : (f : Format) (l : Layout) → IsOfFormat f l → HasNewTables (with_missing_tables l)
 completed_tables f l of =
-    let has : (t : FileTable) → IsPresent needed (l.has t) (is_there l.schema t) → (with_missing_tables l).has t ≡ true =
-    λ t present. stays_there (is_among (missing_tables l) t) (l.has t) present.1 in
-    let gained = gains (l.has tables.NamedCorr) (l.has tables.Cache) in (
-      has tables.Book (has_in_both f l tables.Book of refl),
-      (
-        has tables.Tab (has_in_both f l tables.Tab of refl),
-        (has tables.Para (has_in_both f l tables.Para of refl), (has tables.Mark (has_in_both f l tables.Mark of refl), (gained.0, (gained.1, tt)))),
-      ),
-    )
+    let has : (t : FileTable) → presence unnamed t ≡ needed → presence named t ≡ needed → (with_missing_tables l).has t ≡ true = λ t first second.
+    let is = in_both f t (first ∙ sym second) ∙ second in
+    stays_there (is_among (missing_tables l) t) (l.has t) (subst (λ (p : Presence). IsPresent p (l.has t) (is_there l.schema t)) is (of t)).1 in
+    let gained = gains (l.has tables.NamedCorr) (l.has tables.Cache) in
+    (has tables.Book refl refl, (has tables.Tab refl refl, (has tables.Para refl refl, (has tables.Mark refl refl, (gained.0, (gained.1, tt))))))
 
 -- ---- what the rows say of it
 
