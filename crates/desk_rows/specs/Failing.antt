@@ -6,7 +6,7 @@ use Rattle.sqlite.specs.declared.error.Error.{Error}
 use Rattle.sqlite.specs.Held.{Held, state}
 use Rattle.sqlite.specs.State.{State, Fails, Survives}
 use Rattle.desk_rows.specs.Making.{AreMade, MakesTables, creation, first_row}
-use Rattle.desk_rows.specs.Puts.{ArePut, OfItems, OfItemsBefore, PutsRow, StopsAt, row_put}
+use Rattle.desk_rows.specs.Puts.{ArePut, OfItems, OfItemsBefore, PutsRow, StopsAt, row_statement}
 use Rattle.desk_rows.specs.Turns.{FailsWith, Ran, Stops}
 use Rattle.desk_parts.specs.declared.file_table.FileTable.{FileTable}
 use Rattle.desk_parts.specs.declared.file_table.FileTable.TheVariants as tables
@@ -37,9 +37,9 @@ of_items g gives it = record {
 -- the row of a new book
 abbrev pub of_first_row : {S : Type 0} → Ghosts S → Putting S
 of_first_row g = record {
-  stops = λ old new e. FailsWith (row_put tables.Book first_row) (state g old) new e;
+  stops = λ old new e. FailsWith (row_statement tables.Book first_row) (state g old) new e;
   puts = λ old new. PutsRow tables.Book first_row (state g old) (state g new)
-      × Ran (row_put tables.Book first_row) (state g old) (state g new);
+      × Ran (row_statement tables.Book first_row) (state g old) (state g new);
 }
 
 -- These tables are made first: some of them aren't, or what is put then isn't.

@@ -18,7 +18,7 @@ use Rattle.sql_tables.specs.Making.{AreFree, FreesNone, IsMaking, KeepsAside, fi
 use Rattle.desk_rows.specs.Contents.{Contents, with_row}
 use Rattle.desk_rows.specs.Descriptions.{description_of, table_of}
 use Rattle.desk_rows.specs.Layout.{Layout}
-use Rattle.desk_rows.specs.Puts.{HasThem, puts_into, row_put}
+use Rattle.desk_rows.specs.Puts.{HasThem, puts_into, row_statement}
 use Rattle.desk_rows.specs.States.{IsFile, ShowsContents}
 use Rattle.desk_rows.specs.Turns.{FailsWith, Ran, RunInTurn, Statement}
 
@@ -108,7 +108,7 @@ AreMade g tables old new = MakesTables tables (state g old) (state g new) × Run
 
 -- the statements that make a new file
 abbrev pub making : List Statement
-making = map creation new_tables ++ row_put tables.Book first_row ∷ []
+making = map creation new_tables ++ row_statement tables.Book first_row ∷ []
 
 -- What making adds to what a crash may leave: only if the names were free, and then the file with the tables.
 abbrev pub IsMade : State → Trees → Type 0

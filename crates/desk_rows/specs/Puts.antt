@@ -49,11 +49,11 @@ Writes puts old new =
 
 -- The statement that puts a row of a table. Nothing is put into `corr`: its text is empty and takes no parameters, so that it
 -- never runs with the six columns of a row.
-abbrev pub row_put : (t : FileTable) → RowOf t → Statement
-row_put t x = record { text = (description_of t).put; params = columns_of t x }
+abbrev pub row_statement : (t : FileTable) → RowOf t → Statement
+row_statement t x = record { text = (description_of t).put; params = columns_of t x }
 
 abbrev pub statement : RowPut → Statement
-statement (PutRow t x) = row_put t x
+statement (PutRow t x) = row_statement t x
 statement (SetColumns tables.Book id (Version version)) =
     record { text = SET_VERSION.now; params = Int id ∷ Int version ∷ [] }
 statement (SetColumns tables.Para id (Place place)) =

@@ -32,7 +32,7 @@ use Rattle.sql_tables.proofs.Makes.{none_below}
 use Rattle.desk_rows.specs.Descriptions.{description_of, table_of}
 use Rattle.desk_rows.specs.Commits.{making_file}
 use Rattle.desk_rows.specs.Making.{AreAbsent, CountsNone, Differ, MakesTables, after, creation, first_contents, first_row, is_among, making, new_tables, new_layout, no_contents, tree_in}
-use Rattle.desk_rows.specs.Puts.{row_put}
+use Rattle.desk_rows.specs.Puts.{row_statement}
 use Rattle.desk_rows.specs.Rows.{columns_of}
 use Rattle.desk_rows.specs.States.{IsUnder}
 use Rattle.desk_rows.specs.Turns.{with_transaction}
@@ -275,7 +275,7 @@ module _ {S : Type 0} (g : Ghosts S) (old last : Held S) (live : IsLive (state g
       let shown = (put.4.0 committed (new_layout old.schema) (no_contents others) refl done.0).shows in (
         makes.taken.0,
         (others, done.1, done.2, done.3, shows_on (state g last) new (new_layout old.schema) (first_contents others) same shown),
-        (last, run_then g (map creation new_tables) (row_put tables.Book first_row ∷ []) (with_transaction old) mid last put.2.1 (one_ran g (row_put tables.Book first_row) mid last put.4.1 put.3), same),
+        (last, run_then g (map creation new_tables) (row_statement tables.Book first_row ∷ []) (with_transaction old) mid last put.2.1 (one_ran g (row_statement tables.Book first_row) mid last put.4.1 put.3), same),
       )
 
   pub left_made : (new : State) → (making_file g).Shown old new → (making_file g).Left old new.now.trees
