@@ -12,7 +12,7 @@ use Rattle.desk_rows.specs.declared.fault.DatabaseFault.TheVariants.{NoMemory, L
 use Rattle.std.proofs.lemmas.Result.{IfOk-weaker}
 use Rattle.sqlite.specs.Held.{state}
 use Rattle.sqlite_trees.specs.View.{IsClean}
-use Rattle.sql_tables.proofs.Refusals.{not_of_store, plain_if}
+use Rattle.sql_tables.proofs.Refusals.{IsPlain, not_of_store}
 use Rattle.desk_rows.proofs.Schema.Schemas.{shows_own}
 use Rattle.desk_rows.proofs.Transactions.LostStores.{memory_alone, more_after}
 use Rattle.desk_rows.proofs.crash.reopen.Goals as goal
@@ -20,7 +20,7 @@ use Rattle.desk_rows.proofs.crash.reopen.Goals as goal
 module _ (a mid b : ℕ) (up : a ≤ mid) (db : Trees) (e : Error) where
   fails_again : (f : DatabaseFault) → (schema : Schema) × IsSound schema db → FailsToOpen db (MoreFaults mid b) e → IsToldAs e f → FailsToReopen a b f
   fails_again NoMemory is fails told = tt
-  fails_again Lost is (inl none) told = absurd (not_of_store e told.0 (plain_if e _ none.0 refl) told.2)
+  fails_again Lost is (inl none) told = absurd (not_of_store e told.0 (subst IsPlain (sym none.0) refl) told.2)
   fails_again Lost is (inr (OutOfMemory, same, excuse)) told = absurd (memory_alone told.0 told.1 (sym told.2 ∙ same))
   fails_again Lost is (inr (Io, same, excuse)) told = more_after a mid b up excuse
   fails_again Lost is (inr (Corrupt, same, excuse)) told = more_after a mid b up excuse
