@@ -11,6 +11,7 @@ use Rattle.desk_command.specs.declared.refusal.Limit.TheVariants as limits
 use Rattle.desk_command.specs.declared.refusal.Refusal.TheVariants as refusals
 use Rattle.desk_command.specs.declared.style.Style.TheVariants.{Body}
 use Rattle.desk_model.specs.Book.{empty_book, Corrects, Undoes}
+use Rattle.desk_model.specs.Step.{new_mark}
 use Rattle.desk_line.specs.declared.answer.Answer.TheVariants as answers
 use Rattle.desk_line.specs.declared.head.Head.{Head}
 use Rattle.desk_line.specs.declared.head.Head.TheVariants as heads
@@ -354,7 +355,7 @@ unfolding digits
 undo-line = refl
 
 -- a mark that a correction has touched
-touched-mark : shown_line (mark_line (record { id = 1; paragraph = 2; start = 0; end = 0; note = codes "cat?"; touched = true; resolved = false }))
+touched-mark : shown_line (mark_line (record (new_mark 1 2 0 0 (codes "cat?")) { touched = true }))
     ≡ codes "| 1 0 0 open touched cat?\n"
 unfolding digits encode_utf8
 touched-mark = refl

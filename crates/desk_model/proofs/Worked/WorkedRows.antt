@@ -32,7 +32,7 @@ use Rattle.desk_model.specs.Name.{IsProofreaderName, is_proofreader_character}
 use Rattle.desk_model.specs.Refusals.{IsRefused, print_to_translate, turn}
 use Rattle.desk_command.specs.Numbers.{code_of}
 use Rattle.desk_model.specs.Named.{number_of}
-use Rattle.desk_model.specs.Step.{Makes}
+use Rattle.desk_model.specs.Step.{Makes, new_mark}
 use Rattle.desk_model.specs.NormalForm.{IsUnbarred, is_barred}
 use Rattle.desk_model.proofs.Commands.Expecting.{moved}
 use Rattle.desk_model.proofs.Commands.Judging.{IsRefused-passes, Passes-past}
@@ -75,7 +75,7 @@ the-cats = refl
 
 -- a mark with the note `look`
 abbrev look : (start end : ℕ) → Bool → Mark
-look start end touched = record { id = 1; paragraph = 1; start = start; end = end; note = 108 ∷ 111 ∷ 111 ∷ 107 ∷ []; touched = touched; resolved = false }
+look start end touched = record (new_mark 1 1 start end (108 ∷ 111 ∷ 111 ∷ 107 ∷ [])) { touched = touched }
 
 abbrev put : (start count : ℕ) → List ℕ → Replacement
 put start count text = record { start = start; count = count; text = text }
