@@ -111,7 +111,8 @@ fn put_para<S: Alter>(
 ) -> Result<(), Error>
     ensures same_reference { tx.new.conn.ghost_name ≡ tx.old.conn.ghost_name }
     ensures put { HasCleanDisk (seen S.Store tx.new)
-        → IsPut result (PutRow FileTable.Para (lent_para row.now)) (seen S.Store tx.old) (seen S.Store tx.new) }
+        → IsPut result (PutRow FileTable.Para (lent_para row.now))
+        (seen S.Store tx.old) (seen S.Store tx.new) }
     ensures survives { Survives (seen S.Store tx.old) (seen S.Store tx.new) (λ _. ⊥) }
 {
     let print = encoded(alloc, row.print)?;
