@@ -1,8 +1,8 @@
 #!/bin/bash
-# Proves the crates of crates.txt side by side, each once those that it stands on are proved, and builds the program. A crate that begins
-# has all processors, or one fewer for each two that are proved beside it: these end sooner or later, and the longest has the processors
-# then. Those on which the longest chain of crates stands come first, since the program has to wait for it; the others take what these
-# leave. If a crate isn't proved, the others are stopped, and what `rt` wrote of it is shown.
+# Proves the crates of crates.txt side by side, each once those that it stands on are proved, and builds the program. Those on which the
+# longest chain of crates stands come first and have all processors, since the program has to wait for it. The others take what these
+# leave: one that begins has all processors, or one fewer for each two that are proved beside it, since these end sooner or later. If a
+# crate isn't proved, the others are stopped, and what `rt` wrote of it is shown.
 #   scripts/prove.sh     JOBS (1): how many crates at a time; RT (rt): the toolchain's command
 # Only one `rt` at a time works in the folder of a crate and in those of the crates below it. So each crate is proved in a room of its
 # own under build/: copies of its texts and of those below it, and links to the libraries that were built of these. The folder out/,
@@ -88,11 +88,11 @@ flock -n 8 || { echo 'Waiting until another run in this folder has ended.' >&2; 
 leave_rooms
 mkdir "$rooms"
 
-# 0 if no crate that isn't proved has a longer chain above it, and else 10.
+# 0 if no crate that isn't proved has a longer chain above it, and else 19, by which it hardly delays those that have 0.
 niceness() { # CRATE
     local crate
     for crate in "${waiting[@]}" "${running[@]}"; do
-        [ "${above[$crate]}" -le "${above[$1]}" ] || { echo 10; return; }
+        [ "${above[$crate]}" -le "${above[$1]}" ] || { echo 19; return; }
     done
     echo 0
 }
@@ -120,7 +120,8 @@ while [ $((${#waiting[@]} + ${#running[@]})) -gt 0 ]; do
             unset "waiting[$i]"
             count=$((count + 1))
             echo "[$count of ${#crates[@]}] $crate" >&2
-            prove "$crate" $((jobs - ${#running[@]} / 2)) "$(niceness "$crate")" > "$rooms/$crate.log" 2>&1 < /dev/null &
+            nice=$(niceness "$crate")
+            prove "$crate" $((nice ? jobs - ${#running[@]} / 2 : jobs)) "$nice" > "$rooms/$crate.log" 2>&1 < /dev/null &
             running[$!]=$crate
         fi
     done
