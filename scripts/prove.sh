@@ -88,7 +88,7 @@ flock -n 8 || { echo 'Waiting until another run in this folder has ended.' >&2; 
 leave_rooms
 mkdir "$rooms"
 
-# 0 if no crate that isn't proved has a longer chain above it, and else 19, by which it hardly delays those that have 0.
+# 0 if no crate that isn't proved has a longer chain above it, and else 19, at which it hardly delays those that have 0.
 niceness() { # CRATE
     local crate
     for crate in "${waiting[@]}" "${running[@]}"; do

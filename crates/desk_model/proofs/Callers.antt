@@ -18,8 +18,7 @@ pub use Rattle.desk_model.proofs.Damage.UndamagedRows.{sound-book as book-undama
 pub use Rattle.desk_model.proofs.Damage.FirstDamage.{one_damage}
 pub use Rattle.desk_model.proofs.Damage.SameDamage.{first-damage}
 pub use Rattle.desk_model.proofs.Damage.SoundParaRows.{unbarred-print}
--- Members of lists, numbers of which none stands twice, and numbers that are equal if and only if they are so
--- in rows.
+-- Members of lists, numbers of which none stands twice, and that numbers are equal if and only if they are equal in rows.
 pub use Rattle.desk_model.proofs.Lists.Members.{Contains-behind, Contains-here}
 pub use Rattle.desk_model.proofs.Lists.Numbering.{IsDistinct-numbers, IsDistinct-range}
 pub use Rattle.desk_model.proofs.Lists.RowNumbers.{int_eq-pos}

@@ -57,8 +57,8 @@ GetsCells book next command id =
 abbrev pub Reorders : Command → Type 0
 Reorders command = IsSome (place_given command)
 
--- The command, which makes the next book of this one, changes what this is put for. The row of `book` and rows of `corr` are
--- never lent, and no columns of other tables are set.
+-- The command, which makes the next book of this one, changes what this is put for. No whole row of `book` or `corr` is lent,
+-- and columns are set in rows of `book`, `para` and `mark` alone.
 abbrev pub IsLent : (book next : Book) → Command → RowPut → Type 0
 IsLent book next command (PutRow tables.Book row) = ⊥
 IsLent book next command (PutRow tables.Tab row) =

@@ -41,7 +41,8 @@ pub data MarkColumns : Type 0 where
   Span : (start stop touched : ℤ) → MarkColumns
   Resolved : ℤ → MarkColumns
 
--- Those of a row of a table. Where there are none, the type is empty, and definitions over them end with `absurd none`.
+-- The columns of a row of this table that are set so. Where there are none, the type is empty, and definitions over them end
+-- with `absurd none`.
 abbrev pub ColumnsOf : FileTable → Type 0
 ColumnsOf tables.Book = BookColumns
 ColumnsOf tables.Tab = ⊥

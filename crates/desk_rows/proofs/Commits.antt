@@ -66,7 +66,7 @@ module _ {S V : Type 0} (g : Ghosts S) (work : Work S) (old first last : Held S)
   was_put : HasCleanDisk (state g last) → OnOk ran (work.putting.puts (with_transaction old) last)
   was_put clean = subst (λ h. OnOk ran (work.putting.puts h last)) begun (put clean)
 
-  -- it comes to what it says of its work, and a crash leaves what that does
+  -- it is done or given up, and a crash leaves what was before or what its work leaves
   pub comes_to : StopsLost g work.putting → (IsTrue (state g old).is_open → (state g old).now ≡ (state g old).committed)
       → (HasCleanDisk (state g last) → KeepsCommit (state g first) (state g last))
       → (HasCleanDisk (state g last) → (state g first).in_transaction ≡ true → OnOk ran ((state g last).in_transaction ≡ true))

@@ -28,7 +28,7 @@ rows_apart (n ∷ ns) apart = (all_apart n ns apart.0, rows_apart ns apart.1)
 moved : (ns : List ℕ) (ks : List ℤ) → IsDistinct nat_eq ns → IsPermutation (map pos ns) ks → IsDistinct int_eq ks
 moved ns ks apart other = IsDistinct-IsPermutation int_eq (λ x y. int_eq_equiv.symm x y) (map pos ns) ks other (rows_apart ns apart)
 
--- rows differ by their numbers if these, once their texts are spelled, are the numbers of a list that has none twice
+-- rows differ by their numbers if spelling their texts leaves these, and they are the numbers of a list that has none twice
 differ : {X : Type 0} (key : X → ℤ) (spelled : X → X) (rows shown : List X) (ns : List ℕ) → map key (map spelled rows) ≡ map key rows
     → IsPermutation (map spelled rows) shown → map key shown ≡ map pos ns → IsDistinct nat_eq ns → DifferBy key rows
 differ key spelled rows shown ns same other is apart =

@@ -28,7 +28,7 @@ unfolding same_name
 no_counter tables.Book = refl
 no_counter other = refl
 
--- what is found once one more is there
+-- the test of the last one, put before that of the others
 lasts : (a b c d : Bool) (i : ℕ) → a ≡ (b || is_some (cond c (Some i) None)) → (a || d) ≡ (c || (b || d))
 lasts a true true d i is = ap (λ x. x || d) is
 lasts a b true d i is = ap (λ x. x || d) is

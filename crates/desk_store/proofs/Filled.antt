@@ -46,7 +46,7 @@ module _ (l : Layout) where
   both_there [] b _ q = q
   both_there (it ∷ a) b p q = (p.0, both_there a b p.1 q)
 
-  -- what fills these tables is put into them, and into `book`
+  -- what fills these tables is put into no others but `book`
   fills_there : (t : NewTables) (book : Book) (puts : List RowPut) → Fills t book puts → l.has tables.Book ≡ true → AllByRecursion (λ v. l.has v ≡ true) (which_new t) → HasThem l puts
   fills_there EntriesAndBraille book puts fills first has =
       subst (HasThem l) (sym fills.4)

@@ -105,7 +105,7 @@ table_fails g f t old {new} {why} read answers =
 
 -- ---- the entries, and the cells
 
--- what is read gives this too, and is this in each file
+-- a read is also one of what follows from what it gives, and from what that is in each file
 read_as : {f : Format} {old new : State} {P Q : State → Type 0} {A B : Layout → Contents → Type 0} → (P old → Q old)
     → ((l : Layout) (c : Contents) → IsOfFormat f l → ShowsContents l c old → A l c → B l c)
     → IsReadFrom f old new P A → IsReadFrom f old new Q B

@@ -49,8 +49,8 @@ abbrev pub HasNewTables : Layout → Type 0
 HasNewTables l = AllByRecursion (λ t. l.has t ≡ true) new_tables
 
 -- The file shows the book and keeps it: it has the tables of a new one, the connection shows the book in it, and so does whatever a crash
--- leaves. A change that is kept brings a file to this, and so does making a book, or opening one that any crash before would have left; a
--- session may begin with it.
+-- leaves. A change that is kept brings a file to this, and so does making a book, or opening one that any crash beforehand would have
+-- left; a session may begin with it.
 pub record MayServe (l : Layout) (book : Book) (s : State) : Type 0 where
   pub tables : HasNewTables l
   pub shows : ShowsBook l book s

@@ -53,7 +53,7 @@ one_of_name objects sound = one_in_order [] objects (list_parts objects sound).1
 
 -- ---- trees that are kept as they are
 
--- the indexes for a table's keys are on it, in trees from one on
+-- the indexes for a table's keys are on it, in this tree and those after it
 pub all_automatic : (table : Table) (at tree : ℕ) (keys : List (List ℕ)) (i : Index) → Has (automatics table at tree keys) i → (i.table ≡ table.tree) × (tree ≤ i.tree)
 all_automatic table at tree [] i has = absurd has
 all_automatic table at tree (key ∷ keys) i (inl same) = (ap (λ (x : Index). x.table) same, omega (arith, ap (λ (x : Index). x.tree) same))

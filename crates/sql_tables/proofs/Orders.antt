@@ -23,7 +23,7 @@ sorted {X} lt (x ∷ y ∷ ys) up = λ k d low high. go k d high (sorted lt (y �
     go zero d high more = up.0
     go (suc k) d high more = grind (arith, more k d (omega arith) (omega (arith, high)))
 
--- the same of what a map makes from them, if it keeps the order
+-- a list rises if and only if what a map makes of it does, if the map keeps the order
 module _ {X Y : Type 0} (f : X → Y) (lt : X → X → Bool) (lt' : Y → Y → Bool) (same : (a b : X) → lt a b ≡ lt' (f a) (f b)) where
   pub rises_map : (xs : List X) → Rises lt xs ↔ Rises lt' (map f xs)
   rises_map [] = (λ up. tt, λ up. tt)
@@ -37,7 +37,7 @@ module _ {X : Type 0} (lt : X → X → Bool) (one_way : (a b : X) → lt a b �
   rest_rises x [] up = tt
   rest_rises x (y ∷ ys) up = up.1
 
-  -- an element finds its place, which is after each that it isn't below
+  -- an element finds its place; one that it isn't below, and that could stand before the list, still can
   placed : (x : X) (ys : List X) → Rises lt ys
       → (zs : List X) × IsPermutation (x ∷ ys) zs × Rises lt zs × ((y : X) → lt x y ≡ false → Rises lt (y ∷ ys) → Rises lt (y ∷ zs))
   placed x [] up = (x ∷ [], IsPermutation-refl (x ∷ []), tt, λ y later more. (later, tt))

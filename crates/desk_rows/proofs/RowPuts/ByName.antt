@@ -83,7 +83,7 @@ cast id t tree = rw (cast_int id)
 
 module _ (schema : Schema) (tree : ℕ) (d : IsDeclared schema (tab tree)) (low : tree < 65536) (limit : Option ℕ) (t : Tab) (tabs : List Tab) (db after : Trees)
     (lists : Lists tab_row tab_columns tabs (db tree)) (few : length (filter (λ s. bytes_eq s.name t.name) tabs) ≤ 1) (keyed : HaveRowids (db tree)) where
-  -- the rows show it in place of the one with its name
+  -- the rows show the table that is put in place of the one with its name, their rowids differ, and other tables have their rows
   abbrev IsTabPut : Type 0
   IsTabPut = Lists tab_row tab_columns (put_by_key (λ s. bytes_eq s.name t.name) t tabs) (after tree) × HaveRowids (after tree) × Spares schema tree db after
 

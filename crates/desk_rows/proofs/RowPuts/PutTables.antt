@@ -59,7 +59,7 @@ key_of t x = integer (column (columns_of t x) 0)
 abbrev places : FileTable → List (List ℕ) → List ℕ
 places t = map (λ name. unwrap_or (position_from (λ (c : Column). bytes_eq c.name name) 1 (description_of t).columns) 0)
 
--- its first column is its rowid, and its rows may be changed
+-- the first column of the table is its rowid, and its rows may be changed
 abbrev IsNumbered : FileTable → Type 0
 IsNumbered t = ((tree : ℕ) → table_of t tree ≡ numbered_table (description_of t).name (description_of t).columns tree) × ((description_of t).is_changed ≡ true)
 

@@ -181,7 +181,7 @@ declared_after (v ∷ tables) s apart low free t (inr later) =
 no_rowids : HaveRowids []
 no_rowids = record { integers = tt; once = λ id. omega arith }
 
--- the table is declared in this tree, which has these rows
+-- the table is declared in this tree, which has these rows, and rowids that differ if its rows may be changed
 abbrev pub IsHeld : Schema → Trees → (t : FileTable) → ℕ → List (RowOf t) → Type 0
 IsHeld s db t tree xs =
     IsDeclared s (table_of t tree) × Lists (columns_of t) (columns_at (description_of t).own) xs (db tree)

@@ -106,7 +106,8 @@ gives_rows t view old new tree has xs gives =
     table_read t old.now.schema tree has.declared old new refl has.sound (λ x. shown_columns t (view x)) (λ a b. order t (view a) (view b))
     (λ a b. ordered t (view a) (view b)) gives.0 xs gives.1 gives.2
 
--- nothing is read: why not, that all is as it was if it was refused, and that it isn't refused where the statement has an answer
+-- nothing is read: why not, that all is as it was if it was refused, and that it isn't refused where the statement has an answer that can
+-- be read and steps have no limit
 module _ {V X : Type 0} (items : V → List X) (t : FileTable) (view : X → ShownOf t) (Apart : List X → Type 0) (old new : State) (fault : DatabaseFault) where
   not_read : FailsAs (query_of t) (λ x. shown_columns t (view x)) Apart old new fault → (fault ≡ Refused → IsUnchanged old new)
       → (HasAnswer (query_of t).text old → old.step_limit ≡ None → ((rows : List Row) → Shown (query_of t).text [] old new rows → AllByRecursion (HasKinds (query_of t).kinds) rows)

@@ -17,7 +17,7 @@ use Rattle.sqlite_catalog.specs.Listing.{IsSound}
 use Rattle.sqlite.specs.State.{State, Shown}
 use Rattle.desk_parts.specs.declared.file_table.FileTable.{FileTable}
 use Rattle.desk_parts.specs.declared.file_table.FileTable.TheVariants as tables
-use Rattle.sql_tables.specs.Rows.{Lists}
+use Rattle.sql_tables.specs.Rows.{Lists, columns_at}
 use Rattle.sql_tables.specs.Kinds.{IsUtf8Text, HasKinds}
 use Rattle.sql_tables.specs.States.{HasAnswer}
 use Rattle.sql_tables.specs.Tables.{IsDeclared}
@@ -28,7 +28,6 @@ use Rattle.sql_tables.proofs.Reading.{parsed}
 use Rattle.sql_tables.proofs.RowKinds.{IsKept, integer_of, numbered_kinds, hidden_kinds, all_texts, all_shown}
 use Rattle.sql_tables.proofs.ReadAnswers.{can_answer}
 use Rattle.sql_tables.proofs.WholeTables.{parts, reads_only as only_reads, rows_are}
-use Rattle.sql_tables.specs.Rows.{columns_at}
 use Rattle.desk_rows.specs.TableQuery.{AreReadable, given, query_of}
 use Rattle.desk_rows.specs.Descriptions.{description_of, table_of, shows_rowid, has_texts}
 use Rattle.desk_rows.proofs.TableReads.PlainReads.{is_read, sort_terms}
