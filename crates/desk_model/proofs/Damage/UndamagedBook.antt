@@ -38,12 +38,12 @@ use Rattle.desk_model.proofs.Lists.Items.{Contains-there}
 use Rattle.desk_model.proofs.Lists.NumberedRows.{AreOnce, AreUpTo, all-numbers, few-rows, in_order, keys-numbers, number-of, once-keys, once-one, once-permutation, pigeonholes}
 use Rattle.desk_model.proofs.Lists.Members.{Contains-behind, Contains-cases, Contains-here, Contains-map, Contains-none}
 use Rattle.desk_model.proofs.Lists.Numbering.{IsDistinct-numbers}
-use Rattle.desk_model.proofs.Rows.OneBook.{number, to_mark, to_paragraph}
+use Rattle.desk_model.proofs.Rows.OneBook.{number, to_paragraph}
 use Rattle.desk_model.proofs.Books.ParagraphLists.{AreApart, found-own, ids_of}
 use Rattle.desk_model.proofs.Lists.Permutations.{pull_back}
 use Rattle.desk_model.proofs.Lists.RowGroups.{all-grouped, group}
 use Rattle.desk_model.proofs.Lists.RowNumbers.{Contains-from_map, key-number, number-key, numbers, pos_le}
-use Rattle.desk_model.proofs.Rows.RowParts.{characters-of, entry-row, flag-back, history-rows, number-back, sound-history, style-back}
+use Rattle.desk_model.proofs.Rows.RowParts.{characters-of, entry-row, flag-back, history-rows, mark-back, mark_of_row, number-back, sound-history, style-back}
 use Rattle.desk_model.proofs.Rows.SortedTabs.{names-strict}
 use Rattle.desk_model.proofs.Lists.Stable.{at_least, le_from}
 use Rattle.desk_model.proofs.Lists.TableEntries.{text-there}
@@ -374,11 +374,8 @@ module _ (rows : FileRows) (texts : AreTexts rows) (its : HasItsTables rows) (no
     abbrev pub by_id : (sorted : List MarkRow) × IsPermutation rows.marks sorted × (numbers 1 (length rows.marks) ≡ map mark_id sorted)
     by_id = in_order mark_id rows.marks (length rows.marks) (keys-numbers mark_id most_marks rows.marks (λ m c. (mark-row m c).number))
 
-    abbrev pub mark_for : MarkRow → Mark
-    mark_for m = to_mark (spelled_mark m)
-
     abbrev pub marks : List Mark
-    marks = map mark_for by_id.0
+    marks = map mark_of_row by_id.0
 
     stop-low : (m : MarkRow) → Contains rows.marks m → pos 0 ≤ℤ m.stop
     stop-low m c =
@@ -387,23 +384,14 @@ module _ (rows : FileRows) (texts : AreTexts rows) (its : HasItsTables rows) (no
         let j = at_least k.0 m.stop (subst (λ (z : ℤ). z ≤ℤ m.stop) k.1 span.ordered) in
         subst (λ (z : ℤ). pos 0 ≤ℤ z) (sym j.1) (pos_le 0 j.0 (omega arith))
 
-    mark-row-made : (m : MarkRow) → Contains rows.marks m → mark_row_of (mark_for m) ≡ spelled_mark m
+    mark-row-made : (m : MarkRow) → Contains rows.marks m → mark_row_of (mark_of_row m) ≡ spelled_mark m
     mark-row-made m c =
         let s = mark-row m c in
         let k = number-of mark_id most_marks rows.marks (λ m c. (mark-row m c).number) m c in
-        let id = number-back m.id (subst (λ (z : ℤ). pos 0 ≤ℤ z) (sym k.1) (pos_le 0 k.0 (omega arith))) in
-        let para : pos (number m.para) ≡ m.para = subst (λ (z : ℤ). pos (number z) ≡ z) s.span.named (id-back s.span.paragraph s.span.there) in
-        let start = number-back m.start s.span.start in
-        let stop = number-back m.stop (stop-low m c) in
-        λ i. record {
-          id = id i;
-          para = para i;
-          start = start i;
-          stop = stop i;
-          note = chars m.note;
-          touched = flag-back m.touched s.touched i;
-          resolved = flag-back m.resolved s.resolved i;
-        }
+        let id : pos 0 ≤ℤ m.id = subst (λ (z : ℤ). pos 0 ≤ℤ z) (sym k.1) (pos_le 0 k.0 (omega arith)) in
+        let j = key-of s.span.paragraph s.span.there in
+        let para : pos 0 ≤ℤ m.para = subst (λ (z : ℤ). pos 0 ≤ℤ z) (sym j.1 ∙ s.span.named) (pos_le 0 j.0 (omega arith)) in
+        mark-back rows.paras rows.marks m id para (stop-low m c) s
 
     in-marks : (m : MarkRow) → Contains by_id.0 m → Contains rows.marks m
     in-marks m c = Contains-permutation by_id.0 rows.marks m (IsPermutation-sym rows.marks by_id.0 by_id.1) c
@@ -411,18 +399,18 @@ module _ (rows : FileRows) (texts : AreTexts rows) (its : HasItsTables rows) (no
     pub shown-marks : IsPermutation (map spelled_mark rows.marks) (map mark_row_of marks)
     shown-marks =
         subst (IsPermutation (map spelled_mark rows.marks))
-        (sym (map-map mark_row_of mark_for by_id.0 ∙ map-same (λ m. mark_row_of (mark_for m)) spelled_mark by_id.0 (λ m c. mark-row-made m (in-marks m c))))
+        (sym (map-map mark_row_of mark_of_row by_id.0 ∙ map-same (λ m. mark_row_of (mark_of_row m)) spelled_mark by_id.0 (λ m c. mark-row-made m (in-marks m c))))
         (IsPermutation-map spelled_mark rows.marks by_id.0 by_id.1)
 
     count-marks : length marks ≡ length rows.marks
     count-marks =
         let one = length_permutation rows.marks by_id.0 by_id.1 in
-        let two = length-map by_id.0 mark_for in
+        let two = length-map by_id.0 mark_of_row in
         omega (arith, one, two)
 
     pub mark-numbers : map (λ mark. mark.id) marks ≡ range_with_len 1 (length marks)
     mark-numbers =
-        map-map (λ (mark : Mark). mark.id) mark_for by_id.0
+        map-map (λ (mark : Mark). mark.id) mark_of_row by_id.0
         ∙ (sym (map-map number mark_id by_id.0)
         ∙ (ap (map number) (sym by_id.2)
         ∙ (numbers-back 1 (length rows.marks) ∙ ap (range_with_len 1) (sym count-marks))))
@@ -460,8 +448,8 @@ module _ (rows : FileRows) (texts : AreTexts rows) (its : HasItsTables rows) (no
     apart : AreApart paragraphs
     apart = IsDistinct-numbers (length paragraphs) (ids_of paragraphs) ids
 
-    sound-mark_for : (m : MarkRow) → Contains rows.marks m → IsSoundMark book (mark_for m)
-    sound-mark_for m c =
+    sound-mark_of_row : (m : MarkRow) → Contains rows.marks m → IsSoundMark book (mark_of_row m)
+    sound-mark_of_row m c =
         let s = mark-row m c in
         let p = paragraph-of_row s.span.paragraph s.span.there in
         let start = number-back m.start s.span.start in
@@ -495,8 +483,8 @@ module _ (rows : FileRows) (texts : AreTexts rows) (its : HasItsTables rows) (no
           ids = ids;
           paragraphs = sound-made paras all-in;
           numbers = mark-numbers;
-          marks = All-map (IsSoundMark book) mark_for by_id.0
-              (All-weaker (Contains rows.marks) (λ m. IsSoundMark book (mark_for m)) sound-mark_for by_id.0
+          marks = All-map (IsSoundMark book) mark_of_row by_id.0
+              (All-weaker (Contains rows.marks) (λ m. IsSoundMark book (mark_of_row m)) sound-mark_of_row by_id.0
               (All-permutation (Contains rows.marks) rows.marks by_id.0 by_id.1 (All-contains_itself rows.marks)));
         }
 

@@ -1,5 +1,5 @@
 -- Rows without damage are sound, table by table.
-use Rattle.std.proofs.Common.{◌≡◌, ℕ, ◌+◌, ◌<◌, ◌≤◌, ℤ, pos, ◌+ℤ◌, ◌≤ℤ◌, Bool, false, List, [], ◌∷◌, filter, length, Some, Contains, refl, sym, ap, subst, ◌∙◌, arith, inl, inr}
+use Rattle.std.proofs.Common.{◌≡◌, ◌⊎◌, ℕ, ◌+◌, ◌<◌, ◌≤◌, ℤ, pos, ◌+ℤ◌, ◌≤ℤ◌, Bool, false, List, [], ◌∷◌, filter, length, Some, Contains, refl, sym, ap, subst, ◌∙◌, arith, inl, inr}
 use Rattle.std.specs.List.Sorted.{IsPermutation}
 use Rattle.std.specs.Prelude.{slice_get}
 use Rattle.std.specs.Str.{chars}
@@ -14,11 +14,11 @@ use Rattle.louis_translate.specs.Braille.{braille}
 use Rattle.louis_translate.specs.Position.{AreDefined}
 use Rattle.louis_translate.proofs.Tilings.{one_tiling}
 use Rattle.desk_parts.specs.declared.rows.BookRow.{BookRow}
-use Rattle.desk_model.specs.Damage.{IsDamagedBook, IsDamagedCache, IsDamagedMark, IsDamagedPara, IsDamagedTab, IsNumber, IsPrintText, IsSoundBookRow, IsSoundCacheRow, IsSoundMarkRow, IsSoundParaRow, IsSoundTabRow, rows_with}
-use Rattle.desk_model.specs.Limits.{most_marks, most_note, most_paragraphs, most_print, most_tables, most_version}
+use Rattle.desk_model.specs.Damage.{IsDamagedBook, IsDamagedCache, IsDamagedMark, IsDamagedPara, IsDamagedTab, IsNumber, IsPrintText, IsSoundBookRow, IsSoundCacheRow, IsSoundMarkRow, IsSoundParaRow, IsSoundTabRow, IsSpanned, rows_with}
+use Rattle.desk_model.specs.Limits.{most_marks, most_paragraphs, most_print, most_tables, most_version}
 use Rattle.desk_parts.specs.Rows.{Mark, Para, ParaCells, Tab}
 use Rattle.desk_model.proofs.Commands.Accepted.{IsTableName-stable}
-use Rattle.desk_model.proofs.Lists.Decisions.{Decided, at_most, below, both, either, implied}
+use Rattle.desk_model.proofs.Lists.Decisions.{Decided, IsDecidable, at_most, decisions, below, both, either, implied}
 use Rattle.desk_model.proofs.Commands.FirstUndefined.{defined_or_first}
 use Rattle.desk_model.proofs.Lists.Members.{Contains-behind, Contains-here}
 use Rattle.desk_model.proofs.Rows.SortedTabs.{AreInOrder-rises, AreNamesApart, RisesTabs, tabs_in_order}
@@ -55,12 +55,12 @@ is_defined print meaning =
       | inr first ↦ inr (λ defined. let some = defined first.0 first.1.within in let none = first.1.undefined in cc)
     ]
 
-IsNumber-stable : {X : Type 0} (key : X → ℤ) (last : ℕ) (rows : List X) (id : ℤ) → ¬ ¬ IsNumber key last rows id → IsNumber key last rows id
-IsNumber-stable key last rows id twice = record {
-  within = stable_from (is_within 1 last id) (λ s. s.within) twice;
-  once = stable_from (same_nat (rows_with key id rows) 1) (λ s. s.once) twice;
-  next = stable_from (either (same_int id (pos 1)) (among (λ row. key row +ℤ pos 1 ≡ id) (λ row. same_int (key row +ℤ pos 1) id) rows)) (λ s. s.next) twice;
-}
+is_number : {X : Type 0} (key : X → ℤ) (last : ℕ) (rows : List X) (id : ℤ) → Decided (IsNumber key last rows id)
+is_number {X} key last rows id =
+    let next : Decided ((id ≡ pos 1) ⊎ ((row : X) × Contains rows row × (key row +ℤ pos 1 ≡ id))) =
+    either (same_int id (pos 1)) (among (λ row. key row +ℤ pos 1 ≡ id) (λ row. same_int (key row +ℤ pos 1) id) rows) in
+    let parts : IsDecidable (IsNumber key last rows id) = hlevel (decisions, is_within, same_nat, next) in
+    parts.decided
 
 -- no row has a key that is nowhere
 pub none-with : {X : Type 0} (key : X → ℤ) (id : ℤ) (rows : List X) → ¬ ((row : X) × Contains rows row × (key row ≡ id)) → rows_with key id rows ≡ 0
@@ -147,7 +147,7 @@ module _ (tabs : List Tab) (paras : List Para) (none : (id : ℤ) → ¬ IsDamag
       let by = stable_from (is_translatable row)
       (λ (s : IsSoundParaRow tabs paras row). (s.table.table, s.table.there, (s.table.named, (s.meaning, s.table.means, s.defined)))) twice in
       record {
-        number = IsNumber-stable (λ (other : Para). other.id) most_paragraphs paras row.id (lifted (λ (s : IsSoundParaRow tabs paras row). s.number) twice);
+        number = stable_from (is_number (λ (other : Para). other.id) most_paragraphs paras row.id) (λ (s : IsSoundParaRow tabs paras row). s.number) twice;
         place = stable_from (is_within 1 (length paras) row.place) (λ (s : IsSoundParaRow tabs paras row). s.place) twice;
         own = λ other there same. stable_from (is_le row.id other.id) (λ (s : IsSoundParaRow tabs paras row). s.own other there same) twice;
         original = stable_from (is_print_text (chars row.original)) (λ (s : IsSoundParaRow tabs paras row). s.original) twice;
@@ -163,30 +163,23 @@ module _ (tabs : List Tab) (paras : List Para) (none : (id : ℤ) → ¬ IsDamag
 -- ---- mark
 
 module _ (paras : List Para) (marks : List Mark) (none : (id : ℤ) → ¬ IsDamagedMark paras marks id) where
-  is_spanned : (row : Mark) → Decided ((para : Para) × Contains paras para × ((para.id ≡ row.para) × (row.stop ≤ℤ pos (length (chars para.print)))))
+  is_spanned : (row : Mark)
+      → Decided ((para : Para) × Contains paras para × ((para.id ≡ row.para) × ((pos 0 ≤ℤ row.start) × ((row.start ≤ℤ row.stop) × (row.stop ≤ℤ pos (length (chars para.print)))))))
   is_spanned row =
-      among (λ (para : Para). (para.id ≡ row.para) × (row.stop ≤ℤ pos (length (chars para.print))))
-      (λ para. both (same_int para.id row.para) (is_le row.stop (pos (length (chars para.print))))) paras
+      among (λ (para : Para). (para.id ≡ row.para) × ((pos 0 ≤ℤ row.start) × ((row.start ≤ℤ row.stop) × (row.stop ≤ℤ pos (length (chars para.print))))))
+      (λ para. both (same_int para.id row.para) (both (is_le (pos 0) row.start) (both (is_le row.start row.stop) (is_le row.stop (pos (length (chars para.print))))))) paras
+
+  spanned : (row : Mark) → Decided (IsSpanned paras row)
+  spanned row =
+      implied (λ by. record { paragraph = by.0; there = by.1; named = by.2.0; start = by.2.1.0; ordered = by.2.1.1.0; stop = by.2.1.1.1 })
+      (λ s. (s.paragraph, s.there, (s.named, (s.start, (s.ordered, s.stop))))) (is_spanned row)
 
   pub sound-mark : (row : Mark) → Contains marks row → IsSoundMarkRow paras marks row
   sound-mark row c =
-      let twice : ¬ ¬ IsSoundMarkRow paras marks row = λ unsound. none row.id (row, c, refl, unsound) in
-      let by = stable_from (is_spanned row) (λ (s : IsSoundMarkRow paras marks row). (s.span.paragraph, s.span.there, (s.span.named, s.span.stop))) twice in
-      record {
-        number = IsNumber-stable (λ (other : Mark). other.id) most_marks marks row.id (lifted (λ (s : IsSoundMarkRow paras marks row). s.number) twice);
-        span = record {
-          paragraph = by.0;
-          there = by.1;
-          named = by.2.0;
-          start = stable_from (is_le (pos 0) row.start) (λ (s : IsSoundMarkRow paras marks row). s.span.start) twice;
-          ordered = stable_from (is_le row.start row.stop) (λ (s : IsSoundMarkRow paras marks row). s.span.ordered) twice;
-          stop = by.2.1;
-        };
-        short = stable_from (at_most (length (chars row.note)) most_note) (λ (s : IsSoundMarkRow paras marks row). s.short) twice;
-        note = stable_from (is_unbarred (chars row.note)) (λ (s : IsSoundMarkRow paras marks row). s.note) twice;
-        touched = stable_from (is_flag row.touched) (λ (s : IsSoundMarkRow paras marks row). s.touched) twice;
-        resolved = stable_from (is_flag row.resolved) (λ (s : IsSoundMarkRow paras marks row). s.resolved) twice;
-      }
+      let number = is_number (λ (other : Mark). other.id) most_marks marks row.id in
+      let span = spanned row in
+      let parts : IsDecidable (IsSoundMarkRow paras marks row) = hlevel (decisions, number, span, is_flag, at_most, is_unbarred) in
+      stable parts.decided (λ unsound. none row.id (row, c, refl, unsound))
 
 -- ---- cache
 

@@ -64,3 +64,20 @@ not (inr p) = inl p
 -- some value has it, or none
 abbrev pub SomeOrNone : {X : Type 0} → (X → Type 0) → Type 0
 SomeOrNone {X} P = ((x : X) × P x) ⊎ ((x : X) → ¬ P x)
+
+-- ---- records
+
+-- that it holds or not, which `hlevel (decisions, ..)` shows of a record by its fields
+pub record IsDecidable (P : Type 0) : Type 0 where
+  pub decided : Decided P
+
+pub pair_decidable : {P Q : Type 0} → IsDecidable P → IsDecidable Q → IsDecidable (P × Q)
+pair_decidable p q = record { decided = both p.decided q.decided }
+
+pub along_decidable : {P Q : Type 0} (to : P → Q) (from : Q → P) → ((p : P) → from (to p) ≡ p) → IsDecidable Q → IsDecidable P
+along_decidable to from back q = record { decided = implied from to q.decided }
+
+pub decidable : {P : Type 0} → Decided P → IsDecidable P
+decidable decided = record { decided = decided }
+
+pub ruleset decisions = (decidable, pair_decidable, along_decidable)

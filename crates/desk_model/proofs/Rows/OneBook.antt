@@ -1,7 +1,8 @@
 -- Rows show at most one book.
-use Rattle.std.proofs.Common.{◌≡◌, ℕ, zero, suc, ◌+◌, ◌<◌, ℤ, pos, negsuc, Bool, true, false, cond, List, [], ◌∷◌, map, length, Ordering, Some, Contains, refl, sym, ap, subst, ◌∙◌, arith, inl, inr}
+use Rattle.std.proofs.Common.{◌≡◌, ℕ, zero, suc, ◌+◌, ◌<◌, ℤ, pos, negsuc, Bool, true, false, cond, List, [], ◌∷◌, map, length, Ordering, Some, Contains, refl, sym, ap, ap₂, subst, ◌∙◌, arith, inl, inr}
 use Rattle.std.specs.Cmp.{IsTotalOrder, nat_cmp_is}
 use Rattle.std.specs.Cmp.Lexicographic.{slice_cmp}
+use Rattle.std.specs.Coded.{Coded, code_by, coded_ℤ, codes}
 use Rattle.std.specs.List.{AllByRecursion, enumerate_from, find, flat_map, range_with_len}
 use Rattle.std.specs.List.Sorted.{IsPermutation, IsStrictlySortedBy}
 use Rattle.std.specs.Ordering.{int_eq, nat_cmp, ordering_reverse}
@@ -97,15 +98,16 @@ range_sorted n (suc count) = (range_above n (n + 1) count (omega arith), range_s
 
 -- ---- the parts of a book, from their rows
 
-abbrev to_pair : Tab → List ℕ × List ℕ
-to_pair t = (t.name, t.body)
+one_table : (a b : List ℕ × List ℕ) → tab_of a ≡ tab_of b → a ≡ b
+one_table a b same = ap (λ (t : Tab). (t.name, t.body)) same
 
-map-undone : {X Y : Type 0} (f : X → Y) (back : Y → X) → ((x : X) → back (f x) ≡ x) → (xs : List X) → map back (map f xs) ≡ xs
-map-undone f back undone [] = refl
-map-undone f back undone (x ∷ xs) = λ i. undone x i ∷ map-undone f back undone xs i
-
-same_from : {X Y : Type 0} (f : X → Y) (back : Y → X) → ((x : X) → back (f x) ≡ x) → (xs ys : List X) → map f xs ≡ map f ys → xs ≡ ys
-same_from f back undone xs ys same = sym (map-undone f back undone xs) ∙ (ap (map back) same ∙ map-undone f back undone ys)
+-- lists are the same where a function that tells their elements apart makes the same of both
+module _ {X Y : Type 0} (f : X → Y) (apart : (x y : X) → f x ≡ f y → x ≡ y) where
+  same_from : (xs ys : List X) → map f xs ≡ map f ys → xs ≡ ys
+  same_from [] [] same = refl
+  same_from [] (y ∷ ys) same = absurd (cc)
+  same_from (x ∷ xs) [] same = absurd (cc)
+  same_from (x ∷ xs) (y ∷ ys) same = ap₂ (λ (z : X) zs. z ∷ zs) (apart x y (cc)) (same_from xs ys (cc))
 
 abbrev pub to_flag : ℤ → Bool
 to_flag z = cond (int_eq z (pos 0)) false true
@@ -121,19 +123,19 @@ pub style_back : (s : Style) → to_style (style_number s) ≡ s
 style_back Body = refl
 style_back Heading = refl
 
-abbrev pub to_mark : MarkRow → Mark
-to_mark m = record {
-  id = number m.id;
-  paragraph = number m.para;
-  start = number m.start;
-  end = number m.stop;
-  note = m.note;
-  touched = to_flag m.touched;
-  resolved = to_flag m.resolved;
-}
+-- numbers and flags have the codes that they have in rows
+abbrev coded_number : Coded ℕ
+coded_number = code_by ℤ coded_ℤ pos number (λ n. refl)
 
-mark_back : (m : Mark) → to_mark (mark_row_of m) ≡ m
-mark_back m = λ i. record m { touched = flag_back m.touched i; resolved = flag_back m.resolved i }
+abbrev coded_flag : Coded Bool
+coded_flag = code_by ℤ coded_ℤ flag_number to_flag flag_back
+
+-- a mark is known by its row
+one_mark : (a b : Mark) → mark_row_of a ≡ mark_row_of b → a ≡ b
+one_mark a b same =
+    let rows : Coded MarkRow = hlevel (coded_number, codes) in
+    let marks : Coded Mark = hlevel (coded_number, coded_flag, codes) in
+    marks.inj a b (ap rows.code same)
 
 abbrev to_entry : NamedCorr → Entry
 to_entry c = cond (int_eq c.entry.kind (pos 0)) (Corrects (record { start = number c.entry.start; count = number c.entry.len; text = c.entry.body }) c.who) (Undoes (number c.entry.start))
@@ -241,7 +243,7 @@ pub tables_same : (ta tb : List (List ℕ × List ℕ)) (rows : List Tab)
     → IsStrictlySortedBy (slice_cmp nat_cmp) (map (λ entry. entry.0) ta) → IsStrictlySortedBy (slice_cmp nat_cmp) (map (λ entry. entry.0) tb)
     → IsPermutation rows (map tab_of ta) → IsPermutation rows (map tab_of tb) → ta ≡ tb
 tables_same ta tb rows sorted_a sorted_b of_a of_b =
-    same_from tab_of to_pair (λ t. refl) ta tb
+    same_from tab_of one_table ta tb
     (sorted_same (slice_cmp nat_cmp) nat_list_cmp_total (λ (t : Tab). t.name) (map tab_of ta) (map tab_of tb)
     (subst (IsStrictlySortedBy (slice_cmp nat_cmp)) (sym (map-map (λ (t : Tab). t.name) tab_of ta)) sorted_a)
     (subst (IsStrictlySortedBy (slice_cmp nat_cmp)) (sym (map-map (λ (t : Tab). t.name) tab_of tb)) sorted_b)
@@ -252,7 +254,7 @@ pub marks_same : (ma mb : List Mark) (rows : List MarkRow)
     → map (λ mark. mark.id) ma ≡ range_with_len 1 (length ma) → map (λ mark. mark.id) mb ≡ range_with_len 1 (length mb)
     → IsPermutation rows (map mark_row_of ma) → IsPermutation rows (map mark_row_of mb) → ma ≡ mb
 marks_same ma mb rows ids_a ids_b of_a of_b =
-    same_from mark_row_of to_mark mark_back ma mb
+    same_from mark_row_of one_mark ma mb
     (sorted_same nat_cmp nat_cmp_total (λ (m : MarkRow). number m.id) (map mark_row_of ma) (map mark_row_of mb)
     (subst (IsStrictlySortedBy nat_cmp) (sym (map-map (λ (m : MarkRow). number m.id) mark_row_of ma ∙ ids_a)) (range_sorted 1 (length ma)))
     (subst (IsStrictlySortedBy nat_cmp) (sym (map-map (λ (m : MarkRow). number m.id) mark_row_of mb ∙ ids_b)) (range_sorted 1 (length mb)))

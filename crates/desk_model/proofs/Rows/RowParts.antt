@@ -8,13 +8,13 @@ use Rattle.std.proofs.lemmas.Bool.{cond-false, cond-true}
 use Rattle.std.proofs.lemmas.List.{length-map}
 use Rattle.std.proofs.lemmas.List.Elements.{All-contains}
 use Rattle.std.proofs.lemmas.Str.{chars-nil, scalars-chars}
-use Rattle.desk_model.specs.Book.{Entry, Corrects, Undoes}
-use Rattle.desk_model.specs.Damage.{IsFlag, IsSoundCorrection, IsSoundEntryRow, IsSoundUndo, entry_of, history_of}
-use Rattle.desk_parts.specs.FileRows.{HasEntryTexts, spelled_entry}
+use Rattle.desk_model.specs.Book.{Entry, Corrects, Undoes, Mark}
+use Rattle.desk_model.specs.Damage.{IsFlag, IsSoundCorrection, IsSoundEntryRow, IsSoundMarkRow, IsSoundUndo, entry_of, history_of}
+use Rattle.desk_parts.specs.FileRows.{HasEntryTexts, spelled_entry, spelled_mark}
 use Rattle.desk_model.specs.Limits.{most_entries, most_print}
 use Rattle.desk_model.specs.Print.{corrected_print}
-use Rattle.desk_parts.specs.Rows.{NamedCorr}
-use Rattle.desk_model.specs.Shows.{entry_row_of, flag_number, style_number}
+use Rattle.desk_parts.specs.Rows.{Mark as MarkRow, NamedCorr, Para}
+use Rattle.desk_model.specs.Shows.{entry_row_of, flag_number, mark_row_of, style_number}
 use Rattle.desk_model.specs.Sound.{IsSoundEntry, IsSoundHistory}
 use Rattle.desk_command.specs.Characters.{AreCharacters}
 use Rattle.desk_command.proofs.CharacterLists.{AreCharacters-scalars}
@@ -39,6 +39,32 @@ style-back z (inr is) = subst (λ y. style_number (to_style y) ≡ y) (sym is) r
 
 pub characters-of : (bytes : List ℕ) → IsUtf8 bytes → AreCharacters (chars bytes)
 characters-of bytes utf8 = AreCharacters-scalars (chars bytes) (scalars-chars bytes utf8)
+
+-- ---- a mark
+
+abbrev pub mark_of_row : MarkRow → Mark
+mark_of_row m = record {
+  id = number m.id;
+  paragraph = number m.para;
+  start = number m.start;
+  end = number m.stop;
+  note = chars m.note;
+  touched = to_flag m.touched;
+  resolved = to_flag m.resolved;
+}
+
+-- the mark of a sound row has that row
+pub mark-back : (paras : List Para) (marks : List MarkRow) (m : MarkRow) → pos 0 ≤ℤ m.id → pos 0 ≤ℤ m.para → pos 0 ≤ℤ m.stop
+    → IsSoundMarkRow paras marks m → mark_row_of (mark_of_row m) ≡ spelled_mark m
+mark-back paras marks m id para stop sound = λ i. record {
+  id = number-back m.id id i;
+  para = number-back m.para para i;
+  start = number-back m.start sound.span.start i;
+  stop = number-back m.stop stop i;
+  note = chars m.note;
+  touched = flag-back m.touched sound.touched i;
+  resolved = flag-back m.resolved sound.resolved i;
+}
 
 -- ---- an entry
 

@@ -1,5 +1,5 @@
 -- Damage of rows, worked by the definitions alone: they say what these rows say, and not only what the code does.
-use Rattle.std.proofs.Common.{◌≡◌, ◌⊎◌, ℕ, ◌+◌, ℤ, pos, ◌+ℤ◌, ◌≤ℤ◌, false, List, [], ◌∷◌, length, Some, Contains, refl, sym, ap, subst, ◌∙◌, arith, inl, inr}
+use Rattle.std.proofs.Common.{◌≡◌, ◌⊎◌, ℕ, ◌+◌, ℤ, pos, ◌≤◌, ◌+ℤ◌, ◌≤ℤ◌, false, List, [], ◌∷◌, length, Some, Contains, refl, sym, ap, subst, ◌∙◌, arith, inl, inr}
 use Rattle.std.specs.Str.{chars}
 use Rattle.std.proofs.lemmas.List.Elements.{All-nil}
 use Rattle.std.proofs.lemmas.List.Sorted.{IsPermutation-refl, length_permutation}
@@ -9,12 +9,13 @@ use Rattle.louis_table.specs.Meaning.{Meaning}
 use Rattle.louis_table.specs.Table.{Means}
 use Rattle.desk_parts.specs.declared.file_table.FileTable.TheVariants as file
 use Rattle.desk_parts.specs.declared.rows.BookRow.{BookRow}
-use Rattle.desk_model.specs.Damage.{IsDamagedBook, IsDamagedCache, IsDamagedEntries, IsDamagedMark, IsDamagedPara, IsDamagedTab, IsFirstDamage, IsNumber, IsPrintText, IsSoundMarkRow, IsSoundParaRow}
+use Rattle.desk_model.specs.Damage.{IsDamagedBook, IsDamagedCache, IsDamagedEntries, IsDamagedMark, IsDamagedPara, IsDamagedTab, IsFirstDamage, IsNumber, IsPrintText, IsSoundMarkRow, IsSoundParaRow, IsSpanned}
 use Rattle.desk_parts.specs.FileRows.{FileRows, Named}
-use Rattle.desk_model.specs.Limits.{most_marks, most_paragraphs, most_version}
+use Rattle.desk_model.specs.Limits.{most_marks, most_note, most_paragraphs, most_version}
 use Rattle.desk_model.specs.Name.{IsTableName}
 use Rattle.desk_parts.specs.Rows.{Mark, NamedCorr, Para, ParaCells, Tab}
-use Rattle.desk_model.specs.Shows.{book_row_of}
+use Rattle.desk_model.specs.Shows.{book_row_of, mark_row_of}
+use Rattle.desk_model.specs.Step.{new_mark}
 use Rattle.desk_model.specs.NormalForm.{IsUnbarred, is_barred}
 use Rattle.desk_model.proofs.Damage.FirstDamage.{IsWholeBefore, before-book, before-cache, before-entries, before-mark, before-para, before-tab}
 use Rattle.desk_model.proofs.Lists.Members.{Contains-behind, Contains-cases, Contains-here, Contains-none}
@@ -51,11 +52,12 @@ second_alone = para_at (pos 2) (pos 1) []
 abbrev stray_entry : NamedCorr
 stray_entry = record { entry = record { para = pos 9; seq = pos 1; kind = pos 0; start = pos 0; len = pos 0; body = [] }; who = [] }
 
-abbrev mark_on : (id para : ℤ) → Mark
-mark_on id para = record { id = id; para = para; start = pos 0; stop = pos 0; note = []; touched = pos 0; resolved = pos 0 }
+-- an empty mark before the first character, with an empty note
+abbrev mark_on : (id paragraph : ℕ) → Mark
+mark_on id paragraph = mark_row_of (new_mark id paragraph 0 0 [])
 
 abbrev stray_mark : Mark
-stray_mark = mark_on (pos 1) (pos 9)
+stray_mark = mark_on 1 9
 
 abbrev stray_cells : ParaCells
 stray_cells = record { para = pos 9; cells = [] }
@@ -192,59 +194,55 @@ cells-first = record {
 abbrev one_para : List Para
 one_para = para_at (pos 1) (pos 1) [] ∷ []
 
-abbrev mark_at : ℤ → Mark
-mark_at id = mark_on id (pos 1)
+abbrev mark_at : ℕ → Mark
+mark_at id = mark_on id 1
 
-sound-at : (marks : List Mark) (id : ℤ) → IsNumber (λ (m : Mark). m.id) most_marks marks id → IsSoundMarkRow one_para marks (mark_at id)
-sound-at marks id number = record {
-  number = number;
-  span = record {
-    paragraph = para_at (pos 1) (pos 1) [];
-    there = Contains-here (para_at (pos 1) (pos 1) []) [];
-    named = refl;
-    start = pos_le 0 0 (omega arith);
-    ordered = pos_le 0 0 (omega arith);
-    stop = pos_le 0 (length (chars [])) (omega arith);
-  };
-  short = omega (arith, no-characters);
-  note = unbarred-empty;
-  touched = inl refl;
-  resolved = inl refl;
-}
+sound-at : (marks : List Mark) (id : ℕ) → IsNumber (λ (m : Mark). m.id) most_marks marks (pos id) → IsSoundMarkRow one_para marks (mark_at id)
+sound-at marks id number =
+    let span : IsSpanned one_para (mark_at id) = record {
+      paragraph = para_at (pos 1) (pos 1) [];
+      there = Contains-here (para_at (pos 1) (pos 1) []) [];
+      named = refl;
+      start = pos_le 0 0 (omega arith);
+      ordered = pos_le 0 0 (omega arith);
+      stop = pos_le 0 (length (chars [])) (omega arith);
+    } in
+    let short : length (chars []) ≤ most_note = omega (arith, no-characters) in
+    search (inl, number, span, short, unbarred-empty)
 
 abbrev gap : List Mark
-gap = mark_at (pos 1) ∷ mark_at (pos 3) ∷ []
+gap = mark_at 1 ∷ mark_at 3 ∷ []
 
 abbrev twice : List Mark
-twice = mark_at (pos 1) ∷ mark_at (pos 2) ∷ mark_at (pos 2) ∷ []
+twice = mark_at 1 ∷ mark_at 2 ∷ mark_at 2 ∷ []
 
-gap-unsound : ¬ IsSoundMarkRow one_para gap (mark_at (pos 3))
+gap-unsound : ¬ IsSoundMarkRow one_para gap (mark_at 3)
 gap-unsound sound =
     elim sound.number.next [
       | inl first ↦ let same = same_number 3 1 first in omega (arith, same)
-      | inr (row, c, next) ↦ elim (Contains-cases (mark_at (pos 1)) row (mark_at (pos 3) ∷ []) c) [
+      | inr (row, c, next) ↦ elim (Contains-cases (mark_at 1) row (mark_at 3 ∷ []) c) [
         | inl one ↦ let up : pos 2 ≡ pos 3 = ap (λ (m : Mark). m.id +ℤ pos 1) one ∙ next in let same = same_number 2 3 up in omega (arith, same)
-        | inr later ↦ let up : pos 4 ≡ pos 3 = ap (λ (m : Mark). m.id +ℤ pos 1) (only (mark_at (pos 3)) row later) ∙ next in let same = same_number 4 3 up in omega (arith, same)
+        | inr later ↦ let up : pos 4 ≡ pos 3 = ap (λ (m : Mark). m.id +ℤ pos 1) (only (mark_at 3) row later) ∙ next in let same = same_number 4 3 up in omega (arith, same)
       ]
     ]
 
 -- a gap is reported at the row after it
 gap-told : IsDamagedMark one_para gap (pos 3)
-gap-told = (mark_at (pos 3), Contains-behind (mark_at (pos 1)) (mark_at (pos 3)) (mark_at (pos 3) ∷ []) (Contains-here (mark_at (pos 3)) []), refl, gap-unsound)
+gap-told = (mark_at 3, Contains-behind (mark_at 1) (mark_at 3) (mark_at 3 ∷ []) (Contains-here (mark_at 3) []), refl, gap-unsound)
 
 -- and only there
 gap-only : (id : ℤ) → IsDamagedMark one_para gap id → id ≡ pos 3
 gap-only id (row, c, named, unsound) =
-    elim (Contains-cases (mark_at (pos 1)) row (mark_at (pos 3) ∷ []) c) [
-      | inl same ↦ absurd (unsound (subst (IsSoundMarkRow one_para gap) same (sound-at gap (pos 1) (record { within = (pos_le 1 1 (omega arith), pos_le 1 most_marks (omega arith)); once = refl; next = inl refl }))))
-      | inr later ↦ sym named ∙ ap (λ (m : Mark). m.id) (sym (only (mark_at (pos 3)) row later))
+    elim (Contains-cases (mark_at 1) row (mark_at 3 ∷ []) c) [
+      | inl same ↦ absurd (unsound (subst (IsSoundMarkRow one_para gap) same (sound-at gap 1 (record { within = (pos_le 1 1 (omega arith), pos_le 1 most_marks (omega arith)); once = refl; next = inl refl }))))
+      | inr later ↦ sym named ∙ ap (λ (m : Mark). m.id) (sym (only (mark_at 3) row later))
     ]
 
 -- a number that two rows have is reported
 twice-told : IsDamagedMark one_para twice (pos 2)
 twice-told = (
-  mark_at (pos 2),
-  Contains-behind (mark_at (pos 1)) (mark_at (pos 2)) (mark_at (pos 2) ∷ mark_at (pos 2) ∷ []) (Contains-here (mark_at (pos 2)) (mark_at (pos 2) ∷ [])),
+  mark_at 2,
+  Contains-behind (mark_at 1) (mark_at 2) (mark_at 2 ∷ mark_at 2 ∷ []) (Contains-here (mark_at 2) (mark_at 2 ∷ [])),
   refl,
   λ sound. let one : 2 ≡ 1 = sound.number.once in omega (arith, one),
 )
@@ -252,9 +250,9 @@ twice-told = (
 -- and no other
 twice-only : (id : ℤ) → IsDamagedMark one_para twice id → id ≡ pos 2
 twice-only id (row, c, named, unsound) =
-    elim (Contains-cases (mark_at (pos 1)) row (mark_at (pos 2) ∷ mark_at (pos 2) ∷ []) c) [
-      | inl same ↦ absurd (unsound (subst (IsSoundMarkRow one_para twice) same (sound-at twice (pos 1) (record { within = (pos_le 1 1 (omega arith), pos_le 1 most_marks (omega arith)); once = refl; next = inl refl }))))
-      | inr later ↦ sym named ∙ ap (λ (m : Mark). m.id) (sym (elim (Contains-cases (mark_at (pos 2)) row (mark_at (pos 2) ∷ []) later) [ inl same ↦ same | inr last ↦ only (mark_at (pos 2)) row last ]))
+    elim (Contains-cases (mark_at 1) row (mark_at 2 ∷ mark_at 2 ∷ []) c) [
+      | inl same ↦ absurd (unsound (subst (IsSoundMarkRow one_para twice) same (sound-at twice 1 (record { within = (pos_le 1 1 (omega arith), pos_le 1 most_marks (omega arith)); once = refl; next = inl refl }))))
+      | inr later ↦ sym named ∙ ap (λ (m : Mark). m.id) (sym (elim (Contains-cases (mark_at 2) row (mark_at 2 ∷ []) later) [ inl same ↦ same | inr last ↦ only (mark_at 2) row last ]))
     ]
 
 -- ---- a place that two paragraphs have: the smaller id keeps it, and it is reported at the greater; whatever
