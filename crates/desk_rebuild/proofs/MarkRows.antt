@@ -55,8 +55,7 @@ module _ (paras : List Para) (items : List KeptParagraph) (of : AreOf paras item
       }
 
   sound-row : (rows : List MarkRow) (row : MarkRow) → IsNumber (λ (other : MarkRow). other.id) most_marks rows row.id → IsMarkOn items row → IsSoundMarkRow paras rows row
-  sound-row rows row number on =
-      record { number = number; span = spanned row on; short = on.note.short; note = on.note.unbarred; touched = on.touched; resolved = on.resolved }
+  sound-row rows row number on = let span = spanned row on in assumption
 
   mark-on : (rows : List MarkRow) (row : MarkRow) → IsSoundMarkRow paras rows row → IsMarkOn items row
   mark-on rows row s =
@@ -75,8 +74,7 @@ module _ (paras : List Para) (items : List KeptParagraph) (of : AreOf paras item
           high = subst (λ (text : List ℕ). row.stop ≤ℤ pos (length text)) (sym has.of.print) s.span.stop;
         };
         note = record { short = s.short; unbarred = s.note };
-        touched = s.touched;
-        resolved = s.resolved;
+        flags = assumption s;
       }
 
   -- ---- what is reported
@@ -103,15 +101,7 @@ module _ (paras : List Para) (items : List KeptParagraph) (of : AreOf paras item
 -- ---- the marks that the rows are
 
 kept-row : (n : ℕ) (row : MarkRow) (mark : KeptMark) → row.id ≡ pos n → IsKeptOf row mark → spelled_mark row ≡ mark_row_of (mark_kept (n, mark))
-kept-row n row mark id kept = λ i. record {
-  id = id i;
-  para = sym kept.paragraph i;
-  start = sym kept.start i;
-  stop = sym kept.end i;
-  note = sym kept.note i;
-  touched = sym kept.touched i;
-  resolved = sym kept.resolved i;
-}
+kept-row n row mark id kept = sym kept ∙ ap (λ (z : ℤ). record (mark_row_of (mark_kept (0, mark))) { id = z }) id
 
 kept-rows : (n : ℕ) (rows : List MarkRow) (marks : List KeptMark) → length marks ≡ length rows
     → ((i : ℕ) (row : MarkRow) (mark : KeptMark) → slice_get rows i ≡ Some row → slice_get marks i ≡ Some mark → (row.id ≡ pos (n + i)) × IsKeptOf row mark)
@@ -151,7 +141,7 @@ on-ones items sorted marks have k d less =
     let its = (have.sound k row.0 there row.1).0.sound in
     let within = slice_get_within items its.named.index its.kept its.named.at in
     let same = same_number (get_or marks k d).paragraph (its.named.index + 1)
-    ((have.each k row.0 (get_or marks k d) row.1 (slice_get-get_or marks k d less)).paragraph ∙ its.named.is) in
+    (ap (λ (r : MarkRow). r.para) (have.each k row.0 (get_or marks k d) row.1 (slice_get-get_or marks k d less)) ∙ its.named.is) in
     (omega (arith, same), omega (arith, same, within))
 
 -- and each row's text is UTF-8

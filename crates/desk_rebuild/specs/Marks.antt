@@ -3,12 +3,13 @@ use Rattle.std.specs.Prelude.{◌≡◌, ℕ, ℤ, pos, ◌+◌, ◌<◌, ◌≤
 use Rattle.std.specs.Str.{chars}
 use Rattle.desk_memory.specs.declared.marks.KeptMark.{KeptMark}
 use Rattle.desk_memory.specs.declared.paragraphs.Paragraph.{Paragraph as KeptParagraph}
+use Rattle.desk_memory.specs.Kept.{mark_kept}
 use Rattle.desk_model.specs.Damage.{IsFlag}
 use Rattle.desk_rebuild.specs.OrderedRows.{AreKeptUpTo, RowRule}
 use Rattle.desk_model.specs.Limits.{most_marks, most_note}
-use Rattle.desk_parts.specs.FileRows.{HasMarkText}
+use Rattle.desk_parts.specs.FileRows.{HasMarkText, spelled_mark}
 use Rattle.desk_parts.specs.Rows.{Mark as MarkRow}
-use Rattle.desk_model.specs.Shows.{flag_number}
+use Rattle.desk_model.specs.Shows.{mark_row_of}
 use Rattle.desk_model.specs.NormalForm.{IsUnbarred}
 
 -- ---- a row, but for its id
@@ -29,23 +30,21 @@ pub record IsNoteText (text : List ℕ) : Type 0 where
   pub short : length text ≤ most_note
   pub unbarred : IsUnbarred text
 
+pub record HasFlags (row : MarkRow) : Type 0 where
+  pub touched : IsFlag row.touched
+  pub resolved : IsFlag row.resolved
+
 -- the row is sound, whatever its id
 pub record IsMarkOn (items : List KeptParagraph) (row : MarkRow) : Type 0 where
   pub kept : KeptParagraph
   pub named : HasId items row.para kept
   pub span : IsSpan (length kept.print) row.start row.stop
   pub note : IsNoteText (chars row.note)
-  pub touched : IsFlag row.touched
-  pub resolved : IsFlag row.resolved
+  pub flags : HasFlags row
 
--- the kept mark has what its row says
-pub record IsKeptOf (row : MarkRow) (mark : KeptMark) : Type 0 where
-  pub paragraph : pos mark.paragraph ≡ row.para
-  pub start : pos mark.start ≡ row.start
-  pub end : pos mark.end ≡ row.stop
-  pub note : mark.note ≡ chars row.note
-  pub touched : flag_number mark.touched ≡ row.touched
-  pub resolved : flag_number mark.resolved ≡ row.resolved
+-- the kept mark has what its row says: with the row's id, it has that row
+abbrev pub IsKeptOf : MarkRow → KeptMark → Type 0
+IsKeptOf row mark = record (mark_row_of (mark_kept (0, mark))) { id = row.id } ≡ spelled_mark row
 
 -- ---- rows in the order of their ids
 
