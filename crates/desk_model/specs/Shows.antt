@@ -7,7 +7,8 @@ use Rattle.desk_parts.specs.declared.rows.BookRow.{BookRow}
 use Rattle.desk_command.specs.declared.style.Style.{Style}
 use Rattle.desk_command.specs.declared.style.Style.TheVariants.{Body, Heading}
 use Rattle.desk_model.specs.Book.{Entry, Corrects, Undoes, Paragraph, Mark, Book}
-use Rattle.desk_parts.specs.FileRows.{FileRows, AreTexts, entries_in, format_of, spelled_tab, spelled_para, spelled_entry, spelled_mark}
+use Rattle.desk_parts.specs.declared.file_table.FileTable.TheVariants as file
+use Rattle.desk_parts.specs.FileRows.{FileRows, AreTexts, entries_in, format_of, spelled}
 use Rattle.desk_model.specs.Print.{print_of}
 use Rattle.desk_parts.specs.Rows.{Tab, Para, NamedCorr, Mark as MarkRow, ParaCells}
 use Rattle.desk_model.specs.Sound.{IsSound}
@@ -97,8 +98,8 @@ pub record Shows (rows : FileRows) (book : Book) : Type 0 where
   pub sound : IsSound book
   pub texts : AreTexts rows
   pub row : rows.books ≡ book_row_of (format_of rows.entries) book.version ∷ []
-  pub tables : IsPermutation (map spelled_tab rows.tabs) (map tab_of book.tables)
-  pub paragraphs : IsPermutation (map spelled_para rows.paras) (paras_of book.paragraphs)
-  pub entries : IsPermutation (map spelled_entry (entries_in rows.entries)) (flat_map entry_rows_of book.paragraphs)
-  pub marks : IsPermutation (map spelled_mark rows.marks) (map mark_row_of book.marks)
+  pub tables : IsPermutation (map (spelled file.Tab) rows.tabs) (map tab_of book.tables)
+  pub paragraphs : IsPermutation (map (spelled file.Para) rows.paras) (paras_of book.paragraphs)
+  pub entries : IsPermutation (map (spelled file.NamedCorr) (entries_in rows.entries)) (flat_map entry_rows_of book.paragraphs)
+  pub marks : IsPermutation (map (spelled file.Mark) rows.marks) (map mark_row_of book.marks)
   pub caches : ForSome rows.caches (AreCached book)

@@ -1,11 +1,11 @@
 -- The rows of a book's whole file.
-use Rattle.std.specs.Prelude.{ℕ, List, [], map, Option, IsUtf8}
+use Rattle.std.specs.Prelude.{ℕ, List, [], map, Option, IsUtf8, ⊤}
 use Rattle.std.specs.List.{All}
 use Rattle.std.specs.Str.{chars}
 use Rattle.desk_parts.specs.declared.file_table.FileTable.{FileTable}
-use Rattle.desk_parts.specs.declared.file_table.FileTable.TheVariants.{Corr as CorrTable, NamedCorr as NamedCorrTable}
+use Rattle.desk_parts.specs.declared.file_table.FileTable.TheVariants as tables
 use Rattle.desk_parts.specs.declared.rows.BookRow.{BookRow}
-use Rattle.desk_parts.specs.Rows.{Tab, Para, Corr, NamedCorr, Mark, ParaCells}
+use Rattle.desk_parts.specs.Rows.{Tab, Para, Corr, NamedCorr, Mark, ParaCells, RowOf}
 
 -- The entries of all histories: of the table `corr`, as the first format keeps them, or of `corr2`, as the second does.
 pub data EntryRows : Type 0 where
@@ -29,8 +29,8 @@ format_of (Named corrs) = 2
 
 -- the table that has them as its rows
 abbrev pub table_of : EntryRows → FileTable
-table_of (Unnamed corrs) = CorrTable
-table_of (Named corrs) = NamedCorrTable
+table_of (Unnamed corrs) = tables.Corr
+table_of (Named corrs) = tables.NamedCorr
 
 -- an entry of the first format is that of a proofreader without a name
 abbrev pub without_name : Corr → NamedCorr
@@ -43,34 +43,28 @@ entries_in (Named corrs) = corrs
 -- ---- texts
 
 -- the texts of a row are UTF-8
-abbrev pub HasTabText : Tab → Type 0
-HasTabText t = IsUtf8 t.name
-
-abbrev pub HasParaTexts : Para → Type 0
-HasParaTexts p = IsUtf8 p.tab × IsUtf8 p.original × IsUtf8 p.print
-
-abbrev pub HasEntryTexts : NamedCorr → Type 0
-HasEntryTexts e = IsUtf8 e.entry.body × IsUtf8 e.who
-
-abbrev pub HasMarkText : Mark → Type 0
-HasMarkText m = IsUtf8 m.note
+abbrev pub HasTexts : (t : FileTable) → RowOf t → Type 0
+HasTexts tables.Book b = ⊤
+HasTexts tables.Tab t = IsUtf8 t.name
+HasTexts tables.Para p = IsUtf8 p.tab × IsUtf8 p.original × IsUtf8 p.print
+HasTexts tables.Corr e = IsUtf8 e.body
+HasTexts tables.Mark m = IsUtf8 m.note
+HasTexts tables.Cache c = ⊤
+HasTexts tables.NamedCorr e = IsUtf8 e.entry.body × IsUtf8 e.who
 
 -- each text is UTF-8
 pub record AreTexts (rows : FileRows) : Type 0 where
-  pub tabs : All HasTabText rows.tabs
-  pub paras : All HasParaTexts rows.paras
-  pub entries : All HasEntryTexts (entries_in rows.entries)
-  pub marks : All HasMarkText rows.marks
+  pub tabs : All (HasTexts tables.Tab) rows.tabs
+  pub paras : All (HasTexts tables.Para) rows.paras
+  pub entries : All (HasTexts tables.NamedCorr) (entries_in rows.entries)
+  pub marks : All (HasTexts tables.Mark) rows.marks
 
 -- a row with its texts as characters, in place of their bytes
-abbrev pub spelled_tab : Tab → Tab
-spelled_tab t = record t { name = chars t.name }
-
-abbrev pub spelled_para : Para → Para
-spelled_para p = record p { tab = chars p.tab; original = chars p.original; print = chars p.print }
-
-abbrev pub spelled_entry : NamedCorr → NamedCorr
-spelled_entry e = record { entry = record e.entry { body = chars e.entry.body }; who = chars e.who }
-
-abbrev pub spelled_mark : Mark → Mark
-spelled_mark m = record m { note = chars m.note }
+abbrev pub spelled : (t : FileTable) → RowOf t → RowOf t
+spelled tables.Book b = b
+spelled tables.Tab t = record t { name = chars t.name }
+spelled tables.Para p = record p { tab = chars p.tab; original = chars p.original; print = chars p.print }
+spelled tables.Corr e = record e { body = chars e.body }
+spelled tables.Mark m = record m { note = chars m.note }
+spelled tables.Cache c = c
+spelled tables.NamedCorr e = record { entry = record e.entry { body = chars e.entry.body }; who = chars e.who }

@@ -28,7 +28,8 @@ use Rattle.desk_memory.specs.declared.paragraphs.Paragraph.{Paragraph as KeptPar
 use Rattle.desk_memory.specs.declared.tables.BookTable.{BookTable}
 use Rattle.desk_memory.specs.Braille.{AreCellsOf}
 use Rattle.desk_model.specs.Damage.{IsDamagedCache, IsDamagedPara, IsItsTable, IsSoundCacheRow, IsSoundParaRow, rows_with}
-use Rattle.desk_parts.specs.FileRows.{spelled_tab}
+use Rattle.desk_parts.specs.declared.file_table.FileTable.TheVariants as file
+use Rattle.desk_parts.specs.FileRows.{spelled}
 use Rattle.desk_rebuild.specs.Rows.{AreOf, AreTables, HasCells, HasKept, IsFirstId, IsOf, IsWhole, without_cells}
 use Rattle.desk_rebuild.specs.Caches.{AreAllRight, AreRight, AreTheirCells, IsItsBraille, IsLacking, IsMisfit, IsSurplus, IsTranslatable, IsWrong}
 use Rattle.desk_memory.specs.Kept.{KeptTables, renewed_items, with_cells}
@@ -150,8 +151,8 @@ module _ (tabs : List Tab) (paras : List Para) (tables : KeptTables) (items : Li
   table-of row kept meaning own its =
       let t = its.table in
       let to : List ℕ × BookTable → Tab = λ entry. tab_of (entry.0, entry.1.text) in
-      let spelled = Contains-permutation (map spelled_tab tabs) (map to tables) (spelled_tab t) are.rows (Contains-map spelled_tab tabs t its.there) in
-      let found = Contains-from_map to tables (spelled_tab t) spelled in
+      let among = Contains-permutation (map (spelled file.Tab) tabs) (map to tables) (spelled file.Tab t) are.rows (Contains-map (spelled file.Tab) tabs t its.there) in
+      let found = Contains-from_map to tables (spelled file.Tab t) among in
       let name : found.0.0 ≡ kept.table = ap (λ (t : Tab). t.name) found.2 ∙ (ap chars its.named ∙ sym own.table) in
       let body : found.0.1.text ≡ t.body = ap (λ (t : Tab). t.body) found.2 in
       let means = All-contains (λ (entry : List ℕ × BookTable). Means entry.1.text entry.1.rules) tables found.0 are.means found.1 in (

@@ -22,7 +22,7 @@ use Rattle.desk_parts.specs.declared.rows.BookRow.{BookRow}
 use Rattle.desk_memory.specs.declared.tables.BookTable.{BookTable}
 use Rattle.desk_memory.specs.Braille.{AreCellsOf}
 use Rattle.desk_model.specs.Damage.{HasItsTables, HasSoundEntries, IsDamaged, history_of}
-use Rattle.desk_parts.specs.FileRows.{AreTexts, FileRows, entries_in, spelled_mark, spelled_tab}
+use Rattle.desk_parts.specs.FileRows.{AreTexts, FileRows, entries_in, spelled}
 use Rattle.desk_memory.specs.Histories.{HaveTaken, entries_kept}
 use Rattle.desk_rebuild.specs.Rows.{AreInPlaces, AreMarksOf, AreOf, AreTables, HasCells, HasHistory, HasKept, HaveMarks}
 use Rattle.desk_memory.specs.Kept.{HasMarks, IsKept, IsKeptParagraph, KeptParagraphs, KeptTables, book_kept, mark_kept, marks_kept, paragraph_kept, paragraph_with_id}
@@ -127,14 +127,14 @@ module _ (rows : FileRows) (texts : AreTexts rows) (its : HasItsTables rows) (no
   tables-are : whole.tables rows texts its none ≡ texts_kept
   tables-are =
       let text_of : List ℕ × BookTable → List ℕ × List ℕ = λ entry. (entry.0, entry.1.text) in
-      tables_same (whole.tables rows texts its none) texts_kept (map spelled_tab rows.tabs) (whole.names-sorted rows texts its none)
+      tables_same (whole.tables rows texts its none) texts_kept (map (spelled file.Tab) rows.tabs) (whole.names-sorted rows texts its none)
       (subst (IsStrictlySortedBy (slice_cmp nat_cmp)) (sym (map-map (λ (entry : List ℕ × List ℕ). entry.0) text_of tables)) are_tables.sorted)
       (whole.shown-tables rows texts its none)
-      (subst (IsPermutation (map spelled_tab rows.tabs)) (sym (map-map tab_of text_of tables)) are_tables.rows)
+      (subst (IsPermutation (map (spelled file.Tab) rows.tabs)) (sym (map-map tab_of text_of tables)) are_tables.rows)
 
   marks-are : whole.marks rows texts its none by_place history_for ≡ marks_kept marks
   marks-are =
-      marks_same (whole.marks rows texts its none by_place history_for) (marks_kept marks) (map spelled_mark rows.marks)
+      marks_same (whole.marks rows texts its none by_place history_for) (marks_kept marks) (map (spelled file.Mark) rows.marks)
       (whole.mark-numbers rows texts its none by_place history_for) (marks-numbered 1 marks) (whole.shown-marks rows texts its none by_place history_for) are_marks
 
   version-is : whole.version rows texts its none ≡ version

@@ -12,7 +12,8 @@ use Rattle.std.proofs.lemmas.Option.{slice_get-get_or, slice_get_within}
 use Rattle.desk_memory.specs.declared.marks.KeptMark.{KeptMark}
 use Rattle.desk_memory.specs.declared.paragraphs.Paragraph.{Paragraph as KeptParagraph}
 use Rattle.desk_model.specs.Damage.{IsDamagedMark, IsNumber, IsSoundMarkRow, IsSpanned}
-use Rattle.desk_parts.specs.FileRows.{HasMarkText, spelled_mark}
+use Rattle.desk_parts.specs.declared.file_table.FileTable.TheVariants as tables
+use Rattle.desk_parts.specs.FileRows.{HasTexts, spelled}
 use Rattle.desk_rebuild.specs.Rows.{AreMarksOf, AreOf, HasKept, HaveMarks, IsFirstId, IsWhole, without_marks}
 use Rattle.desk_rebuild.specs.Marks.{AreKeptOf, IsKeptOf, IsMarkOn, IsOnOne, mark_rule}
 use Rattle.desk_rebuild.specs.OrderedRows.{AreInOrder, AreSoundUpTo, IsFirstUnsound, IsNext, IsSoundAt}
@@ -84,7 +85,7 @@ module _ (paras : List Para) (items : List KeptParagraph) (of : AreOf paras item
     number-of row s = s.number
 
     abbrev sound-at : (index : ℕ) (row : MarkRow) → slice_get sorted index ≡ Some row → IsNumber (mark_rule items).id most_marks rows row.id
-        → IsSoundAt (mark_rule items) index row → HasMarkText row → IsSoundMarkRow paras rows row
+        → IsSoundAt (mark_rule items) index row → HasTexts tables.Mark row → IsSoundMarkRow paras rows row
     sound-at index row at number s text = sound-row rows row number s.sound
 
     abbrev at-sound : (index : ℕ) (row : MarkRow) → slice_get sorted index ≡ Some row → AreSoundUpTo (mark_rule items) index sorted
@@ -100,12 +101,12 @@ module _ (paras : List Para) (items : List KeptParagraph) (of : AreOf paras item
 
 -- ---- the marks that the rows are
 
-kept-row : (n : ℕ) (row : MarkRow) (mark : KeptMark) → row.id ≡ pos n → IsKeptOf row mark → spelled_mark row ≡ mark_row_of (mark_kept (n, mark))
+kept-row : (n : ℕ) (row : MarkRow) (mark : KeptMark) → row.id ≡ pos n → IsKeptOf row mark → spelled tables.Mark row ≡ mark_row_of (mark_kept (n, mark))
 kept-row n row mark id kept = sym kept ∙ ap (λ (z : ℤ). record (mark_row_of (mark_kept (0, mark))) { id = z }) id
 
 kept-rows : (n : ℕ) (rows : List MarkRow) (marks : List KeptMark) → length marks ≡ length rows
     → ((i : ℕ) (row : MarkRow) (mark : KeptMark) → slice_get rows i ≡ Some row → slice_get marks i ≡ Some mark → (row.id ≡ pos (n + i)) × IsKeptOf row mark)
-    → map spelled_mark rows ≡ map mark_row_of (map mark_kept (enumerate_from n marks))
+    → map (spelled tables.Mark) rows ≡ map mark_row_of (map mark_kept (enumerate_from n marks))
 kept-rows n [] [] long each = refl
 kept-rows n [] (m ∷ ms) long each = absurd (omega arith)
 kept-rows n (r ∷ rs) [] long each = absurd (omega arith)
@@ -121,10 +122,10 @@ kept-rows n (r ∷ rs) (m ∷ ms) long each =
 
 pub are-marks : (items : List KeptParagraph) (rows sorted : List MarkRow) (marks : List KeptMark) → IsPermutation rows sorted → AreKeptOf items sorted marks → AreMarksOf rows marks
 are-marks items rows sorted marks moved have =
-    subst (IsPermutation (map spelled_mark rows)) (kept-rows 1 sorted marks have.count_is (λ i row mark at_row at_mark.
+    subst (IsPermutation (map (spelled tables.Mark) rows)) (kept-rows 1 sorted marks have.count_is (λ i row mark at_row at_mark.
     let next : i + 1 ≡ 1 + i = omega arith in
     ((have.sound i row (slice_get_within sorted i row at_row) at_row).0.next.1 ∙ ap pos next, have.each i row mark at_row at_mark)))
-    (IsPermutation-map spelled_mark rows sorted moved)
+    (IsPermutation-map (spelled tables.Mark) rows sorted moved)
 
 -- there are no more than there may be
 pub few-kept : (items : List KeptParagraph) (sorted : List MarkRow) (marks : List KeptMark) → AreKeptOf items sorted marks → length marks ≤ most_marks
@@ -145,9 +146,9 @@ on-ones items sorted marks have k d less =
     (omega (arith, same), omega (arith, same, within))
 
 -- and each row's text is UTF-8
-pub all-texts : (items : List KeptParagraph) (rows sorted : List MarkRow) (marks : List KeptMark) → IsPermutation rows sorted → AreKeptOf items sorted marks → All HasMarkText rows
+pub all-texts : (items : List KeptParagraph) (rows sorted : List MarkRow) (marks : List KeptMark) → IsPermutation rows sorted → AreKeptOf items sorted marks → All (HasTexts tables.Mark) rows
 all-texts items rows sorted marks moved have =
-    All-permutation HasMarkText sorted rows (IsPermutation-sym rows sorted moved) (λ k d within.
+    All-permutation (HasTexts tables.Mark) sorted rows (IsPermutation-sym rows sorted moved) (λ k d within.
     (have.sound k (get_or sorted k d) within (slice_get-get_or sorted k d within)).1)
 
 -- ---- the indexes of a paragraph's marks

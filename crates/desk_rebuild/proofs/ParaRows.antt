@@ -20,7 +20,8 @@ use Rattle.louis_translate.specs.Position.{AreDefined}
 use Rattle.desk_memory.specs.declared.paragraphs.Paragraph.{Paragraph as KeptParagraph}
 use Rattle.desk_memory.specs.declared.tables.BookTable.{BookTable}
 use Rattle.desk_model.specs.Damage.{IsDamagedPara, IsItsTable, IsNumber, IsSoundParaRow, IsWithin}
-use Rattle.desk_parts.specs.FileRows.{HasParaTexts, HasTabText, spelled_tab}
+use Rattle.desk_parts.specs.declared.file_table.FileTable.TheVariants as file
+use Rattle.desk_parts.specs.FileRows.{HasTexts, spelled}
 use Rattle.desk_rebuild.specs.Rows.{AreTables, IsFirstId, IsWhole}
 use Rattle.desk_rebuild.specs.Paras.{AreKeptOf, ArePlacedUpTo, IsFree, IsKeptOf, IsParaAt, IsParaOn, para_rule}
 use Rattle.desk_memory.specs.Kept.{KeptTables}
@@ -50,15 +51,15 @@ module _ (tabs : List Tab) (tables : KeptTables) (are : AreTables tabs tables) w
   pub its-table : (row : Para) → IsUtf8 row.tab → (table : BookTable) → lookup (pointwise nat_eq (chars row.tab)) tables ≡ Some table → IsItsTable tabs row table.rules
   its-table row utf8 table found =
       let entry = Contains-from_lookup (λ x y same. (Decides-name x y).0 same) (chars row.tab) table tables found in
-      let stored = Contains-from_map spelled_tab tabs (tab_of (chars row.tab, table.text))
-      (Contains-permutation (map (λ (e : List ℕ × BookTable). tab_of (text_of_entry e)) tables) (map spelled_tab tabs) (tab_of (chars row.tab, table.text))
-      (IsPermutation-sym (map spelled_tab tabs) (map (λ (e : List ℕ × BookTable). tab_of (text_of_entry e)) tables) are.rows)
+      let stored = Contains-from_map (spelled file.Tab) tabs (tab_of (chars row.tab, table.text))
+      (Contains-permutation (map (λ (e : List ℕ × BookTable). tab_of (text_of_entry e)) tables) (map (spelled file.Tab) tabs) (tab_of (chars row.tab, table.text))
+      (IsPermutation-sym (map (spelled file.Tab) tabs) (map (λ (e : List ℕ × BookTable). tab_of (text_of_entry e)) tables) are.rows)
       (Contains-map (λ (e : List ℕ × BookTable). tab_of (text_of_entry e)) tables (chars row.tab, table) entry)) in
       let body : stored.0.body ≡ table.text = ap (λ (t : Tab). t.body) stored.2 in
       record {
         table = stored.0;
         there = stored.1;
-        named = same_bytes stored.0.name row.tab (All-contains HasTabText tabs stored.0 are.texts stored.1) utf8 (ap (λ (t : Tab). t.name) stored.2);
+        named = same_bytes stored.0.name row.tab (All-contains (HasTexts file.Tab) tabs stored.0 are.texts stored.1) utf8 (ap (λ (t : Tab). t.name) stored.2);
         means = subst (λ (text : List ℕ). Means text table.rules) (sym body)
             (All-contains (λ (e : List ℕ × BookTable). Means e.1.text e.1.rules) tables (chars row.tab, table) are.means entry);
       }
@@ -67,9 +68,9 @@ module _ (tabs : List Tab) (tables : KeptTables) (are : AreTables tabs tables) w
   pub table-found : (row : Para) (meaning : Meaning) → IsItsTable tabs row meaning
       → (table : BookTable) × (lookup (pointwise nat_eq (chars row.tab)) tables ≡ Some table) × (table.rules ≡ meaning)
   table-found row meaning its =
-      let stored = Contains-from_map (λ (e : List ℕ × BookTable). tab_of (text_of_entry e)) tables (spelled_tab its.table)
-      (Contains-permutation (map spelled_tab tabs) (map (λ (e : List ℕ × BookTable). tab_of (text_of_entry e)) tables) (spelled_tab its.table) are.rows
-      (Contains-map spelled_tab tabs its.table its.there)) in
+      let stored = Contains-from_map (λ (e : List ℕ × BookTable). tab_of (text_of_entry e)) tables (spelled file.Tab its.table)
+      (Contains-permutation (map (spelled file.Tab) tabs) (map (λ (e : List ℕ × BookTable). tab_of (text_of_entry e)) tables) (spelled file.Tab its.table) are.rows
+      (Contains-map (spelled file.Tab) tabs its.table its.there)) in
       let name : stored.0.0 ≡ chars row.tab = ap (λ (t : Tab). t.name) stored.2 ∙ ap chars its.named in
       let body : stored.0.1.text ≡ its.table.body = ap (λ (t : Tab). t.body) stored.2 in
       let found = text-there (chars row.tab) its.table.body texts (subst (λ names. IsStrictlySortedBy (slice_cmp nat_cmp) names) (sym (map-map (λ (e : List ℕ × List ℕ). e.0) text_of_entry tables)) are.sorted)
@@ -166,7 +167,7 @@ module _ (tables : KeptTables) (count : ℕ) (rows : List Para) (order : List �
 -- a sound row more, its paragraph, and its number at its place
 pub kept-more : (tables : KeptTables) (count : ℕ) (rows : List Para) (items : List KeptParagraph) (order : List ℕ) → AreKeptOf tables count rows items order
     → (row : Para) (kept : KeptParagraph) (index : ℕ) → slice_get rows count ≡ Some row → IsNext most_paragraphs count row.id → IsFree order row.place index
-    → IsParaOn tables row → HasParaTexts row → IsKeptOf row kept → AreKeptOf tables (count + 1) rows (items ++ kept ∷ []) (set order index (count + 1))
+    → IsParaOn tables row → HasTexts file.Para row → IsKeptOf row kept → AreKeptOf tables (count + 1) rows (items ++ kept ∷ []) (set order index (count + 1))
 kept-more tables count rows items order have row kept index here next free on texts of =
     record {
       kept = one-more (para_rule tables rows) rows IsKeptOf count items row kept have.kept here
@@ -225,7 +226,7 @@ module _ (tabs : List Tab) (tables : KeptTables) (are : AreTables tabs tables) w
 
     -- a row that is sound at its index, with its number, is sound
     sound-at : (index : ℕ) (row : Para) → slice_get sorted index ≡ Some row → IsNumber key most_paragraphs rows row.id
-        → IsSoundAt rule index row → HasParaTexts row → IsSoundParaRow tabs rows row
+        → IsSoundAt rule index row → HasTexts file.Para row → IsSoundParaRow tabs rows row
     sound-at index row at number s texts =
         let split = drop-there sorted index row at in
         let parts : sorted ≡ take index sorted ++ row ∷ drop (index + 1) sorted =

@@ -25,7 +25,8 @@ use Rattle.desk_rebuild.specs.declared.damage.RowsFault.{RowsFault}
 use Rattle.desk_rebuild.specs.declared.damage.RowsFault.TheVariants.{Damaged, NoMemory}
 use Rattle.desk_memory.specs.declared.tables.BookTable.{BookTable}
 use Rattle.desk_model.specs.Damage.{AreInOrder, IsDamagedTab, IsSoundTabRow}
-use Rattle.desk_parts.specs.FileRows.{HasTabText, spelled_tab}
+use Rattle.desk_parts.specs.declared.file_table.FileTable.TheVariants as file
+use Rattle.desk_parts.specs.FileRows.{HasTexts, spelled}
 use Rattle.desk_rebuild.specs.Rows.{AreTables, IsWhole, TellsDamage}
 use Rattle.desk_rebuild.specs.Tabs.{AreRead, MayCome, TellsFirstUnsound, TellsNoMeaning, TellsUnsoundTab, rows_of, tab_order}
 use Rattle.desk_memory.specs.Kept.{KeptTables, with_table}
@@ -178,35 +179,35 @@ to-front (y ∷ xs) ys (suc i) x is = let rest = to-front xs ys i x is in (omega
 abbrev kept_tab : List ℕ × BookTable → Tab
 kept_tab entry = tab_of (entry.0, entry.1.text)
 
-module _ (done rest : List Tab) (row : Tab) (tables : KeptTables) (text : HasTabText row) (read : AreRead (done ++ row ∷ rest) done tables) where
+module _ (done rest : List Tab) (row : Tab) (tables : KeptTables) (text : HasTexts file.Tab row) (read : AreRead (done ++ row ∷ rest) done tables) where
   abbrev sorted : List Tab
   sorted = done ++ row ∷ rest
 
   pub count : length tables ≡ length done
   count =
-      let moved = length_permutation (map spelled_tab done) (map kept_tab tables) read.rows in
-      let one = length-map done spelled_tab in
+      let moved = length_permutation (map (spelled file.Tab) done) (map kept_tab tables) read.rows in
+      let one = length-map done (spelled file.Tab) in
       let other = length-map tables kept_tab in
       omega (arith, moved, one, other)
 
   -- a row before it has the name under which a table is kept
   row-named : (name : List ℕ) (table : BookTable) → Contains tables (name, table) → (other : Tab) × Contains done other × (chars other.name ≡ name)
   row-named name table c =
-      let back = Contains-permutation (map kept_tab tables) (map spelled_tab done) (kept_tab (name, table))
-      (IsPermutation-sym (map spelled_tab done) (map kept_tab tables) read.rows) (Contains-map kept_tab tables (name, table) c) in
-      let other = Contains-from_map spelled_tab done (kept_tab (name, table)) back in
+      let back = Contains-permutation (map kept_tab tables) (map (spelled file.Tab) done) (kept_tab (name, table))
+      (IsPermutation-sym (map (spelled file.Tab) done) (map kept_tab tables) read.rows) (Contains-map kept_tab tables (name, table) c) in
+      let other = Contains-from_map (spelled file.Tab) done (kept_tab (name, table)) back in
       (other.0, other.1, ap (λ (t : Tab). t.name) other.2)
 
   -- and a table is kept under the name of each row before it
   table-named : (other : Tab) → Contains done other → (table : BookTable) × Contains tables (chars other.name, table)
   table-named other c =
-      let there = Contains-permutation (map spelled_tab done) (map kept_tab tables) (spelled_tab other) read.rows (Contains-map spelled_tab done other c) in
-      let entry = Contains-from_map kept_tab tables (spelled_tab other) there in
+      let there = Contains-permutation (map (spelled file.Tab) done) (map kept_tab tables) (spelled file.Tab other) read.rows (Contains-map (spelled file.Tab) done other c) in
+      let entry = Contains-from_map kept_tab tables (spelled file.Tab other) there in
       (entry.0.1, subst (λ n. Contains tables (n, entry.0.1)) (ap (λ (t : Tab). t.name) entry.2) entry.1)
 
   same-bytes : (other : Tab) → Contains done other → chars other.name ≡ chars row.name → other.name ≡ row.name
   same-bytes other c same =
-      sym (encodes-chars other.name (All-contains HasTabText done other read.texts c)) ∙ (ap encodes same ∙ encodes-chars row.name text)
+      sym (encodes-chars other.name (All-contains (HasTexts file.Tab) done other read.texts c)) ∙ (ap encodes same ∙ encodes-chars row.name text)
 
   no-table : (other : Tab) → Contains done other → other.name ≡ row.name → ¬ (lookup (pointwise nat_eq (chars row.name)) tables ≡ None)
   no-table other c same none =
@@ -233,13 +234,13 @@ module _ (done rest : List Tab) (row : Tab) (tables : KeptTables) (text : HasTab
       → AreRead sorted (done ++ row ∷ []) (with_table (chars row.name) table tables)
   more-read table may is means =
       let moved = put-moved (chars row.name) table tables may.new in
-      let own : kept_tab (chars row.name, table) ≡ spelled_tab row = λ i. record { name = chars row.name; body = is i } in
+      let own : kept_tab (chars row.name, table) ≡ spelled file.Tab row = λ i. record { name = chars row.name; body = is i } in
       let longer = length_permutation ((chars row.name, table) ∷ tables) (with_table (chars row.name) table tables) moved in
       let room = may.room in
       record {
-        texts = All-push HasTabText done row read.texts text;
-        rows = subst (λ xs. IsPermutation xs (map kept_tab (with_table (chars row.name) table tables))) (sym (map-append spelled_tab done (row ∷ [])))
-            (IsPermutation-push_more (map spelled_tab done) (map kept_tab tables) (map kept_tab (with_table (chars row.name) table tables)) (spelled_tab row) read.rows
+        texts = All-push (HasTexts file.Tab) done row read.texts text;
+        rows = subst (λ xs. IsPermutation xs (map kept_tab (with_table (chars row.name) table tables))) (sym (map-append (spelled file.Tab) done (row ∷ [])))
+            (IsPermutation-push_more (map (spelled file.Tab) done) (map kept_tab tables) (map kept_tab (with_table (chars row.name) table tables)) (spelled file.Tab row) read.rows
             (subst (λ t. IsPermutation (t ∷ map kept_tab tables) (map kept_tab (with_table (chars row.name) table tables))) own
             (IsPermutation-map kept_tab ((chars row.name, table) ∷ tables) (with_table (chars row.name) table tables) moved)));
         means = All-put (slice_cmp nat_cmp) same_name (λ entry. Means entry.1.text entry.1.rules) (chars row.name) table tables read.means
@@ -325,7 +326,7 @@ untold all index row id is NoMemory told = tt
 pub none-read : (all : List Tab) → AreRead all [] []
 unfolding IsStrictlySortedBy
 none-read all = record {
-  texts = All-nil HasTabText;
+  texts = All-nil (HasTexts file.Tab);
   rows = IsPermutation-refl [];
   means = All-nil (λ (entry : List ℕ × BookTable). Means entry.1.text entry.1.rules);
   names = tt;
@@ -336,8 +337,8 @@ none-read all = record {
 pub are-tables : (tabs all : List Tab) → IsPermutation tabs all → (result : Result KeptTables RowsFault) → IfOk result (AreRead all all) → IfOk result (AreTables tabs)
 are-tables tabs all moved (Err fault) read = tt
 are-tables tabs all moved (Ok tables) read = record {
-  texts = All-permutation HasTabText all tabs (IsPermutation-sym tabs all moved) read.texts;
-  rows = IsPermutation-trans (map spelled_tab tabs) (map spelled_tab all) (map kept_tab tables) (IsPermutation-map spelled_tab tabs all moved) read.rows;
+  texts = All-permutation (HasTexts file.Tab) all tabs (IsPermutation-sym tabs all moved) read.texts;
+  rows = IsPermutation-trans (map (spelled file.Tab) tabs) (map (spelled file.Tab) all) (map kept_tab tables) (IsPermutation-map (spelled file.Tab) tabs all moved) read.rows;
   means = read.means;
   sorted = read.names;
 }

@@ -7,7 +7,8 @@ use Rattle.desk_memory.specs.Kept.{mark_kept}
 use Rattle.desk_model.specs.Damage.{IsFlag}
 use Rattle.desk_rebuild.specs.OrderedRows.{AreKeptUpTo, RowRule}
 use Rattle.desk_model.specs.Limits.{most_marks, most_note}
-use Rattle.desk_parts.specs.FileRows.{HasMarkText, spelled_mark}
+use Rattle.desk_parts.specs.declared.file_table.FileTable.TheVariants as tables
+use Rattle.desk_parts.specs.FileRows.{HasTexts, spelled}
 use Rattle.desk_parts.specs.Rows.{Mark as MarkRow}
 use Rattle.desk_model.specs.Shows.{mark_row_of}
 use Rattle.desk_model.specs.NormalForm.{IsUnbarred}
@@ -44,13 +45,13 @@ pub record IsMarkOn (items : List KeptParagraph) (row : MarkRow) : Type 0 where
 
 -- the kept mark has what its row says: with the row's id, it has that row
 abbrev pub IsKeptOf : MarkRow → KeptMark → Type 0
-IsKeptOf row mark = record (mark_row_of (mark_kept (0, mark))) { id = row.id } ≡ spelled_mark row
+IsKeptOf row mark = record (mark_row_of (mark_kept (0, mark))) { id = row.id } ≡ spelled tables.Mark row
 
 -- ---- rows in the order of their ids
 
 -- what is asked of the rows beside these paragraphs
 abbrev pub mark_rule : List KeptParagraph → RowRule MarkRow
-mark_rule items = record { id = λ row. row.id; most = most_marks; IsSound = λ index row. IsMarkOn items row; HasTexts = HasMarkText }
+mark_rule items = record { id = λ row. row.id; most = most_marks; IsSound = λ index row. IsMarkOn items row; HasTexts = HasTexts tables.Mark }
 
 -- each row is sound, and has its mark
 abbrev pub AreKeptOf : List KeptParagraph → List MarkRow → List KeptMark → Type 0

@@ -11,7 +11,8 @@ use Rattle.louis_table.specs.Table.{Means}
 use Rattle.desk_rebuild.specs.declared.damage.RowsFault.{RowsFault}
 use Rattle.desk_rebuild.specs.declared.damage.RowsFault.TheVariants.{Damaged, NoMemory}
 use Rattle.desk_model.specs.Damage.{IsSoundTabRow}
-use Rattle.desk_parts.specs.FileRows.{HasTabText, spelled_tab}
+use Rattle.desk_parts.specs.declared.file_table.FileTable.TheVariants as file
+use Rattle.desk_parts.specs.FileRows.{HasTexts, spelled}
 use Rattle.desk_memory.specs.Kept.{KeptTables}
 use Rattle.desk_model.specs.Limits.{most_tables}
 use Rattle.desk_model.specs.Name.{IsTableName}
@@ -27,8 +28,8 @@ tab_order one other = ordering_then (slice_cmp nat_cmp one.name other.name) (sli
 
 -- each of these rows, which are the first of a list in order, is sound, and the kept tables are theirs
 pub record AreRead (sorted done : List Tab) (tables : KeptTables) : Type 0 where
-  pub texts : All HasTabText done
-  pub rows : IsPermutation (map spelled_tab done) (map (λ entry. tab_of (entry.0, entry.1.text)) tables)
+  pub texts : All (HasTexts file.Tab) done
+  pub rows : IsPermutation (map (spelled file.Tab) done) (map (λ entry. tab_of (entry.0, entry.1.text)) tables)
   pub means : All (λ entry. Means entry.1.text entry.1.rules) tables
   pub names : IsStrictlySortedBy (slice_cmp nat_cmp) (map (λ entry. entry.0) tables)
   pub few : length tables ≤ most_tables

@@ -9,6 +9,7 @@ use Rattle.sqlite_schema.specs.declared.schema.Kind.TheVariants.{Integer, Real, 
 use Rattle.sqlite.specs.declared.error.Error.{Error}
 use Rattle.sqlite.specs.State.{State, Shown, FailsToQuery, IsUnchanged}
 use Rattle.desk_parts.specs.declared.file_table.FileTable.{FileTable}
+use Rattle.desk_parts.specs.FileRows.{HasTexts}
 use Rattle.sql_tables.specs.Kinds.{HasKinds, HaveIntegerRowids, HaveUtf8Texts, IsOfKind}
 use Rattle.sql_tables.specs.Rows.{Lists, columns_at, numbers_from}
 use Rattle.sql_tables.specs.States.{HasAnswer, HasTable}
@@ -17,7 +18,6 @@ use Rattle.desk_rows.specs.Descriptions.{description_of, table_of, kind_at, show
 use Rattle.desk_rows.specs.Fault.{IsToldAs}
 use Rattle.desk_rows.specs.Layout.{Layout}
 use Rattle.desk_rows.specs.Rows.{ShownOf, shown_columns, own, order}
-use Rattle.desk_rows.specs.Whole.{IsUtf8Row}
 use Rattle.desk_rows.specs.States.{ShowsContents}
 use Rattle.desk_rows.specs.declared.fault.DatabaseFault.{DatabaseFault}
 use Rattle.desk_rows.specs.declared.fault.DatabaseFault.TheVariants.{NoMemory, Refused}
@@ -93,7 +93,7 @@ pub record AnswersRows {V X : Type 0} (result : Result V DatabaseFault) (items :
   -- what the statement shows in any file
   pub gives : IfOk result (λ xs. Gives (query_of t) (λ x. shown_columns t (view x)) old new (items xs))
   pub apart : IfOk result (λ xs. Apart (items xs))
-  pub utf8 : IfOk result (λ xs. AllByRecursion (λ x. IsUtf8Row t (own t (view x))) (items xs))
+  pub utf8 : IfOk result (λ xs. AllByRecursion (λ x. HasTexts t (own t (view x))) (items xs))
   -- where the table is declared as in a new file, its rows as they stand, in order
   pub rows : (tree : ℕ) → HasTable (table_of t tree) old → IfOk result (λ xs.
       Lists (λ x. shown_columns t (view x)) (columns_at (description_of t).shown) (items xs) (old.now.trees tree)

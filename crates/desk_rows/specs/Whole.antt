@@ -7,7 +7,7 @@ use Rattle.sqlite_rules.specs.Edit.{IsNoIndex}
 use Rattle.sql_tables.specs.Rows.{Lists, columns_at}
 use Rattle.desk_parts.specs.declared.file_table.FileTable.{FileTable}
 use Rattle.desk_parts.specs.declared.file_table.FileTable.TheVariants as tables
-use Rattle.desk_parts.specs.FileRows.{HasEntryTexts, HasMarkText, HasParaTexts, HasTabText}
+use Rattle.desk_parts.specs.FileRows.{HasTexts}
 use Rattle.desk_parts.specs.Puts.{RowPut, PutRow, SetColumns, Flags, Place, Print, Resolved, Span, Table, Version}
 use Rattle.desk_parts.specs.Rows.{RowOf, StoredTab}
 use Rattle.desk_rows.specs.Contents.{Contents}
@@ -55,23 +55,13 @@ AreApart rows = (t : FileTable) → DifferIn t (rows t)
 abbrev pub contents_of : Rows → Trees → Contents
 contents_of rows db = record { rows = λ t. map (own t) (rows t); others = db }
 
--- the texts of a row are UTF-8
-abbrev pub IsUtf8Row : (t : FileTable) → RowOf t → Type 0
-IsUtf8Row tables.Book b = ⊤
-IsUtf8Row tables.Tab t = HasTabText t
-IsUtf8Row tables.Para p = HasParaTexts p
-IsUtf8Row tables.Corr e = IsUtf8 e.body
-IsUtf8Row tables.Mark m = HasMarkText m
-IsUtf8Row tables.Cache k = ⊤
-IsUtf8Row tables.NamedCorr e = HasEntryTexts e
-
 -- each text is UTF-8
 abbrev pub AreUtf8 : Contents → Type 0
-AreUtf8 c = (t : FileTable) → AllByRecursion (IsUtf8Row t) (c.rows t)
+AreUtf8 c = (t : FileTable) → AllByRecursion (HasTexts t) (c.rows t)
 
 -- the texts of what is put are UTF-8
 abbrev pub IsUtf8Put : RowPut → Type 0
-IsUtf8Put (PutRow t row) = IsUtf8Row t row
+IsUtf8Put (PutRow t row) = HasTexts t row
 IsUtf8Put (SetColumns tables.Book id (Version version)) = ⊤
 IsUtf8Put (SetColumns tables.Para id (Place place)) = ⊤
 IsUtf8Put (SetColumns tables.Para id (Flags style volume struck)) = ⊤

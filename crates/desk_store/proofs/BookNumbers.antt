@@ -7,7 +7,8 @@ use Rattle.std.proofs.lemmas.Simd.{map-map}
 use Rattle.std.proofs.lemmas.List.Sorted.{IsPermutation-map, IsPermutation-sym}
 use Rattle.std.proofs.lemmas.Map.Keys.{IsDistinct-IsPermutation}
 use Rattle.desk_model.specs.Book.{Book, Mark, Paragraph}
-use Rattle.desk_parts.specs.FileRows.{FileRows, spelled_mark, spelled_para}
+use Rattle.desk_parts.specs.declared.file_table.FileTable.TheVariants as tables
+use Rattle.desk_parts.specs.FileRows.{FileRows, spelled}
 use Rattle.desk_parts.specs.Rows.{Mark as MarkRow, Para, ParaCells}
 use Rattle.desk_model.specs.Shows.{Shows, mark_row_of, para_of, paras_of}
 use Rattle.desk_model.proofs.Callers.{IsDistinct-numbers, IsDistinct-range, int_eq-pos}
@@ -52,9 +53,9 @@ differ_by_numbers rows book shows =
     let ids = IsDistinct-numbers _ (map (λ (p : Paragraph). p.id) book.paragraphs) sound.ids in
     record {
       books = subst (DifferBy (λ b. b.id)) (sym shows.row) (tt, tt);
-      paras = differ (λ (p : Para). p.id) spelled_para rows.paras (paras_of book.paragraphs) _ (map-map (λ (p : Para). p.id) spelled_para rows.paras)
+      paras = differ (λ (p : Para). p.id) (spelled tables.Para) rows.paras (paras_of book.paragraphs) _ (map-map (λ (p : Para). p.id) (spelled tables.Para) rows.paras)
           shows.paragraphs (para_numbers 1 book.paragraphs) ids;
-      marks = differ (λ (m : MarkRow). m.id) spelled_mark rows.marks (map mark_row_of book.marks) _ (map-map (λ (m : MarkRow). m.id) spelled_mark rows.marks)
+      marks = differ (λ (m : MarkRow). m.id) (spelled tables.Mark) rows.marks (map mark_row_of book.marks) _ (map-map (λ (m : MarkRow). m.id) (spelled tables.Mark) rows.marks)
           shows.marks (mark_numbers book.marks) (subst (IsDistinct nat_eq) (sym sound.numbers) (IsDistinct-range 1 _));
       caches = λ caches there.
           let cached = shows.caches caches there in

@@ -18,7 +18,7 @@ use Rattle.desk_memory.specs.declared.paragraphs.Paragraph.{Paragraph as KeptPar
 use Rattle.desk_model.specs.Book.{Book, Entry, Paragraph}
 use Rattle.desk_book.specs.ChangePuts.{entry_row}
 use Rattle.desk_model.specs.Loans.{row_number}
-use Rattle.desk_parts.specs.FileRows.{HasEntryTexts, spelled_entry}
+use Rattle.desk_parts.specs.FileRows.{HasTexts, spelled}
 use Rattle.desk_model.specs.FilledRows.{AreEntriesOf, Fills}
 use Rattle.desk_book.specs.Filling.{HaveHistories, braille_from, braille_put, histories_from, history_puts}
 use Rattle.desk_memory.specs.Histories.{entries_kept, entry_kept}
@@ -62,7 +62,7 @@ enumerate_from-map f n (x ∷ xs) = ap (λ (rest : List _). (n, f x) ∷ rest) (
 
 -- the row shows the entry with this number of the paragraph with this id
 abbrev IsRow : ℕ → ℕ × KeptEntry → Type 0
-IsRow id entry = (spelled_entry (numbered_row id entry) ≡ entry_row_of id (entry.0, entry_kept entry.1)) × HasEntryTexts (numbered_row id entry)
+IsRow id entry = (spelled file.NamedCorr (numbered_row id entry) ≡ entry_row_of id (entry.0, entry_kept entry.1)) × HasTexts file.NamedCorr (numbered_row id entry)
 
 module _ (book : Book) where
   -- a paragraph that is kept stands for a sound one, and has a small id
@@ -89,28 +89,28 @@ module _ (book : Book) where
         entry-texts kept.original before id (1 + k) small early seen print entry is,
       )
 
-  spelled-history : (entry : ℕ × KeptParagraph) → IsSoundKept entry → map spelled_entry (rows_kept entry) ≡ entry_rows_of (paragraph_kept entry)
+  spelled-history : (entry : ℕ × KeptParagraph) → IsSoundKept entry → map (spelled file.NamedCorr) (rows_kept entry) ≡ entry_rows_of (paragraph_kept entry)
   spelled-history (id, kept) sound =
       let all = enumerate_from 1 kept.history in
       let kept_as : ℕ × KeptEntry → ℕ × Entry = λ e. (e.0, entry_kept e.1) in
-      map-map spelled_entry (numbered_row id) all
-      ∙ (map-agree (λ e. spelled_entry (numbered_row id e)) (λ e. entry_row_of id (kept_as e)) all
-      (All-weaker (IsRow id) (λ e. spelled_entry (numbered_row id e) ≡ entry_row_of id (kept_as e)) (λ e is. is.0) all (are-rows (id, kept) sound))
+      map-map (spelled file.NamedCorr) (numbered_row id) all
+      ∙ (map-agree (λ e. spelled file.NamedCorr (numbered_row id e)) (λ e. entry_row_of id (kept_as e)) all
+      (All-weaker (IsRow id) (λ e. spelled file.NamedCorr (numbered_row id e) ≡ entry_row_of id (kept_as e)) (λ e is. is.0) all (are-rows (id, kept) sound))
       ∙ (sym (map-map (entry_row_of id) kept_as all) ∙ ap (map (entry_row_of id)) (sym (enumerate_from-map entry_kept 1 kept.history))))
 
-  spelled-all : (kept : KeptParagraphs) → All IsSoundKept kept → map spelled_entry (entries_of kept) ≡ flat_map entry_rows_of (map paragraph_kept kept)
+  spelled-all : (kept : KeptParagraphs) → All IsSoundKept kept → map (spelled file.NamedCorr) (entries_of kept) ≡ flat_map entry_rows_of (map paragraph_kept kept)
   spelled-all [] all = refl
   spelled-all (entry ∷ kept) all =
-      map-append spelled_entry (rows_kept entry) (entries_of kept)
+      map-append (spelled file.NamedCorr) (rows_kept entry) (entries_of kept)
       ∙ ap₂ (λ (xs ys : List NamedCorr). xs ++ ys) (spelled-history entry (All-head IsSoundKept entry kept all)) (spelled-all kept (All-tail IsSoundKept entry kept all))
 
-  texts-all : (kept : KeptParagraphs) → All IsSoundKept kept → All HasEntryTexts (entries_of kept)
-  texts-all [] all = All-nil HasEntryTexts
+  texts-all : (kept : KeptParagraphs) → All IsSoundKept kept → All (HasTexts file.NamedCorr) (entries_of kept)
+  texts-all [] all = All-nil (HasTexts file.NamedCorr)
   texts-all (entry ∷ kept) all =
       let history = enumerate_from 1 entry.1.history in
-      All-append HasEntryTexts (rows_kept entry) (entries_of kept)
-      (All-map HasEntryTexts (numbered_row entry.0) history
-      (All-weaker (IsRow entry.0) (λ e. HasEntryTexts (numbered_row entry.0 e)) (λ e is. is.1) history (are-rows entry (All-head IsSoundKept entry kept all))))
+      All-append (HasTexts file.NamedCorr) (rows_kept entry) (entries_of kept)
+      (All-map (HasTexts file.NamedCorr) (numbered_row entry.0) history
+      (All-weaker (IsRow entry.0) (λ e. HasTexts file.NamedCorr (numbered_row entry.0 e)) (λ e is. is.1) history (are-rows entry (All-head IsSoundKept entry kept all))))
       (texts-all kept (All-tail IsSoundKept entry kept all))
 
 -- ---- braille

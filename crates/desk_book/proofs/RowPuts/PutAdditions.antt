@@ -12,7 +12,7 @@ use Rattle.desk_memory.specs.declared.marks.KeptMark.{KeptMark}
 use Rattle.desk_model.specs.Book.{Book, Mark}
 use Rattle.desk_model.specs.Loans.{LeadTo, row_number}
 use Rattle.desk_book.specs.ChangePuts.{kept_mark_row, version_put}
-use Rattle.desk_parts.specs.FileRows.{HasMarkText, format_of, spelled_mark}
+use Rattle.desk_parts.specs.FileRows.{HasTexts, format_of, spelled}
 use Rattle.desk_memory.specs.Kept.{mark_kept}
 use Rattle.desk_parts.specs.declared.file_table.FileTable.TheVariants as tables
 use Rattle.desk_parts.specs.Puts.{PutRow, put_by_key}
@@ -80,7 +80,7 @@ module _ (book : Book) (kept : KeptMark) (sound : IsSound book) where
     few : number ≤ 100000
     few = let long = length-append book.marks (mark ∷ []) in let most = after.few_marks in omega arith
 
-    spelled-row : spelled_mark row ≡ mark_row_of mark
+    spelled-row : spelled tables.Mark row ≡ mark_row_of mark
     spelled-row =
         let s = is_sound in
         let paragraph = paragraph_of-within marked after kept.paragraph s.paragraph s.found in
@@ -110,7 +110,7 @@ module _ (book : Book) (kept : KeptMark) (sound : IsSound book) where
         tabs = shows.texts.tabs;
         paras = shows.texts.paras;
         entries = shows.texts.entries;
-        marks = All-put_in HasMarkText (λ (m : MarkRow). int_eq m.id row.id) row rows.marks (encoded-text kept.note is_sound.clean.characters) shows.texts.marks;
+        marks = All-put_in (HasTexts tables.Mark) (λ (m : MarkRow). int_eq m.id row.id) row rows.marks (encoded-text kept.note is_sound.clean.characters) shows.texts.marks;
       };
       row = versioned (format_of rows.entries) book.version marked.version rows.books after.version shows.row;
       tables = shows.tables;
@@ -119,12 +119,12 @@ module _ (book : Book) (kept : KeptMark) (sound : IsSound book) where
       marks =
           let key : MarkRow → Bool = λ m. int_eq m.id row.id in
           let old : List MarkRow = map mark_row_of book.marks in
-          let moved = IsPermutation-put_in spelled_mark key key row rows.marks old (λ k d within. refl) shows.marks in
+          let moved = IsPermutation-put_in (spelled tables.Mark) key key row rows.marks old (λ k d within. refl) shows.marks in
           let all : filter (λ m. not (key m)) old ≡ old = filter-all (λ m. not (key m)) old others-apart in
           let now : map mark_row_of (book.marks ++ mark ∷ []) ≡ old ++ mark_row_of mark ∷ [] = map-append mark_row_of book.marks (mark ∷ []) in
-          subst (IsPermutation (map spelled_mark (put_by_key key row rows.marks))) (sym now)
-          (IsPermutation-trans (map spelled_mark (put_by_key key row rows.marks)) (mark_row_of mark ∷ old) (old ++ mark_row_of mark ∷ [])
-          (subst (IsPermutation (map spelled_mark (put_by_key key row rows.marks))) (λ i. spelled-row i ∷ all i) moved)
+          subst (IsPermutation (map (spelled tables.Mark) (put_by_key key row rows.marks))) (sym now)
+          (IsPermutation-trans (map (spelled tables.Mark) (put_by_key key row rows.marks)) (mark_row_of mark ∷ old) (old ++ mark_row_of mark ∷ [])
+          (subst (IsPermutation (map (spelled tables.Mark) (put_by_key key row rows.marks))) (λ i. spelled-row i ∷ all i) moved)
           (IsPermutation-sym (old ++ mark_row_of mark ∷ []) (mark_row_of mark ∷ old) (IsPermutation-to_front old (mark_row_of mark))));
       caches = λ caches same. AreCached-same book marked caches (IsPermutation-refl (map id_number book.paragraphs)) (IsCached-marks book marked refl refl) (shows.caches caches same);
     }

@@ -12,7 +12,8 @@ use Rattle.desk_model.specs.Book.{Book, Mark, Paragraph, paragraph_of}
 use Rattle.desk_model.specs.Loans.{LeadTo, row_number}
 use Rattle.desk_book.specs.ChangePuts.{cache_put, used_table_put, version_put}
 use Rattle.desk_book.specs.Changes.{AreCellsByTable}
-use Rattle.desk_parts.specs.FileRows.{spelled_para}
+use Rattle.desk_parts.specs.declared.file_table.FileTable.TheVariants as tables
+use Rattle.desk_parts.specs.FileRows.{spelled}
 use Rattle.desk_parts.specs.declared.file_table.FileTable.TheVariants.{Cache}
 use Rattle.desk_parts.specs.Puts.{PutRow, put_by_key}
 use Rattle.desk_parts.specs.Rows.{ParaCells, Para}
@@ -116,8 +117,8 @@ module _ (book : Book) (id : ℕ) (name cells : List ℕ) (sound : IsSound book)
     given.cells_are.2,
   )
 
-  spells : (p : Para) → spelled_para (retabled_bytes p) ≡ retabled_row (spelled_para p)
-  spells p = λ i. record (spelled_para p) { tab = spelled-encoded name characters i }
+  spells : (p : Para) → spelled tables.Para (retabled_bytes p) ≡ retabled_row (spelled tables.Para p)
+  spells p = λ i. record (spelled tables.Para p) { tab = spelled-encoded name characters i }
 
   leads : IsSound with_table
       → LeadTo book (version_put with_table.version ∷ used_table_put id name ∷ PutRow Cache (record { para = pos id; cells = cells }) ∷ []) with_table

@@ -16,7 +16,8 @@ use Rattle.desk_command.specs.declared.style.Style.{Style}
 use Rattle.desk_model.specs.Book.{Book, Mark, Paragraph}
 use Rattle.desk_model.specs.Loans.{LeadTo, row_number}
 use Rattle.desk_book.specs.ChangePuts.{flags_put, resolved_put, version_put}
-use Rattle.desk_parts.specs.FileRows.{FileRows, HasParaTexts, HasMarkText, format_of, spelled_mark, spelled_para}
+use Rattle.desk_parts.specs.declared.file_table.FileTable.TheVariants as file
+use Rattle.desk_parts.specs.FileRows.{FileRows, HasTexts, format_of, spelled}
 use Rattle.desk_parts.specs.Puts.{with_put}
 use Rattle.desk_parts.specs.Rows.{Mark as MarkRow, Para, ParaCells}
 use Rattle.desk_model.specs.Shows.{AreCached, IsCached, Shows, entry_rows_of, flag_number, mark_row_of, para_of, paras_of, style_number}
@@ -108,13 +109,13 @@ entries-changed id to same (p ∷ ps) = λ i. here i ++ entries-changed id to sa
 -- ---- a change of one paragraph that leaves its history
 
 module _ (book : Book) (id : ℕ) (to : Paragraph → Paragraph) (set bytes : Para → Para) (sound : IsSound book)
-    (sets : (place : ℕ) (p : Paragraph) → set (para_of (place, p)) ≡ para_of (place, to p)) (spells : (p : Para) → spelled_para (bytes p) ≡ set (spelled_para p))
-    (texts : (p : Para) → HasParaTexts p → HasParaTexts (bytes p)) (entries : (p : Paragraph) → entry_rows_of (to p) ≡ entry_rows_of p) where
+    (sets : (place : ℕ) (p : Paragraph) → set (para_of (place, p)) ≡ para_of (place, to p)) (spells : (p : Para) → spelled file.Para (bytes p) ≡ set (spelled file.Para p))
+    (texts : (p : Para) → HasTexts file.Para p → HasTexts file.Para (bytes p)) (entries : (p : Paragraph) → entry_rows_of (to p) ≡ entry_rows_of p) where
   abbrev next : Book
   next = next_with_paragraphs book (with_change id to book.paragraphs)
 
-  spelled-changed : (p : Para) → spelled_para (para_set id bytes p) ≡ para_set id set (spelled_para p)
-  spelled-changed p = cond-over spelled_para (int_eq p.id (row_number id)) (bytes p) p (set (spelled_para p)) (λ e. spells p)
+  spelled-changed : (p : Para) → spelled file.Para (para_set id bytes p) ≡ para_set id set (spelled file.Para p)
+  spelled-changed p = cond-over (spelled file.Para) (int_eq p.id (row_number id)) (bytes p) p (set (spelled file.Para p)) (λ e. spells p)
 
   -- the rows with its columns set, and rows of the next book's braille, show that book
   pub shown-changed : IsSound next → (rows : FileRows) → Shows rows book → (caches : Option (List ParaCells)) → ForSome caches (AreCached next)
@@ -123,15 +124,15 @@ module _ (book : Book) (id : ℕ) (to : Paragraph → Paragraph) (set bytes : Pa
     sound = after;
     texts = record {
       tabs = shows.texts.tabs;
-      paras = All-set_where (λ (p : Para). int_eq p.id (row_number id)) bytes HasParaTexts rows.paras texts shows.texts.paras;
+      paras = All-set_where (λ (p : Para). int_eq p.id (row_number id)) bytes (HasTexts file.Para) rows.paras texts shows.texts.paras;
       entries = shows.texts.entries;
       marks = shows.texts.marks;
     };
     row = versioned (format_of rows.entries) book.version next.version rows.books after.version shows.row;
     tables = shows.tables;
-    paragraphs = subst (IsPermutation (map spelled_para (map (para_set id bytes) rows.paras)))
+    paragraphs = subst (IsPermutation (map (spelled file.Para) (map (para_set id bytes) rows.paras)))
         (rows-changed id to set 1 book.paragraphs (All-weaker (Contains book.paragraphs) (Sets id to set) (λ p c. (small_id book sound p c, λ e place. sets place p)) book.paragraphs (All-contains_itself book.paragraphs)))
-        (IsPermutation-set spelled_para (para_set id bytes) (para_set id set) spelled-changed rows.paras (paras_of book.paragraphs) shows.paragraphs);
+        (IsPermutation-set (spelled file.Para) (para_set id bytes) (para_set id set) spelled-changed rows.paras (paras_of book.paragraphs) shows.paragraphs);
     entries = subst (IsPermutation _) (sym (entries-changed id to entries book.paragraphs)) shows.entries;
     marks = shows.marks;
     caches = cached;
@@ -200,16 +201,16 @@ module _ (book : Book) (id : ℕ) (sound : IsSound book) where
       tabs = shows.texts.tabs;
       paras = shows.texts.paras;
       entries = shows.texts.entries;
-      marks = All-set_where (λ (m : MarkRow). int_eq m.id (row_number id)) resolved_row HasMarkText rows.marks (λ m texts. texts) shows.texts.marks;
+      marks = All-set_where (λ (m : MarkRow). int_eq m.id (row_number id)) resolved_row (HasTexts file.Mark) rows.marks (λ m texts. texts) shows.texts.marks;
     };
     row = versioned (format_of rows.entries) book.version resolved.version rows.books after.version shows.row;
     tables = shows.tables;
     paragraphs = shows.paragraphs;
     entries = shows.entries;
-    marks = subst (IsPermutation (map spelled_mark (map (mark_set id resolved_row) rows.marks))) (rows-resolved book.marks small-marks)
-        (IsPermutation-set spelled_mark (mark_set id resolved_row) (mark_set id resolved_row) spelled-set rows.marks (map mark_row_of book.marks) shows.marks);
+    marks = subst (IsPermutation (map (spelled file.Mark) (map (mark_set id resolved_row) rows.marks))) (rows-resolved book.marks small-marks)
+        (IsPermutation-set (spelled file.Mark) (mark_set id resolved_row) (mark_set id resolved_row) spelled-set rows.marks (map mark_row_of book.marks) shows.marks);
     caches = λ caches same. AreCached-same book resolved caches (IsPermutation-refl (map id_number book.paragraphs)) (IsCached-marks book resolved refl refl) (shows.caches caches same);
   }
     where
-      spelled-set : (m : MarkRow) → spelled_mark (mark_set id resolved_row m) ≡ mark_set id resolved_row (spelled_mark m)
-      spelled-set m = cond-over spelled_mark (int_eq m.id (row_number id)) (resolved_row m) m (resolved_row (spelled_mark m)) (λ e. refl)
+      spelled-set : (m : MarkRow) → spelled file.Mark (mark_set id resolved_row m) ≡ mark_set id resolved_row (spelled file.Mark m)
+      spelled-set m = cond-over (spelled file.Mark) (int_eq m.id (row_number id)) (resolved_row m) m (resolved_row (spelled file.Mark m)) (λ e. refl)

@@ -15,7 +15,8 @@ use Rattle.std.proofs.lemmas.Simd.{map-map}
 use Rattle.desk_model.specs.Book.{Book, Paragraph}
 use Rattle.desk_model.specs.Loans.{LeadTo, row_number}
 use Rattle.desk_book.specs.ChangePuts.{elsewhere_from, elsewhere_put, place_put, stays_in, version_put}
-use Rattle.desk_parts.specs.FileRows.{FileRows, HasParaTexts, format_of, spelled_para}
+use Rattle.desk_parts.specs.declared.file_table.FileTable.TheVariants as file
+use Rattle.desk_parts.specs.FileRows.{FileRows, HasTexts, format_of, spelled}
 use Rattle.desk_parts.specs.Puts.{RowPut, with_put, with_puts}
 use Rattle.desk_parts.specs.Rows.{ParaCells, Para}
 use Rattle.desk_model.specs.Shows.{IsCached, Shows, entry_rows_of, para_of, paras_of}
@@ -235,14 +236,14 @@ module _ (book : Book) (ps : List Paragraph) (sound : IsSound book) (moved : IsP
           sound = after;
           texts = record {
             tabs = shows.texts.tabs;
-            paras = All-map HasParaTexts (placed es) rows.paras (All-weaker HasParaTexts (λ p. HasParaTexts (placed es p)) (placed-texts es) rows.paras shows.texts.paras);
+            paras = All-map (HasTexts file.Para) (placed es) rows.paras (All-weaker (HasTexts file.Para) (λ p. HasTexts file.Para (placed es p)) (placed-texts es) rows.paras shows.texts.paras);
             entries = shows.texts.entries;
             marks = shows.texts.marks;
           };
           row = versioned (format_of rows.entries) book.version next.version rows.books after.version shows.row;
           tables = shows.tables;
-          paragraphs = IsPermutation-trans (map spelled_para (map (placed es) rows.paras)) (map (placed es) (paras_of book.paragraphs)) (paras_of ps)
-              (IsPermutation-set spelled_para (placed es) (placed es) (placed-spelled es) rows.paras (paras_of book.paragraphs) shows.paragraphs) rows-placed;
+          paragraphs = IsPermutation-trans (map (spelled file.Para) (map (placed es) rows.paras)) (map (placed es) (paras_of book.paragraphs)) (paras_of ps)
+              (IsPermutation-set (spelled file.Para) (placed es) (placed es) (placed-spelled es) rows.paras (paras_of book.paragraphs) shows.paragraphs) rows-placed;
           entries = IsPermutation-trans _ (flat_map entry_rows_of book.paragraphs) (flat_map entry_rows_of ps) shows.entries (IsPermutation-flat_map entry_rows_of book.paragraphs ps moved);
           marks = shows.marks;
           caches = λ caches same. AreCached-same book next caches (IsPermutation-map id_number book.paragraphs ps moved) cached-on (shows.caches caches same);

@@ -21,7 +21,7 @@ use Rattle.desk_model.specs.Book.{Book, Paragraph, text_of}
 use Rattle.desk_model.specs.Loans.{LeadTo, row_number}
 use Rattle.desk_book.specs.ChangePuts.{cache_put, further_from, kept_row, version_put}
 use Rattle.desk_memory.specs.Braille.{AreCellsOf}
-use Rattle.desk_parts.specs.FileRows.{FileRows, HasParaTexts, format_of, spelled_para}
+use Rattle.desk_parts.specs.FileRows.{FileRows, HasTexts, format_of, spelled}
 use Rattle.desk_memory.specs.Histories.{entries_kept}
 use Rattle.desk_memory.specs.Kept.{paragraph_kept}
 use Rattle.desk_model.specs.Print.{corrected_print, print_of}
@@ -186,7 +186,7 @@ module _ (book : Book) (ps : List Paragraph) (kept : KeptParagraph) (place : ℕ
     abbrev row : Para
     row = kept_row number (place + 1) kept
 
-    spelled-row : spelled_para row ≡ para_of (place + 1, new)
+    spelled-row : spelled tables.Para row ≡ para_of (place + 1, new)
     spelled-row =
         let most = few in
         let lower : number ≡ length book.paragraphs + 1 = refl in
@@ -275,12 +275,12 @@ module _ (book : Book) (ps : List Paragraph) (kept : KeptParagraph) (place : ℕ
     abbrev key : Para → Bool
     key p = int_eq p.id (row_number number)
 
-    spelled-rows : (rows : FileRows) → Shows rows book → IsPermutation (map spelled_para (put_by_key key row rows.paras)) (para_of (place + 1, new) ∷ paras_of book.paragraphs)
+    spelled-rows : (rows : FileRows) → Shows rows book → IsPermutation (map (spelled tables.Para) (put_by_key key row rows.paras)) (para_of (place + 1, new) ∷ paras_of book.paragraphs)
     spelled-rows rows shows =
         let olds : List Para = paras_of book.paragraphs in
-        let put = IsPermutation-put_in spelled_para key key row rows.paras olds (λ k d lt. refl) shows.paragraphs in
+        let put = IsPermutation-put_in (spelled tables.Para) key key row rows.paras olds (λ k d lt. refl) shows.paragraphs in
         let all : filter (λ p. not (key p)) olds ≡ olds = filter-all (λ p. not (key p)) olds others-rows in
-        subst (IsPermutation (map spelled_para (put_by_key key row rows.paras))) (λ i. spelled-row i ∷ all i) put
+        subst (IsPermutation (map (spelled tables.Para) (put_by_key key row rows.paras))) (λ i. spelled-row i ∷ all i) put
       where
         others-rows : All (λ (p : Para). not (key p) ≡ true) (paras_of book.paragraphs)
         others-rows = subst (All (λ (p : Para). not (key p) ≡ true)) (sym (paras-indexed 1 book.paragraphs (paragraphs-apart book sound)))
@@ -293,20 +293,20 @@ module _ (book : Book) (ps : List Paragraph) (kept : KeptParagraph) (place : ℕ
     shown-placed : (rows : FileRows) → Shows rows book → Shows (with_puts (map place_set es) (with_put (PutRow tables.Cache cached) (with_put (PutRow tables.Para row) (with_put (version_put next.version) rows)))) next
     shown-placed rows shows =
         let at : FileRows = with_put (PutRow tables.Cache cached) (with_put (PutRow tables.Para row) (with_put (version_put next.version) rows)) in
-        let texts : All HasParaTexts (put_by_key key row rows.paras) = All-put_in HasParaTexts key row rows.paras
+        let texts : All (HasTexts tables.Para) (put_by_key key row rows.paras) = All-put_in (HasTexts tables.Para) key row rows.paras
         (encoded-text kept.table characters, encoded-text kept.original is_sound.clean.characters, encoded-text kept.print (subst AreCharacters (sym print) is_sound.clean.characters)) shows.texts.paras in
         subst (λ (r : FileRows). Shows r next) (sym (places-put es at)) (record {
           sound = after;
           texts = record {
             tabs = shows.texts.tabs;
-            paras = All-map HasParaTexts (placed es) (put_by_key key row rows.paras) (All-weaker HasParaTexts (λ p. HasParaTexts (placed es p)) (placed-texts es) (put_by_key key row rows.paras) texts);
+            paras = All-map (HasTexts tables.Para) (placed es) (put_by_key key row rows.paras) (All-weaker (HasTexts tables.Para) (λ p. HasTexts tables.Para (placed es p)) (placed-texts es) (put_by_key key row rows.paras) texts);
             entries = shows.texts.entries;
             marks = shows.texts.marks;
           };
           row = versioned (format_of rows.entries) book.version next.version rows.books after.version shows.row;
           tables = shows.tables;
-          paragraphs = IsPermutation-trans (map spelled_para (map (placed es) (put_by_key key row rows.paras))) (map (placed es) (para_of (place + 1, new) ∷ paras_of book.paragraphs)) (paras_of ps)
-              (IsPermutation-set spelled_para (placed es) (placed es) (placed-spelled es) (put_by_key key row rows.paras) (para_of (place + 1, new) ∷ paras_of book.paragraphs) (spelled-rows rows shows)) rows-placed;
+          paragraphs = IsPermutation-trans (map (spelled tables.Para) (map (placed es) (put_by_key key row rows.paras))) (map (placed es) (para_of (place + 1, new) ∷ paras_of book.paragraphs)) (paras_of ps)
+              (IsPermutation-set (spelled tables.Para) (placed es) (placed es) (placed-spelled es) (put_by_key key row rows.paras) (para_of (place + 1, new) ∷ paras_of book.paragraphs) (spelled-rows rows shows)) rows-placed;
           entries = IsPermutation-trans _ (flat_map entry_rows_of book.paragraphs) (flat_map entry_rows_of ps) shows.entries entries-same;
           marks = shows.marks;
           caches = ForSome-map (put_by_key (λ c. int_eq c.para (pos number)) cached) (AreCached book) (AreCached next) rows.caches shows.caches

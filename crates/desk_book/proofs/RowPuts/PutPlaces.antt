@@ -8,7 +8,7 @@ use Rattle.std.proofs.lemmas.List.{map-id}
 use Rattle.std.proofs.lemmas.List.Elements.{All-cons, All-contains_itself, All-head, All-nil, All-tail, All-weaker}
 use Rattle.std.proofs.lemmas.Simd.{map-map}
 use Rattle.desk_model.specs.Book.{Paragraph}
-use Rattle.desk_parts.specs.FileRows.{FileRows, HasParaTexts, spelled_para}
+use Rattle.desk_parts.specs.FileRows.{FileRows, HasTexts, spelled}
 use Rattle.desk_parts.specs.declared.file_table.FileTable.TheVariants as tables
 use Rattle.desk_parts.specs.Puts.{Place, RowPut, SetColumns, with_puts}
 use Rattle.desk_parts.specs.Rows.{Para}
@@ -38,26 +38,26 @@ places-put (e ∷ es) rows =
 
 -- ---- one row
 
-place-texts : (e : ℤ × ℤ) (p : Para) → HasParaTexts p → HasParaTexts (placed_by e p)
+place-texts : (e : ℤ × ℤ) (p : Para) → HasTexts tables.Para p → HasTexts tables.Para (placed_by e p)
 place-texts e p texts =
     elim (cases_Bool (int_eq p.id e.0)) [
-      | inl t ↦ subst HasParaTexts (sym (cond-true (int_eq p.id e.0) (record p { place = e.1 }) p t)) texts
-      | inr f ↦ subst HasParaTexts (sym (cond-false (int_eq p.id e.0) (record p { place = e.1 }) p f)) texts
+      | inl t ↦ subst (HasTexts tables.Para) (sym (cond-true (int_eq p.id e.0) (record p { place = e.1 }) p t)) texts
+      | inr f ↦ subst (HasTexts tables.Para) (sym (cond-false (int_eq p.id e.0) (record p { place = e.1 }) p f)) texts
     ]
 
-pub placed-texts : (es : Places) (p : Para) → HasParaTexts p → HasParaTexts (placed es p)
+pub placed-texts : (es : Places) (p : Para) → HasTexts tables.Para p → HasTexts tables.Para (placed es p)
 placed-texts [] p texts = texts
 placed-texts (e ∷ es) p texts = placed-texts es (placed_by e p) (place-texts e p texts)
 
-place-spelled : (e : ℤ × ℤ) (p : Para) → spelled_para (placed_by e p) ≡ placed_by e (spelled_para p)
+place-spelled : (e : ℤ × ℤ) (p : Para) → spelled tables.Para (placed_by e p) ≡ placed_by e (spelled tables.Para p)
 place-spelled e p =
     let b = int_eq p.id e.0 in
     elim (cases_Bool b) [
-      | inl t ↦ ap spelled_para (cond-true b (record p { place = e.1 }) p t) ∙ sym (cond-true b (let q : Para = spelled_para p in record q { place = e.1 }) (spelled_para p) t)
-      | inr f ↦ ap spelled_para (cond-false b (record p { place = e.1 }) p f) ∙ sym (cond-false b (let q : Para = spelled_para p in record q { place = e.1 }) (spelled_para p) f)
+      | inl t ↦ ap (spelled tables.Para) (cond-true b (record p { place = e.1 }) p t) ∙ sym (cond-true b (let q : Para = spelled tables.Para p in record q { place = e.1 }) (spelled tables.Para p) t)
+      | inr f ↦ ap (spelled tables.Para) (cond-false b (record p { place = e.1 }) p f) ∙ sym (cond-false b (let q : Para = spelled tables.Para p in record q { place = e.1 }) (spelled tables.Para p) f)
     ]
 
-pub placed-spelled : (es : Places) (p : Para) → spelled_para (placed es p) ≡ placed es (spelled_para p)
+pub placed-spelled : (es : Places) (p : Para) → spelled tables.Para (placed es p) ≡ placed es (spelled tables.Para p)
 placed-spelled [] p = refl
 placed-spelled (e ∷ es) p = placed-spelled es (placed_by e p) ∙ ap (placed es) (place-spelled e p)
 

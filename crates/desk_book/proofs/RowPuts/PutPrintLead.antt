@@ -20,7 +20,7 @@ use Rattle.desk_model.specs.Book.{Book, Entry, Mark, Paragraph, paragraph_of}
 use Rattle.desk_model.specs.Loans.{LeadTo, row_number}
 use Rattle.desk_book.specs.ChangePuts.{cache_put, entry_row, print_put, span_put, version_put}
 use Rattle.desk_book.specs.Changes.{ChangesPrint}
-use Rattle.desk_parts.specs.FileRows.{EntryRows, FileRows, HasEntryTexts, HasMarkText, HasParaTexts, Named, Unnamed, entries_in, format_of, spelled_entry, spelled_mark, spelled_para, table_of}
+use Rattle.desk_parts.specs.FileRows.{EntryRows, FileRows, HasTexts, Named, Unnamed, entries_in, format_of, spelled, table_of}
 use Rattle.desk_memory.specs.Histories.{entry_kept}
 use Rattle.desk_model.specs.Marks.{mark_moved_by}
 use Rattle.desk_model.specs.ParagraphMarks.{marks_on}
@@ -126,7 +126,7 @@ module _ (book : Book) (id : ℕ) (change : PrintChange) (sound : IsSound book) 
     abbrev entry_put : RowPut
     entry_put = PutRow tables.NamedCorr new_row
 
-    spelled-entry : spelled_entry new_row ≡ entry_row_of id (length p.history + 1, entry)
+    spelled-entry : spelled tables.NamedCorr new_row ≡ entry_row_of id (length p.history + 1, entry)
     spelled-entry = let few = given.few in entry-spelled p.original p.history id (length p.history + 1) small (omega arith) (omega arith) short change.entry sound-entry
 
     -- ---- the marks
@@ -197,10 +197,10 @@ module _ (book : Book) (id : ℕ) (change : PrintChange) (sound : IsSound book) 
     abbrev print_bytes : Para → Para
     print_bytes r = record r { print = encode_utf8_all change.print }
 
-    spelled-set : (r : Para) → spelled_para (para_set id print_bytes r) ≡ para_set id print_row (spelled_para r)
+    spelled-set : (r : Para) → spelled tables.Para (para_set id print_bytes r) ≡ para_set id print_row (spelled tables.Para r)
     spelled-set r =
-        cond-over spelled_para (int_eq r.id (row_number id)) (print_bytes r) r (print_row (spelled_para r))
-        (λ e i. record (spelled_para r) { print = spelled-encoded change.print characters i })
+        cond-over (spelled tables.Para) (int_eq r.id (row_number id)) (print_bytes r) r (print_row (spelled tables.Para r))
+        (λ e i. record (spelled tables.Para r) { print = spelled-encoded change.print characters i })
 
     sets : (q : Paragraph) → Contains book.paragraphs q → Sets id more print_row q
     sets q c = (
@@ -221,33 +221,33 @@ module _ (book : Book) (id : ℕ) (change : PrintChange) (sound : IsSound book) 
         caches = (with_put (PutRow tables.Cache (record { para = pos id; cells = change.cells })) rows).caches;
       }
 
-      had : IsPermutation (map spelled_entry corrs) (flat_map entry_rows_of book.paragraphs)
-      had = subst (λ (es : EntryRows). IsPermutation (map spelled_entry (entries_in es)) (flat_map entry_rows_of book.paragraphs)) named shows.entries
+      had : IsPermutation (map (spelled tables.NamedCorr) corrs) (flat_map entry_rows_of book.paragraphs)
+      had = subst (λ (es : EntryRows). IsPermutation (map (spelled tables.NamedCorr) (entries_in es)) (flat_map entry_rows_of book.paragraphs)) named shows.entries
 
       shown-all : Shows (record at { marks = map (spanned change.start change.removed change.added (marks_on id book.marks)) rows.marks }) next
       shown-all = record {
         sound = after;
         texts = record {
           tabs = shows.texts.tabs;
-          paras = All-set_where (λ (r : Para). int_eq r.id (row_number id)) print_bytes HasParaTexts rows.paras (λ r texts. (texts.0, texts.1, encoded-text change.print characters)) shows.texts.paras;
-          entries = All-cons HasEntryTexts new_row corrs (let few = given.few in entry-texts p.original p.history id (length p.history + 1) small (omega arith) (omega arith) short change.entry sound-entry)
-              (subst (λ (es : EntryRows). All HasEntryTexts (entries_in es)) named shows.texts.entries);
-          marks = All-map HasMarkText (spanned change.start change.removed change.added (marks_on id book.marks)) rows.marks
-              (All-weaker HasMarkText (λ m. HasMarkText (spanned change.start change.removed change.added (marks_on id book.marks) m))
+          paras = All-set_where (λ (r : Para). int_eq r.id (row_number id)) print_bytes (HasTexts tables.Para) rows.paras (λ r texts. (texts.0, texts.1, encoded-text change.print characters)) shows.texts.paras;
+          entries = All-cons (HasTexts tables.NamedCorr) new_row corrs (let few = given.few in entry-texts p.original p.history id (length p.history + 1) small (omega arith) (omega arith) short change.entry sound-entry)
+              (subst (λ (es : EntryRows). All (HasTexts tables.NamedCorr) (entries_in es)) named shows.texts.entries);
+          marks = All-map (HasTexts tables.Mark) (spanned change.start change.removed change.added (marks_on id book.marks)) rows.marks
+              (All-weaker (HasTexts tables.Mark) (λ m. HasTexts tables.Mark (spanned change.start change.removed change.added (marks_on id book.marks) m))
               (spanned-texts change.start change.removed change.added (marks_on id book.marks)) rows.marks shows.texts.marks);
         };
         row = versioned 2 book.version next.version rows.books after.version (subst (λ (es : EntryRows). rows.books ≡ book_row_of (format_of es) book.version ∷ []) named shows.row);
         tables = shows.tables;
-        paragraphs = subst (IsPermutation (map spelled_para (map (para_set id print_bytes) rows.paras)))
+        paragraphs = subst (IsPermutation (map (spelled tables.Para) (map (para_set id print_bytes) rows.paras)))
             (rows-changed id more print_row 1 book.paragraphs (All-weaker (Contains book.paragraphs) (Sets id more print_row) sets book.paragraphs (All-contains_itself book.paragraphs)))
-            (IsPermutation-set spelled_para (para_set id print_bytes) (para_set id print_row) spelled-set rows.paras (paras_of book.paragraphs) shows.paragraphs);
+            (IsPermutation-set (spelled tables.Para) (para_set id print_bytes) (para_set id print_row) spelled-set rows.paras (paras_of book.paragraphs) shows.paragraphs);
         entries =
-            subst (λ (e : NamedCorr). IsPermutation (e ∷ map spelled_entry corrs) (flat_map entry_rows_of next.paragraphs)) (sym spelled-entry)
-            (IsPermutation-trans (entry_row_of id (length p.history + 1, entry) ∷ map spelled_entry corrs) (entry_row_of id (length p.history + 1, entry) ∷ flat_map entry_rows_of book.paragraphs) (flat_map entry_rows_of next.paragraphs)
-            (IsPermutation-cons (entry_row_of id (length p.history + 1, entry)) (map spelled_entry corrs) (flat_map entry_rows_of book.paragraphs) had)
+            subst (λ (e : NamedCorr). IsPermutation (e ∷ map (spelled tables.NamedCorr) corrs) (flat_map entry_rows_of next.paragraphs)) (sym spelled-entry)
+            (IsPermutation-trans (entry_row_of id (length p.history + 1, entry) ∷ map (spelled tables.NamedCorr) corrs) (entry_row_of id (length p.history + 1, entry) ∷ flat_map entry_rows_of book.paragraphs) (flat_map entry_rows_of next.paragraphs)
+            (IsPermutation-cons (entry_row_of id (length p.history + 1, entry)) (map (spelled tables.NamedCorr) corrs) (flat_map entry_rows_of book.paragraphs) had)
             (entries-more id entry p book.paragraphs (paragraphs-apart book sound) given.there));
-        marks = subst (IsPermutation (map spelled_mark (map (spanned change.start change.removed change.added (marks_on id book.marks)) rows.marks))) rows-moved
-            (IsPermutation-set spelled_mark (spanned change.start change.removed change.added (marks_on id book.marks)) (spanned change.start change.removed change.added (marks_on id book.marks))
+        marks = subst (IsPermutation (map (spelled tables.Mark) (map (spanned change.start change.removed change.added (marks_on id book.marks)) rows.marks))) rows-moved
+            (IsPermutation-set (spelled tables.Mark) (spanned change.start change.removed change.added (marks_on id book.marks)) (spanned change.start change.removed change.added (marks_on id book.marks))
             (spanned-spelled change.start change.removed change.added (marks_on id book.marks)) rows.marks (map mark_row_of book.marks) shows.marks);
         caches = ForSome-map (put_by_key (λ c. int_eq c.para (pos id)) (record { para = pos id; cells = change.cells })) (AreCached book) (AreCached next) rows.caches shows.caches cached-all;
       }

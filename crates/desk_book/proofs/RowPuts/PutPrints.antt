@@ -15,7 +15,8 @@ use Rattle.desk_memory.specs.declared.history.KeptEntry.TheVariants.{Corrects as
 use Rattle.desk_model.specs.Book.{Entry, Mark, Paragraph, Replacement}
 use Rattle.desk_book.specs.ChangePuts.{entry_row, span_put}
 use Rattle.desk_model.specs.Loans.{row_number}
-use Rattle.desk_parts.specs.FileRows.{FileRows, HasEntryTexts, HasMarkText, spelled_entry, spelled_mark}
+use Rattle.desk_parts.specs.declared.file_table.FileTable.TheVariants as tables
+use Rattle.desk_parts.specs.FileRows.{FileRows, HasTexts, spelled}
 use Rattle.desk_memory.specs.Histories.{entry_kept}
 use Rattle.desk_model.specs.Marks.{mark_moved_by}
 use Rattle.desk_model.specs.Print.{corrected_print, newest, with_entry}
@@ -35,7 +36,7 @@ use Rattle.desk_model.proofs.Rows.PutRows.{number-small}
 
 module _ (original : List ℕ) (before : List Entry) (id seq : ℕ) (small : id ≤ 20000) (early : seq ≤ 10001) (few : length before ≤ 10000)
     (short : length (corrected_print original before) ≤ 4000) where
-  pub entry-spelled : (kept : KeptEntry) → IsSoundEntry original before (entry_kept kept) → spelled_entry (entry_row id seq kept) ≡ entry_row_of id (seq, entry_kept kept)
+  pub entry-spelled : (kept : KeptEntry) → IsSoundEntry original before (entry_kept kept) → spelled tables.NamedCorr (entry_row id seq kept) ≡ entry_row_of id (seq, entry_kept kept)
   entry-spelled (KeptCorrects c) sound =
       let span = sound.0 in
       let para = number-small id (omega arith) in
@@ -64,7 +65,7 @@ module _ (original : List ℕ) (before : List Entry) (id seq : ℕ) (small : id 
               let to = is.to in
               omega arith
 
-  pub entry-texts : (kept : KeptEntry) → IsSoundEntry original before (entry_kept kept) → HasEntryTexts (entry_row id seq kept)
+  pub entry-texts : (kept : KeptEntry) → IsSoundEntry original before (entry_kept kept) → HasTexts tables.NamedCorr (entry_row id seq kept)
   entry-texts (KeptCorrects c) sound = (encoded-text c.text sound.1.characters, encoded-text c.who sound.3)
   entry-texts (KeptUndoes n) sound = (([], (refl, refl)), ([], (refl, refl)))
 
@@ -132,26 +133,26 @@ module _ (start removed added : ℕ) where
       spans-put ms (record rows { marks = map (spanned_by m) rows.marks })
       ∙ (λ i. record rows { marks = map-map (spanned ms) (spanned_by m) rows.marks i })
 
-  span-texts : (m : Mark) (row : MarkRow) → HasMarkText row → HasMarkText (spanned_by m row)
+  span-texts : (m : Mark) (row : MarkRow) → HasTexts tables.Mark row → HasTexts tables.Mark (spanned_by m row)
   span-texts m row text =
       elim (cases_Bool (int_eq row.id (row_number m.id))) [
-        | inl t ↦ subst HasMarkText (sym (cond-true (int_eq row.id (row_number m.id)) (set_span (span_columns m) row) row t)) text
-        | inr f ↦ subst HasMarkText (sym (cond-false (int_eq row.id (row_number m.id)) (set_span (span_columns m) row) row f)) text
+        | inl t ↦ subst (HasTexts tables.Mark) (sym (cond-true (int_eq row.id (row_number m.id)) (set_span (span_columns m) row) row t)) text
+        | inr f ↦ subst (HasTexts tables.Mark) (sym (cond-false (int_eq row.id (row_number m.id)) (set_span (span_columns m) row) row f)) text
       ]
 
-  pub spanned-texts : (ms : List Mark) (row : MarkRow) → HasMarkText row → HasMarkText (spanned ms row)
+  pub spanned-texts : (ms : List Mark) (row : MarkRow) → HasTexts tables.Mark row → HasTexts tables.Mark (spanned ms row)
   spanned-texts [] row text = text
   spanned-texts (m ∷ ms) row text = spanned-texts ms (spanned_by m row) (span-texts m row text)
 
-  span-spelled : (m : Mark) (row : MarkRow) → spelled_mark (spanned_by m row) ≡ spanned_by m (spelled_mark row)
+  span-spelled : (m : Mark) (row : MarkRow) → spelled tables.Mark (spanned_by m row) ≡ spanned_by m (spelled tables.Mark row)
   span-spelled m row =
       let b = int_eq row.id (row_number m.id) in
       elim (cases_Bool b) [
-        | inl t ↦ ap spelled_mark (cond-true b (set_span (span_columns m) row) row t) ∙ sym (cond-true b (set_span (span_columns m) (spelled_mark row)) (spelled_mark row) t)
-        | inr f ↦ ap spelled_mark (cond-false b (set_span (span_columns m) row) row f) ∙ sym (cond-false b (set_span (span_columns m) (spelled_mark row)) (spelled_mark row) f)
+        | inl t ↦ ap (spelled tables.Mark) (cond-true b (set_span (span_columns m) row) row t) ∙ sym (cond-true b (set_span (span_columns m) (spelled tables.Mark row)) (spelled tables.Mark row) t)
+        | inr f ↦ ap (spelled tables.Mark) (cond-false b (set_span (span_columns m) row) row f) ∙ sym (cond-false b (set_span (span_columns m) (spelled tables.Mark row)) (spelled tables.Mark row) f)
       ]
 
-  pub spanned-spelled : (ms : List Mark) (row : MarkRow) → spelled_mark (spanned ms row) ≡ spanned ms (spelled_mark row)
+  pub spanned-spelled : (ms : List Mark) (row : MarkRow) → spelled tables.Mark (spanned ms row) ≡ spanned ms (spelled tables.Mark row)
   spanned-spelled [] row = refl
   spanned-spelled (m ∷ ms) row = spanned-spelled ms (spanned_by m row) ∙ ap (spanned ms) (span-spelled m row)
 

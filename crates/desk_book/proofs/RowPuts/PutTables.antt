@@ -18,8 +18,8 @@ use Rattle.std.proofs.lemmas.Slice.Eq.{bytes_eq-Decides}
 use Rattle.desk_model.specs.Book.{Book, text_of}
 use Rattle.desk_model.specs.Loans.{LeadTo}
 use Rattle.desk_book.specs.ChangePuts.{version_put}
-use Rattle.desk_parts.specs.FileRows.{FileRows, HasTabText, format_of, spelled_tab}
-use Rattle.desk_parts.specs.declared.file_table.FileTable.TheVariants as tables
+use Rattle.desk_parts.specs.FileRows.{FileRows, HasTexts, format_of, spelled}
+use Rattle.desk_parts.specs.declared.file_table.FileTable.TheVariants as file
 use Rattle.desk_parts.specs.Puts.{PutRow, RowPut, put_by_key, with_puts}
 use Rattle.desk_parts.specs.Rows.{ParaCells, Tab}
 use Rattle.desk_model.specs.Shows.{AreCached, IsCached, Shows, tab_of}
@@ -95,20 +95,20 @@ module _ (name text : List ℕ) (characters : AreCharacters name) where
       one_answer {P = bytes ≡ encode_utf8_all name} (bytes_eq bytes (encode_utf8_all name)) (bytes_eq (chars bytes) name) (bytes_eq-Decides bytes (encode_utf8_all name))
       (λ e. text-bytes bytes name utf8 ((bytes_eq-Decides (chars bytes) name).0 e), λ same. (bytes_eq-Decides (chars bytes) name).1 (ap chars same ∙ spelled-encoded name characters))
 
-  pub texts-put : (tabs : List Tab) → All HasTabText tabs → All HasTabText (tab_put_in tabs)
-  texts-put tabs texts = All-put_in HasTabText (λ t. bytes_eq t.name (encode_utf8_all name)) tab_row tabs (encoded-text name characters) texts
+  pub texts-put : (tabs : List Tab) → All (HasTexts file.Tab) tabs → All (HasTexts file.Tab) (tab_put_in tabs)
+  texts-put tabs texts = All-put_in (HasTexts file.Tab) (λ t. bytes_eq t.name (encode_utf8_all name)) tab_row tabs (encoded-text name characters) texts
 
-  pub tables-put : (tabs : List Tab) (tables : TableTexts) → IsStrictlySortedBy (slice_cmp nat_cmp) (keys_of tables) → All HasTabText tabs
-      → IsPermutation (map spelled_tab tabs) (map tab_of tables) → IsPermutation (map spelled_tab (tab_put_in tabs)) (map tab_of (with_text name text tables))
+  pub tables-put : (tabs : List Tab) (tables : TableTexts) → IsStrictlySortedBy (slice_cmp nat_cmp) (keys_of tables) → All (HasTexts file.Tab) tabs
+      → IsPermutation (map (spelled file.Tab) tabs) (map tab_of tables) → IsPermutation (map (spelled file.Tab) (tab_put_in tabs)) (map tab_of (with_text name text tables))
   tables-put tabs tables sorted texts shown =
       let has_key : Tab → Bool = λ t. bytes_eq t.name (encode_utf8_all name) in
       let key : Tab → Bool = λ t. bytes_eq t.name name in
-      let moved = IsPermutation-put_in spelled_tab has_key key tab_row tabs (map tab_of tables)
-      (All-weaker HasTabText (λ (t : Tab). has_key t ≡ key (spelled_tab t)) (λ t utf8. same_named t.name utf8) tabs texts) shown in
+      let moved = IsPermutation-put_in (spelled file.Tab) has_key key tab_row tabs (map tab_of tables)
+      (All-weaker (HasTexts file.Tab) (λ (t : Tab). has_key t ≡ key (spelled file.Tab t)) (λ t utf8. same_named t.name utf8) tabs texts) shown in
       let others : filter (λ t. not (key t)) (map tab_of tables) ≡ map tab_of (under_others name tables) = filter-map (λ (t : Tab). not (key t)) tab_of tables in
-      let spelled : spelled_tab tab_row ≡ tab_of (name, text) = λ i. record { name = spelled-encoded name characters i; body = text } in
-      IsPermutation-trans (map spelled_tab (tab_put_in tabs)) (map tab_of ((name, text) ∷ under_others name tables)) (map tab_of (with_text name text tables))
-      (subst (IsPermutation (map spelled_tab (tab_put_in tabs))) (λ i. spelled i ∷ others i) moved)
+      let its_row : spelled file.Tab tab_row ≡ tab_of (name, text) = λ i. record { name = spelled-encoded name characters i; body = text } in
+      IsPermutation-trans (map (spelled file.Tab) (tab_put_in tabs)) (map tab_of ((name, text) ∷ under_others name tables)) (map tab_of (with_text name text tables))
+      (subst (IsPermutation (map (spelled file.Tab) (tab_put_in tabs))) (λ i. its_row i ∷ others i) moved)
       (IsPermutation-map tab_of ((name, text) ∷ under_others name tables) (with_text name text tables) (IsPermutation-with_text name text tables sorted))
 
 -- the name of a table that was put is of characters
@@ -123,7 +123,7 @@ module _ (book : Book) (name text : List ℕ) (sound : IsSound book) where
   tabled = next_with_tables book (with_text name text book.tables)
 
   abbrev LeadPuts : List RowPut
-  LeadPuts = version_put tabled.version ∷ PutRow tables.Tab (record { name = encode_utf8_all name; body = text }) ∷ []
+  LeadPuts = version_put tabled.version ∷ PutRow file.Tab (record { name = encode_utf8_all name; body = text }) ∷ []
 
   -- its row, and rows of the next book's braille, show that book
   pub shown-tabled : IsSound tabled → (rows : FileRows) → Shows rows book → (caches : Option (List ParaCells)) → ForSome caches (AreCached tabled)

@@ -21,7 +21,7 @@ use Rattle.desk_parts.specs.declared.file_table.FileTable.{FileTable}
 use Rattle.desk_parts.specs.declared.file_table.FileTable.TheVariants as file
 use Rattle.desk_model.specs.Book.{Entry, Corrects, Undoes, Book, Paragraph}
 use Rattle.desk_model.specs.Damage.{HasPara, HasSoundEntries, IsDamaged, IsDamagedCache, IsDamagedEntries, IsSoundCacheRow, IsSoundCorrection, IsSoundEntryRow, IsSoundUndo, entry_of, history_of, rows_with}
-use Rattle.desk_parts.specs.FileRows.{FileRows, HasEntryTexts, entries_in, spelled_entry, spelled_para}
+use Rattle.desk_parts.specs.FileRows.{FileRows, HasTexts, entries_in, spelled}
 use Rattle.desk_model.specs.Limits.{most_print}
 use Rattle.desk_model.specs.Name.{IsProofreaderName}
 use Rattle.desk_model.specs.Print.{corrected_print}
@@ -126,8 +126,8 @@ no_text : (bytes : List ℕ) → IsUtf8 bytes → [] ≡ chars bytes → bytes �
 no_text bytes utf8 none = same_bytes bytes [] utf8 ([], (refl, refl)) (sym none ∙ sym chars-nil)
 
 -- a row of a sound entry is sound
-fits : (original : List ℕ) (before : List Entry) (id n : ℕ) (entry : Entry) (row : NamedCorr) → IsSoundEntry original before entry → entry_row_of id (n, entry) ≡ spelled_entry row
-    → HasEntryTexts row → IsSoundCorrection (corrected_print original before) row ⊎ IsSoundUndo before row
+fits : (original : List ℕ) (before : List Entry) (id n : ℕ) (entry : Entry) (row : NamedCorr) → IsSoundEntry original before entry → entry_row_of id (n, entry) ≡ spelled file.NamedCorr row
+    → HasTexts file.NamedCorr row → IsSoundCorrection (corrected_print original before) row ⊎ IsSoundUndo before row
 fits original before id n (Corrects r who) row sound is texts =
     let start : pos r.start ≡ row.entry.start = ap (λ (e : NamedCorr). e.entry.start) is in
     let len : pos r.count ≡ row.entry.len = ap (λ (e : NamedCorr). e.entry.len) is in
@@ -159,15 +159,15 @@ module _ (rows : FileRows) (book : Book) (shown : Shows rows book) where
     its_own = filter (is_of para.id) all_entries
 
     -- the entries of the paragraph, in the order of its history
-    in_order : (sorted : List NamedCorr) × IsPermutation its_own sorted × (entry_rows_of p ≡ map spelled_entry sorted)
+    in_order : (sorted : List NamedCorr) × IsPermutation its_own sorted × (entry_rows_of p ≡ map (spelled file.NamedCorr) sorted)
     in_order =
-        let moved = IsPermutation-filter (is_of para.id) (map spelled_entry all_entries) (flat_map entry_rows_of book.paragraphs) shown.entries in
-        let left : filter (is_of para.id) (map spelled_entry all_entries) ≡ map spelled_entry its_own = filter-map (is_of para.id) spelled_entry all_entries in
+        let moved = IsPermutation-filter (is_of para.id) (map (spelled file.NamedCorr) all_entries) (flat_map entry_rows_of book.paragraphs) shown.entries in
+        let left : filter (is_of para.id) (map (spelled file.NamedCorr) all_entries) ≡ map (spelled file.NamedCorr) its_own = filter-map (is_of para.id) (spelled file.NamedCorr) all_entries in
         let right : filter (is_of para.id) (flat_map entry_rows_of book.paragraphs) ≡ entry_rows_of p =
         ap (λ z. filter (is_of z) (flat_map entry_rows_of book.paragraphs)) id ∙ own-entries book.paragraphs p (paragraphs-apart book shown.sound) in_book in
-        pull_back spelled_entry (map spelled_entry its_own) (entry_rows_of p)
+        pull_back (spelled file.NamedCorr) (map (spelled file.NamedCorr) its_own) (entry_rows_of p)
         (subst (λ (xs : List NamedCorr). IsPermutation xs (entry_rows_of p)) left
-        (subst (λ (ys : List NamedCorr). IsPermutation (filter (is_of para.id) (map spelled_entry all_entries)) ys) right moved))
+        (subst (λ (ys : List NamedCorr). IsPermutation (filter (is_of para.id) (map (spelled file.NamedCorr) all_entries)) ys) right moved))
         its_own refl
 
     abbrev sorted : List NamedCorr
@@ -175,7 +175,7 @@ module _ (rows : FileRows) (book : Book) (shown : Shows rows book) where
 
     history-of : history_of sorted ≡ p.history
     history-of =
-        sym (map-map read spelled_entry sorted)
+        sym (map-map read (spelled file.NamedCorr) sorted)
         ∙ (ap (map read) (sym in_order.2) ∙ reads-back p.id 1 p.history)
 
     taken : (n : ℕ) → history_of (take n sorted) ≡ take n p.history
@@ -183,9 +183,9 @@ module _ (rows : FileRows) (book : Book) (shown : Shows rows book) where
 
     sound-entry_row : IsSoundHistory p.original p.history → (index : ℕ) (row : NamedCorr) → slice_get sorted index ≡ Some row → IsSoundEntryRow (chars para.original) sorted index row
     sound-entry_row sound index row at =
-        let there : slice_get (entry_rows_of p) index ≡ Some (spelled_entry row) =
-        ap (λ (rs : List NamedCorr). slice_get rs index) in_order.2 ∙ (slice_get-map spelled_entry sorted index ∙ ap (option_map spelled_entry) at) in
-        let found = entry-at p.id 1 p.history index (spelled_entry row) there in
+        let there : slice_get (entry_rows_of p) index ≡ Some (spelled file.NamedCorr row) =
+        ap (λ (rs : List NamedCorr). slice_get rs index) in_order.2 ∙ (slice_get-map (spelled file.NamedCorr) sorted index ∙ ap (option_map (spelled file.NamedCorr)) at) in
+        let found = entry-at p.id 1 p.history index (spelled file.NamedCorr row) there in
         let within = slice_get_within p.history index found.0 found.1 in
         let among : Contains all_entries row =
         from_filter (is_of para.id) all_entries row (Contains-permutation sorted its_own row (IsPermutation-sym its_own sorted in_order.1) (Contains-there sorted index row at)) in
@@ -195,7 +195,7 @@ module _ (rows : FileRows) (book : Book) (shown : Shows rows book) where
           number = sym (ap (λ (e : NamedCorr). e.entry.seq) found.2) ∙ (seq-of p.id (1 + index) found.0 ∙ ap pos next);
           room = omega (arith, within, sound.few);
           fits = subst (λ h. IsSoundCorrection (corrected_print p.original h) row ⊎ IsSoundUndo h row) (sym (taken index))
-              (fits p.original (take index p.history) p.id (1 + index) found.0 row (sound.entries index found.0 found.1) found.2 (All-contains HasEntryTexts all_entries row shown.texts.entries among));
+              (fits p.original (take index p.history) p.id (1 + index) found.0 row (sound.entries index found.0 found.1) found.2 (All-contains (HasTexts file.NamedCorr) all_entries row shown.texts.entries among));
           short = subst (λ h. length (corrected_print p.original h) ≤ most_print) (sym (taken (index + 1))) (sound.short (index + 1) (omega (arith, within)));
         })
 
@@ -203,7 +203,7 @@ module _ (rows : FileRows) (book : Book) (shown : Shows rows book) where
   sound-entries_of para c =
       let part = para_part rows book shown para c in
       let p : Paragraph = part.1 in
-      let is : para_of (part.0, p) ≡ spelled_para para = part.3 in
+      let is : para_of (part.0, p) ≡ spelled file.Para para = part.3 in
       let in_book = (from_enumerate 1 book.paragraphs part.0 p part.2).0 in
       let id : para.id ≡ pos p.id = sym (ap (λ (r : Para). r.id) is) in
       let original : p.original ≡ chars para.original = ap (λ (r : Para). r.original) is in
@@ -221,9 +221,9 @@ module _ (rows : FileRows) (book : Book) (shown : Shows rows book) where
   pub sound-entries : (id : ℤ) → ¬ IsDamagedEntries rows.paras all_entries id
   sound-entries id (inl (para, c, named, unsound)) = unsound (sound-entries_of para c)
   sound-entries id (inr (row, c, named, none)) =
-      let shown_row = Contains-permutation (map spelled_entry all_entries) (flat_map entry_rows_of book.paragraphs) (spelled_entry row) shown.entries (Contains-map spelled_entry all_entries row c) in
-      let found = from_flat_map entry_rows_of book.paragraphs (spelled_entry row) shown_row in
-      none (has-para found.0 id found.1 (sym (named_in found.0.id 1 found.0.history (spelled_entry row) found.2) ∙ named))
+      let shown_row = Contains-permutation (map (spelled file.NamedCorr) all_entries) (flat_map entry_rows_of book.paragraphs) (spelled file.NamedCorr row) shown.entries (Contains-map (spelled file.NamedCorr) all_entries row c) in
+      let found = from_flat_map entry_rows_of book.paragraphs (spelled file.NamedCorr row) shown_row in
+      none (has-para found.0 id found.1 (sym (named_in found.0.id 1 found.0.history (spelled file.NamedCorr row) found.2) ∙ named))
 
   -- ---- cache
 

@@ -14,7 +14,8 @@ use Rattle.louis_table.specs.Table.{Means}
 use Rattle.louis_translate.specs.Position.{AreDefined}
 use Rattle.desk_model.specs.Book.{Entry, Corrects, Undoes, Book, Paragraph, Mark, text_of}
 use Rattle.desk_model.specs.Damage.{IsDamagedMark, IsDamagedPara, IsItsTable, IsNumber, IsPrintText, IsSoundMarkRow, IsSoundParaRow, IsSpanned, IsWithin}
-use Rattle.desk_parts.specs.FileRows.{FileRows, HasParaTexts, HasTabText, spelled_mark, spelled_para}
+use Rattle.desk_parts.specs.declared.file_table.FileTable.TheVariants as file
+use Rattle.desk_parts.specs.FileRows.{FileRows, HasTexts, spelled}
 use Rattle.desk_model.specs.Limits.{most_marks, most_note, most_paragraphs, most_print}
 use Rattle.desk_model.specs.Print.{corrected_print, print_of}
 use Rattle.desk_parts.specs.Rows.{Para, Mark as MarkRow}
@@ -63,9 +64,9 @@ module _ (rows : FileRows) (book : Book) (shown : Shows rows book) where
   pub para-keys : IsPermutation (map (λ row. row.id) rows.paras) (map pos (range_with_len 1 (length ps)))
   para-keys =
       IsPermutation-trans (map (λ row. row.id) rows.paras) (map pos (ids_of ps)) (map pos (range_with_len 1 (length ps)))
-      (subst (λ (zs : List ℤ). IsPermutation zs (map pos (ids_of ps))) (map-map (λ (row : Para). row.id) spelled_para rows.paras)
-      (subst (λ (zs : List ℤ). IsPermutation (map (λ (row : Para). row.id) (map spelled_para rows.paras)) zs) (ids-rows 1 ps)
-      (IsPermutation-map (λ (row : Para). row.id) (map spelled_para rows.paras) (paras_of ps) shown.paragraphs)))
+      (subst (λ (zs : List ℤ). IsPermutation zs (map pos (ids_of ps))) (map-map (λ (row : Para). row.id) (spelled file.Para) rows.paras)
+      (subst (λ (zs : List ℤ). IsPermutation (map (λ (row : Para). row.id) (map (spelled file.Para) rows.paras)) zs) (ids-rows 1 ps)
+      (IsPermutation-map (λ (row : Para). row.id) (map (spelled file.Para) rows.paras) (paras_of ps) shown.paragraphs)))
       numbers-ids
 
   count-paras : length rows.paras ≡ length ps
@@ -79,17 +80,17 @@ module _ (rows : FileRows) (book : Book) (shown : Shows rows book) where
 
   -- ---- the parts of rows, and the rows of parts
 
-  pub para_part : (row : Para) → Contains rows.paras row → (place : ℕ) × (p : Paragraph) × Contains (enumerate_from 1 ps) (place, p) × (para_of (place, p) ≡ spelled_para row)
+  pub para_part : (row : Para) → Contains rows.paras row → (place : ℕ) × (p : Paragraph) × Contains (enumerate_from 1 ps) (place, p) × (para_of (place, p) ≡ spelled file.Para row)
   para_part row c =
-      let found = Contains-from_map para_of (enumerate_from 1 ps) (spelled_para row)
-      (Contains-permutation (map spelled_para rows.paras) (paras_of ps) (spelled_para row) shown.paragraphs (Contains-map spelled_para rows.paras row c)) in
+      let found = Contains-from_map para_of (enumerate_from 1 ps) (spelled file.Para row)
+      (Contains-permutation (map (spelled file.Para) rows.paras) (paras_of ps) (spelled file.Para row) shown.paragraphs (Contains-map (spelled file.Para) rows.paras row c)) in
       (found.0.0, found.0.1, found.1, found.2)
 
   pub para_row : (p : Paragraph) → Contains ps p → (row : Para) × Contains rows.paras row × (row.id ≡ pos p.id) × (chars row.print ≡ print_of p) × (chars row.tab ≡ p.table)
   para_row p c =
       let numbered = Contains-enumerate 1 ps p c in
-      let found = Contains-from_map spelled_para rows.paras (para_of (numbered.0, p))
-      (Contains-permutation (paras_of ps) (map spelled_para rows.paras) (para_of (numbered.0, p)) (IsPermutation-sym (map spelled_para rows.paras) (paras_of ps) shown.paragraphs)
+      let found = Contains-from_map (spelled file.Para) rows.paras (para_of (numbered.0, p))
+      (Contains-permutation (paras_of ps) (map (spelled file.Para) rows.paras) (para_of (numbered.0, p)) (IsPermutation-sym (map (spelled file.Para) rows.paras) (paras_of ps) shown.paragraphs)
       (Contains-map para_of (enumerate_from 1 ps) (numbered.0, p) numbered.1)) in
       (found.0, found.1, ap (λ (r : Para). r.id) found.2, ap (λ (r : Para). r.print) found.2, ap (λ (r : Para). r.tab) found.2)
 
@@ -98,11 +99,11 @@ module _ (rows : FileRows) (book : Book) (shown : Shows rows book) where
       → text_of book p.table ≡ Some text → Means text meaning → IsItsTable rows.tabs row meaning
   its_table row p text meaning in_rows named there means =
       let found = tab_row rows book shown p.table text (Contains-text p.table text book.tables there) in
-      let texts = All-contains HasParaTexts rows.paras row shown.texts.paras in_rows in
+      let texts = All-contains (HasTexts file.Para) rows.paras row shown.texts.paras in_rows in
       record {
         table = found.0;
         there = found.1;
-        named = same_bytes found.0.name row.tab (All-contains HasTabText rows.tabs found.0 shown.texts.tabs found.1) texts.0 (found.2 ∙ sym named);
+        named = same_bytes found.0.name row.tab (All-contains (HasTexts file.Tab) rows.tabs found.0 shown.texts.tabs found.1) texts.0 (found.2 ∙ sym named);
         means = subst (λ body. Means body meaning) (sym found.3) means;
       }
 
@@ -116,7 +117,7 @@ module _ (rows : FileRows) (book : Book) (shown : Shows rows book) where
       let part = para_part row c in
       let place : ℕ = part.0 in
       let p : Paragraph = part.1 in
-      let is : para_of (place, p) ≡ spelled_para row = part.3 in
+      let is : para_of (place, p) ≡ spelled file.Para row = part.3 in
       let within = from_enumerate 1 ps place p part.2 in
       let s = sound_paragraph p within.0 in
       let print : print_of p ≡ chars row.print = ap (λ (r : Para). r.print) is in
@@ -149,24 +150,24 @@ module _ (rows : FileRows) (book : Book) (shown : Shows rows book) where
 
   -- ---- mark
 
-  mark_part : (row : MarkRow) → Contains rows.marks row → (mark : Mark) × Contains book.marks mark × (mark_row_of mark ≡ spelled_mark row)
+  mark_part : (row : MarkRow) → Contains rows.marks row → (mark : Mark) × Contains book.marks mark × (mark_row_of mark ≡ spelled file.Mark row)
   mark_part row c =
-      Contains-from_map mark_row_of book.marks (spelled_mark row)
-      (Contains-permutation (map spelled_mark rows.marks) (map mark_row_of book.marks) (spelled_mark row) shown.marks (Contains-map spelled_mark rows.marks row c))
+      Contains-from_map mark_row_of book.marks (spelled file.Mark row)
+      (Contains-permutation (map (spelled file.Mark) rows.marks) (map mark_row_of book.marks) (spelled file.Mark row) shown.marks (Contains-map (spelled file.Mark) rows.marks row c))
 
   mark-keys : IsPermutation (map (λ row. row.id) rows.marks) (map pos (range_with_len 1 (length book.marks)))
   mark-keys =
       let ids : map (λ (row : MarkRow). row.id) (map mark_row_of book.marks) ≡ map pos (range_with_len 1 (length book.marks)) =
       map-map (λ (row : MarkRow). row.id) mark_row_of book.marks ∙ (sym (map-map pos (λ (m : Mark). m.id) book.marks) ∙ ap (map pos) shown.sound.numbers) in
-      subst (λ (zs : List ℤ). IsPermutation zs (map pos (range_with_len 1 (length book.marks)))) (map-map (λ (row : MarkRow). row.id) spelled_mark rows.marks)
-      (subst (λ (zs : List ℤ). IsPermutation (map (λ (row : MarkRow). row.id) (map spelled_mark rows.marks)) zs) ids
-      (IsPermutation-map (λ (row : MarkRow). row.id) (map spelled_mark rows.marks) (map mark_row_of book.marks) shown.marks))
+      subst (λ (zs : List ℤ). IsPermutation zs (map pos (range_with_len 1 (length book.marks)))) (map-map (λ (row : MarkRow). row.id) (spelled file.Mark) rows.marks)
+      (subst (λ (zs : List ℤ). IsPermutation (map (λ (row : MarkRow). row.id) (map (spelled file.Mark) rows.marks)) zs) ids
+      (IsPermutation-map (λ (row : MarkRow). row.id) (map (spelled file.Mark) rows.marks) (map mark_row_of book.marks) shown.marks))
 
   sound-mark_row : (row : MarkRow) → Contains rows.marks row → IsSoundMarkRow rows.paras rows.marks row
   sound-mark_row row c =
       let part = mark_part row c in
       let mark : Mark = part.0 in
-      let is : mark_row_of mark ≡ spelled_mark row = part.2 in
+      let is : mark_row_of mark ≡ spelled file.Mark row = part.2 in
       let s = All-contains (IsSoundMark book) book.marks mark shown.sound.marks part.1 in
       let para = para_row s.paragraph (Contains-found mark.paragraph book.paragraphs s.paragraph s.found) in
       let own : s.paragraph.id ≡ mark.paragraph = id-found mark.paragraph book.paragraphs s.paragraph s.found in

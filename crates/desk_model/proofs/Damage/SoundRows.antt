@@ -21,7 +21,8 @@ use Rattle.desk_command.specs.declared.style.Style.{Style}
 use Rattle.desk_command.specs.declared.style.Style.TheVariants.{Body, Heading}
 use Rattle.desk_model.specs.Book.{Book}
 use Rattle.desk_model.specs.Damage.{IsDamagedBook, IsDamagedTab, IsFlag, IsSoundTabRow}
-use Rattle.desk_parts.specs.FileRows.{EntryRows, FileRows, Named, Unnamed, format_of, spelled_tab}
+use Rattle.desk_parts.specs.declared.file_table.FileTable.TheVariants as file
+use Rattle.desk_parts.specs.FileRows.{EntryRows, FileRows, Named, Unnamed, format_of, spelled}
 use Rattle.desk_model.specs.Limits.{most_version}
 use Rattle.desk_parts.specs.Rows.{Tab}
 use Rattle.desk_model.specs.Shows.{Shows, book_row_of, flag_number, style_number, tab_of}
@@ -87,16 +88,16 @@ module _ (rows : FileRows) (book : Book) (shown : Shows rows book) where
   -- ---- tab
 
   -- the table of a row
-  tab_part : (row : Tab) → Contains rows.tabs row → (entry : List ℕ × List ℕ) × Contains book.tables entry × (tab_of entry ≡ spelled_tab row)
+  tab_part : (row : Tab) → Contains rows.tabs row → (entry : List ℕ × List ℕ) × Contains book.tables entry × (tab_of entry ≡ spelled file.Tab row)
   tab_part row c =
-      Contains-from_map tab_of book.tables (spelled_tab row)
-      (Contains-permutation (map spelled_tab rows.tabs) (map tab_of book.tables) (spelled_tab row) shown.tables (Contains-map spelled_tab rows.tabs row c))
+      Contains-from_map tab_of book.tables (spelled file.Tab row)
+      (Contains-permutation (map (spelled file.Tab) rows.tabs) (map tab_of book.tables) (spelled file.Tab row) shown.tables (Contains-map (spelled file.Tab) rows.tabs row c))
 
   -- the row of a table
   pub tab_row : (name text : List ℕ) → Contains book.tables (name, text) → (row : Tab) × Contains rows.tabs row × (chars row.name ≡ name) × (row.body ≡ text)
   tab_row name text c =
-      let found = Contains-from_map spelled_tab rows.tabs (tab_of (name, text))
-      (Contains-permutation (map tab_of book.tables) (map spelled_tab rows.tabs) (tab_of (name, text)) (IsPermutation-sym (map spelled_tab rows.tabs) (map tab_of book.tables) shown.tables)
+      let found = Contains-from_map (spelled file.Tab) rows.tabs (tab_of (name, text))
+      (Contains-permutation (map tab_of book.tables) (map (spelled file.Tab) rows.tabs) (tab_of (name, text)) (IsPermutation-sym (map (spelled file.Tab) rows.tabs) (map tab_of book.tables) shown.tables)
       (Contains-map tab_of book.tables (name, text) c)) in
       (found.0, found.1, ap (λ (t : Tab). t.name) found.2, ap (λ (t : Tab). t.body) found.2)
 
@@ -107,18 +108,18 @@ module _ (rows : FileRows) (book : Book) (shown : Shows rows book) where
     count-sorted : length sorted ≡ length book.tables
     count-sorted =
         let one = length_permutation rows.tabs sorted moved in
-        let two = length_permutation (map spelled_tab rows.tabs) (map tab_of book.tables) shown.tables in
-        let three = length-map rows.tabs spelled_tab in
+        let two = length_permutation (map (spelled file.Tab) rows.tabs) (map tab_of book.tables) shown.tables in
+        let three = length-map rows.tabs (spelled file.Tab) in
         let four = length-map book.tables tab_of in
         omega (arith, one, two, three, four)
 
     names-moved : IsPermutation (map (λ e. e.0) book.tables) (names sorted)
     names-moved =
         IsPermutation-trans (map (λ e. e.0) book.tables) (names rows.tabs) (names sorted)
-        (subst (λ (ns : List (List ℕ)). IsPermutation (map (λ e. e.0) book.tables) ns) (map-map (λ (t : Tab). t.name) spelled_tab rows.tabs)
-        (subst (λ (ns : List (List ℕ)). IsPermutation ns (map (λ (t : Tab). t.name) (map spelled_tab rows.tabs))) (map-map (λ (t : Tab). t.name) tab_of book.tables)
-        (IsPermutation-map (λ (t : Tab). t.name) (map tab_of book.tables) (map spelled_tab rows.tabs)
-        (IsPermutation-sym (map spelled_tab rows.tabs) (map tab_of book.tables) shown.tables))))
+        (subst (λ (ns : List (List ℕ)). IsPermutation (map (λ e. e.0) book.tables) ns) (map-map (λ (t : Tab). t.name) (spelled file.Tab) rows.tabs)
+        (subst (λ (ns : List (List ℕ)). IsPermutation ns (map (λ (t : Tab). t.name) (map (spelled file.Tab) rows.tabs))) (map-map (λ (t : Tab). t.name) tab_of book.tables)
+        (IsPermutation-map (λ (t : Tab). t.name) (map tab_of book.tables) (map (spelled file.Tab) rows.tabs)
+        (IsPermutation-sym (map (spelled file.Tab) rows.tabs) (map tab_of book.tables) shown.tables))))
         (IsPermutation-map (λ (t : Tab). chars t.name) rows.tabs sorted moved)
 
     apart-names : (i j : ℕ) (one other : Tab) → i < j → slice_get sorted i ≡ Some one → slice_get sorted j ≡ Some other → ¬ (one.name ≡ other.name)

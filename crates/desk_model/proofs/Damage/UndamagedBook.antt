@@ -26,7 +26,7 @@ use Rattle.desk_parts.specs.declared.file_table.FileTable.TheVariants as file
 use Rattle.desk_parts.specs.declared.rows.BookRow.{BookRow}
 use Rattle.desk_model.specs.Book.{Book, Mark, Paragraph, paragraph_of, text_of}
 use Rattle.desk_model.specs.Damage.{HasItsTables, HasSoundEntries, IsDamaged, IsDamagedCache, IsDamagedEntries, IsItsTable, IsSoundBookRow, IsSoundCacheRow, IsSoundMarkRow, IsSoundParaRow, history_of}
-use Rattle.desk_parts.specs.FileRows.{AreTexts, EntryRows, FileRows, HasEntryTexts, HasMarkText, HasParaTexts, HasTabText, Named, Unnamed, entries_in, format_of, spelled_entry, spelled_mark, spelled_para, spelled_tab, table_of}
+use Rattle.desk_parts.specs.FileRows.{AreTexts, EntryRows, FileRows, HasTexts, Named, Unnamed, entries_in, format_of, spelled, table_of}
 use Rattle.desk_model.specs.Limits.{most_marks, most_paragraphs, most_version}
 use Rattle.desk_model.specs.Name.{IsTableName, is_name_character}
 use Rattle.desk_model.specs.Print.{corrected_print, print_of}
@@ -112,8 +112,8 @@ module _ (rows : FileRows) (texts : AreTexts rows) (its : HasItsTables rows) (no
   abbrev pub tables : List (List ℕ × List ℕ)
   tables = map table_for tabs
 
-  tab-text : (t : Tab) → Contains tabs t → HasTabText t
-  tab-text t c = All-contains HasTabText rows.tabs t texts.tabs (Contains-permutation tabs rows.tabs t (IsPermutation-sym rows.tabs tabs (tabs-moved rows.tabs no-tab)) c)
+  tab-text : (t : Tab) → Contains tabs t → HasTexts file.Tab t
+  tab-text t c = All-contains (HasTexts file.Tab) rows.tabs t texts.tabs (Contains-permutation tabs rows.tabs t (IsPermutation-sym rows.tabs tabs (tabs-moved rows.tabs no-tab)) c)
 
   sound-tables : All IsSoundTable tables
   sound-tables =
@@ -130,10 +130,10 @@ module _ (rows : FileRows) (texts : AreTexts rows) (its : HasItsTables rows) (no
       subst (IsStrictlySortedBy (slice_cmp nat_cmp)) (plain ∙ sym (map-map (λ (e : List ℕ × List ℕ). e.0) table_for tabs))
       (names-strict tabs (tabs-rise rows.tabs no-tab) (names-apart rows.tabs no-tab))
 
-  pub shown-tables : IsPermutation (map spelled_tab rows.tabs) (map tab_of tables)
+  pub shown-tables : IsPermutation (map (spelled file.Tab) rows.tabs) (map tab_of tables)
   shown-tables =
-      subst (IsPermutation (map spelled_tab rows.tabs)) (sym (map-map tab_of table_for tabs))
-      (IsPermutation-map spelled_tab rows.tabs tabs (tabs-moved rows.tabs no-tab))
+      subst (IsPermutation (map (spelled file.Tab) rows.tabs)) (sym (map-map tab_of table_for tabs))
+      (IsPermutation-map (spelled file.Tab) rows.tabs tabs (tabs-moved rows.tabs no-tab))
 
   -- the text of a table that a row names
   pub text-found : (para : Para) (meaning : Meaning) → (table : IsItsTable rows.tabs para meaning) → lookup (pointwise nat_eq (chars para.tab)) tables ≡ Some table.table.body
@@ -223,7 +223,7 @@ module _ (rows : FileRows) (texts : AreTexts rows) (its : HasItsTables rows) (no
     count-paras = length_permutation rows.paras paras by_place.1
 
     abbrev pub paragraph_for : (para : Para) → Contains rows.paras para → Paragraph
-    paragraph_for para c = to_paragraph (spelled_para para) (history_of (history_for para c).sorted)
+    paragraph_for para c = to_paragraph (spelled file.Para para) (history_of (history_for para c).sorted)
 
     abbrev pub made : (ps : List Para) → All (Contains rows.paras) ps → List Paragraph
     made [] all = []
@@ -288,7 +288,7 @@ module _ (rows : FileRows) (texts : AreTexts rows) (its : HasItsTables rows) (no
 
     -- ---- their rows
 
-    row-made : (n : ℕ) (p : Para) (c : Contains rows.paras p) → p.place ≡ pos n → para_of (n, paragraph_for p c) ≡ spelled_para p
+    row-made : (n : ℕ) (p : Para) (c : Contains rows.paras p) → p.place ≡ pos n → para_of (n, paragraph_for p c) ≡ spelled file.Para p
     row-made n p c at =
         let s = sound-row p c in
         λ i. record {
@@ -303,18 +303,18 @@ module _ (rows : FileRows) (texts : AreTexts rows) (its : HasItsTables rows) (no
         }
 
     rows-made : (n : ℕ) (ps : List Para) (all : All (Contains rows.paras) ps) → map place_of ps ≡ numbers n (length ps)
-        → map para_of (enumerate_from n (made ps all)) ≡ map spelled_para ps
+        → map para_of (enumerate_from n (made ps all)) ≡ map (spelled file.Para) ps
     rows-made n [] all is = refl
     rows-made n (p ∷ ps) all is =
         let first : p.place ≡ pos n = cc in
         let rest : map place_of ps ≡ numbers (n + 1) (length ps) = cc in
         λ i. row-made n p (All-head (Contains rows.paras) p ps all) first i ∷ rows-made (n + 1) ps (All-tail (Contains rows.paras) p ps all) rest i
 
-    shown-paragraphs : IsPermutation (map spelled_para rows.paras) (paras_of paragraphs)
+    shown-paragraphs : IsPermutation (map (spelled file.Para) rows.paras) (paras_of paragraphs)
     shown-paragraphs =
         let places : map place_of paras ≡ numbers 1 (length paras) = sym by_place.2 ∙ ap (numbers 1) (sym count-paras) in
-        subst (IsPermutation (map spelled_para rows.paras)) (sym (rows-made 1 paras all-in places))
-        (IsPermutation-map spelled_para rows.paras paras by_place.1)
+        subst (IsPermutation (map (spelled file.Para) rows.paras)) (sym (rows-made 1 paras all-in places))
+        (IsPermutation-map (spelled file.Para) rows.paras paras by_place.1)
 
     -- ---- the rows of their histories
 
@@ -329,7 +329,7 @@ module _ (rows : FileRows) (texts : AreTexts rows) (its : HasItsTables rows) (no
         let among = Contains-permutation h.sorted own row (IsPermutation-sym own h.sorted h.its_own) (Contains-there h.sorted i row at) in
         (signed_Decides row.entry.para para.id).0 (passes-filter test entries row among)
 
-    entry-rows-made : (para : Para) (c : Contains rows.paras para) → entry_rows_of (paragraph_for para c) ≡ map spelled_entry (history_for para c).sorted
+    entry-rows-made : (para : Para) (c : Contains rows.paras para) → entry_rows_of (paragraph_for para c) ≡ map (spelled file.NamedCorr) (history_for para c).sorted
     entry-rows-made para c =
         let h = history_for para c in
         history-rows (number para.id) 1 h.sorted (λ i row at.
@@ -339,7 +339,7 @@ module _ (rows : FileRows) (texts : AreTexts rows) (its : HasItsTables rows) (no
         (named-entry para c i row at ∙ sym (id-back para c)) (s.number ∙ ap pos next) s.fits)
 
     groups-made : (ps : List Para) (all : All (Contains rows.paras) ps)
-        → IsPermutation (map spelled_entry (flat_map (group of_para id_of entries) ps)) (flat_map entry_rows_of (made ps all))
+        → IsPermutation (map (spelled file.NamedCorr) (flat_map (group of_para id_of entries) ps)) (flat_map entry_rows_of (made ps all))
     groups-made [] all = IsPermutation-refl []
     groups-made (p ∷ ps) all =
         let c = All-head (Contains rows.paras) p ps all in
@@ -347,12 +347,12 @@ module _ (rows : FileRows) (texts : AreTexts rows) (its : HasItsTables rows) (no
         let h = history_for p c in
         let own = group of_para id_of entries p in
         let others = flat_map (group of_para id_of entries) ps in
-        subst (λ xs. IsPermutation xs (flat_map entry_rows_of (made (p ∷ ps) all))) (sym (map-append spelled_entry own others))
-        (IsPermutation-append (map spelled_entry own) (entry_rows_of (paragraph_for p c)) (map spelled_entry others) (flat_map entry_rows_of (made ps tail))
-        (subst (IsPermutation (map spelled_entry own)) (sym (entry-rows-made p c)) (IsPermutation-map spelled_entry own h.sorted h.its_own))
+        subst (λ xs. IsPermutation xs (flat_map entry_rows_of (made (p ∷ ps) all))) (sym (map-append (spelled file.NamedCorr) own others))
+        (IsPermutation-append (map (spelled file.NamedCorr) own) (entry_rows_of (paragraph_for p c)) (map (spelled file.NamedCorr) others) (flat_map entry_rows_of (made ps tail))
+        (subst (IsPermutation (map (spelled file.NamedCorr) own)) (sym (entry-rows-made p c)) (IsPermutation-map (spelled file.NamedCorr) own h.sorted h.its_own))
         (groups-made ps tail))
 
-    shown-entries : IsPermutation (map spelled_entry entries) (flat_map entry_rows_of paragraphs)
+    shown-entries : IsPermutation (map (spelled file.NamedCorr) entries) (flat_map entry_rows_of paragraphs)
     shown-entries =
         let groups = flat_map (group of_para id_of entries) paras in
         let once = once-permutation (map id_of rows.paras) (map id_of paras) (IsPermutation-map id_of rows.paras paras by_place.1)
@@ -360,8 +360,8 @@ module _ (rows : FileRows) (texts : AreTexts rows) (its : HasItsTables rows) (no
         let grouped = all-grouped of_para id_of entries paras once (λ row c.
         let para = entry-para rows.paras entries no-entries row c in
         subst (Contains (map id_of paras)) para.2 (Contains-map id_of paras para.0 (Contains-permutation rows.paras paras para.0 by_place.1 para.1))) in
-        IsPermutation-trans (map spelled_entry entries) (map spelled_entry groups) (flat_map entry_rows_of paragraphs)
-        (IsPermutation-map spelled_entry entries groups grouped) (groups-made paras all-in)
+        IsPermutation-trans (map (spelled file.NamedCorr) entries) (map (spelled file.NamedCorr) groups) (flat_map entry_rows_of paragraphs)
+        (IsPermutation-map (spelled file.NamedCorr) entries groups grouped) (groups-made paras all-in)
 
     -- ---- marks
 
@@ -384,7 +384,7 @@ module _ (rows : FileRows) (texts : AreTexts rows) (its : HasItsTables rows) (no
         let j = at_least k.0 m.stop (subst (λ (z : ℤ). z ≤ℤ m.stop) k.1 span.ordered) in
         subst (λ (z : ℤ). pos 0 ≤ℤ z) (sym j.1) (pos_le 0 j.0 (omega arith))
 
-    mark-row-made : (m : MarkRow) → Contains rows.marks m → mark_row_of (mark_of_row m) ≡ spelled_mark m
+    mark-row-made : (m : MarkRow) → Contains rows.marks m → mark_row_of (mark_of_row m) ≡ spelled file.Mark m
     mark-row-made m c =
         let s = mark-row m c in
         let k = number-of mark_id most_marks rows.marks (λ m c. (mark-row m c).number) m c in
@@ -396,11 +396,11 @@ module _ (rows : FileRows) (texts : AreTexts rows) (its : HasItsTables rows) (no
     in-marks : (m : MarkRow) → Contains by_id.0 m → Contains rows.marks m
     in-marks m c = Contains-permutation by_id.0 rows.marks m (IsPermutation-sym rows.marks by_id.0 by_id.1) c
 
-    pub shown-marks : IsPermutation (map spelled_mark rows.marks) (map mark_row_of marks)
+    pub shown-marks : IsPermutation (map (spelled file.Mark) rows.marks) (map mark_row_of marks)
     shown-marks =
-        subst (IsPermutation (map spelled_mark rows.marks))
-        (sym (map-map mark_row_of mark_of_row by_id.0 ∙ map-same (λ m. mark_row_of (mark_of_row m)) spelled_mark by_id.0 (λ m c. mark-row-made m (in-marks m c))))
-        (IsPermutation-map spelled_mark rows.marks by_id.0 by_id.1)
+        subst (IsPermutation (map (spelled file.Mark) rows.marks))
+        (sym (map-map mark_row_of mark_of_row by_id.0 ∙ map-same (λ m. mark_row_of (mark_of_row m)) (spelled file.Mark) by_id.0 (λ m c. mark-row-made m (in-marks m c))))
+        (IsPermutation-map (spelled file.Mark) rows.marks by_id.0 by_id.1)
 
     count-marks : length marks ≡ length rows.marks
     count-marks =
@@ -426,8 +426,8 @@ module _ (rows : FileRows) (texts : AreTexts rows) (its : HasItsTables rows) (no
         let h = history_for para c in
         let own = group of_para id_of entries para in
         let test = λ (e : NamedCorr). int_eq e.entry.para para.id in
-        let in_utf8 = All-contains HasParaTexts rows.paras para texts.paras c in
-        let entry_texts = All-permutation HasEntryTexts own h.sorted h.its_own (All-filter test HasEntryTexts entries texts.entries) in
+        let in_utf8 = All-contains (HasTexts file.Para) rows.paras para texts.paras c in
+        let entry_texts = All-permutation (HasTexts file.NamedCorr) own h.sorted h.its_own (All-filter test (HasTexts file.NamedCorr) entries texts.entries) in
         record {
           clean = record { characters = characters-of para.original in_utf8.1; unbarred = s.original.1 };
           history = sound-history (chars para.original) h.sorted s.original.0 entry_texts h.each;
@@ -463,7 +463,7 @@ module _ (rows : FileRows) (texts : AreTexts rows) (its : HasItsTables rows) (no
           within = le_from (number m.stop) (length (print_of p.0))
               (subst (λ (z : ℤ). z ≤ℤ pos (length (print_of p.0))) (sym stop)
               (subst (λ (print : List ℕ). m.stop ≤ℤ pos (length print)) (sym p.3) s.span.stop));
-          clean = record { characters = characters-of m.note (All-contains HasMarkText rows.marks m texts.marks c); unbarred = s.note };
+          clean = record { characters = characters-of m.note (All-contains (HasTexts file.Mark) rows.marks m texts.marks c); unbarred = s.note };
           short = s.short;
         }
 

@@ -13,7 +13,8 @@ use Rattle.louis_translate.specs.Braille.{braille}
 use Rattle.louis_translate.proofs.Tilings.{one_tiling}
 use Rattle.desk_parts.specs.declared.file_table.FileTable.TheVariants.{Corr as CorrTable, NamedCorr as NamedCorrTable}
 use Rattle.desk_model.specs.Book.{Entry, Corrects, Undoes, Paragraph, Book}
-use Rattle.desk_parts.specs.FileRows.{FileRows, HasEntryTexts, HasMarkText, HasParaTexts, HasTabText, Named, Unnamed, spelled_entry, spelled_mark, spelled_para, spelled_tab, table_of, without_name}
+use Rattle.desk_parts.specs.declared.file_table.FileTable.TheVariants as file
+use Rattle.desk_parts.specs.FileRows.{FileRows, HasTexts, Named, Unnamed, spelled, table_of, without_name}
 use Rattle.desk_model.specs.Name.{IsTableName, is_name_character}
 use Rattle.desk_model.specs.Print.{print_of}
 use Rattle.desk_parts.specs.Rows.{Corr, Tab, Para, NamedCorr, Mark as MarkRow, ParaCells}
@@ -131,7 +132,7 @@ encoded_corr e = record e.entry { body = encodes e.entry.body }
 abbrev HasNoName : NamedCorr → Type 0
 HasNoName e = e.who ≡ []
 
-without_name-back : (es : List NamedCorr) → All EntryCharacters es → All HasNoName es → map spelled_entry (map without_name (map encoded_corr es)) ≡ es
+without_name-back : (es : List NamedCorr) → All EntryCharacters es → All HasNoName es → map (spelled file.NamedCorr) (map without_name (map encoded_corr es)) ≡ es
 without_name-back [] all none = refl
 without_name-back (e ∷ es) all none =
     let texts = All-head EntryCharacters e es all in
@@ -139,11 +140,11 @@ without_name-back (e ∷ es) all none =
     let rest = without_name-back es (All-tail EntryCharacters e es all) (All-tail HasNoName e es none) in
     λ i. record { entry = record e.entry { body = spelled-encoded e.entry.body texts.0 i }; who = name i } ∷ rest i
 
-without_name-texts : (es : List NamedCorr) → All EntryCharacters es → All HasEntryTexts (map without_name (map encoded_corr es))
-without_name-texts [] all = All-nil HasEntryTexts
+without_name-texts : (es : List NamedCorr) → All EntryCharacters es → All (HasTexts file.NamedCorr) (map without_name (map encoded_corr es))
+without_name-texts [] all = All-nil (HasTexts file.NamedCorr)
 without_name-texts (e ∷ es) all =
     let texts = All-head EntryCharacters e es all in
-    All-cons HasEntryTexts (without_name (encoded_corr e)) (map without_name (map encoded_corr es)) (encoded-text e.entry.body texts.0, ([], (refl, refl)))
+    All-cons (HasTexts file.NamedCorr) (without_name (encoded_corr e)) (map without_name (map encoded_corr es)) (encoded-text e.entry.body texts.0, ([], (refl, refl)))
     (without_name-texts es (All-tail EntryCharacters e es all))
 
 module _ (book : Book) (sound : IsSound book) where
@@ -225,20 +226,20 @@ module _ (book : Book) (sound : IsSound book) where
   rows-show = record {
     sound = sound;
     texts = record {
-      tabs = All-map HasTabText encoded_tab (map tab_of book.tables) (All-weaker TabCharacters (λ t. HasTabText (encoded_tab t)) (λ t all. encoded-text t.name all) (map tab_of book.tables) tab_characters);
-      paras = All-map HasParaTexts encoded_para (paras_of book.paragraphs)
-          (All-weaker ParaCharacters (λ p. HasParaTexts (encoded_para p)) (λ p all. (encoded-text p.tab all.0, encoded-text p.original all.1, encoded-text p.print all.2)) (paras_of book.paragraphs) para_characters);
-      entries = All-map HasEntryTexts encoded_entry (flat_map entry_rows_of book.paragraphs)
-          (All-weaker EntryCharacters (λ e. HasEntryTexts (encoded_entry e)) (λ e all. (encoded-text e.entry.body all.0, encoded-text e.who all.1)) (flat_map entry_rows_of book.paragraphs) entry_characters);
-      marks = All-map HasMarkText encoded_mark (map mark_row_of book.marks) (All-weaker MarkCharacters (λ m. HasMarkText (encoded_mark m)) (λ m all. encoded-text m.note all) (map mark_row_of book.marks) mark_characters);
+      tabs = All-map (HasTexts file.Tab) encoded_tab (map tab_of book.tables) (All-weaker TabCharacters (λ t. HasTexts file.Tab (encoded_tab t)) (λ t all. encoded-text t.name all) (map tab_of book.tables) tab_characters);
+      paras = All-map (HasTexts file.Para) encoded_para (paras_of book.paragraphs)
+          (All-weaker ParaCharacters (λ p. HasTexts file.Para (encoded_para p)) (λ p all. (encoded-text p.tab all.0, encoded-text p.original all.1, encoded-text p.print all.2)) (paras_of book.paragraphs) para_characters);
+      entries = All-map (HasTexts file.NamedCorr) encoded_entry (flat_map entry_rows_of book.paragraphs)
+          (All-weaker EntryCharacters (λ e. HasTexts file.NamedCorr (encoded_entry e)) (λ e all. (encoded-text e.entry.body all.0, encoded-text e.who all.1)) (flat_map entry_rows_of book.paragraphs) entry_characters);
+      marks = All-map (HasTexts file.Mark) encoded_mark (map mark_row_of book.marks) (All-weaker MarkCharacters (λ m. HasTexts file.Mark (encoded_mark m)) (λ m all. encoded-text m.note all) (map mark_row_of book.marks) mark_characters);
     };
     row = refl;
-    tables = IsPermutation-same _ (map tab_of book.tables) (map-back TabCharacters spelled_tab encoded_tab (λ t all. λ i. record t { name = spelled-encoded t.name all i }) (map tab_of book.tables) tab_characters);
-    paragraphs = IsPermutation-same _ (paras_of book.paragraphs) (map-back ParaCharacters spelled_para encoded_para
+    tables = IsPermutation-same _ (map tab_of book.tables) (map-back TabCharacters (spelled file.Tab) encoded_tab (λ t all. λ i. record t { name = spelled-encoded t.name all i }) (map tab_of book.tables) tab_characters);
+    paragraphs = IsPermutation-same _ (paras_of book.paragraphs) (map-back ParaCharacters (spelled file.Para) encoded_para
         (λ p all. λ i. record p { tab = spelled-encoded p.tab all.0 i; original = spelled-encoded p.original all.1 i; print = spelled-encoded p.print all.2 i }) (paras_of book.paragraphs) para_characters);
-    entries = IsPermutation-same _ (flat_map entry_rows_of book.paragraphs) (map-back EntryCharacters spelled_entry encoded_entry
+    entries = IsPermutation-same _ (flat_map entry_rows_of book.paragraphs) (map-back EntryCharacters (spelled file.NamedCorr) encoded_entry
         (λ e all. λ i. record { entry = record e.entry { body = spelled-encoded e.entry.body all.0 i }; who = spelled-encoded e.who all.1 i }) (flat_map entry_rows_of book.paragraphs) entry_characters);
-    marks = IsPermutation-same _ (map mark_row_of book.marks) (map-back MarkCharacters spelled_mark encoded_mark (λ m all. λ i. record m { note = spelled-encoded m.note all i }) (map mark_row_of book.marks) mark_characters);
+    marks = IsPermutation-same _ (map mark_row_of book.marks) (map-back MarkCharacters (spelled file.Mark) encoded_mark (λ m all. λ i. record m { note = spelled-encoded m.note all i }) (map mark_row_of book.marks) mark_characters);
     caches = λ rows same. let own : cached book.paragraphs all-in ≡ rows = cc in subst (AreCached book) own are-cached;
   }
 

@@ -16,7 +16,8 @@ use Rattle.desk_parts.specs.declared.rows.BookRow.{BookRow}
 use Rattle.desk_command.specs.declared.style.Style.{Style}
 use Rattle.desk_command.specs.declared.style.Style.TheVariants.{Body, Heading}
 use Rattle.desk_model.specs.Book.{Entry, Corrects, Undoes, Paragraph, Mark, Book}
-use Rattle.desk_parts.specs.FileRows.{FileRows, entries_in, format_of, spelled_entry, spelled_mark, spelled_para, spelled_tab}
+use Rattle.desk_parts.specs.declared.file_table.FileTable.TheVariants as file
+use Rattle.desk_parts.specs.FileRows.{FileRows, entries_in, format_of, spelled}
 use Rattle.desk_parts.specs.Rows.{Tab, Para, NamedCorr, Mark as MarkRow}
 use Rattle.desk_model.specs.Shows.{Shows, book_row_of, entry_row_of, entry_rows_of, flag_number, mark_row_of, para_of, paras_of, style_number, tab_of}
 use Rattle.desk_model.proofs.Lists.Members.{Contains-behind, Contains-cases, Contains-here, Contains-none}
@@ -270,10 +271,10 @@ module _ (rows : FileRows) (a b : Book) (shown_a : Shows rows a) (shown_b : Show
       ap (λ (r : BookRow). number r.version) first
 
   same_tables : a.tables ≡ b.tables
-  same_tables = tables_same a.tables b.tables (map spelled_tab rows.tabs) shown_a.sound.names shown_b.sound.names shown_a.tables shown_b.tables
+  same_tables = tables_same a.tables b.tables (map (spelled file.Tab) rows.tabs) shown_a.sound.names shown_b.sound.names shown_a.tables shown_b.tables
 
   same_marks : a.marks ≡ b.marks
-  same_marks = marks_same a.marks b.marks (map spelled_mark rows.marks) shown_a.sound.numbers shown_b.sound.numbers shown_a.marks shown_b.marks
+  same_marks = marks_same a.marks b.marks (map (spelled file.Mark) rows.marks) shown_a.sound.numbers shown_b.sound.numbers shown_a.marks shown_b.marks
 
   all_paragraphs : a.paragraphs ≡ b.paragraphs
   all_paragraphs =
@@ -285,9 +286,9 @@ module _ (rows : FileRows) (a b : Book) (shown_a : Shows rows a) (shown_b : Show
       (sorted_same nat_cmp nat_cmp_total (λ (p : Para). number p.place) pa pb
       (numbered_sorted para_of (λ (p : Para). number p.place) (λ n p. refl) 1 a.paragraphs)
       (numbered_sorted para_of (λ (p : Para). number p.place) (λ n p. refl) 1 b.paragraphs)
-      (onto (map spelled_para rows.paras) pa pb shown_a.paragraphs shown_b.paragraphs) (onto (map spelled_para rows.paras) pb pa shown_b.paragraphs shown_a.paragraphs))
+      (onto (map (spelled file.Para) rows.paras) pa pb shown_a.paragraphs shown_b.paragraphs) (onto (map (spelled file.Para) rows.paras) pb pa shown_b.paragraphs shown_a.paragraphs))
       (λ p q in_a in_b same. same_history a.paragraphs b.paragraphs p q (paragraphs-apart a shown_a.sound) (paragraphs-apart b shown_b.sound)
-      (onto (map spelled_entry (entries_in rows.entries)) ca cb shown_a.entries shown_b.entries) (onto (map spelled_entry (entries_in rows.entries)) cb ca shown_b.entries shown_a.entries) in_a in_b same)
+      (onto (map (spelled file.NamedCorr) (entries_in rows.entries)) ca cb shown_a.entries shown_b.entries) (onto (map (spelled file.NamedCorr) (entries_in rows.entries)) cb ca shown_b.entries shown_a.entries) in_a in_b same)
 
   pub one_book : a ≡ b
   one_book = λ i. record { version = same_version i; tables = same_tables i; paragraphs = all_paragraphs i; marks = same_marks i }

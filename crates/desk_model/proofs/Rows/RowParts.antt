@@ -10,7 +10,8 @@ use Rattle.std.proofs.lemmas.List.Elements.{All-contains}
 use Rattle.std.proofs.lemmas.Str.{chars-nil, scalars-chars}
 use Rattle.desk_model.specs.Book.{Entry, Corrects, Undoes, Mark}
 use Rattle.desk_model.specs.Damage.{IsFlag, IsSoundCorrection, IsSoundEntryRow, IsSoundMarkRow, IsSoundUndo, entry_of, history_of}
-use Rattle.desk_parts.specs.FileRows.{HasEntryTexts, spelled_entry, spelled_mark}
+use Rattle.desk_parts.specs.declared.file_table.FileTable.TheVariants as tables
+use Rattle.desk_parts.specs.FileRows.{HasTexts, spelled}
 use Rattle.desk_model.specs.Limits.{most_entries, most_print}
 use Rattle.desk_model.specs.Print.{corrected_print}
 use Rattle.desk_parts.specs.Rows.{Mark as MarkRow, NamedCorr, Para}
@@ -55,7 +56,7 @@ mark_of_row m = record {
 
 -- the mark of a sound row has that row
 pub mark-back : (paras : List Para) (marks : List MarkRow) (m : MarkRow) → pos 0 ≤ℤ m.id → pos 0 ≤ℤ m.para → pos 0 ≤ℤ m.stop
-    → IsSoundMarkRow paras marks m → mark_row_of (mark_of_row m) ≡ spelled_mark m
+    → IsSoundMarkRow paras marks m → mark_row_of (mark_of_row m) ≡ spelled tables.Mark m
 mark-back paras marks m id para stop sound = λ i. record {
   id = number-back m.id id i;
   para = number-back m.para para i;
@@ -83,7 +84,7 @@ module _ (row : NamedCorr) where
 
   -- the entry of a sound row has that row
   pub entry-row : (id n : ℕ) (print : List ℕ) (before : List Entry) → row.entry.para ≡ pos id → row.entry.seq ≡ pos n
-      → IsSoundCorrection print row ⊎ IsSoundUndo before row → entry_row_of id (n, entry_of row) ≡ spelled_entry row
+      → IsSoundCorrection print row ⊎ IsSoundUndo before row → entry_row_of id (n, entry_of row) ≡ spelled tables.NamedCorr row
   entry-row id n print before para seq (inl c) =
       ap (λ entry. entry_row_of id (n, entry)) (entry-corrects c.kind)
       ∙ (λ i. record {
@@ -107,7 +108,7 @@ module _ (row : NamedCorr) where
         who = who i;
       })
 
-  sound-entry : (original : List ℕ) (before : List Entry) → HasEntryTexts row → IsSoundCorrection (corrected_print original before) row ⊎ IsSoundUndo before row
+  sound-entry : (original : List ℕ) (before : List Entry) → HasTexts tables.NamedCorr row → IsSoundCorrection (corrected_print original before) row ⊎ IsSoundUndo before row
       → IsSoundEntry original before (entry_of row)
   sound-entry original before texts (inl c) =
       subst (IsSoundEntry original before) (sym (entry-corrects c.kind)) (
@@ -124,12 +125,12 @@ module _ (row : NamedCorr) where
 -- ---- a history
 
 -- the rows of its entries
-pub history-rows : (id n : ℕ) (rows : List NamedCorr) → ((i : ℕ) (row : NamedCorr) → slice_get rows i ≡ Some row → entry_row_of id (n + i, entry_of row) ≡ spelled_entry row)
-    → map (entry_row_of id) (enumerate_from n (history_of rows)) ≡ map spelled_entry rows
+pub history-rows : (id n : ℕ) (rows : List NamedCorr) → ((i : ℕ) (row : NamedCorr) → slice_get rows i ≡ Some row → entry_row_of id (n + i, entry_of row) ≡ spelled tables.NamedCorr row)
+    → map (entry_row_of id) (enumerate_from n (history_of rows)) ≡ map (spelled tables.NamedCorr) rows
 history-rows id n [] each = refl
 history-rows id n (row ∷ rows) each =
     let own : n ≡ n + 0 = omega arith in
-    let first : entry_row_of id (n, entry_of row) ≡ spelled_entry row = ap (λ k. entry_row_of id (k, entry_of row)) own ∙ each 0 row refl in
+    let first : entry_row_of id (n, entry_of row) ≡ spelled tables.NamedCorr row = ap (λ k. entry_row_of id (k, entry_of row)) own ∙ each 0 row refl in
     let rest = history-rows id (n + 1) rows (λ i other at.
     let next : n + 1 + i ≡ n + suc i = omega arith in
     ap (λ k. entry_row_of id (k, entry_of other)) next ∙ each (suc i) other at) in
@@ -141,7 +142,7 @@ at-map f [] i y at = absurd (cc)
 at-map f (x ∷ xs) zero y at = (x, refl, cc)
 at-map f (x ∷ xs) (suc i) y at = at-map f xs i y at
 
-module _ (original : List ℕ) (sorted : List NamedCorr) (small : length original ≤ most_print) (texts : All HasEntryTexts sorted)
+module _ (original : List ℕ) (sorted : List NamedCorr) (small : length original ≤ most_print) (texts : All (HasTexts tables.NamedCorr) sorted)
     (each : (i : ℕ) (row : NamedCorr) → slice_get sorted i ≡ Some row → IsSoundEntryRow original sorted i row) where
   short-so_far : (i : ℕ) → i ≤ length sorted → length (corrected_print original (take i (history_of sorted))) ≤ most_print
   short-so_far zero within = small
@@ -161,6 +162,6 @@ module _ (original : List ℕ) (sorted : List NamedCorr) (small : length origina
             let row = at-map entry_of sorted i entry at in
             subst (IsSoundEntry original (take i (history_of sorted))) row.2
             (subst (λ before. IsSoundEntry original before (entry_of row.0)) (sym (take-map entry_of i sorted))
-            (sound-entry row.0 original (history_of (take i sorted)) (All-contains HasEntryTexts sorted row.0 texts (Contains-there sorted i row.0 row.1)) (each i row.0 row.1).fits));
+            (sound-entry row.0 original (history_of (take i sorted)) (All-contains (HasTexts tables.NamedCorr) sorted row.0 texts (Contains-there sorted i row.0 row.1)) (each i row.0 row.1).fits));
         short = λ i within. short-so_far i (omega (arith, long, within));
       }

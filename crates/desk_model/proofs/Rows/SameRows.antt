@@ -5,7 +5,8 @@ use Rattle.std.specs.List.Sorted.{IsPermutation}
 use Rattle.std.specs.Option.{ForSome}
 use Rattle.std.proofs.lemmas.List.Sorted.{All-permutation, IsPermutation-map, IsPermutation-sym, IsPermutation-trans}
 use Rattle.desk_model.specs.Book.{Book, Paragraph}
-use Rattle.desk_parts.specs.FileRows.{AreTexts, EntryRows, FileRows, HasEntryTexts, HasMarkText, HasParaTexts, HasTabText, Named, Unnamed, entries_in, format_of, spelled_entry, spelled_mark, spelled_para, spelled_tab, table_of, without_name}
+use Rattle.desk_parts.specs.declared.file_table.FileTable.TheVariants as file
+use Rattle.desk_parts.specs.FileRows.{AreTexts, EntryRows, FileRows, HasTexts, Named, Unnamed, entries_in, format_of, spelled, table_of, without_name}
 use Rattle.desk_model.specs.FilledRows.{AreEntriesOf}
 use Rattle.desk_parts.specs.Rows.{ParaCells, NamedCorr}
 use Rattle.desk_model.specs.SameRows.{AreSameCaches, AreSameEntries, AreSameRows}
@@ -66,8 +67,8 @@ spelled-moved spelled xs ys zs moved =
 
 pub AreEntriesOf-moved : (book : Book) (entries all : List NamedCorr) → IsPermutation entries all → AreEntriesOf book entries → AreEntriesOf book all
 AreEntriesOf-moved book entries all moved are = (
-  All-permutation HasEntryTexts entries all moved are.0,
-  spelled-moved spelled_entry entries all (flat_map entry_rows_of book.paragraphs) moved are.1,
+  All-permutation (HasTexts file.NamedCorr) entries all moved are.0,
+  spelled-moved (spelled file.NamedCorr) entries all (flat_map entry_rows_of book.paragraphs) moved are.1,
 )
 
 pub AreCached-moved : (book : Book) (caches all : List ParaCells) → IsPermutation caches all → AreCached book caches → AreCached book all
@@ -89,10 +90,10 @@ module _ (a b : FileRows) (same : AreSameRows a b) where
 
   texts-moved : AreTexts a → AreTexts b
   texts-moved texts = record {
-    tabs = All-permutation HasTabText a.tabs b.tabs same.tabs texts.tabs;
-    paras = All-permutation HasParaTexts a.paras b.paras same.paras texts.paras;
-    entries = All-permutation HasEntryTexts (entries_in a.entries) (entries_in b.entries) entries-same texts.entries;
-    marks = All-permutation HasMarkText a.marks b.marks same.marks texts.marks;
+    tabs = All-permutation (HasTexts file.Tab) a.tabs b.tabs same.tabs texts.tabs;
+    paras = All-permutation (HasTexts file.Para) a.paras b.paras same.paras texts.paras;
+    entries = All-permutation (HasTexts file.NamedCorr) (entries_in a.entries) (entries_in b.entries) entries-same texts.entries;
+    marks = All-permutation (HasTexts file.Mark) a.marks b.marks same.marks texts.marks;
   }
 
   pub shown : (book : Book) → Shows a book → Shows b book
@@ -100,9 +101,9 @@ module _ (a b : FileRows) (same : AreSameRows a b) where
     sound = shows.sound;
     texts = texts-moved shows.texts;
     row = sym same.books ∙ (shows.row ∙ ap (λ (format : ℕ). book_row_of format book.version ∷ []) (format_of-moved a.entries b.entries same.entries));
-    tables = spelled-moved spelled_tab a.tabs b.tabs _ same.tabs shows.tables;
-    paragraphs = spelled-moved spelled_para a.paras b.paras _ same.paras shows.paragraphs;
-    entries = spelled-moved spelled_entry (entries_in a.entries) (entries_in b.entries) _ entries-same shows.entries;
-    marks = spelled-moved spelled_mark a.marks b.marks _ same.marks shows.marks;
+    tables = spelled-moved (spelled file.Tab) a.tabs b.tabs _ same.tabs shows.tables;
+    paragraphs = spelled-moved (spelled file.Para) a.paras b.paras _ same.paras shows.paragraphs;
+    entries = spelled-moved (spelled file.NamedCorr) (entries_in a.entries) (entries_in b.entries) _ entries-same shows.entries;
+    marks = spelled-moved (spelled file.Mark) a.marks b.marks _ same.marks shows.marks;
     caches = caches-moved book a.caches b.caches same.caches shows.caches;
   }
