@@ -8,7 +8,7 @@ use Rattle.desk_parts.specs.declared.rows.BookRow.{BookRow}
 use Rattle.desk_model.specs.Book.{Book}
 use Rattle.desk_parts.specs.FileRows.{FileRows, HasTexts, Named, entries_in, spelled}
 use Rattle.desk_parts.specs.declared.file_table.FileTable.TheVariants as tables
-use Rattle.desk_parts.specs.Puts.{PutRow, RowPuts, put_rows}
+use Rattle.desk_parts.specs.Puts.{PutRow, RowPut, put_rows}
 use Rattle.desk_parts.specs.Rows.{ParaCells, NamedCorr}
 use Rattle.desk_model.specs.Shows.{AreCached, book_row_of, entry_rows_of}
 
@@ -49,7 +49,7 @@ AreEntriesOf book entries =
 
 -- what brings rows of this version to the second format, once they have its tables: the row of `book`, each entry, and the
 -- braille of each paragraph
-abbrev pub second_format_puts : ℕ → FileRows → List ParaCells → RowPuts
+abbrev pub second_format_puts : ℕ → FileRows → List ParaCells → List RowPut
 second_format_puts version rows caches =
     PutRow tables.Book (book_row_of 2 version)
     ∷ (put_rows tables.NamedCorr (entries_in rows.entries) ++ put_rows tables.Cache caches)
@@ -63,12 +63,12 @@ with_empty Entries rows = with_new_entries rows
 with_empty Braille rows = with_caches [] rows
 
 -- the row of `book` in the second format, and these entries
-abbrev pub entry_puts : Book → List NamedCorr → RowPuts
+abbrev pub entry_puts : Book → List NamedCorr → List RowPut
 entry_puts book entries = PutRow tables.Book (book_row_of 2 book.version) ∷ put_rows tables.NamedCorr entries
 
 -- This fills these tables: with the entries of the book's histories, after the row of `book`, and with the braille of
 -- each of its paragraphs.
-abbrev pub Fills : NewTables → Book → RowPuts → Type 0
+abbrev pub Fills : NewTables → Book → List RowPut → Type 0
 Fills EntriesAndBraille book puts =
     (entries : List NamedCorr) × (caches : List ParaCells) × AreEntriesOf book entries × AreCached book caches
     × (puts ≡ entry_puts book entries ++ put_rows tables.Cache caches)

@@ -9,7 +9,7 @@ ghost use Rattle.desk_parts.specs.FileRows.{AreTexts, FileRows, table_of};
 ghost use Rattle.desk_model.specs.FilledRows.{AreEntriesOf, Fills, entry_puts, in_second_format, new_rows, second_format_puts, with_caches, with_empty, with_new_entries, with_new_tables};
 ghost use Rattle.desk_model.specs.Named.{HasCharacters};
 ghost use Rattle.desk_model.specs.Outcome.{HasOneOutcome};
-ghost use Rattle.desk_parts.specs.Puts.{HasTheirTables, RowPuts, put_rows, with_puts};
+ghost use Rattle.desk_parts.specs.Puts.{HasTheirTables, RowPut, put_rows, with_puts};
 ghost use Rattle.desk_model.specs.Refusals.{IsAccepted};
 ghost use Rattle.desk_model.specs.Restoration.{RestoresPrint};
 ghost use Rattle.desk_parts.specs.Rows.{ParaCells, NamedCorr};
@@ -91,9 +91,9 @@ pub fn filled_rows_show_their_book()
 /// Rows that show a book show it still once they have new tables, which are empty, and all that fills these with the
 /// book's entries and braille is put, one after the other; and each of it has its table.
 pub fn filled_tables_show_their_book()
-    ensures shown { (tables : NewTables) (rows : FileRows) (book : Book) (puts : RowPuts) → Shows rows book
+    ensures shown { (tables : NewTables) (rows : FileRows) (book : Book) (puts : List RowPut) → Shows rows book
         → Fills tables book puts → Shows (with_puts puts (with_empty tables rows)) book }
-    ensures there { (tables : NewTables) (rows : FileRows) (book : Book) (puts : RowPuts)
+    ensures there { (tables : NewTables) (rows : FileRows) (book : Book) (puts : List RowPut)
         → Fills tables book puts → HasTheirTables puts (with_empty tables rows) }
 {}
 

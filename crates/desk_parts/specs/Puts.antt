@@ -4,15 +4,13 @@ use Rattle.std.specs.List.{All}
 use Rattle.std.specs.Ordering.{int_eq}
 use Rattle.desk_parts.specs.declared.file_table.FileTable.{FileTable}
 use Rattle.desk_parts.specs.declared.file_table.FileTable.TheVariants as tables
-use Rattle.desk_parts.specs.declared.put.CachePut.{CachePut}
 use Rattle.desk_parts.specs.declared.put.MarkPut.{MarkPut}
 use Rattle.desk_parts.specs.declared.put.NamedCorrPut.{NamedCorrPut}
 use Rattle.desk_parts.specs.declared.put.ParaPut.{ParaPut}
 use Rattle.desk_parts.specs.declared.put.Put.{Put}
-use Rattle.desk_parts.specs.declared.put.TabPut.{TabPut}
 use Rattle.desk_parts.specs.declared.put.Put.TheVariants as lent
 use Rattle.desk_parts.specs.FileRows.{EntryRows, FileRows, Named, Unnamed, table_of}
-use Rattle.desk_parts.specs.Rows.{Corr, Mark, NamedCorr, Para, ParaCells, RowOf, Tab}
+use Rattle.desk_parts.specs.Rows.{Corr, Mark, NamedCorr, Para, RowOf}
 
 -- ---- what is put
 
@@ -58,17 +56,15 @@ pub data RowPut : Type 0 where
   PutRow : (t : FileTable) → RowOf t → RowPut
   SetColumns : (t : FileTable) → KeyOf t → ColumnsOf t → RowPut
 
+-- what an iterator lends, as a value of its own
 abbrev pub RowPuts : Type 0
 RowPuts = List RowPut
 
 -- these rows of a table, put one by one
-abbrev pub put_rows : (t : FileTable) → List (RowOf t) → RowPuts
+abbrev pub put_rows : (t : FileTable) → List (RowOf t) → List RowPut
 put_rows t rows = map (PutRow t) rows
 
--- the row that is lent
-abbrev pub lent_tab : TabPut → Tab
-lent_tab row = record { name = row.name.now; body = row.body.now }
-
+-- the row of a paragraph, of a mark, or of an entry that is lent
 abbrev pub lent_para : ParaPut → Para
 lent_para row = record {
   id = row.id;
@@ -92,9 +88,6 @@ lent_mark row = record {
   resolved = row.resolved;
 }
 
-abbrev pub lent_cells : CachePut → ParaCells
-lent_cells row = record { para = row.para; cells = row.cells.now }
-
 abbrev pub lent_entry : NamedCorrPut → NamedCorr
 lent_entry row = record {
   entry = record {
@@ -111,10 +104,10 @@ lent_entry row = record {
 -- what a lent one puts
 abbrev pub put_of : Put → RowPut
 put_of (lent.Book row) = PutRow tables.Book row
-put_of (lent.Tab row) = PutRow tables.Tab (lent_tab row)
+put_of (lent.Tab row) = PutRow tables.Tab (record { name = row.name.now; body = row.body.now })
 put_of (lent.Para row) = PutRow tables.Para (lent_para row)
 put_of (lent.Mark row) = PutRow tables.Mark (lent_mark row)
-put_of (lent.Cache row) = PutRow tables.Cache (lent_cells row)
+put_of (lent.Cache row) = PutRow tables.Cache (record { para = row.para; cells = row.cells.now })
 put_of (lent.NamedCorr row) = PutRow tables.NamedCorr (lent_entry row)
 put_of (lent.Place id place) = SetColumns tables.Para id (Place place)
 put_of (lent.Flags id style volume struck) = SetColumns tables.Para id (Flags style volume struck)
