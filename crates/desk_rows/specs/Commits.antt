@@ -10,7 +10,7 @@ use Rattle.desk_parts.specs.declared.file_table.FileTable.{FileTable}
 use Rattle.desk_parts.specs.declared.put.Put.{Put}
 use Rattle.desk_rows.specs.Failing.{FailsToPut, Putting, after_tables, of_first_row, of_items}
 use Rattle.desk_rows.specs.Fault.{CountsLoss, IsToldAs}
-use Rattle.desk_rows.specs.Making.{AreAbsent, IsFileWithTables, IsMade, IsNew, WritesWithTables, creation, making, new_layout, new_tables}
+use Rattle.desk_rows.specs.Making.{AreFreeIn, IsFileWithTables, IsMade, IsNew, WritesWithTables, creation, making, new_layout, new_tables}
 use Rattle.desk_rows.specs.Puts.{IsFileWith, OfItems, Writes, statement}
 use Rattle.desk_rows.specs.States.{ShowsContents}
 use Rattle.desk_rows.specs.Turns.{AreRun, IsLeftBy, with_transaction}
@@ -50,7 +50,7 @@ making_tables g tables gives it = record {
 abbrev pub making_file : {S : Type 0} → Ghosts S → Work S
 making_file g = record {
   putting = after_tables g new_tables (of_first_row g);
-  Shown = λ old new. AreAbsent (state g old).now.schema
+  Shown = λ old new. AreFreeIn (state g old).now.schema new_tables
       × IsNew (state g old).now.schema (state g old).now.trees
       (λ c. ShowsContents (new_layout (state g old).now.schema) c new)
       × AreRun g making old new;

@@ -4,7 +4,6 @@ use Rattle.std.specs.List.{AllByRecursion}
 use Rattle.sqlite_trees.specs.Tree.{Trees}
 use Rattle.sqlite_rules.specs.Edit.{IsNoIndex}
 use Rattle.desk_parts.specs.declared.file_table.FileTable.{FileTable}
-use Rattle.desk_parts.specs.Puts.{put_to}
 use Rattle.desk_parts.specs.Rows.{RowOf}
 use Rattle.sql_tables.specs.Rows.{HaveRowids, Lists, columns_at}
 use Rattle.desk_rows.specs.Descriptions.{description_of}
@@ -29,7 +28,3 @@ pub record Holds (l : Layout) (c : Contents) (db : Trees) : Type 0 where
 -- with other rows in one table
 abbrev pub with_rows : (t : FileTable) → (List (RowOf t) → List (RowOf t)) → Contents → Contents
 with_rows t f c = record c { rows = set_at t f c.rows }
-
--- with this row put
-abbrev pub with_row : (t : FileTable) → RowOf t → Contents → Contents
-with_row t x = with_rows t (put_to t x)

@@ -6,11 +6,12 @@ use Rattle.sqlite.specs.declared.error.Error.{Error}
 use Rattle.sqlite.specs.Held.{Held, state}
 use Rattle.sqlite.specs.State.{State, Fails, Survives}
 use Rattle.desk_rows.specs.Making.{AreMade, MakesTables, creation, first_row}
-use Rattle.desk_rows.specs.Puts.{ArePut, OfItems, OfItemsBefore, PutsRow, StopsAt, row_statement}
+use Rattle.desk_rows.specs.Puts.{ArePut, OfItems, OfItemsBefore, PutsRow, StopsAt, statement}
 use Rattle.desk_rows.specs.Turns.{FailsWith, Ran, Stops}
 use Rattle.desk_parts.specs.declared.file_table.FileTable.{FileTable}
 use Rattle.desk_parts.specs.declared.file_table.FileTable.TheVariants as tables
 use Rattle.desk_parts.specs.declared.put.Put.{Put}
+use Rattle.desk_parts.specs.Puts.{PutRow}
 
 -- Of these tables those so far were made, and this is what the database answered to the statement that makes the next.
 pub record StopsMaking {S : Type 0} (g : Ghosts S) (tables : List FileTable) (old : Held S) (new : State) (e : Error)
@@ -37,9 +38,9 @@ of_items g gives it = record {
 -- the row of a new book
 abbrev pub of_first_row : {S : Type 0} → Ghosts S → Putting S
 of_first_row g = record {
-  stops = λ old new e. FailsWith (row_statement tables.Book first_row) (state g old) new e;
+  stops = λ old new e. FailsWith (statement (PutRow tables.Book first_row)) (state g old) new e;
   puts = λ old new. PutsRow tables.Book first_row (state g old) (state g new)
-      × Ran (row_statement tables.Book first_row) (state g old) (state g new);
+      × Ran (statement (PutRow tables.Book first_row)) (state g old) (state g new);
 }
 
 -- These tables are made first: some of them aren't, or what is put then isn't.

@@ -13,12 +13,12 @@ use Rattle.sqlite.specs.State.{State, KeepsCommit}
 use Rattle.desk_parts.specs.declared.file_table.FileTable.{FileTable}
 use Rattle.desk_parts.specs.declared.file_table.FileTable.TheVariants as tables
 use Rattle.desk_parts.specs.declared.rows.BookRow.{BookRow}
-use Rattle.desk_parts.specs.Puts.{RowPut}
+use Rattle.desk_parts.specs.Puts.{PutRow, RowPut}
 use Rattle.sql_tables.specs.Making.{AreFree, FreesNone, IsMaking, KeepsAside, first_created}
-use Rattle.desk_rows.specs.Contents.{Contents, with_row}
+use Rattle.desk_rows.specs.Contents.{Contents}
 use Rattle.desk_rows.specs.Descriptions.{description_of, table_of}
 use Rattle.desk_rows.specs.Layout.{Layout}
-use Rattle.desk_rows.specs.Puts.{HasThem, puts_into, row_statement}
+use Rattle.desk_rows.specs.Puts.{HasThem, put_into, puts_into, statement}
 use Rattle.desk_rows.specs.States.{IsFile, ShowsContents}
 use Rattle.desk_rows.specs.Turns.{FailsWith, Ran, RunInTurn, Statement}
 
@@ -29,9 +29,6 @@ new_tables = tables.Book ∷ tables.Tab ∷ tables.Para ∷ tables.Mark ∷ tabl
 -- No table, index or view has the name of one of these in either case of its letters, nor has what the database keeps as it is.
 abbrev pub AreFreeIn : Schema → List FileTable → Type 0
 AreFreeIn s = AllByRecursion (λ t. is_used s (description_of t).name ≡ false)
-
-abbrev pub AreAbsent : Schema → Type 0
-AreAbsent s = AreFreeIn s new_tables
 
 -- The schema after these are made in turn, and with the first the database's counter of rowids, if a table counts its rowids and the
 -- counter isn't there.
@@ -64,7 +61,7 @@ first_row = record { id = pos 1; format = pos 2; version = pos 0 }
 
 -- this row alone
 abbrev pub first_contents : Trees → Contents
-first_contents others = with_row tables.Book first_row (no_contents others)
+first_contents others = put_into (no_contents others) (PutRow tables.Book first_row)
 
 -- The counter, if it was missing and is made, has no rows.
 abbrev pub CountsNone : Schema → Trees → Type 0
@@ -108,11 +105,11 @@ AreMade g tables old new = MakesTables tables (state g old) (state g new) × Run
 
 -- the statements that make a new file
 abbrev pub making : List Statement
-making = map creation new_tables ++ row_statement tables.Book first_row ∷ []
+making = map creation new_tables ++ statement (PutRow tables.Book first_row) ∷ []
 
 -- What making adds to what a crash may leave: only if the names were free, and then the file with the tables.
 abbrev pub IsMade : State → Trees → Type 0
-IsMade s db = AreAbsent s.now.schema × IsNew s.now.schema s.now.trees (λ c. IsFile (new_layout s.now.schema) c db)
+IsMade s db = AreFreeIn s.now.schema new_tables × IsNew s.now.schema s.now.trees (λ c. IsFile (new_layout s.now.schema) c db)
 
 -- ---- tables that are made in a file
 

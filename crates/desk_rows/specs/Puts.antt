@@ -16,7 +16,7 @@ use Rattle.desk_parts.specs.declared.file_table.FileTable.TheVariants as tables
 use Rattle.desk_parts.specs.declared.put.Put.{Put}
 use Rattle.desk_parts.specs.Puts.{RowPut, PutRow, SetColumns, Flags, Place, Print, Resolved, Span, Table, Version, change_of, put_of, table_put}
 use Rattle.desk_parts.specs.Rows.{RowOf}
-use Rattle.desk_rows.specs.Contents.{Contents, with_row, with_rows}
+use Rattle.desk_rows.specs.Contents.{Contents, with_rows}
 use Rattle.desk_rows.specs.Descriptions.{description_of}
 use Rattle.desk_rows.specs.Layout.{Layout}
 use Rattle.desk_rows.specs.Rows.{columns_of}
@@ -47,13 +47,10 @@ Writes puts old new =
 
 -- ---- the statement of a put
 
--- The statement that puts a row of a table. Nothing is put into `corr`: its text is empty and takes no parameters, so that it
--- never runs with the six columns of a row.
-abbrev pub row_statement : (t : FileTable) → RowOf t → Statement
-row_statement t x = record { text = (description_of t).put; params = columns_of t x }
-
+-- The statement that puts a row of a table, or sets columns. Nothing is put into `corr`: its text is empty and takes no parameters,
+-- so that it never runs with the six columns of a row.
 abbrev pub statement : RowPut → Statement
-statement (PutRow t x) = row_statement t x
+statement (PutRow t x) = record { text = (description_of t).put; params = columns_of t x }
 statement (SetColumns tables.Book id (Version version)) =
     record { text = SET_VERSION.now; params = Int id ∷ Int version ∷ [] }
 statement (SetColumns tables.Para id (Place place)) =
@@ -82,7 +79,7 @@ RunsTo (Err e) text params old new =
 abbrev pub PutsRow : (t : FileTable) → RowOf t → State → State → Type 0
 PutsRow t x old new =
     (committed : Database) (l : Layout) (c : Contents) → l.has t ≡ true
-    → IsUnder committed l c old → IsUnder committed l (with_row t x c) new
+    → IsUnder committed l c old → IsUnder committed l (put_into c (PutRow t x)) new
 
 -- A put that allocates before its statement runs: a print is encoded, and cells are written as bytes.
 abbrev pub TakesMemory : RowPut → Type 0

@@ -22,7 +22,7 @@ use Rattle.sql_tables.proofs.Writing.{Spares}
 use Rattle.desk_rows.specs.Descriptions.{description_of, table_of}
 use Rattle.desk_rows.specs.Layout.{Layout, AreDeclared}
 use Rattle.desk_rows.specs.Contents.{Contents, Holds, with_rows}
-use Rattle.desk_rows.specs.Puts.{IsPut, PutsAll, PutsRow, RunsTo, put_into, puts_into, row_statement, statement}
+use Rattle.desk_rows.specs.Puts.{IsPut, PutsAll, PutsRow, RunsTo, put_into, puts_into, statement}
 use Rattle.desk_rows.specs.Turns.{FailsWith, Ran}
 use Rattle.desk_rows.specs.Rows.{columns_of, set_at}
 use Rattle.desk_parts.specs.Rows.{RowOf}
@@ -90,12 +90,12 @@ module _ (it : RowPut) (old new : State) where
   put_ran (Err e) ran = record { put = λ committed l c there was. tt; ran = tt; is_open = tt; inside = tt; kept = ran.0; told = λ was. inl (ran.1 was) }
 
 module _ (x : BookRow) (old new : State) where
-  pub puts_row : (r : Result (Unit {0}) Error) → IsPut r (PutRow tables.Book x) old new → OnOk r (PutsRow tables.Book x old new × Ran (row_statement tables.Book x) old new)
+  pub puts_row : (r : Result (Unit {0}) Error) → IsPut r (PutRow tables.Book x) old new → OnOk r (PutsRow tables.Book x old new × Ran (statement (PutRow tables.Book x)) old new)
   puts_row (Ok v) it = (it.put, it.ran)
   puts_row (Err e) it = tt
 
   -- it allocates nothing of its own
-  pub row_told : (r : Result (Unit {0}) Error) → IsPut r (PutRow tables.Book x) old new → old.in_transaction ≡ true → IfErr r (FailsWith (row_statement tables.Book x) old new)
+  pub row_told : (r : Result (Unit {0}) Error) → IsPut r (PutRow tables.Book x) old new → old.in_transaction ≡ true → IfErr r (FailsWith (statement (PutRow tables.Book x)) old new)
   row_told (Ok v) it was = tt
   row_told (Err e) it was = elim (it.told was) [ inl failed ↦ failed | inr none ↦ absurd none.0 ]
 

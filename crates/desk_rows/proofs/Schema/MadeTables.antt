@@ -21,6 +21,7 @@ use Rattle.sqlite.specs.Effect.{Database}
 use Rattle.sqlite.specs.State.{State, IsLive}
 use Rattle.desk_parts.specs.declared.file_table.FileTable.{FileTable}
 use Rattle.desk_parts.specs.declared.file_table.FileTable.TheVariants as tables
+use Rattle.desk_parts.specs.Puts.{PutRow}
 use Rattle.desk_parts.specs.Rows.{RowOf}
 use Rattle.sqlite_catalog.specs.Listing.{IsSound}
 use Rattle.sql_tables.specs.Making.{AreFree, IndexesLow, IsForeignTree, IsMaking, KeepsAside, first_created}
@@ -31,8 +32,8 @@ use Rattle.sql_tables.proofs.Declaring.{has_table}
 use Rattle.sql_tables.proofs.Makes.{none_below}
 use Rattle.desk_rows.specs.Descriptions.{description_of, table_of}
 use Rattle.desk_rows.specs.Commits.{making_file}
-use Rattle.desk_rows.specs.Making.{AreAbsent, CountsNone, Differ, MakesTables, after, creation, first_contents, first_row, is_among, making, new_tables, new_layout, no_contents, tree_in}
-use Rattle.desk_rows.specs.Puts.{row_statement}
+use Rattle.desk_rows.specs.Making.{AreFreeIn, CountsNone, Differ, MakesTables, after, creation, first_contents, first_row, is_among, making, new_tables, new_layout, no_contents, tree_in}
+use Rattle.desk_rows.specs.Puts.{statement}
 use Rattle.desk_rows.specs.Rows.{columns_of}
 use Rattle.desk_rows.specs.States.{IsUnder}
 use Rattle.desk_rows.specs.Turns.{with_transaction}
@@ -229,7 +230,7 @@ module _ (tables : List FileTable) (s : Schema) (committed : Database) (rows : T
 differ : Differ new_tables
 differ = ((refl, (refl, (refl, (refl, (refl, tt))))), ((refl, (refl, (refl, (refl, tt)))), ((refl, (refl, (refl, tt))), ((refl, (refl, tt)), ((refl, tt), (tt, tt))))))
 
-module _ (s : Schema) (none : AreAbsent s) (low : IndexesLow s) (committed : Database) (rows : Trees) (now : State) (m : IsMaking committed s rows (after new_tables s) now) where
+module _ (s : Schema) (none : AreFreeIn s new_tables) (low : IndexesLow s) (committed : Database) (rows : Trees) (now : State) (m : IsMaking committed s rows (after new_tables s) now) where
   -- the counter has no rows
   counts_none : CountsNone s now.now.trees
   counts_none lacks =
@@ -275,7 +276,7 @@ module _ {S : Type 0} (g : Ghosts S) (old last : Held S) (live : IsLive (state g
       let shown = (put.4.0 committed (new_layout old.schema) (no_contents others) refl done.0).shows in (
         makes.taken.0,
         (others, done.1, done.2, done.3, shows_on (state g last) new (new_layout old.schema) (first_contents others) same shown),
-        (last, run_then g (map creation new_tables) (row_statement tables.Book first_row ∷ []) (with_transaction old) mid last put.2.1 (one_ran g (row_statement tables.Book first_row) mid last put.4.1 put.3), same),
+        (last, run_then g (map creation new_tables) (statement (PutRow tables.Book first_row) ∷ []) (with_transaction old) mid last put.2.1 (one_ran g (statement (PutRow tables.Book first_row)) mid last put.4.1 put.3), same),
       )
 
   pub left_made : (new : State) → (making_file g).Shown old new → (making_file g).Left old new.now.trees

@@ -12,12 +12,12 @@ use Rattle.sqlite.specs.State.{HasCause, HasCleanDisk, State, Survives, store_er
 use Rattle.desk_parts.specs.declared.file_table.FileTable.{FileTable}
 use Rattle.desk_parts.specs.declared.file_table.FileTable.TheVariants as tables
 use Rattle.desk_parts.specs.declared.put.Put.{Put}
-use Rattle.desk_parts.specs.Puts.{RowPut, put_of}
+use Rattle.desk_parts.specs.Puts.{PutRow, RowPut, put_of}
 use Rattle.sql_tables.proofs.Refusals.{IsCaused, answered, fails_so, not_of_store}
 use Rattle.desk_rows.specs.Failing.{FailsToPut, Putting, after_tables, at_commit, at_put, of_first_row, of_items}
 use Rattle.desk_rows.specs.Fault.{CountsLoss}
 use Rattle.desk_rows.specs.Making.{creation, first_row}
-use Rattle.desk_rows.specs.Puts.{NotPut, row_statement, statement}
+use Rattle.desk_rows.specs.Puts.{NotPut, statement}
 use Rattle.desk_rows.specs.Turns.{FailsWith, RunInTurn, Statement, Stops}
 
 -- ---- one error
@@ -105,7 +105,7 @@ module _ {S : Type 0} (g : Ghosts S) where
       stops_lost (map statement (map put_of stopped.0)) (NotPut next) old new e (λ a b. not_put next a b e) stopped.4.stops
 
   pub first_row_lost : StopsLost (of_first_row g)
-  first_row_lost old new e stopped clean = failed (row_statement tables.Book first_row) (state g old) new e stopped
+  first_row_lost old new e stopped clean = failed (statement (PutRow tables.Book first_row)) (state g old) new e stopped
 
   pub put_lost : (putting : Putting S) → StopsLost putting → (old : Held S) (new : State) (e : Error) → FailsToPut g putting old new e → Loss (state g old) new e
   put_lost putting stops old new e (at_put last ran stopped left) = early_loss (state g old) (state g last) new e (stops old (state g last) e stopped) (goes _ _ _ left)
