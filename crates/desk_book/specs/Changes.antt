@@ -22,7 +22,7 @@ use Rattle.desk_model.specs.Marks.{mark_moved_by}
 use Rattle.desk_model.specs.ParagraphMarks.{marks_on}
 use Rattle.desk_parts.specs.Puts.{RowPut}
 use Rattle.desk_model.specs.Print.{print_of, with_entry}
-use Rattle.desk_model.specs.Named.{HasCharacters, number_of, table_given}
+use Rattle.desk_model.specs.Named.{HasCharacters, named_by, number_of}
 use Rattle.desk_model.specs.Refusals.{IsAccepted}
 use Rattle.desk_memory.specs.Room.{Suffices}
 use Rattle.desk_model.specs.Step.{Makes, new_paragraph, next_id, next_mark, next_with_entry, next_with_marks, next_with_paragraphs, next_with_table, with_change, with_resolved}
@@ -91,7 +91,7 @@ pub record AddsParagraph (book next : Book) (command : Command) (kept : KeptPara
 
 -- the command gives the table with this name this text, and changes nothing else
 abbrev pub GivesText : Book → Command → Book → (name text : List ℕ) → Type 0
-GivesText book command next name text = (table_given command ≡ Some (name, text)) × (next ≡ next_with_table book name text)
+GivesText book command next name text = ((named_by command).table_given ≡ Some (name, text)) × (next ≡ next_with_table book name text)
 
 -- the command gives the paragraph with this id the table with this name, and changes nothing else
 abbrev pub GivesTable : Book → Command → Book → ℕ → List ℕ → Type 0

@@ -3,6 +3,7 @@ pub mod Items
 pub mod Members
 pub mod NumberedRows
 pub mod Numbering
+pub mod Options
 pub mod Permutations
 pub mod RowGroups
 pub mod RowNumbers

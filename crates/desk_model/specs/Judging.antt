@@ -10,12 +10,8 @@ use Rattle.desk_model.specs.Refusals.{Holds, turn}
 abbrev pub Passes : Book → Option ℕ → Command → ℕ → Type 0
 Passes book expect command n = (other : Refusal) → Holds book expect command other → n ≤ turn other
 
--- the first turn that is checked after a command has allocated, if it allocates
-abbrev pub first_turn_after_asking : Command → Option ℕ
-first_turn_after_asking command = (named_by command).turn_after_asking
-
 -- an allocation for the command may have failed: it allocates, and no refusal holds that is checked before
 pub record MayLackMemory (book : Book) (expect : Option ℕ) (command : Command) : Type 0 where
   pub from : ℕ
-  pub asks : first_turn_after_asking command ≡ Some from
+  pub asks : (named_by command).turn_after_asking ≡ Some from
   pub passes : Passes book expect command from

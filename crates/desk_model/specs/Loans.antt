@@ -4,7 +4,7 @@ use Rattle.std.specs.List.{All, Contains}
 use Rattle.desk_command.specs.declared.command.Command.{Command}
 use Rattle.desk_model.specs.Book.{Book, Entry, Mark, Paragraph, paragraph_of}
 use Rattle.desk_parts.specs.Puts.{Flags, Place, Print, PutRow, Resolved, RowPut, SetColumns, Span, Table, Version, with_puts}
-use Rattle.desk_model.specs.Named.{Retabled, adds_paragraph, paragraph_translated, place_given, table_given}
+use Rattle.desk_model.specs.Named.{Retabled, named_by}
 use Rattle.desk_model.specs.Step.{next_id, next_mark, next_with_entry, next_with_marks, next_with_paragraphs, with_change, with_resolved}
 use Rattle.desk_parts.specs.declared.file_table.FileTable.TheVariants as tables
 use Rattle.desk_parts.specs.FileRows.{FileRows, table_of}
@@ -21,7 +21,7 @@ next_entry_number book id = unwrap_or (option_map (λ paragraph. length paragrap
 
 -- the paragraph with this id comes
 abbrev pub Comes : Book → Command → ℕ → Type 0
-Comes book command id = (id ≡ next_id book) × (adds_paragraph command ≡ true)
+Comes book command id = (id ≡ next_id book) × ((named_by command).adds_paragraph ≡ true)
 
 -- the history of the paragraph with this id gets an entry, and its marks move
 abbrev pub GetsEntry : (book next : Book) → ℕ → Type 0
@@ -38,12 +38,12 @@ GetsResolved book next id = next ≡ next_with_marks book (with_resolved id book
 
 -- the paragraph with this id gets the table with this name
 abbrev pub GetsTable : Command → ℕ → List ℕ → Type 0
-GetsTable command id table = paragraph_translated command ≡ Some (Retabled id table)
+GetsTable command id table = (named_by command).paragraph_translated ≡ Some (Retabled id table)
 
 -- the paragraph with this id uses the table whose text the command replaces
 abbrev pub UsesReplaced : Book → Command → ℕ → Type 0
 UsesReplaced book command id =
-    (name : List ℕ) × (text : List ℕ) × (paragraph : Paragraph) × (table_given command ≡ Some (name, text))
+    (name : List ℕ) × (text : List ℕ) × (paragraph : Paragraph) × ((named_by command).table_given ≡ Some (name, text))
     × (paragraph_of book id ≡ Some paragraph) × (paragraph.table ≡ name)
 
 -- the paragraph with this id gets other braille: it comes, its print changes, it gets another table, or its table another
@@ -55,14 +55,14 @@ GetsCells book next command id =
 
 -- paragraphs stand at other places: one comes, or is moved
 abbrev pub Reorders : Command → Type 0
-Reorders command = IsSome (place_given command)
+Reorders command = IsSome (named_by command).place_given
 
 -- The command, which makes the next book of this one, changes what this is put for. No whole row of `book` or `corr` is lent,
 -- and columns are set in rows of `book`, `para` and `mark` alone.
 abbrev pub IsLent : (book next : Book) → Command → RowPut → Type 0
 IsLent book next command (PutRow tables.Book row) = ⊥
 IsLent book next command (PutRow tables.Tab row) =
-    (name : List ℕ) × (text : List ℕ) × (table_given command ≡ Some (name, text)) × (row.name ≡ encode_utf8_all name) × (row.body ≡ text)
+    (name : List ℕ) × (text : List ℕ) × ((named_by command).table_given ≡ Some (name, text)) × (row.name ≡ encode_utf8_all name) × (row.body ≡ text)
 IsLent book next command (PutRow tables.Para row) = (id : ℕ) × (row.id ≡ row_number id) × Comes book command id
 IsLent book next command (PutRow tables.Corr row) = ⊥
 IsLent book next command (PutRow tables.Mark row) = row.id ≡ row_number (next_mark book)

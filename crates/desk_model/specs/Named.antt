@@ -160,49 +160,7 @@ named_by (Move id anchor) = record nothing_named {
   turn_after_asking = Some 200;
 }
 
--- ---- each thing by itself
-
-abbrev pub table_given : Command → Option (List ℕ × List ℕ)
-table_given command = (named_by command).table_given
-
-abbrev pub text_given : Command → Option (List ℕ)
-text_given command = (named_by command).text_given
-
-abbrev pub proofreader_given : Command → Option (List ℕ)
-proofreader_given command = (named_by command).proofreader_given
-
-abbrev pub text_stored : Command → Option (List ℕ)
-text_stored command = (named_by command).text_stored
-
-abbrev pub note_given : Command → Option (List ℕ)
-note_given command = (named_by command).note_given
-
-abbrev pub place_given : Command → Option Anchor
-place_given command = (named_by command).place_given
-
-abbrev pub mark_named : Command → Option ℕ
-mark_named command = (named_by command).mark_named
-
-abbrev pub history_grown : Command → Option ℕ
-history_grown command = (named_by command).history_grown
-
-abbrev pub adds_paragraph : Command → Bool
-adds_paragraph command = (named_by command).adds_paragraph
-
-abbrev pub paragraphs_named : Command → List ℕ
-paragraphs_named command = (named_by command).paragraphs_named
-
-abbrev pub table_named : Command → Option (List ℕ)
-table_named command = (named_by command).table_named
-
-abbrev pub live_paragraph : Command → Option ℕ
-live_paragraph command = (named_by command).live_paragraph
-
-abbrev pub struck_paragraph : Command → Option ℕ
-struck_paragraph command = (named_by command).struck_paragraph
-
-abbrev pub paragraph_translated : Command → Option Translated
-paragraph_translated command = (named_by command).paragraph_translated
+-- ---- what follows from it
 
 -- the number that is answered: a new paragraph's or mark's id, or the number of a new entry of a history
 abbrev pub number_of : Book → Command → Option ℕ
@@ -211,5 +169,5 @@ number_of book command = (named_by command).number_answered book
 -- each text that the command puts into the book is of characters
 abbrev pub HasCharacters : Command → Type 0
 HasCharacters command =
-    IfSome (text_stored command) AreCharacters × IfSome (proofreader_given command) AreCharacters
-    × IfSome (note_given command) AreCharacters
+    IfSome (named_by command).text_stored AreCharacters × IfSome (named_by command).proofreader_given AreCharacters
+    × IfSome (named_by command).note_given AreCharacters

@@ -1,10 +1,9 @@
 -- When a command is refused, and with which refusal. Only the first that holds is reported.
-use Rattle.std.specs.Prelude.{◌≡◌, ◌≢◌, ℕ, ◌⊎◌, ◌+◌, ◌*◌, ◌<◌, ◌≤◌, true, false, List, ◌∷◌, ◌++◌, length, Option, Some, None, MatchOption, option_map}
+use Rattle.std.specs.Prelude.{◌≡◌, ◌≢◌, ℕ, ◌⊎◌, ◌+◌, ◌*◌, ◌<◌, ◌≤◌, true, false, List, ◌∷◌, ◌++◌, length, Option, Some, None, IsSome, IsSomeAnd, option_map}
 use Rattle.std.specs.List.{All, Contains}
 use Rattle.std.specs.Option.{option_and_then}
 use Rattle.louis_table.specs.Meaning.{Meaning}
 use Rattle.louis_table.specs.Table.{Means, Bad}
-use Rattle.louis_table.specs.declared.fault.TableFault.{TableFault}
 use Rattle.louis_translate.specs.Position.{AreDefined, IsFirstUndefined}
 use Rattle.desk_command.specs.declared.command.Command.{Command}
 use Rattle.desk_command.specs.declared.refusal.Limit.{Limit}
@@ -12,15 +11,15 @@ use Rattle.desk_command.specs.declared.refusal.Limit.TheVariants.{Tables, Paragr
 use Rattle.desk_command.specs.declared.refusal.Refusal.{Refusal}
 use Rattle.desk_command.specs.declared.refusal.Refusal.TheVariants.{Moved, BadName, BadReader, BadText, NoParagraph, NoTable, NoMark, Struck, NotStruck, Resolved, BadSpan, NothingToUndo, TooLong, Full, BadTable, Undefined, Untranslatable, NoMemory}
 use Rattle.desk_command.specs.Numbers.{limit_number}
-use Rattle.desk_model.specs.Book.{Book, Paragraph, Mark as BookMark, text_of, paragraph_of, mark_of}
+use Rattle.desk_model.specs.Book.{Book, Paragraph, text_of, paragraph_of, mark_of}
 use Rattle.desk_model.specs.Print.{newest, print_of}
 use Rattle.desk_model.specs.Limits.{most_entries, most_marks, most_note, most_version, most_tables, most_paragraphs, most_print}
 use Rattle.desk_model.specs.Name.{IsProofreaderName, IsTableName}
-use Rattle.desk_model.specs.Named.{Cells, Changed, Characters, Retabled, Span, Translated, Typed, adds_paragraph, history_grown, live_paragraph, mark_named, named_by, note_given, paragraph_translated, paragraphs_named, proofreader_given, struck_paragraph, table_given, table_named, text_given, text_stored}
+use Rattle.desk_model.specs.Named.{Cells, Changed, Characters, Retabled, Span, Translated, Typed, named_by}
 use Rattle.desk_model.specs.NormalForm.{IsFirstBarred}
 use Rattle.desk_model.specs.Translation.{LacksCells}
 
--- ---- the refusals, each by what makes it hold
+-- ---- what the refusals speak of
 
 -- the book has another version than the one expected, and this is the book's
 pub record IsMoved (book : Book) (expect : Option ℕ) (version : ℕ) : Type 0 where
@@ -29,91 +28,10 @@ pub record IsMoved (book : Book) (expect : Option ℕ) (version : ℕ) : Type 0 
   pub other : expected ≢ book.version
   pub told : version ≡ book.version
 
--- the name of the table isn't one
-pub record IsBadName (command : Command) : Type 0 where
-  pub name : List ℕ
-  pub text : List ℕ
-  pub given : table_given command ≡ Some (name, text)
-  pub bad : ¬ IsTableName name
-
--- the text, as it was given, has a barred character, first at this place
-pub record IsBadText (command : Command) (place : ℕ) : Type 0 where
-  pub text : List ℕ
-  pub given : text_given command ≡ Some text
-  pub first : IsFirstBarred text place
-
--- the proofreader's name isn't one
-pub record IsBadReader (command : Command) : Type 0 where
-  pub name : List ℕ
-  pub given : proofreader_given command ≡ Some name
-  pub bad : ¬ IsProofreaderName name
-
--- a paragraph that it names isn't there
-pub record LacksParagraph (book : Book) (command : Command) : Type 0 where
-  pub id : ℕ
-  pub named : Contains (paragraphs_named command) id
-  pub missing : paragraph_of book id ≡ None
-
--- the table that a paragraph is to use isn't there
-pub record LacksTable (book : Book) (command : Command) : Type 0 where
-  pub name : List ℕ
-  pub named : table_named command ≡ Some name
-  pub missing : text_of book name ≡ None
-
--- the mark that it speaks of isn't there
-pub record LacksMark (book : Book) (command : Command) : Type 0 where
-  pub id : ℕ
-  pub named : mark_named command ≡ Some id
-  pub missing : mark_of book id ≡ None
-
--- the paragraph is struck, and must not be
-pub record IsStruck (book : Book) (command : Command) : Type 0 where
-  pub id : ℕ
-  pub paragraph : Paragraph
-  pub named : live_paragraph command ≡ Some id
-  pub found : paragraph_of book id ≡ Some paragraph
-  pub struck : paragraph.struck ≡ true
-
--- the paragraph isn't struck, and must be
-pub record IsNotStruck (book : Book) (command : Command) : Type 0 where
-  pub id : ℕ
-  pub paragraph : Paragraph
-  pub named : struck_paragraph command ≡ Some id
-  pub found : paragraph_of book id ≡ Some paragraph
-  pub live : paragraph.struck ≡ false
-
--- the mark is resolved already
-pub record IsResolved (book : Book) (command : Command) : Type 0 where
-  pub id : ℕ
-  pub mark : BookMark
-  pub named : mark_named command ≡ Some id
-  pub found : mark_of book id ≡ Some mark
-  pub resolved : mark.resolved ≡ true
-
--- the book has the paragraph, whose print ends before this place
-pub record IsPastPrint (book : Book) (id end : ℕ) : Type 0 where
-  pub paragraph : Paragraph
-  pub found : paragraph_of book id ≡ Some paragraph
-  pub past : length (print_of paragraph) < end
-
 -- the print ends before the characters do, or the braille before the cells do, or there is no cell
 abbrev pub LacksSpan : Book → Span → Type 0
-LacksSpan book (Characters id end) = IsPastPrint book id end
+LacksSpan book (Characters id end) = IsSomeAnd (paragraph_of book id) (λ paragraph. length (print_of paragraph) < end)
 LacksSpan book (Cells id cell count) = LacksCells book id cell count
-
--- the places or cells that it names are not all there, or it marks no cell
-abbrev pub IsBadSpan : Book → Command → Type 0
-IsBadSpan book command = MatchOption (named_by command).span_named ⊥ (LacksSpan book)
-
--- the book has the paragraph, no correction of which is in force
-pub record HasNoCorrection (book : Book) (id : ℕ) : Type 0 where
-  pub paragraph : Paragraph
-  pub found : paragraph_of book id ≡ Some paragraph
-  pub none : newest paragraph.history ≡ None
-
--- it would take back a correction where none is in force
-abbrev pub HasNothingToUndo : Book → Command → Type 0
-HasNothingToUndo book command = MatchOption (named_by command).paragraph_undone ⊥ (HasNoCorrection book)
 
 -- the print that the paragraph would have, if that is a new one
 abbrev pub print_made : Book → Translated → Option (List ℕ)
@@ -123,71 +41,22 @@ print_made book (Retabled id table) = None
 
 -- the print that a paragraph would have by the command, if that changes one
 abbrev pub new_print : Book → Command → Option (List ℕ)
-new_print book command = option_and_then (print_made book) (paragraph_translated command)
+new_print book command = option_and_then (print_made book) (named_by command).paragraph_translated
 
--- that print is over its limit
-pub record HasLongPrint (book : Book) (command : Command) : Type 0 where
-  pub print : List ℕ
-  pub made : new_print book command ≡ Some print
-  pub long : most_print < length print
+-- a text of more than so many characters
+abbrev pub IsLongerThan : ℕ → Option (List ℕ) → Type 0
+IsLongerThan most text = IsSomeAnd text (λ characters. most < length characters)
 
--- a text, as it is stored, is over the limit of a print
-pub record HasLongText (command : Command) : Type 0 where
-  pub text : List ℕ
-  pub given : text_stored command ≡ Some text
-  pub long : most_print < length text
-
--- the note is over its limit
-pub record HasLongNote (command : Command) : Type 0 where
-  pub note : List ℕ
-  pub given : note_given command ≡ Some note
-  pub long : most_note < length note
-
--- the text as it is stored, the new print or the note is over its limit
-abbrev pub IsTooLong : Book → Command → Type 0
-IsTooLong book command = HasLongText command ⊎ (HasLongPrint book command ⊎ HasLongNote command)
-
--- a new table comes to a book that has all it may have
-pub record IsFullOfTables (book : Book) (command : Command) : Type 0 where
-  pub name : List ℕ
-  pub text : List ℕ
-  pub given : table_given command ≡ Some (name, text)
-  pub new : text_of book name ≡ None
-  pub full : most_tables ≤ length book.tables
-
--- a new paragraph comes to a book that has all it may have
-pub record IsFullOfParagraphs (book : Book) (command : Command) : Type 0 where
-  pub adds : adds_paragraph command ≡ true
-  pub full : most_paragraphs ≤ length book.paragraphs
-
--- a history that has all the entries it may have would get one
-pub record IsFullOfEntries (book : Book) (command : Command) : Type 0 where
-  pub id : ℕ
-  pub paragraph : Paragraph
-  pub grows : history_grown command ≡ Some id
-  pub found : paragraph_of book id ≡ Some paragraph
-  pub full : most_entries ≤ length paragraph.history
-
--- a new mark comes to a book that has all it may have
-pub record IsFullOfMarks (book : Book) (command : Command) : Type 0 where
-  pub note : List ℕ
-  pub given : note_given command ≡ Some note
-  pub full : most_marks ≤ length book.marks
-
--- the command would add to what is at its limit
+-- the command would add to what is at its limit: to the tables, the paragraphs, the entries of a history, the marks, or the version
 abbrev pub IsFull : Book → Command → Limit → Type 0
-IsFull book command Tables = IsFullOfTables book command
-IsFull book command Paragraphs = IsFullOfParagraphs book command
-IsFull book command Entries = IsFullOfEntries book command
-IsFull book command Marks = IsFullOfMarks book command
+IsFull book command Tables =
+    IsSomeAnd (named_by command).table_given (λ given. (text_of book given.0 ≡ None) × (most_tables ≤ length book.tables))
+IsFull book command Paragraphs = ((named_by command).adds_paragraph ≡ true) × (most_paragraphs ≤ length book.paragraphs)
+IsFull book command Entries =
+    IsSomeAnd (named_by command).history_grown
+    (λ id. IsSomeAnd (paragraph_of book id) (λ paragraph. most_entries ≤ length paragraph.history))
+IsFull book command Marks = IsSome (named_by command).note_given × (most_marks ≤ length book.marks)
 IsFull book command Version = most_version ≤ book.version
-
--- the text of the table is bad
-pub record IsBadTable (command : Command) (fault : TableFault) : Type 0 where
-  pub name : List ℕ
-  pub text : List ℕ
-  pub given : table_given command ≡ Some (name, text)
-  pub bad : Bad text fault.line fault.cause
 
 -- the print that the paragraph would have, and the name of the table that it would use
 abbrev pub print_and_table : Book → Translated → Option (List ℕ × List ℕ)
@@ -198,7 +67,7 @@ print_and_table book (Retabled id table) = option_map (λ paragraph. (print_of p
 
 -- the print that a paragraph would have, and the name of the table that it would use, if the command changes one
 abbrev pub print_to_translate : Book → Command → Option (List ℕ × List ℕ)
-print_to_translate book command = option_and_then (print_and_table book) (paragraph_translated command)
+print_to_translate book command = option_and_then (print_and_table book) (named_by command).paragraph_translated
 
 -- the table doesn't define that print, first at this place
 pub record IsUndefined (book : Book) (command : Command) (place : ℕ) : Type 0 where
@@ -232,30 +101,43 @@ pub record IsFirstUser (meaning : Meaning) (name : List ℕ) (paragraphs : List 
 pub record IsUntranslatable (book : Book) (command : Command) (id place : ℕ) : Type 0 where
   pub name : List ℕ
   pub text : List ℕ
-  pub given : table_given command ≡ Some (name, text)
+  pub given : (named_by command).table_given ≡ Some (name, text)
   pub meaning : Meaning
   pub means : Means text meaning
   pub user : IsFirstUser meaning name book.paragraphs id place
 
 -- ---- which is reported
 
--- the refusal holds of the command
+-- What makes a refusal hold of a command: that a name which it gives isn't one, a text has a barred character, first at this place, or what it
+-- names isn't there, or is struck, or isn't, or is resolved; that a text as it is stored, the new print or the note is over its limit; that
+-- the text of a table is bad at this line.
 abbrev pub Holds : Book → Option ℕ → Command → Refusal → Type 0
 Holds book expect command (Moved version) = IsMoved book expect version
-Holds book expect command BadName = IsBadName command
-Holds book expect command BadReader = IsBadReader command
-Holds book expect command (BadText place) = IsBadText command place
-Holds book expect command NoParagraph = LacksParagraph book command
-Holds book expect command NoTable = LacksTable book command
-Holds book expect command NoMark = LacksMark book command
-Holds book expect command Struck = IsStruck book command
-Holds book expect command NotStruck = IsNotStruck book command
-Holds book expect command Resolved = IsResolved book command
-Holds book expect command BadSpan = IsBadSpan book command
-Holds book expect command NothingToUndo = HasNothingToUndo book command
-Holds book expect command TooLong = IsTooLong book command
+Holds book expect command BadName = IsSomeAnd (named_by command).table_given (λ given. ¬ IsTableName given.0)
+Holds book expect command BadReader = IsSomeAnd (named_by command).proofreader_given (λ name. ¬ IsProofreaderName name)
+Holds book expect command (BadText place) = IsSomeAnd (named_by command).text_given (λ text. IsFirstBarred text place)
+Holds book expect command NoParagraph =
+    (id : ℕ) × Contains (named_by command).paragraphs_named id × (paragraph_of book id ≡ None)
+Holds book expect command NoTable = IsSomeAnd (named_by command).table_named (λ name. text_of book name ≡ None)
+Holds book expect command NoMark = IsSomeAnd (named_by command).mark_named (λ id. mark_of book id ≡ None)
+Holds book expect command Struck =
+    IsSomeAnd (named_by command).live_paragraph
+    (λ id. IsSomeAnd (paragraph_of book id) (λ paragraph. paragraph.struck ≡ true))
+Holds book expect command NotStruck =
+    IsSomeAnd (named_by command).struck_paragraph
+    (λ id. IsSomeAnd (paragraph_of book id) (λ paragraph. paragraph.struck ≡ false))
+Holds book expect command Resolved =
+    IsSomeAnd (named_by command).mark_named (λ id. IsSomeAnd (mark_of book id) (λ mark. mark.resolved ≡ true))
+Holds book expect command BadSpan = IsSomeAnd (named_by command).span_named (LacksSpan book)
+Holds book expect command NothingToUndo =
+    IsSomeAnd (named_by command).paragraph_undone
+    (λ id. IsSomeAnd (paragraph_of book id) (λ paragraph. newest paragraph.history ≡ None))
+Holds book expect command TooLong =
+    IsLongerThan most_print (named_by command).text_stored
+    ⊎ (IsLongerThan most_print (new_print book command) ⊎ IsLongerThan most_note (named_by command).note_given)
 Holds book expect command (Full limit) = IsFull book command limit
-Holds book expect command (BadTable fault) = IsBadTable command fault
+Holds book expect command (BadTable fault) =
+    IsSomeAnd (named_by command).table_given (λ given. Bad given.1 fault.line fault.cause)
 Holds book expect command (Undefined place) = IsUndefined book command place
 Holds book expect command (Untranslatable id place) = IsUntranslatable book command id place
 Holds book expect command NoMemory = ⊥

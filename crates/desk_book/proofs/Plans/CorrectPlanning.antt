@@ -1,5 +1,5 @@
 -- How a correction is checked while no version is expected.
-use Rattle.std.proofs.Common.{◌≡◌, ℕ, ◌+◌, ◌-◌, ◌≤◌, false, List, length, Option, Some, None, refl, sym, ap, subst, ◌∙◌, arith, lit≤}
+use Rattle.std.proofs.Common.{◌≡◌, ℕ, ◌+◌, ◌-◌, ◌<◌, ◌≤◌, false, List, length, Option, Some, None, refl, sym, ap, subst, ◌∙◌, arith, lit≤}
 use Rattle.louis_table.specs.Meaning.{Meaning}
 use Rattle.louis_translate.specs.Position.{AreDefined}
 use Rattle.desk_book.specs.declared.change.Effect.{Effect}
@@ -14,20 +14,21 @@ use Rattle.desk_book.specs.Changes.{Does}
 use Rattle.desk_book.specs.Corrections.{HaltsEntry, HaltsPrint, IsEntered, TakesEntry}
 use Rattle.desk_memory.specs.Histories.{TookFrom, entry_kept}
 use Rattle.desk_model.specs.Judging.{Passes}
-use Rattle.desk_model.specs.Limits.{most_print}
+use Rattle.desk_model.specs.Limits.{most_note, most_print}
 use Rattle.desk_model.specs.Marks.{mark_moved, mark_moved_by}
 use Rattle.desk_model.specs.Name.{IsProofreaderName}
 use Rattle.desk_book.specs.Plans.{IsPlanned, IsTurnedDown}
 use Rattle.desk_model.specs.Print.{print_of, with_entry, with_replacement}
-use Rattle.desk_model.specs.Refusals.{HasLongNote}
+use Rattle.desk_model.specs.Refusals.{IsLongerThan}
 use Rattle.desk_memory.specs.Display.{IsShown}
 use Rattle.desk_model.specs.Step.{next_with_entry, replacement_by}
 use Rattle.desk_model.specs.NormalForm.{IsUnbarred, normal_form}
 use Rattle.desk_command.specs.Characters.{AreCharacters}
+use Rattle.desk_model.proofs.Lists.Options.{IsSomeAnd-value}
 use Rattle.desk_book.proofs.Plans.EntryPlanned.{ChangesPrint-entered}
 use Rattle.desk_model.proofs.Books.SoundBooks.{short-sound}
 use Rattle.desk_book.proofs.Plans.EntryPlanning.{accepts_entry, halted, undefined, unstruck}
-use Rattle.desk_model.proofs.Commands.Turns.{passes_to, past_text, same_some, short_text, to_turn}
+use Rattle.desk_model.proofs.Commands.Turns.{passes_to, not_longer, past_text, to_turn}
 use Rattle.desk_model.proofs.Books.HistoryLists.{corrected_print-corrects}
 use Rattle.desk_model.proofs.Commands.Judging.{Passes-past}
 use Rattle.desk_book.proofs.Plans.Planning.{no_memory}
@@ -42,7 +43,7 @@ module _ (book : Book) (id start count : ℕ) (text who : List ℕ) where
 
   module _ (named : IsProofreaderName who) where
     pub past_proofreader : Passes book None command 20
-    past_proofreader = Passes-past book None command BadReader 20 refl (passes_to book command 15 refl) (λ b. b.bad (subst IsProofreaderName (same_some who b.name b.given) named))
+    past_proofreader = Passes-past book None command BadReader 20 refl (passes_to book command 15 refl) (λ bad. bad named)
 
     module _ (unbarred : IsUnbarred text) where
       cleaned : Passes book None command 30
@@ -59,11 +60,8 @@ module _ (book : Book) (id start count : ℕ) (text who : List ℕ) where
           spanned : Passes book None command 110
           spanned =
               Passes-past book None command BadSpan 110 refl fit
-              (λ b. let both : Some p ≡ Some b.paragraph = sym shown.found ∙ b.found in
-              let same : p ≡ b.paragraph = cc in
+              (λ b. let past = IsSomeAnd-value (λ (q : Paragraph). length (print_of q) < start + count) shown.found b in
               let one = ap length shown.print in
-              let two = ap (λ (q : Paragraph). length (print_of q)) same in
-              let past = b.past in
               omega arith)
 
           -- so many characters the print has after it
@@ -83,18 +81,18 @@ module _ (book : Book) (id start count : ℕ) (text who : List ℕ) where
             made : replaced p ≡ Some print
             made = ap Some (sym print_is)
 
-            no_note : ¬ HasLongNote command
-            no_note l = let given = l.given in cc
+            no_note : ¬ IsLongerThan most_note None
+            no_note l = l
 
             pub halted_here : (told : Refusal) → HaltsEntry book kept (length print) told → IsTurnedDown book command told
             halted_here told =
                 halted book command id p shown.found kept shown.kept_is print shown.translated.text meaning shown.translated.found shown.translated.means refl replaced refl made
-                (short_text book command (normal_form text) refl short) no_note spanned refl refl refl refl told
+                (not_longer most_print (Some (normal_form text)) (normal_form text) refl short) no_note spanned refl refl refl refl told
 
             pub undefined_here : TakesEntry book kept (length print) → (told : Refusal) → HaltsPrint meaning print told → IsTurnedDown book command told
             undefined_here takes told =
                 undefined book command id p shown.found kept shown.kept_is print shown.translated.text meaning shown.translated.found shown.translated.means refl replaced refl made
-                (short_text book command (normal_form text) refl short) no_note spanned refl refl refl refl 110 refl (lit≤ tt) takes told
+                (not_longer most_print (Some (normal_form text)) (normal_form text) refl short) no_note spanned refl refl refl refl 110 refl (lit≤ tt) takes told
 
             pub planned_here : (new : NewEntry) (effect : Effect) → new.print.items ≡ print → IsEntered book id kept meaning new effect → entry_kept new.entry ≡ Corrects r who → TookFrom (print_of p) new.entry
                 → new.start ≡ start → new.removed ≡ count → new.added ≡ length (normal_form text) → AreCharacters (normal_form text) × AreCharacters who → IsPlanned book command effect
@@ -108,7 +106,7 @@ module _ (book : Book) (id start count : ℕ) (text who : List ℕ) where
                 let moves : next_with_entry book id (Corrects r who) (mark_moved_by new.start new.removed new.added) ≡ next_with_entry book id (Corrects r who) (mark_moved r) =
                 λ i. next_with_entry book id (Corrects r who) (mark_moved_by (starts i) (removes i) (adds i)) in (
                   accepts_entry book command id p shown.found kept shown.kept_is print shown.translated.text meaning shown.translated.found shown.translated.means refl replaced refl made
-                      (short_text book command (normal_form text) refl short) no_note spanned refl refl refl refl shorts is.few is.left defined,
+                      (not_longer most_print (Some (normal_form text)) (normal_form text) refl short) no_note spanned refl refl refl refl shorts is.few is.left defined,
                   (next_with_entry book id (Corrects r who) (mark_moved_by new.start new.removed new.added), moves, subst (Does book command _) (sym is.effect_is) change),
                   (written.0, written.1, tt),
                 )

@@ -1,6 +1,7 @@
 -- How a command that brings an entry into a history is checked while no version is expected.
-use Rattle.std.proofs.Common.{◌≡◌, ℕ, ◌<◌, ◌≤◌, true, false, List, [], ◌∷◌, length, Option, Some, None, refl, sym, ap, ◌∙◌, arith, inl, inr}
+use Rattle.std.proofs.Common.{◌≡◌, ℕ, ◌<◌, ◌≤◌, true, false, List, [], ◌∷◌, length, Option, Some, None, refl, ap, ◌∙◌, arith, inl, inr}
 use Rattle.std.specs.Option.{option_and_then}
+use Rattle.std.specs.Prelude.{IsSomeAnd}
 use Rattle.std.proofs.lemmas.List.{length-map}
 use Rattle.louis_table.specs.Meaning.{Meaning}
 use Rattle.louis_table.specs.Table.{Means}
@@ -15,28 +16,34 @@ use Rattle.desk_model.specs.Book.{Book, Paragraph, paragraph_of, text_of}
 use Rattle.desk_book.specs.Corrections.{HaltsEntry, HaltsPrint, TakesEntry}
 use Rattle.desk_memory.specs.Display.{IsShown}
 use Rattle.desk_memory.specs.Histories.{entry_kept}
-use Rattle.desk_model.specs.Judging.{Passes, first_turn_after_asking}
+use Rattle.desk_model.specs.Judging.{Passes}
 use Rattle.desk_memory.specs.Kept.{paragraph_kept}
-use Rattle.desk_model.specs.Limits.{most_entries, most_print, most_version}
+use Rattle.desk_model.specs.Limits.{most_entries, most_note, most_print, most_version}
 use Rattle.desk_book.specs.Plans.{IsTurnedDown}
-use Rattle.desk_model.specs.Named.{Changed, history_grown, live_paragraph, paragraph_translated, paragraphs_named}
-use Rattle.desk_model.specs.Refusals.{HasLongNote, HasLongText, IsAccepted, new_print, print_and_table, print_made, print_to_translate}
+use Rattle.desk_model.specs.Named.{Changed, named_by}
+use Rattle.desk_model.specs.Refusals.{IsAccepted, IsLongerThan, new_print, print_and_table, print_made, print_to_translate}
+use Rattle.desk_model.proofs.Lists.Options.{IsSomeAnd-of, IsSomeAnd-value}
 use Rattle.desk_model.proofs.Commands.Judging.{Passes-past, skips}
 use Rattle.desk_book.proofs.Plans.Planning.{full_version, no_memory, past_print, too_long, turned_down}
-use Rattle.desk_model.proofs.Commands.Turns.{accepted_after, changed-print, changed-translated, past_fit, past_lengths, past_version, short_print, to_turn}
+use Rattle.desk_model.proofs.Commands.Turns.{accepted_after, changed-print, changed-translated, not_longer, past_fit, past_lengths, past_version, to_turn}
 
-module _ (book : Book) (command : Command) (id : ℕ) (named : paragraphs_named command ≡ id ∷ []) (live : live_paragraph command ≡ Some id) (skip : skips command 40 60 ≡ true)
+module _ (book : Book) (command : Command) (id : ℕ) (named : (named_by command).paragraphs_named ≡ id ∷ []) (live : (named_by command).live_paragraph ≡ Some id) (skip : skips command 40 60 ≡ true)
     (passes : Passes book None command 30) where
   -- it is there, and isn't struck
   pub unstruck : (kept : KeptParagraph) (meaning : Meaning) (shown : IsShown book id kept meaning) → kept.struck ≡ false → Passes book None command 70
   unstruck kept meaning shown free = past_fit book command id named live skip passes shown.paragraph shown.found (ap (λ (q : Paragraph). q.struck) shown.kept_is ∙ free)
 
 module _ (book : Book) (command : Command) (id : ℕ) (p : Paragraph) (there : paragraph_of book id ≡ Some p) (kept : KeptParagraph) (kept_is : p ≡ paragraph_kept (id, kept)) (print source : List ℕ) (meaning : Meaning)
-    (found : text_of book p.table ≡ Some source) (means : Means source meaning) (grows : history_grown command ≡ Some id) (change : Paragraph → Option (List ℕ))
-    (changed : paragraph_translated command ≡ Some (Changed id change)) (makes : change p ≡ Some print) (text : ¬ HasLongText command) (note : ¬ HasLongNote command) (passes : Passes book None command 110)
+    (found : text_of book p.table ≡ Some source) (means : Means source meaning) (grows : (named_by command).history_grown ≡ Some id) (change : Paragraph → Option (List ℕ))
+    (changed : (named_by command).paragraph_translated ≡ Some (Changed id change)) (makes : change p ≡ Some print) (text : ¬ IsLongerThan most_print (named_by command).text_stored)
+    (note : ¬ IsLongerThan most_note (named_by command).note_given) (passes : Passes book None command 110)
     (to_entries : skips command 120 140 ≡ true) (to_version : skips command 150 160 ≡ true) (to_print : skips command 170 180 ≡ true) (to_end : skips command 190 200 ≡ true) where
   abbrev table : BookTable
   table = record { text = source; rules = meaning }
+
+  -- its history has all that it may have
+  abbrev at_limit : Paragraph → Type 0
+  at_limit q = most_entries ≤ length q.history
 
   made : new_print book command ≡ Some print
   made = ap (option_and_then (print_made book)) changed ∙ changed-print book id change p print there makes
@@ -48,16 +55,12 @@ module _ (book : Book) (command : Command) (id : ℕ) (p : Paragraph) (there : p
   count = ap (λ (q : Paragraph). length q.history) kept_is ∙ length-map kept.history entry_kept
 
   short : length print ≤ most_print → Passes book None command 140
-  short h = to_turn book command 120 140 to_entries (past_lengths book command passes text (short_print book command print made h) note)
+  short h = to_turn book command 120 140 to_entries (past_lengths book command passes text (not_longer most_print (new_print book command) print made h) note)
 
   few : length print ≤ most_print → length kept.history < most_entries → Passes book None command 150
   few h room =
       Passes-past book None command (Full Entries) 150 refl (short h)
-      (λ f. let given = f.grows in let same : id ≡ f.id = cc in
-      let both : Some p ≡ Some f.paragraph = sym there ∙ (ap (paragraph_of book) same ∙ f.found) in
-      let is : p ≡ f.paragraph = cc in
-      let many = ap (λ (q : Paragraph). length q.history) is in
-      let full = f.full in
+      (λ f. let full = IsSomeAnd-value at_limit there (IsSomeAnd-value (λ (n : ℕ). IsSomeAnd (paragraph_of book n) at_limit) grows f) in
       omega (arith, count))
 
   left : length print ≤ most_print → length kept.history < most_entries → book.version < most_version → Passes book None command 180
@@ -66,10 +69,11 @@ module _ (book : Book) (command : Command) (id : ℕ) (p : Paragraph) (there : p
   pub halted : (told : Refusal) → HaltsEntry book kept (length print) told → IsTurnedDown book command told
   halted told (inl (is, long)) = too_long book command told print passes made long is
   halted told (inr (inl (is, h, full))) =
-      turned_down book command 140 (Full Entries) told (short h) refl (record { id = id; paragraph = p; grows = grows; found = there; full = omega (arith, count, full) }) is
+      turned_down book command 140 (Full Entries) told (short h) refl (IsSomeAnd-of (λ (n : ℕ). IsSomeAnd (paragraph_of book n) at_limit) grows
+      (IsSomeAnd-of at_limit there (omega (arith, count, full)))) is
   halted told (inr (inr (is, h, room, full))) = full_version book command 150 told (few h room) to_version full is
 
-  module _ (n : ℕ) (asks : first_turn_after_asking command ≡ Some n) (soon : n ≤ 180) (takes : TakesEntry book kept (length print)) where
+  module _ (n : ℕ) (asks : (named_by command).turn_after_asking ≡ Some n) (soon : n ≤ 180) (takes : TakesEntry book kept (length print)) where
     pub lacking : (told : Refusal) → told ≡ NoMemory → IsTurnedDown book command told
     lacking told is = no_memory book command told n asks (λ other h. let after = left takes.short takes.few takes.left other h in omega arith) is
 

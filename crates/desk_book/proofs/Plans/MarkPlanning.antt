@@ -20,7 +20,7 @@ use Rattle.desk_model.specs.Refusals.{IsAccepted}
 use Rattle.desk_memory.specs.Display.{IsShown}
 use Rattle.desk_model.specs.NormalForm.{IsUnbarred}
 use Rattle.desk_model.specs.Translation.{AreMarked, LacksCells}
-use Rattle.desk_model.proofs.Commands.Turns.{accepted_after, passes_to, past_lengths, past_text, past_version, same_some, to_turn}
+use Rattle.desk_model.proofs.Commands.Turns.{accepted_after, passes_to, past_lengths, past_text, past_version, to_turn}
 use Rattle.desk_book.proofs.Plans.EntryPlanning.{unstruck}
 use Rattle.desk_model.proofs.Commands.Judging.{Passes-accepted, Passes-past}
 use Rattle.desk_model.proofs.Commands.MarkedPlaces.{has_cells as cells_there}
@@ -66,21 +66,20 @@ module _ (book : Book) (id cell count : ℕ) (note : List ℕ) where
         spanned = Passes-past book None command BadSpan 110 refl fit not_lacking
 
         pub long_note : (told : Refusal) → (told ≡ TooLong) × (most_note < length note) → IsTurnedDown book command told
-        long_note told (is, long) = turned_down book command 110 TooLong told spanned refl (inr (inr (record { note = note; given = refl; long = long }))) is
+        long_note told (is, long) = turned_down book command 110 TooLong told spanned refl (inr (inr long)) is
 
         module _ (short : length note ≤ most_note) where
           shortened : Passes book None command 150
           shortened =
               to_turn book command 120 150 refl
-              (past_lengths book command spanned (λ l. let given = l.given in cc) (λ l. let made = l.made in cc)
-              (λ l. let one = ap length (same_some l.note note (sym l.given)) in let long = l.long in omega arith))
+              (past_lengths book command spanned (λ l. l) (λ l. l) (λ long. omega arith))
 
           pub full_marks : (told : Refusal) → (told ≡ Full Marks) × (most_marks ≤ length book.marks) → IsTurnedDown book command told
-          full_marks told (is, full) = turned_down book command 150 (Full Marks) told shortened refl (record { note = note; given = refl; full = full }) is
+          full_marks told (is, full) = turned_down book command 150 (Full Marks) told shortened refl (refl, full) is
 
           module _ (room : length book.marks < most_marks) where
             roomy : Passes book None command 160
-            roomy = Passes-past book None command (Full Marks) 160 refl shortened (λ f. let full = f.full in omega arith)
+            roomy = Passes-past book None command (Full Marks) 160 refl shortened (λ f. let full = f.1 in omega arith)
 
             pub full_of_versions : (told : Refusal) → (told ≡ Full Version) × (most_version ≤ book.version) → IsTurnedDown book command told
             full_of_versions told (is, full) = full_version book command 160 told roomy refl full is

@@ -1,6 +1,6 @@
 -- How a command is checked while no version is expected, by what was found in the book.
 use Rattle.std.proofs.Common.{◌≡◌, ℕ, zero, suc, ◌<◌, ◌≤◌, true, false, List, [], ◌∷◌, length, Some, None, refl, sym, ap, subst, ◌∙◌, arith, inl, inr}
-use Rattle.std.specs.Prelude.{IsSome, is_some}
+use Rattle.std.specs.Prelude.{IsSome, IsSomeAnd, is_some}
 use Rattle.std.proofs.lemmas.Bool.{both_ways}
 use Rattle.louis_table.specs.Table.{Means}
 use Rattle.louis_table.proofs.OneMeaning.{one_meaning}
@@ -12,12 +12,12 @@ use Rattle.desk_command.specs.declared.refusal.Limit.TheVariants.{Version}
 use Rattle.desk_command.specs.declared.refusal.Refusal.{Refusal}
 use Rattle.desk_command.specs.declared.refusal.Refusal.TheVariants.{Full, NoMemory, NoParagraph, NoTable, NotStruck, Struck, TooLong, Undefined}
 use Rattle.desk_model.specs.Book.{Book, Paragraph, paragraph_of, text_of}
-use Rattle.desk_model.specs.Judging.{Passes, first_turn_after_asking}
-use Rattle.desk_memory.specs.Kept.{paragraph_kept}
+use Rattle.desk_model.specs.Judging.{Passes}
 use Rattle.desk_model.specs.Limits.{most_print, most_version}
 use Rattle.desk_book.specs.Plans.{AreNotAllThere, AreThere, IsKeptFor, IsTableFor, IsTurnedDown}
-use Rattle.desk_model.specs.Named.{live_paragraph, paragraphs_named, struck_paragraph, table_named}
+use Rattle.desk_model.specs.Named.{named_by}
 use Rattle.desk_model.specs.Refusals.{Holds, turn, IsUndefined, new_print, print_to_translate}
+use Rattle.desk_model.proofs.Lists.Options.{IsSomeAnd-of, IsSomeAnd-value}
 use Rattle.desk_model.proofs.Commands.Judging.{IsRefused-passes, Passes-past, Passes-skip, skips}
 use Rattle.desk_model.proofs.Commands.Turns.{defined_not_first, passes_to, same_some}
 
@@ -43,20 +43,20 @@ module _ (book : Book) (command : Command) where
   pub turned_down : (n : ℕ) (refusal told : Refusal) → Passes book None command n → turn refusal ≡ n → Holds book None command refusal → told ≡ refusal → IsTurnedDown book command told
   turned_down n refusal told passes at holds same = subst (IsTurnedDown book command) (sym same) (inl (IsRefused-passes book None command n refusal passes at holds))
 
-  pub no_memory : (told : Refusal) (n : ℕ) → first_turn_after_asking command ≡ Some n → Passes book None command n → told ≡ NoMemory → IsTurnedDown book command told
+  pub no_memory : (told : Refusal) (n : ℕ) → (named_by command).turn_after_asking ≡ Some n → Passes book None command n → told ≡ NoMemory → IsTurnedDown book command told
   no_memory told n asks passes is = inr (is, record { from = n; asks = asks; passes = passes })
 
-  pub no_paragraph : (told : Refusal) → Passes book None command 30 → AreNotAllThere book (paragraphs_named command) → told ≡ NoParagraph → IsTurnedDown book command told
-  no_paragraph told passes lacks = turned_down 30 NoParagraph told passes refl (record { id = lacks.0; named = lacks.1; missing = lacks.2 })
+  pub no_paragraph : (told : Refusal) → Passes book None command 30 → AreNotAllThere book (named_by command).paragraphs_named → told ≡ NoParagraph → IsTurnedDown book command told
+  no_paragraph told passes lacks = turned_down 30 NoParagraph told passes refl lacks
 
-  pub past_paragraphs : Passes book None command 30 → AreThere book (paragraphs_named command) → Passes book None command 40
-  past_paragraphs passes there = Passes-past book None command NoParagraph 40 refl passes (λ lacks. let found = there lacks.id lacks.named in let missing = lacks.missing in cc (ap is_some missing))
+  pub past_paragraphs : Passes book None command 30 → AreThere book (named_by command).paragraphs_named → Passes book None command 40
+  past_paragraphs passes there = Passes-past book None command NoParagraph 40 refl passes (λ lacks. let found = there lacks.0 lacks.1 in let missing = lacks.2 in cc (ap is_some missing))
 
-  pub no_table : (told : Refusal) (name : List ℕ) → Passes book None command 40 → table_named command ≡ Some name → text_of book name ≡ None → told ≡ NoTable → IsTurnedDown book command told
-  no_table told name passes named missing = turned_down 40 NoTable told passes refl (record { name = name; named = named; missing = missing })
+  pub no_table : (told : Refusal) (name : List ℕ) → Passes book None command 40 → (named_by command).table_named ≡ Some name → text_of book name ≡ None → told ≡ NoTable → IsTurnedDown book command told
+  no_table told name passes named missing = turned_down 40 NoTable told passes refl (IsSomeAnd-of (λ (n : List ℕ). text_of book n ≡ None) named missing)
 
   pub too_long : (told : Refusal) (print : List ℕ) → Passes book None command 110 → new_print book command ≡ Some print → most_print < length print → told ≡ TooLong → IsTurnedDown book command told
-  too_long told print passes made long = turned_down 110 TooLong told passes refl (inr (inl (record { print = print; made = made; long = long })))
+  too_long told print passes made long = turned_down 110 TooLong told passes refl (inr (inl (IsSomeAnd-of (λ (t : List ℕ). most_print < length t) made long)))
 
   pub full_version : (n : ℕ) (told : Refusal) → Passes book None command n → skips command n 160 ≡ true → most_version ≤ book.version → told ≡ Full Version → IsTurnedDown book command told
   full_version n told passes skip full = turned_down 160 (Full Version) told (Passes-skip book None command n 160 skip passes) refl full
@@ -83,23 +83,23 @@ module _ (book : Book) (command : Command) where
 
   -- ---- a paragraph that is named first
 
-  pub unnamed : (told : Refusal) (id : ℕ) (ids : List ℕ) → skips command 10 30 ≡ true → paragraphs_named command ≡ id ∷ ids → (told ≡ NoParagraph) × (paragraph_of book id ≡ None) → IsTurnedDown book command told
+  pub unnamed : (told : Refusal) (id : ℕ) (ids : List ℕ) → skips command 10 30 ≡ true → (named_by command).paragraphs_named ≡ id ∷ ids → (told ≡ NoParagraph) × (paragraph_of book id ≡ None) → IsTurnedDown book command told
   unnamed told id ids skip named (is, missing) = no_paragraph told (passes_to book command 30 skip) (subst (AreNotAllThere book) (sym named) (AreNotAllThere-first book id ids missing)) is
 
   module _ (id : ℕ) (kept : KeptParagraph) (k : IsKeptFor book id kept) where
-    pub past_named : skips command 10 30 ≡ true → paragraphs_named command ≡ id ∷ [] → Passes book None command 40
+    pub past_named : skips command 10 30 ≡ true → (named_by command).paragraphs_named ≡ id ∷ [] → Passes book None command 40
     past_named skip named = past_paragraphs (passes_to book command 30 skip) (subst (AreThere book) (sym named) (AreThere-cons book id kept [] k (AreThere-none book)))
 
-    pub past_struck : Passes book None command 60 → live_paragraph command ≡ Some id → kept.struck ≡ false → Passes book None command 70
+    pub past_struck : Passes book None command 60 → (named_by command).live_paragraph ≡ Some id → kept.struck ≡ false → Passes book None command 70
     past_struck passes named live =
         Passes-past book None command Struck 70 refl passes
-        (λ s. let given = s.named in let found = s.found in let same : id ≡ s.id = cc in
-        let is : paragraph_kept (id, kept) ≡ s.paragraph = cc (ap (paragraph_of book) same, k.found) in
-        both_ways kept.struck live (ap (λ (p : Paragraph). p.struck) is ∙ s.struck))
+        (λ s. both_ways kept.struck live
+        (IsSomeAnd-value (λ (p : Paragraph). p.struck ≡ true) k.found
+        (IsSomeAnd-value (λ (n : ℕ). IsSomeAnd (paragraph_of book n) (λ p. p.struck ≡ true)) named s)))
 
-    pub past_live : Passes book None command 70 → struck_paragraph command ≡ Some id → kept.struck ≡ true → Passes book None command 80
+    pub past_live : Passes book None command 70 → (named_by command).struck_paragraph ≡ Some id → kept.struck ≡ true → Passes book None command 80
     past_live passes named struck =
         Passes-past book None command NotStruck 80 refl passes
-        (λ s. let given = s.named in let found = s.found in let same : id ≡ s.id = cc in
-        let is : paragraph_kept (id, kept) ≡ s.paragraph = cc (ap (paragraph_of book) same, k.found) in
-        both_ways kept.struck (ap (λ (p : Paragraph). p.struck) is ∙ s.live) struck)
+        (λ s. both_ways kept.struck
+        (IsSomeAnd-value (λ (p : Paragraph). p.struck ≡ false) k.found
+        (IsSomeAnd-value (λ (n : ℕ). IsSomeAnd (paragraph_of book n) (λ p. p.struck ≡ false)) named s)) struck)

@@ -30,26 +30,26 @@ unused book name meaning sound none k d lt uses =
 
 module _ (book : Book) (name text : List ℕ) where
   pub bad_name : (told : Refusal) → (told ≡ BadName) × (¬ IsTableName name) → IsTurnedDown book (Table name text) told
-  bad_name told (is, bad) = turned_down book (Table name text) 10 BadName told (passes_to book (Table name text) 10 refl) refl (record { name = name; text = text; given = refl; bad = bad }) is
+  bad_name told (is, bad) = turned_down book (Table name text) 10 BadName told (passes_to book (Table name text) 10 refl) refl bad is
 
   module _ (named : IsTableName name) where
     pub past_name : Passes book None (Table name text) 120
     past_name =
         Passes-past book None (Table name text) BadName 120 refl (passes_to book (Table name text) 10 refl)
-        (λ b. b.bad (subst IsTableName (ap (λ (given : List ℕ × List ℕ). given.0) (same_some (name, text) (b.name, b.text) b.given)) named))
+        (λ bad. bad named)
 
     pub full_tables : (told : Refusal) → text_of book name ≡ None → (told ≡ Full Tables) × (most_tables ≤ length book.tables) → IsTurnedDown book (Table name text) told
     full_tables told new (is, full) =
-        turned_down book (Table name text) 120 (Full Tables) told past_name refl (record { name = name; text = text; given = refl; new = new; full = full }) is
+        turned_down book (Table name text) 120 (Full Tables) told past_name refl (new, full) is
 
     pub past_tables : IsSome (text_of book name) ⊎ (length book.tables < most_tables) → Passes book None (Table name text) 130
-    past_tables (inr left) = Passes-past book None (Table name text) (Full Tables) 130 refl past_name (λ f. let full = f.full in omega arith)
+    past_tables (inr left) = Passes-past book None (Table name text) (Full Tables) 130 refl past_name (λ f. let full = f.1 in omega arith)
     past_tables (inl old) =
         Passes-past book None (Table name text) (Full Tables) 130 refl past_name
-        (λ f. let same = ap (λ (given : List ℕ × List ℕ). given.0) (same_some (name, text) (f.name, f.text) f.given) in let none = ap is_some (ap (text_of book) same ∙ f.new) in cc)
+        (λ f. let none = ap is_some f.0 in cc)
 
   bad_table : (told : Refusal) (fault : TableFault) → Passes book None (Table name text) 170 → told ≡ BadTable fault → Bad text fault.line fault.cause → IsTurnedDown book (Table name text) told
-  bad_table told fault passes is bad = turned_down book (Table name text) 170 (BadTable fault) told passes refl (record { name = name; text = text; given = refl; bad = bad }) is
+  bad_table told fault passes is bad = turned_down book (Table name text) 170 (BadTable fault) told passes refl bad is
 
   -- what reading the text may answer
   pub unread : (told : Refusal) → Passes book None (Table name text) 170 → ((fault : TableFault) × (told ≡ BadTable fault) × Bad text fault.line fault.cause) ⊎ (told ≡ NoMemory) → IsTurnedDown book (Table name text) told
@@ -60,8 +60,7 @@ module _ (book : Book) (name text : List ℕ) where
     pub past_reading : Passes book None (Table name text) 170 → Passes book None (Table name text) 190
     past_reading passes =
         Passes-past book None (Table name text) (BadTable (record { line = 0; cause = 0 })) 190 refl passes
-        (λ fault b. means_or_bad text meaning fault.line fault.cause means
-        (subst (λ (t : List ℕ). Bad t fault.line fault.cause) (sym (ap (λ (given : List ℕ × List ℕ). given.1) (same_some (name, text) (b.name, b.text) b.given))) b.bad))
+        (λ fault bad. means_or_bad text meaning fault.line fault.cause means bad)
 
     pub untranslatable : (told : Refusal) (id place : ℕ) → Passes book None (Table name text) 190 → told ≡ Untranslatable id place → IsFirstUser meaning name book.paragraphs id place → IsTurnedDown book (Table name text) told
     untranslatable told id place passes is user =

@@ -18,14 +18,15 @@ use Rattle.desk_book.specs.Corrections.{HaltsEntry, HaltsPrint, IsEntered, Takes
 use Rattle.desk_memory.specs.Histories.{replaced_by}
 use Rattle.desk_memory.specs.Histories.{IsNewestInForce, LeavePrint, TookFrom, entries_kept, entry_kept, replacement_kept}
 use Rattle.desk_model.specs.Judging.{Passes}
-use Rattle.desk_model.specs.Limits.{most_print}
+use Rattle.desk_model.specs.Limits.{most_note, most_print}
 use Rattle.desk_model.specs.Marks.{mark_moved_back, mark_moved_by}
 use Rattle.desk_book.specs.Plans.{IsPlanned, IsTurnedDown}
 use Rattle.desk_model.specs.Print.{corrected_print, newest, print_of, print_undone, with_entry}
-use Rattle.desk_model.specs.Refusals.{HasLongNote, HasLongText}
+use Rattle.desk_model.specs.Refusals.{IsLongerThan}
 use Rattle.desk_memory.specs.Display.{IsShown}
 use Rattle.desk_model.specs.Sound.{AreSoundEntries}
 use Rattle.desk_model.specs.Step.{next_with_entry}
+use Rattle.desk_model.proofs.Lists.Options.{IsSomeAnd-value}
 use Rattle.desk_book.proofs.Plans.EntryPlanned.{ChangesPrint-entered}
 use Rattle.desk_model.proofs.Books.SoundBooks.{short-sound}
 use Rattle.desk_book.proofs.Plans.EntryPlanning.{accepts_entry, halted, lacking, undefined, unstruck}
@@ -93,16 +94,13 @@ module _ (book : Book) (id : ℕ) where
 
       passed : Passes book None command 110
       passed = Passes-past book None command NothingToUndo 110 refl fit
-          (λ n. let both : Some p ≡ Some n.paragraph = sym shown.found ∙ n.found in
-          let same : p ≡ n.paragraph = cc in
-          let none = sym newest_is ∙ (ap (λ (q : Paragraph). newest q.history) same ∙ n.none) in
-          cc)
+          (λ n. let none = sym newest_is ∙ IsSomeAnd-value (λ (q : Paragraph). newest q.history ≡ None) shown.found n in cc)
 
-      no_text : ¬ HasLongText command
-      no_text l = let given = l.given in cc
+      no_text : ¬ IsLongerThan most_print None
+      no_text l = l
 
-      no_note : ¬ HasLongNote command
-      no_note l = let given = l.given in cc
+      no_note : ¬ IsLongerThan most_note None
+      no_note l = l
 
       module _ (print : List ℕ) (print_is : print ≡ before) where
         made : print_undone p ≡ Some print

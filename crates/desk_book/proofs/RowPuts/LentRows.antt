@@ -19,7 +19,7 @@ use Rattle.desk_book.specs.Changes.{Carries, Change, Does, change_puts, puts-cha
 use Rattle.desk_memory.specs.Histories.{entry_kept}
 use Rattle.desk_model.specs.Marks.{mark_moved_by}
 use Rattle.desk_model.specs.ParagraphMarks.{marks_on}
-use Rattle.desk_model.specs.Named.{adds_paragraph, place_given, table_given}
+use Rattle.desk_model.specs.Named.{named_by}
 use Rattle.desk_model.specs.Sound.{IsSound}
 use Rattle.desk_model.specs.Step.{next_id}
 use Rattle.desk_model.proofs.Lists.Members.{Contains-behind, Contains-here}
@@ -73,7 +73,7 @@ module _ (book next : Book) (command : Command) where
 
   -- ---- cells
 
-  module _ (name text : List ℕ) (meaning : Meaning) (sound : IsSound book) (means : Means text meaning) (is : table_given command ≡ Some (name, text)) where
+  module _ (name text : List ℕ) (meaning : Meaning) (sound : IsSound book) (means : Means text meaning) (is : (named_by command).table_given ≡ Some (name, text)) where
     cells-lent : (n : ℕ) (cells : List (Option (List ℕ))) → 1 ≤ n → n + length cells ≤ length book.paragraphs + 1 → RenewsFrom book meaning name n cells
         → All P (flat_map cells_put (enumerate_from n cells))
     cells-lent n [] one few renews = All-nil P
@@ -95,9 +95,9 @@ module _ (book next : Book) (command : Command) where
       (cells-lent name table.text table.rules sound does.2 does.0.0 1 cells.items (omega arith) (let few = does.4 in omega arith)
       (renews-all book name table.text table.rules sound does.2 cells.items does.3))
   effect-lent sound (effect.AddParagraph kept room order_room place) does =
-      let adds : adds_paragraph command ≡ true = ap adds_paragraph does.command_is in
+      let adds : (named_by command).adds_paragraph ≡ true = ap (λ (c : Command). (named_by c).adds_paragraph) does.command_is in
       let comes : Comes book command (next_id book) = (refl, adds) in
-      let reorders : Reorders command = ap (λ (c : Command). is_some (place_given c)) does.command_is in
+      let reorders : Reorders command = ap (λ (c : Command). is_some (named_by c).place_given) does.command_is in
       let ids : List ℕ = map (λ other. other.id) book.paragraphs in
       All-cons P _ (cache_put (next_id book) kept.cells ∷ further_from place ids) (next_id book, refl, comes)
       (All-cons P (cache_put (next_id book) kept.cells) (further_from place ids) (next_id book, refl, inl comes) (further-lent reorders place ids))

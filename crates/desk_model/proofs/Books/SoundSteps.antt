@@ -37,6 +37,7 @@ use Rattle.desk_model.specs.Sound.{IsSoundHistory, IsSoundTable, IsSoundParagrap
 use Rattle.desk_model.specs.Step.{new_paragraph, with_change, with_paragraph, with_move, next_id, IsNewest, new_mark, next_mark, next_with_entry, next_with_marks, next_with_paragraphs, next_with_tables, replacement_by, Makes}
 use Rattle.desk_model.specs.NormalForm.{is_barred, IsClean, IsUnbarred, normal_form}
 use Rattle.desk_command.specs.Characters.{AreCharacters}
+use Rattle.desk_model.proofs.Lists.Options.{IsSomeAnd-of}
 use Rattle.desk_model.proofs.Commands.Accepted.{given_proofreader, given_unbarred, room_for_entry, room_for_mark, short_note, room_for_version, named_paragraph, named_table, shown_defined, short_print, room_for_paragraph, given_name, given_meaning, room_for_table, users_defined}
 use Rattle.desk_model.proofs.Commands.Turns.{changed-print, changed-translated}
 use Rattle.desk_model.proofs.Lists.Members.{Contains-here, Contains-behind, Contains-map}
@@ -182,7 +183,7 @@ sound_correct book expect id start count text who sound accepted written =
     let s = IsSoundParagraph-found book sound id p named.1 in
     let print : print_of (with_entry (Corrects r who) p) ≡ with_replacement (print_of p) r = corrected_print-corrects p.original p.history r who s.history.entries in
     let span : start + count ≤ length (print_of p) = elim (cases_lt (length (print_of p)) (start + count)) [
-      | inl past ↦ absurd (accepted BadSpan (record { paragraph = p; found = named.1; past = past }))
+      | inl past ↦ absurd (accepted BadSpan (IsSomeAnd-of (λ (q : Paragraph). length (print_of q) < start + count) named.1 past))
       | inr h ↦ h
     ] in
     let change : Paragraph → Option (List ℕ) = λ q. Some (with_replacement (print_of q) r) in

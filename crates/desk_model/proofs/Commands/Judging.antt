@@ -1,6 +1,6 @@
 -- How a command is checked, one turn after the other, and the turns that it skips.
 use Rattle.std.proofs.Common.{◌≡◌, ◌⊎◌, ℕ, ◌+◌, ◌<◌, ◌≤◌, Bool, true, false, List, [], ◌∷◌, Option, Some, None, Contains, refl, sym, ap, subst, arith, inl, inr}
-use Rattle.std.specs.Prelude.{nat_eq, nat_lt, nat_le, ◌||◌, not, is_some, MatchOption}
+use Rattle.std.specs.Prelude.{nat_eq, nat_lt, nat_le, ◌||◌, not, is_some, IsSomeAnd, length}
 use Rattle.std.specs.List.{list_all, list_any}
 use Rattle.std.specs.Map.{lookup}
 use Rattle.std.specs.Option.{option_and_then}
@@ -13,10 +13,16 @@ use Rattle.desk_command.specs.declared.refusal.Limit.TheVariants.{Tables, Paragr
 use Rattle.desk_command.specs.declared.refusal.Refusal.{Refusal}
 use Rattle.desk_command.specs.declared.refusal.Refusal.TheVariants.{Moved, BadName, BadReader, BadText, NoParagraph, NoTable, NoMark, Struck, NotStruck, Resolved, BadSpan, NothingToUndo, TooLong, Full, BadTable, Undefined, Untranslatable, NoMemory}
 use Rattle.louis_table.specs.declared.fault.TableFault.{TableFault}
-use Rattle.desk_model.specs.Book.{Book}
+use Rattle.louis_table.specs.Table.{Bad}
+use Rattle.desk_model.specs.Book.{Book, mark_of, paragraph_of, text_of}
+use Rattle.desk_model.specs.Limits.{most_entries, most_note, most_print, most_tables}
+use Rattle.desk_model.specs.Name.{IsProofreaderName, IsTableName}
+use Rattle.desk_model.specs.NormalForm.{IsFirstBarred}
+use Rattle.desk_model.specs.Print.{newest}
+use Rattle.desk_model.proofs.Lists.Options.{IsSomeAnd-some}
 use Rattle.desk_model.specs.Judging.{Passes}
-use Rattle.desk_model.specs.Named.{Changed, Named, Retabled, Translated, Typed, named_by, note_given, paragraph_translated, paragraphs_named, text_stored}
-use Rattle.desk_model.specs.Refusals.{Holds, turn, IsRefused, IsAccepted, HasLongNote, HasLongPrint, HasNoCorrection, IsBadTable, IsBadText, IsFull, IsMoved, IsTooLong, IsUndefined, IsUntranslatable, LacksSpan, print_and_table, print_made}
+use Rattle.desk_model.specs.Named.{Changed, Named, Retabled, Translated, Typed, named_by}
+use Rattle.desk_model.specs.Refusals.{Holds, turn, IsRefused, IsAccepted, IsFull, IsLongerThan, IsMoved, IsUndefined, IsUntranslatable, LacksSpan, new_print, print_and_table, print_made}
 
 -- ---- limits
 
@@ -118,56 +124,70 @@ not_skipped n m t skipped after =
       | inr le ↦ le
     ]
 
-given_some : {X : Type 0} (P : X → Type 0) (o : Option X) → MatchOption o ⊥ P → is_some o ≡ true
-given_some P None h = absurd h
-given_some P (Some x) h = refl
-
 named_some : (ids : List ℕ) (id : ℕ) → Contains ids id → list_any (λ other. true) ids ≡ true
 named_some [] id (k, within, at) = absurd (omega arith)
 named_some (other ∷ ids) id h = refl
 
 module _ (book : Book) where
-  made_new : (o : Option Translated) (print : List ℕ) → option_and_then (print_made book) o ≡ Some print → is_new o ≡ true
-  made_new None print e = absurd (cc)
-  made_new (Some (Typed text table)) print e = refl
-  made_new (Some (Changed id change)) print e = refl
-  made_new (Some (Retabled id table)) print e = absurd (cc)
+  made_new : (o : Option Translated) → is_some (option_and_then (print_made book) o) ≡ true → is_new o ≡ true
+  made_new None e = absurd (cc)
+  made_new (Some (Typed text table)) e = refl
+  made_new (Some (Changed id change)) e = refl
+  made_new (Some (Retabled id table)) e = absurd (cc)
 
   translated_some : (o : Option Translated) (shown : List ℕ × List ℕ) → option_and_then (print_and_table book) o ≡ Some shown → is_some o ≡ true
   translated_some None shown e = absurd (cc)
   translated_some (Some t) shown e = refl
 
 module _ (book : Book) (expect : Option ℕ) (command : Command) where
-  long_turn : IsTooLong book command → (is_some (text_stored command) || (is_new (paragraph_translated command) || is_some (note_given command))) ≡ true
-  long_turn (inl h) = or_left (is_some (text_stored command)) (is_new (paragraph_translated command) || is_some (note_given command)) (ap is_some h.given)
-  long_turn (inr h) = or_right (is_some (text_stored command)) (is_new (paragraph_translated command) || is_some (note_given command)) (rest h)
+  long_some : (most : ℕ) (text : Option (List ℕ)) → IsLongerThan most text → is_some text ≡ true
+  long_some most text h = IsSomeAnd-some (λ (characters : List ℕ). most < length characters) text h
+
+  long_turn : Holds book expect command TooLong
+      → (is_some (named_by command).text_stored || (is_new (named_by command).paragraph_translated || is_some (named_by command).note_given)) ≡ true
+  long_turn (inl text) =
+      or_left (is_some (named_by command).text_stored) (is_new (named_by command).paragraph_translated || is_some (named_by command).note_given)
+      (long_some most_print (named_by command).text_stored text)
+  long_turn (inr other) =
+      or_right (is_some (named_by command).text_stored) (is_new (named_by command).paragraph_translated || is_some (named_by command).note_given) (rest other)
     where
-      rest : HasLongPrint book command ⊎ HasLongNote command → (is_new (paragraph_translated command) || is_some (note_given command)) ≡ true
-      rest (inl made) = or_left (is_new (paragraph_translated command)) (is_some (note_given command)) (made_new book (paragraph_translated command) made.print made.made)
-      rest (inr note) = or_right (is_new (paragraph_translated command)) (is_some (note_given command)) (ap is_some note.given)
+      rest : IsLongerThan most_print (new_print book command) ⊎ IsLongerThan most_note (named_by command).note_given
+          → (is_new (named_by command).paragraph_translated || is_some (named_by command).note_given) ≡ true
+      rest (inl print) =
+          or_left (is_new (named_by command).paragraph_translated) (is_some (named_by command).note_given)
+          (made_new book (named_by command).paragraph_translated (long_some most_print (new_print book command) print))
+      rest (inr note) =
+          or_right (is_new (named_by command).paragraph_translated) (is_some (named_by command).note_given)
+          (long_some most_note (named_by command).note_given note)
 
   -- a refusal that holds is one that may hold of a command that names what this one does
   may_hold : (other : Refusal) → Holds book expect command other → lookup (nat_eq (turn other)) (turns (named_by command)) ≡ Some true
   may_hold (Moved version) h = refl
-  may_hold BadName h = ap Some (ap is_some h.given)
-  may_hold BadReader h = ap Some (ap is_some h.given)
-  may_hold (BadText place) h = ap Some (ap is_some h.given)
-  may_hold NoParagraph h = ap Some (named_some (paragraphs_named command) h.id h.named)
-  may_hold NoTable h = ap Some (ap is_some h.named)
-  may_hold NoMark h = ap Some (ap is_some h.named)
-  may_hold Struck h = ap Some (ap is_some h.named)
-  may_hold NotStruck h = ap Some (ap is_some h.named)
-  may_hold Resolved h = ap Some (ap is_some h.named)
-  may_hold BadSpan h = ap Some (given_some (LacksSpan book) (named_by command).span_named h)
-  may_hold NothingToUndo h = ap Some (given_some (HasNoCorrection book) (named_by command).paragraph_undone h)
+  may_hold BadName h = ap Some (IsSomeAnd-some (λ (given : List ℕ × List ℕ). ¬ IsTableName given.0) (named_by command).table_given h)
+  may_hold BadReader h = ap Some (IsSomeAnd-some (λ name. ¬ IsProofreaderName name) (named_by command).proofreader_given h)
+  may_hold (BadText place) h = ap Some (IsSomeAnd-some (λ text. IsFirstBarred text place) (named_by command).text_given h)
+  may_hold NoParagraph h = ap Some (named_some (named_by command).paragraphs_named h.0 h.1)
+  may_hold NoTable h = ap Some (IsSomeAnd-some (λ name. text_of book name ≡ None) (named_by command).table_named h)
+  may_hold NoMark h = ap Some (IsSomeAnd-some (λ id. mark_of book id ≡ None) (named_by command).mark_named h)
+  may_hold Struck h =
+      ap Some (IsSomeAnd-some (λ id. IsSomeAnd (paragraph_of book id) (λ p. p.struck ≡ true)) (named_by command).live_paragraph h)
+  may_hold NotStruck h =
+      ap Some (IsSomeAnd-some (λ id. IsSomeAnd (paragraph_of book id) (λ p. p.struck ≡ false)) (named_by command).struck_paragraph h)
+  may_hold Resolved h =
+      ap Some (IsSomeAnd-some (λ id. IsSomeAnd (mark_of book id) (λ m. m.resolved ≡ true)) (named_by command).mark_named h)
+  may_hold BadSpan h = ap Some (IsSomeAnd-some (LacksSpan book) (named_by command).span_named h)
+  may_hold NothingToUndo h =
+      ap Some (IsSomeAnd-some (λ id. IsSomeAnd (paragraph_of book id) (λ p. newest p.history ≡ None)) (named_by command).paragraph_undone h)
   may_hold TooLong h = ap Some (long_turn h)
-  may_hold (Full Tables) h = ap Some (ap is_some h.given)
-  may_hold (Full Paragraphs) h = ap Some h.adds
-  may_hold (Full Entries) h = ap Some (ap is_some h.grows)
-  may_hold (Full Marks) h = ap Some (ap is_some h.given)
+  may_hold (Full Tables) h =
+      ap Some (IsSomeAnd-some (λ (given : List ℕ × List ℕ). (text_of book given.0 ≡ None) × (most_tables ≤ length book.tables)) (named_by command).table_given h)
+  may_hold (Full Paragraphs) h = ap Some h.0
+  may_hold (Full Entries) h =
+      ap Some (IsSomeAnd-some (λ id. IsSomeAnd (paragraph_of book id) (λ p. most_entries ≤ length p.history)) (named_by command).history_grown h)
+  may_hold (Full Marks) h = ap Some h.0
   may_hold (Full Version) h = refl
-  may_hold (BadTable fault) h = ap Some (ap is_some h.given)
-  may_hold (Undefined place) h = ap Some (translated_some book (paragraph_translated command) (h.print, h.name) h.print_is)
+  may_hold (BadTable fault) h = ap Some (IsSomeAnd-some (λ (given : List ℕ × List ℕ). Bad given.1 fault.line fault.cause) (named_by command).table_given h)
+  may_hold (Undefined place) h = ap Some (translated_some book (named_by command).paragraph_translated (h.print, h.name) h.print_is)
   may_hold (Untranslatable id place) h = ap Some (ap is_some h.given)
   may_hold NoMemory h = absurd h
 
@@ -180,8 +200,8 @@ module _ (book : Book) (expect : Option ℕ) (command : Command) where
   -- no such refusal holds, whatever numbers it has
   abbrev pub NoneHolds : Refusal → Type 0
   NoneHolds (Moved version) = (other : ℕ) → ¬ IsMoved book expect other
-  NoneHolds (BadText place) = (other : ℕ) → ¬ IsBadText command other
-  NoneHolds (BadTable fault) = (other : TableFault) → ¬ IsBadTable command other
+  NoneHolds (BadText place) = (other : ℕ) → ¬ Holds book expect command (BadText other)
+  NoneHolds (BadTable fault) = (other : TableFault) → ¬ Holds book expect command (BadTable other)
   NoneHolds (Undefined place) = (other : ℕ) → ¬ IsUndefined book command other
   NoneHolds (Untranslatable id place) = (other at : ℕ) → ¬ IsUntranslatable book command other at
   NoneHolds refusal = ¬ Holds book expect command refusal

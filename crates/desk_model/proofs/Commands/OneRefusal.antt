@@ -1,7 +1,7 @@
 -- Only one refusal is reported of a command.
-use Rattle.std.proofs.Common.{◌≡◌, ℕ, List, [], ◌∷◌, ◌++◌, Option, sym, ap, subst, ◌∙◌, arith, inl, inr, refl}
+use Rattle.std.proofs.Common.{◌≡◌, ℕ, List, [], ◌∷◌, ◌++◌, Option, Some, None, sym, ap, subst, ◌∙◌, arith, inl, inr, refl}
 use Rattle.std.specs.List.{All}
-use Rattle.std.specs.Prelude.{is_some}
+use Rattle.std.specs.Prelude.{IsSomeAnd, is_some}
 use Rattle.std.proofs.lemmas.Bool.{both_ways, cases_order}
 use Rattle.std.proofs.lemmas.List.Elements.{All-head, All-tail}
 use Rattle.louis_table.proofs.OneMeaning.{one_fault, one_meaning}
@@ -13,7 +13,8 @@ use Rattle.desk_command.specs.declared.command.Command.{Command}
 use Rattle.desk_command.specs.declared.refusal.Refusal.{Refusal}
 use Rattle.desk_command.specs.declared.refusal.Refusal.TheVariants.{Moved, BadName, BadReader, BadText, NoParagraph, NoTable, NoMark, Struck, NotStruck, Resolved, BadSpan, NothingToUndo, TooLong, Full, BadTable, Undefined, Untranslatable, NoMemory}
 use Rattle.desk_model.specs.Book.{Book, Paragraph, text_of}
-use Rattle.desk_model.specs.Refusals.{DefinesUser, Holds, IsBadTable, IsBadText, IsRefused, IsUndefined, IsUntranslatable, turn}
+use Rattle.desk_model.specs.Named.{named_by}
+use Rattle.desk_model.specs.Refusals.{DefinesUser, Holds, IsRefused, IsUndefined, IsUntranslatable, turn}
 use Rattle.desk_model.specs.Print.{print_of}
 use Rattle.desk_model.specs.NormalForm.{IsFirstBarred}
 use Rattle.desk_model.proofs.Commands.Judging.{limit_turn, same_limit}
@@ -55,16 +56,15 @@ one_lacking P (w ∷ xs) x us (z ∷ ys) y vs e first other lacks misses =
 module _ (book : Book) (expect : Option ℕ) (command : Command) where
   -- ---- of each kind at most one refusal holds
 
-  one_text : (p q : ℕ) → IsBadText command p → IsBadText command q → p ≡ q
-  one_text p q a b =
-      let same = same_some b.text a.text (sym b.given ∙ a.given) in
-      one_barred a.text p q a.first (subst (λ (t : List ℕ). IsFirstBarred t q) same b.first)
+  one_text : (o : Option (List ℕ)) (p q : ℕ) → IsSomeAnd o (λ text. IsFirstBarred text p) → IsSomeAnd o (λ text. IsFirstBarred text q) → p ≡ q
+  one_text None p q a b = absurd a
+  one_text (Some text) p q a b = one_barred text p q a b
 
-  one_table : (f g : TableFault) → IsBadTable command f → IsBadTable command g → f ≡ g
-  one_table f g a b =
-      let same = same_some (b.name, b.text) (a.name, a.text) (sym b.given ∙ a.given) in
-      let is = one_fault a.text f.line f.cause g.line g.cause a.bad (subst (λ (t : List ℕ). Bad t g.line g.cause) (ap (λ (e : List ℕ × List ℕ). e.1) same) b.bad) in
-      λ i. record { line = is.0 i; cause = is.1 i }
+  one_table : (o : Option (List ℕ × List ℕ)) (f g : TableFault)
+      → IsSomeAnd o (λ given. Bad given.1 f.line f.cause) → IsSomeAnd o (λ given. Bad given.1 g.line g.cause) → f ≡ g
+  one_table None f g a b = absurd a
+  one_table (Some given) f g a b =
+      let is = one_fault given.1 f.line f.cause g.line g.cause a b in λ i. record { line = is.0 i; cause = is.1 i }
 
   one_place : (p q : ℕ) → IsUndefined book command p → IsUndefined book command q → p ≡ q
   one_place p q a b =
@@ -99,7 +99,7 @@ module _ (book : Book) (expect : Option ℕ) (command : Command) where
   same_refusal (Moved v) (Moved w) e a b = ap Moved (a.told ∙ sym b.told)
   same_refusal BadName BadName e a b = refl
   same_refusal BadReader BadReader e a b = refl
-  same_refusal (BadText p) (BadText q) e a b = ap BadText (one_text p q a b)
+  same_refusal (BadText p) (BadText q) e a b = ap BadText (one_text (named_by command).text_given p q a b)
   same_refusal NoParagraph NoParagraph e a b = refl
   same_refusal NoTable NoTable e a b = refl
   same_refusal NoMark NoMark e a b = refl
@@ -112,7 +112,7 @@ module _ (book : Book) (expect : Option ℕ) (command : Command) where
   same_refusal TooLong (Full other) e a b = let turns = limit_turn other in absurd (omega arith)
   same_refusal (Full limit) (Full other) e a b = ap Full (same_limit limit other e)
   same_refusal (Full limit) s e a b = let turns = limit_turn limit in absurd (omega arith)
-  same_refusal (BadTable f) (BadTable g) e a b = ap BadTable (one_table f g a b)
+  same_refusal (BadTable f) (BadTable g) e a b = ap BadTable (one_table (named_by command).table_given f g a b)
   same_refusal (BadTable f) (Full other) e a b = let turns = limit_turn other in absurd (omega arith)
   same_refusal (Undefined p) (Undefined q) e a b = ap Undefined (one_place p q a b)
   same_refusal (Undefined p) (Full other) e a b = let turns = limit_turn other in absurd (omega arith)

@@ -1,6 +1,7 @@
 -- Of each refusal it is decided whether it holds of a command.
 use Rattle.std.proofs.Common.{◌≡◌, ℕ, ◌+◌, ◌<◌, ◌≤◌, true, false, List, [], ◌∷◌, length, Option, Some, None, Contains, refl, sym, ap, subst, ◌∙◌, inl, inr}
 use Rattle.std.specs.List.{position}
+use Rattle.std.specs.Prelude.{IsSomeAnd, is_some}
 use Rattle.std.proofs.lemmas.Bool.{cases_eq, cases_lt}
 use Rattle.louis_table.proofs.OneMeaning.{means_or_bad, one_meaning, some_meaning}
 use Rattle.louis_table.specs.Meaning.{Meaning}
@@ -11,11 +12,13 @@ use Rattle.louis_translate.specs.Position.{IsFirstUndefined}
 use Rattle.desk_command.specs.declared.command.Command.{Command}
 use Rattle.desk_command.specs.declared.refusal.Limit.{Limit}
 use Rattle.desk_command.specs.declared.refusal.Limit.TheVariants.{Tables, Paragraphs, Entries, Marks, Version}
+use Rattle.desk_command.specs.declared.refusal.Refusal.TheVariants.{BadName, BadReader, BadSpan, BadTable, BadText, NoMark, NoParagraph, NoTable, NotStruck, NothingToUndo, Resolved, Struck, TooLong}
+use Rattle.louis_table.specs.declared.fault.TableFault.{TableFault}
 use Rattle.desk_model.specs.Book.{Book, Mark as BookMark, Paragraph, mark_of, paragraph_of, text_of}
 use Rattle.desk_model.specs.Limits.{most_entries, most_marks, most_name, most_note, most_paragraphs, most_print, most_proofreader, most_tables, most_version}
 use Rattle.desk_model.specs.Name.{IsProofreaderName, IsTableName, is_name_character, is_proofreader_character}
-use Rattle.desk_model.specs.Named.{Cells, Characters, Span, adds_paragraph, history_grown, live_paragraph, mark_named, named_by, note_given, paragraphs_named, proofreader_given, struck_paragraph, table_given, table_named, text_given, text_stored}
-use Rattle.desk_model.specs.Refusals.{HasLongNote, HasLongPrint, HasLongText, HasNoCorrection, HasNothingToUndo, IsBadName, IsBadReader, IsBadSpan, IsBadTable, IsBadText, IsFirstUser, IsFull, IsMoved, IsNotStruck, IsPastPrint, IsResolved, IsStruck, IsUndefined, IsUntranslatable, LacksMark, LacksParagraph, LacksSpan, LacksTable, new_print, print_to_translate}
+use Rattle.desk_model.specs.Named.{Cells, Characters, Span, named_by}
+use Rattle.desk_model.specs.Refusals.{Holds, IsFirstUser, IsFull, IsLongerThan, IsMoved, IsUndefined, IsUntranslatable, LacksSpan, new_print, print_to_translate}
 use Rattle.desk_model.specs.Print.{newest, print_of}
 use Rattle.desk_model.specs.NormalForm.{IsFirstBarred, is_barred}
 use Rattle.desk_model.specs.Translation.{LacksCells}
@@ -24,7 +27,7 @@ use Rattle.desk_model.proofs.Commands.MarkedPlaces.{has_cells}
 use Rattle.desk_model.proofs.Lists.Members.{Contains-behind, Contains-cases, Contains-here, Contains-none}
 use Rattle.desk_model.proofs.Commands.Turns.{defined_not_first, same_some}
 use Rattle.desk_model.proofs.Commands.TextTests.{IsFirstBarred-position, IsUnbarred-none, IsUnbarred-position}
-use Rattle.desk_model.proofs.Lists.Decisions.{Decided, SomeOrNone, all, at_most, below, both, either, given, implied, is_none, is_so, isnt_so, not, of_given}
+use Rattle.desk_model.proofs.Lists.Decisions.{Decided, SomeOrNone, all, at_most, below, both, either, implied, is_none, is_so, isnt_so, not, of_given}
 
 -- ---- names
 
@@ -42,13 +45,8 @@ proofreader_name name =
 
 module _ (book : Book) where
   -- the paragraph with this id is there, and something holds of it
-  there : (P : Paragraph → Type 0) → ((p : Paragraph) → Decided (P p)) → (id : ℕ) → Decided ((p : Paragraph) × (paragraph_of book id ≡ Some p) × P p)
-  there P test id = given P test (paragraph_of book id)
-
-  past_print : (id end : ℕ) → Decided (IsPastPrint book id end)
-  past_print id end =
-      implied (λ h. record { paragraph = h.0; found = h.1; past = h.2 }) (λ h. (h.paragraph, h.found, h.past))
-      (there (λ p. length (print_of p) < end) (λ p. below (length (print_of p)) end) id)
+  there : (P : Paragraph → Type 0) → ((p : Paragraph) → Decided (P p)) → (id : ℕ) → Decided (IsSomeAnd (paragraph_of book id) P)
+  there P test id = of_given P test (paragraph_of book id)
 
   lacks_cells : (id cell count : ℕ) → Decided (LacksCells book id cell count)
   lacks_cells id cell count = by (paragraph_of book id) refl
@@ -93,23 +91,14 @@ module _ (book : Book) where
       by None none = inr (λ l. let found = l.found in cc (none, found))
       by (Some p) found = tabled p (text_of book p.table) found refl
 
-  no_correction : (id : ℕ) → Decided (HasNoCorrection book id)
-  no_correction id =
-      implied (λ h. record { paragraph = h.0; found = h.1; none = h.2 }) (λ h. (h.paragraph, h.found, h.none))
-      (there (λ p. newest p.history ≡ None) (λ p. is_none (newest p.history)) id)
-
 -- ---- the refusals without numbers
 
 module _ (book : Book) (command : Command) where
-  pub bad_name : Decided (IsBadName command)
-  bad_name =
-      implied (λ h. record { name = h.0.0; text = h.0.1; given = h.1; bad = h.2 }) (λ h. ((h.name, h.text), h.given, h.bad))
-      (given (λ e. ¬ IsTableName e.0) (λ e. not (table_name e.0)) (table_given command))
+  pub bad_name : Decided (Holds book None command BadName)
+  bad_name = of_given (λ (given : List ℕ × List ℕ). ¬ IsTableName given.0) (λ given. not (table_name given.0)) (named_by command).table_given
 
-  pub bad_reader : Decided (IsBadReader command)
-  bad_reader =
-      implied (λ h. record { name = h.0; given = h.1; bad = h.2 }) (λ h. (h.name, h.given, h.bad))
-      (given (λ name. ¬ IsProofreaderName name) (λ name. not (proofreader_name name)) (proofreader_given command))
+  pub bad_reader : Decided (Holds book None command BadReader)
+  bad_reader = of_given (λ name. ¬ IsProofreaderName name) (λ name. not (proofreader_name name)) (named_by command).proofreader_given
 
   lacks_one : (ids : List ℕ) → Decided ((id : ℕ) × Contains ids id × (paragraph_of book id ≡ None))
   lacks_one [] = inr (λ h. Contains-none h.0 h.1)
@@ -122,74 +111,60 @@ module _ (book : Book) (command : Command) where
       ])
       (either (is_none (paragraph_of book id)) (lacks_one ids))
 
-  pub lacks_paragraph : Decided (LacksParagraph book command)
-  lacks_paragraph =
-      implied (λ h. record { id = h.0; named = h.1; missing = h.2 }) (λ h. (h.id, h.named, h.missing)) (lacks_one (paragraphs_named command))
+  pub lacks_paragraph : Decided (Holds book None command NoParagraph)
+  lacks_paragraph = lacks_one (named_by command).paragraphs_named
 
-  pub lacks_table : Decided (LacksTable book command)
-  lacks_table =
-      implied (λ h. record { name = h.0; named = h.1; missing = h.2 }) (λ h. (h.name, h.named, h.missing))
-      (given (λ name. text_of book name ≡ None) (λ name. is_none (text_of book name)) (table_named command))
+  pub lacks_table : Decided (Holds book None command NoTable)
+  lacks_table = of_given (λ name. text_of book name ≡ None) (λ name. is_none (text_of book name)) (named_by command).table_named
 
-  pub lacks_mark : Decided (LacksMark book command)
-  lacks_mark =
-      implied (λ h. record { id = h.0; named = h.1; missing = h.2 }) (λ h. (h.id, h.named, h.missing))
-      (given (λ id. mark_of book id ≡ None) (λ id. is_none (mark_of book id)) (mark_named command))
+  pub lacks_mark : Decided (Holds book None command NoMark)
+  lacks_mark = of_given (λ id. mark_of book id ≡ None) (λ id. is_none (mark_of book id)) (named_by command).mark_named
 
-  pub is_struck : Decided (IsStruck book command)
+  pub is_struck : Decided (Holds book None command Struck)
   is_struck =
-      implied (λ h. record { id = h.0; paragraph = h.2.0; named = h.1; found = h.2.1; struck = h.2.2 }) (λ h. (h.id, h.named, (h.paragraph, h.found, h.struck)))
-      (given (λ id. (p : Paragraph) × (paragraph_of book id ≡ Some p) × (p.struck ≡ true)) (there book (λ p. p.struck ≡ true) (λ p. is_so p.struck)) (live_paragraph command))
+      of_given (λ id. IsSomeAnd (paragraph_of book id) (λ p. p.struck ≡ true))
+      (there book (λ p. p.struck ≡ true) (λ p. is_so p.struck)) (named_by command).live_paragraph
 
-  pub is_not_struck : Decided (IsNotStruck book command)
+  pub is_not_struck : Decided (Holds book None command NotStruck)
   is_not_struck =
-      implied (λ h. record { id = h.0; paragraph = h.2.0; named = h.1; found = h.2.1; live = h.2.2 }) (λ h. (h.id, h.named, (h.paragraph, h.found, h.live)))
-      (given (λ id. (p : Paragraph) × (paragraph_of book id ≡ Some p) × (p.struck ≡ false)) (there book (λ p. p.struck ≡ false) (λ p. isnt_so p.struck)) (struck_paragraph command))
+      of_given (λ id. IsSomeAnd (paragraph_of book id) (λ p. p.struck ≡ false))
+      (there book (λ p. p.struck ≡ false) (λ p. isnt_so p.struck)) (named_by command).struck_paragraph
 
-  pub is_resolved : Decided (IsResolved book command)
+  pub is_resolved : Decided (Holds book None command Resolved)
   is_resolved =
-      implied (λ h. record { id = h.0; mark = h.2.0; named = h.1; found = h.2.1; resolved = h.2.2 }) (λ h. (h.id, h.named, (h.mark, h.found, h.resolved)))
-      (given (λ id. (m : BookMark) × (mark_of book id ≡ Some m) × (m.resolved ≡ true)) (λ id. given (λ m. m.resolved ≡ true) (λ m. is_so m.resolved) (mark_of book id)) (mark_named command))
+      of_given (λ id. IsSomeAnd (mark_of book id) (λ m. m.resolved ≡ true))
+      (λ id. of_given (λ (m : BookMark). m.resolved ≡ true) (λ m. is_so m.resolved) (mark_of book id)) (named_by command).mark_named
 
-  pub long_text : Decided (HasLongText command)
-  long_text =
-      implied (λ h. record { text = h.0; given = h.1; long = h.2 }) (λ h. (h.text, h.given, h.long))
-      (given (λ text. most_print < length text) (λ text. below most_print (length text)) (text_stored command))
+  pub nothing_to_undo : Decided (Holds book None command NothingToUndo)
+  nothing_to_undo =
+      of_given (λ id. IsSomeAnd (paragraph_of book id) (λ p. newest p.history ≡ None))
+      (there book (λ p. newest p.history ≡ None) (λ p. is_none (newest p.history))) (named_by command).paragraph_undone
 
-  pub long_print : Decided (HasLongPrint book command)
-  long_print =
-      implied (λ h. record { print = h.0; made = h.1; long = h.2 }) (λ h. (h.print, h.made, h.long))
-      (given (λ print. most_print < length print) (λ print. below most_print (length print)) (new_print book command))
+  longer : (most : ℕ) (text : Option (List ℕ)) → Decided (IsLongerThan most text)
+  longer most text = of_given (λ (characters : List ℕ). most < length characters) (λ characters. below most (length characters)) text
 
-  pub long_note : Decided (HasLongNote command)
-  long_note =
-      implied (λ h. record { note = h.0; given = h.1; long = h.2 }) (λ h. (h.note, h.given, h.long))
-      (given (λ note. most_note < length note) (λ note. below most_note (length note)) (note_given command))
+  pub too_long : Decided (Holds book None command TooLong)
+  too_long =
+      either (longer most_print (named_by command).text_stored)
+      (either (longer most_print (new_print book command)) (longer most_note (named_by command).note_given))
 
   pub is_full : (limit : Limit) → Decided (IsFull book command limit)
   is_full Tables =
-      implied (λ h. record { name = h.0.0; text = h.0.1; given = h.1; new = h.2.0; full = h.2.1 }) (λ h. ((h.name, h.text), h.given, (h.new, h.full)))
-      (given (λ e. (text_of book e.0 ≡ None) × (most_tables ≤ length book.tables)) (λ e. both (is_none (text_of book e.0)) (at_most most_tables (length book.tables))) (table_given command))
-  is_full Paragraphs =
-      implied (λ h. record { adds = h.0; full = h.1 }) (λ h. (h.adds, h.full))
-      (both (is_so (adds_paragraph command)) (at_most most_paragraphs (length book.paragraphs)))
+      of_given (λ (given : List ℕ × List ℕ). (text_of book given.0 ≡ None) × (most_tables ≤ length book.tables))
+      (λ given. both (is_none (text_of book given.0)) (at_most most_tables (length book.tables))) (named_by command).table_given
+  is_full Paragraphs = both (is_so (named_by command).adds_paragraph) (at_most most_paragraphs (length book.paragraphs))
   is_full Entries =
-      implied (λ h. record { id = h.0; paragraph = h.2.0; grows = h.1; found = h.2.1; full = h.2.2 }) (λ h. (h.id, h.grows, (h.paragraph, h.found, h.full)))
-      (given (λ id. (p : Paragraph) × (paragraph_of book id ≡ Some p) × (most_entries ≤ length p.history)) (there book (λ p. most_entries ≤ length p.history) (λ p. at_most most_entries (length p.history))) (history_grown command))
-  is_full Marks =
-      implied (λ h. record { note = h.0; given = h.1; full = h.2 }) (λ h. (h.note, h.given, h.full))
-      (given (λ note. most_marks ≤ length book.marks) (λ note. at_most most_marks (length book.marks)) (note_given command))
+      of_given (λ id. IsSomeAnd (paragraph_of book id) (λ p. most_entries ≤ length p.history))
+      (there book (λ p. most_entries ≤ length p.history) (λ p. at_most most_entries (length p.history))) (named_by command).history_grown
+  is_full Marks = both (is_so (is_some (named_by command).note_given)) (at_most most_marks (length book.marks))
   is_full Version = at_most most_version book.version
 
 lacks_span : (book : Book) (span : Span) → Decided (LacksSpan book span)
-lacks_span book (Characters id end) = past_print book id end
+lacks_span book (Characters id end) = there book (λ p. length (print_of p) < end) (λ p. below (length (print_of p)) end) id
 lacks_span book (Cells id cell count) = lacks_cells book id cell count
 
-pub bad_span : (book : Book) (command : Command) → Decided (IsBadSpan book command)
+pub bad_span : (book : Book) (command : Command) → Decided (Holds book None command BadSpan)
 bad_span book command = of_given (LacksSpan book) (lacks_span book) (named_by command).span_named
-
-pub nothing_to_undo : (book : Book) (command : Command) → Decided (HasNothingToUndo book command)
-nothing_to_undo book command = of_given (HasNoCorrection book) (no_correction book) (named_by command).paragraph_undone
 
 -- ---- the refusals with numbers
 
@@ -202,27 +177,26 @@ module _ (book : Book) (command : Command) where
         | inr other ↦ inl (book.version, record { expected = expected; given = refl; other = other; told = refl })
       ]
 
-  pub bad_text : SomeOrNone (IsBadText command)
-  bad_text = by (text_given command) refl
+  pub bad_text : SomeOrNone (λ place. Holds book None command (BadText place))
+  bad_text = by (named_by command).text_given
     where
-      by : (o : Option (List ℕ)) → text_given command ≡ o → SomeOrNone (IsBadText command)
-      by None none = inr (λ place h. let gives = h.given in cc (none, gives))
-      by (Some text) gives = found (position is_barred text) refl
+      by : (o : Option (List ℕ)) → SomeOrNone (λ place. IsSomeAnd o (λ text. IsFirstBarred text place))
+      by None = inr (λ place h. h)
+      by (Some text) = found (position is_barred text) refl
         where
-          found : (o : Option ℕ) → position is_barred text ≡ o → SomeOrNone (IsBadText command)
-          found None e = inr (λ place h. IsUnbarred-none text place (IsUnbarred-position text e) (subst (λ (t : List ℕ). IsFirstBarred t place) (same_some h.text text (sym h.given ∙ gives)) h.first))
-          found (Some place) e = inl (place, record { text = text; given = gives; first = IsFirstBarred-position text place e })
+          found : (o : Option ℕ) → position is_barred text ≡ o → SomeOrNone (IsFirstBarred text)
+          found None e = inr (λ place h. IsUnbarred-none text place (IsUnbarred-position text e) h)
+          found (Some place) e = inl (place, IsFirstBarred-position text place e)
 
-  pub bad_table : SomeOrNone (IsBadTable command)
-  bad_table = by (table_given command) refl
+  pub bad_table : SomeOrNone (λ fault. Holds book None command (BadTable fault))
+  bad_table = by (named_by command).table_given
     where
-      by : (o : Option (List ℕ × List ℕ)) → table_given command ≡ o → SomeOrNone (IsBadTable command)
-      by None none = inr (λ fault h. let gives = h.given in cc (none, gives))
-      by (Some e) gives =
-          elim (some_meaning e.1) [
-            | inl means ↦ inr (λ fault h. means_or_bad e.1 means.0 fault.line fault.cause means.1
-                (subst (λ (t : List ℕ). Bad t fault.line fault.cause) (ap (λ (x : List ℕ × List ℕ). x.1) (same_some (h.name, h.text) e (sym h.given ∙ gives))) h.bad))
-            | inr bad ↦ inl (record { line = bad.0; cause = bad.1 }, record { name = e.0; text = e.1; given = gives; bad = bad.2 })
+      by : (o : Option (List ℕ × List ℕ)) → SomeOrNone (λ (fault : TableFault). IsSomeAnd o (λ given. Bad given.1 fault.line fault.cause))
+      by None = inr (λ fault h. h)
+      by (Some given) =
+          elim (some_meaning given.1) [
+            | inl means ↦ inr (λ fault h. means_or_bad given.1 means.0 fault.line fault.cause means.1 h)
+            | inr bad ↦ inl (record { line = bad.0; cause = bad.1 }, bad.2)
           ]
 
   pub undefined : SomeOrNone (IsUndefined book command)
@@ -259,9 +233,9 @@ module _ (book : Book) (command : Command) where
   IsUserOf at = IsUntranslatable book command at.0 at.1
 
   pub untranslatable : SomeOrNone IsUserOf
-  untranslatable = by (table_given command) refl
+  untranslatable = by (named_by command).table_given refl
     where
-      by : (o : Option (List ℕ × List ℕ)) → table_given command ≡ o → SomeOrNone IsUserOf
+      by : (o : Option (List ℕ × List ℕ)) → (named_by command).table_given ≡ o → SomeOrNone IsUserOf
       by None none = inr (λ at h. let gives = h.given in cc (none, gives))
       by (Some e) gives =
           elim (some_meaning e.1) [

@@ -23,8 +23,9 @@ use Rattle.desk_model.proofs.Lists.Members.{Contains-here}
 use Rattle.desk_model.proofs.Commands.OneRefusal.{one_refusal}
 use Rattle.desk_model.proofs.Commands.Turns.{same_some}
 use Rattle.desk_model.proofs.Books.SoundBooks.{IsSoundParagraph-found}
-use Rattle.desk_model.proofs.Lists.Decisions.{Decided, SomeOrNone, either}
-use Rattle.desk_model.proofs.Commands.RefusalTests.{bad_name, bad_reader, bad_span, bad_table, bad_text, is_full, is_not_struck, is_resolved, is_struck, lacks_mark, lacks_paragraph, lacks_table, long_note, long_print, long_text, moved_or, nothing_to_undo, undefined, untranslatable}
+use Rattle.desk_model.proofs.Lists.Decisions.{Decided, SomeOrNone}
+use Rattle.desk_model.proofs.Lists.Options.{IsSomeAnd-of}
+use Rattle.desk_model.proofs.Commands.RefusalTests.{bad_name, bad_reader, bad_span, bad_table, bad_text, is_full, is_not_struck, is_resolved, is_struck, lacks_mark, lacks_paragraph, lacks_table, moved_or, nothing_to_undo, too_long, undefined, untranslatable}
 
 -- ---- one turn after the other
 
@@ -71,7 +72,7 @@ module _ (book : Book) (expect : Option ℕ) (command : Command) where
       let resolved : Judged 90 = turned 80 90 Resolved refl (is_resolved book command) (past Resolved 90 refl) live in
       let span : Judged 100 = turned 90 100 BadSpan refl (bad_span book command) (past BadSpan 100 refl) resolved in
       let nothing : Judged 110 = turned 100 110 NothingToUndo refl (nothing_to_undo book command) (past NothingToUndo 110 refl) span in
-      turned 110 120 TooLong refl (either (long_text book command) (either (long_print book command) (long_note book command))) (past TooLong 120 refl) nothing
+      turned 110 120 TooLong refl (too_long book command) (past TooLong 120 refl) nothing
 
   told_or_accepted : Told ⊎ IsAccepted book expect command
   told_or_accepted =
@@ -103,7 +104,7 @@ some_next book expect (Undo id) sound accepted =
     by p.0 (newest p.0.history) p.1 refl
   where
     by : (p : Paragraph) (o : Option (ℕ × Replacement)) → paragraph_of book id ≡ Some p → newest p.history ≡ o → (next : Book) × Makes book (Undo id) next
-    by p None found none = absurd (accepted NothingToUndo (record { paragraph = p; found = found; none = none }))
+    by p None found none = absurd (accepted NothingToUndo (IsSomeAnd-of (λ (q : Paragraph). newest q.history ≡ None) found none))
     by p (Some c) found is = (next_with_entry book id (Undoes c.0) (mark_moved_back c.1), (c.0, c.1, record { paragraph = p; found = found; newest_is = is }, refl))
 some_next book expect (Mark id cell count note) sound accepted =
     let p = named_paragraph book expect (Mark id cell count note) accepted id (Contains-here id []) in

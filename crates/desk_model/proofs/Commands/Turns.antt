@@ -1,8 +1,8 @@
 -- How a command is checked while no version is expected, by what it names.
-use Rattle.std.proofs.Common.{◌≡◌, ℕ, zero, suc, ◌<◌, ◌≤◌, true, false, List, [], ◌∷◌, length, Option, Some, None, refl, sym, ap, subst, ◌∙◌, arith, inl, inr}
+use Rattle.std.proofs.Common.{◌≡◌, ℕ, zero, suc, ◌<◌, ◌≤◌, true, false, List, [], ◌∷◌, length, Option, Some, None, refl, ap, subst, ◌∙◌, arith, inl, inr}
 use Rattle.std.specs.List.{Contains}
 use Rattle.std.specs.Option.{option_and_then}
-use Rattle.std.specs.Prelude.{IsSome, is_some, option_map}
+use Rattle.std.specs.Prelude.{IsSome, IsSomeAnd, is_some, option_map}
 use Rattle.std.proofs.lemmas.Bool.{both_ways}
 use Rattle.louis_table.specs.Meaning.{Meaning}
 use Rattle.louis_translate.specs.Position.{AreDefined, IsFirstUndefined}
@@ -11,12 +11,13 @@ use Rattle.desk_command.specs.declared.refusal.Limit.TheVariants.{Paragraphs, Ve
 use Rattle.desk_command.specs.declared.refusal.Refusal.TheVariants.{BadText, Full, Moved, NoParagraph, NoTable, Struck, TooLong}
 use Rattle.desk_model.specs.Book.{Book, Paragraph, paragraph_of, text_of}
 use Rattle.desk_model.specs.Judging.{Passes}
-use Rattle.desk_model.specs.Limits.{most_paragraphs, most_print, most_version}
-use Rattle.desk_model.specs.Named.{Changed, live_paragraph, note_given, paragraphs_named, table_named, text_given, text_stored}
-use Rattle.desk_model.specs.Refusals.{HasLongNote, HasLongPrint, HasLongText, IsAccepted, IsTooLong, new_print, print_and_table, print_made}
+use Rattle.desk_model.specs.Limits.{most_note, most_paragraphs, most_print, most_version}
+use Rattle.desk_model.specs.Named.{Changed, named_by}
+use Rattle.desk_model.specs.Refusals.{Holds, IsAccepted, IsLongerThan, new_print, print_and_table, print_made}
 use Rattle.desk_model.specs.NormalForm.{IsUnbarred, IsFirstBarred}
 use Rattle.desk_model.proofs.Commands.Judging.{IsAccepted-passes, Passes-past, Passes-skip, Passes-start, skips}
 use Rattle.desk_model.proofs.Commands.TextTests.{IsUnbarred-none}
+use Rattle.desk_model.proofs.Lists.Options.{IsSomeAnd-value}
 
 pub same_some : {X : Type 0} (x y : X) → Some x ≡ Some y → x ≡ y
 same_some x y e = cc
@@ -35,6 +36,12 @@ module _ (book : Book) (id : ℕ) (change : Paragraph → Option (List ℕ)) (p 
   changed-translated =
       ap (option_and_then (λ (q : Paragraph). option_map (λ (t : List ℕ). (t, q.table)) (change q))) found ∙ ap (option_map (λ (t : List ℕ). (t, p.table))) makes
 
+-- ---- lengths
+
+-- a text that is no longer than so many characters
+pub not_longer : (most : ℕ) (o : Option (List ℕ)) (text : List ℕ) → o ≡ Some text → length text ≤ most → ¬ IsLongerThan most o
+not_longer most o text is short h = let long = IsSomeAnd-value (λ (t : List ℕ). most < length t) is h in omega arith
+
 -- ---- turns
 
 module _ (book : Book) (command : Command) where
@@ -45,37 +52,33 @@ module _ (book : Book) (command : Command) where
   pub to_turn : (n m : ℕ) → skips command n m ≡ true → Passes book None command n → Passes book None command m
   to_turn n m skip = Passes-skip book None command n m skip
 
-  pub past_table : (name text : List ℕ) → Passes book None command 40 → table_named command ≡ Some name → text_of book name ≡ Some text → Passes book None command 50
+  pub past_table : (name text : List ℕ) → Passes book None command 40 → (named_by command).table_named ≡ Some name → text_of book name ≡ Some text → Passes book None command 50
   past_table name text passes named found =
       Passes-past book None command NoTable 50 refl passes
-      (λ lacks. let given = lacks.named in let missing = lacks.missing in let same : name ≡ lacks.name = cc in cc (ap (text_of book) same))
+      (λ lacks. let missing = IsSomeAnd-value (λ (n : List ℕ). text_of book n ≡ None) named lacks in cc (found, missing))
 
-  pub past_text : (text : List ℕ) → Passes book None command 20 → text_given command ≡ Some text → IsUnbarred text → Passes book None command 30
+  pub past_text : (text : List ℕ) → Passes book None command 20 → (named_by command).text_given ≡ Some text → IsUnbarred text → Passes book None command 30
   past_text text passes given unbarred =
       Passes-past book None command (BadText 0) 30 refl passes
-      (λ place b. IsUnbarred-none text place unbarred (subst (λ (t : List ℕ). IsFirstBarred t place) (same_some b.text text (sym b.given ∙ given)) b.first))
+      (λ place b. IsUnbarred-none text place unbarred (IsSomeAnd-value (λ (t : List ℕ). IsFirstBarred t place) given b))
 
   -- no text, print or note is over its limit
-  pub past_lengths : Passes book None command 110 → ¬ HasLongText command → ¬ HasLongPrint book command → ¬ HasLongNote command → Passes book None command 120
+  pub past_lengths : Passes book None command 110 → ¬ IsLongerThan most_print (named_by command).text_stored → ¬ IsLongerThan most_print (new_print book command)
+      → ¬ IsLongerThan most_note (named_by command).note_given → Passes book None command 120
   past_lengths passes text print note = Passes-past book None command TooLong 120 refl passes none
     where
-      none : ¬ IsTooLong book command
+      none : ¬ Holds book None command TooLong
       none (inl h) = text h
       none (inr (inl h)) = print h
       none (inr (inr h)) = note h
 
-  pub short_text : (text : List ℕ) → text_stored command ≡ Some text → length text ≤ most_print → ¬ HasLongText command
-  short_text text given short l = let same = ap length (same_some l.text text (sym l.given ∙ given)) in let long = l.long in omega arith
-
-  pub short_print : (print : List ℕ) → new_print book command ≡ Some print → length print ≤ most_print → ¬ HasLongPrint book command
-  short_print print made short l = let same = ap length (same_some l.print print (sym l.made ∙ made)) in let long = l.long in omega arith
-
-  pub past_length : (print : List ℕ) → Passes book None command 110 → new_print book command ≡ Some print → text_stored command ≡ Some print → note_given command ≡ None → length print ≤ most_print
-      → Passes book None command 120
-  past_length print passes made given none short = past_lengths passes (short_text print given short) (short_print print made short) (λ l. let note = l.given in cc)
+  pub past_length : (print : List ℕ) → Passes book None command 110 → new_print book command ≡ Some print → (named_by command).text_stored ≡ Some print → (named_by command).note_given ≡ None
+      → length print ≤ most_print → Passes book None command 120
+  past_length print passes made given none short =
+      past_lengths passes (not_longer most_print (named_by command).text_stored print given short) (not_longer most_print (new_print book command) print made short) (subst (IsLongerThan most_note) none)
 
   pub past_room : Passes book None command 130 → length book.paragraphs < most_paragraphs → Passes book None command 140
-  past_room passes left = Passes-past book None command (Full Paragraphs) 140 refl passes (λ full. let most = full.full in omega arith)
+  past_room passes left = Passes-past book None command (Full Paragraphs) 140 refl passes (λ full. let most = full.1 in omega arith)
 
   pub past_version : (n : ℕ) → Passes book None command n → skips command n 160 ≡ true → book.version < most_version → Passes book None command 170
   past_version n passes skip left = Passes-past book None command (Full Version) 170 refl (Passes-skip book None command n 160 skip passes) (λ full. omega arith)
@@ -84,10 +87,10 @@ module _ (book : Book) (command : Command) where
   accepted_after n passes skip = IsAccepted-passes book None command (Passes-skip book None command n 200 skip passes)
 
   -- the one paragraph that it names is there
-  pub past_one : (id : ℕ) (p : Paragraph) → paragraphs_named command ≡ id ∷ [] → paragraph_of book id ≡ Some p → Passes book None command 30 → Passes book None command 40
+  pub past_one : (id : ℕ) (p : Paragraph) → (named_by command).paragraphs_named ≡ id ∷ [] → paragraph_of book id ≡ Some p → Passes book None command 30 → Passes book None command 40
   past_one id p named found passes =
       Passes-past book None command NoParagraph 40 refl passes
-      (λ lacks. let is = there lacks.id (subst (λ (ids : List ℕ). Contains ids lacks.id) named lacks.named) in let missing = lacks.missing in cc (ap is_some missing))
+      (λ lacks. let is = there lacks.0 (subst (λ (ids : List ℕ). Contains ids lacks.0) named lacks.1) in let missing = lacks.2 in cc (ap is_some missing))
     where
       there : (other : ℕ) → Contains (id ∷ []) other → IsSome (paragraph_of book other)
       there other (zero, within, at) = subst (λ (n : ℕ). IsSome (paragraph_of book n)) at (ap is_some found)
@@ -95,7 +98,7 @@ module _ (book : Book) (command : Command) where
 
 -- ---- one paragraph, which may not be struck
 
-module _ (book : Book) (command : Command) (id : ℕ) (named : paragraphs_named command ≡ id ∷ []) (live : live_paragraph command ≡ Some id) (skip : skips command 40 60 ≡ true)
+module _ (book : Book) (command : Command) (id : ℕ) (named : (named_by command).paragraphs_named ≡ id ∷ []) (live : (named_by command).live_paragraph ≡ Some id) (skip : skips command 40 60 ≡ true)
     (passes : Passes book None command 30) where
   pub past_there : (p : Paragraph) → paragraph_of book id ≡ Some p → Passes book None command 60
   past_there p found = to_turn book command 40 60 skip (past_one book command id p named found passes)
@@ -103,7 +106,6 @@ module _ (book : Book) (command : Command) (id : ℕ) (named : paragraphs_named 
   pub past_fit : (p : Paragraph) → paragraph_of book id ≡ Some p → p.struck ≡ false → Passes book None command 70
   past_fit p found free =
       Passes-past book None command Struck 70 refl (past_there p found)
-      (λ s. let given = s.named in let same : id ≡ s.id = cc in
-      let both : Some p ≡ Some s.paragraph = sym found ∙ (ap (paragraph_of book) same ∙ s.found) in
-      let is : p ≡ s.paragraph = cc in
-      both_ways p.struck free (ap (λ (q : Paragraph). q.struck) is ∙ s.struck))
+      (λ s. both_ways p.struck free
+      (IsSomeAnd-value (λ (q : Paragraph). q.struck ≡ true) found
+      (IsSomeAnd-value (λ (n : ℕ). IsSomeAnd (paragraph_of book n) (λ q. q.struck ≡ true)) live s)))

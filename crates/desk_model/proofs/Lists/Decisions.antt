@@ -1,7 +1,7 @@
 -- What holds or not: how it is decided of pairs, choices, numbers, lists and options.
 use Rattle.std.proofs.Common.{◌≡◌, ◌⊎◌, ℕ, ◌<◌, ◌≤◌, Bool, true, false, List, [], ◌∷◌, Option, Some, None, refl, sym, subst, arith, inl, inr}
 use Rattle.std.specs.List.{All}
-use Rattle.std.specs.Prelude.{MatchOption}
+use Rattle.std.specs.Prelude.{IsSomeAnd}
 use Rattle.std.proofs.lemmas.Bool.{cases_lt}
 use Rattle.std.proofs.lemmas.List.Elements.{All-cons, All-head, All-nil, All-tail}
 use Rattle.desk_model.proofs.Commands.Turns.{same_some}
@@ -49,7 +49,7 @@ given P test None = inr (λ h. cc h.1)
 given P test (Some x) = implied (λ p. (x, refl, p)) (λ h. subst P (sym (same_some x h.0 h.1)) h.2) (test x)
 
 -- an option gives something, and it holds of that
-pub of_given : {X : Type 0} (P : X → Type 0) → ((x : X) → Decided (P x)) → (o : Option X) → Decided (MatchOption o ⊥ P)
+pub of_given : {X : Type 0} (P : X → Type 0) → ((x : X) → Decided (P x)) → (o : Option X) → Decided (IsSomeAnd o P)
 of_given P test None = inr (λ h. h)
 of_given P test (Some x) = test x
 

@@ -1,4 +1,4 @@
-use Rattle.std.proofs.Common.{◌≡◌, ℕ, ◌<◌, false, List, [], Some, None, refl, ap, subst, ◌∙◌}
+use Rattle.std.proofs.Common.{◌≡◌, ℕ, ◌<◌, true, false, List, [], Some, None, refl, ap, subst, ◌∙◌}
 use Rattle.std.specs.Prelude.{option_map}
 use Rattle.std.proofs.lemmas.Result.{err_from_is_err_and}
 use Rattle.louis_translate.specs.Position.{AreDefined, IsFirstUndefined}
@@ -6,7 +6,7 @@ use Rattle.desk_command.specs.declared.command.Command.TheVariants.{Retable}
 use Rattle.desk_memory.specs.declared.paragraphs.Paragraph.{Paragraph as KeptParagraph}
 use Rattle.desk_memory.specs.declared.tables.BookTable.{BookTable}
 use Rattle.desk_command.specs.declared.refusal.Refusal.TheVariants.{Struck}
-use Rattle.desk_model.specs.Book.{Book}
+use Rattle.desk_model.specs.Book.{Book, Paragraph}
 use Rattle.desk_memory.specs.Braille.{AreCellsOf}
 use Rattle.desk_model.specs.Judging.{Passes}
 use Rattle.desk_memory.specs.Kept.{paragraph_kept}
@@ -14,6 +14,7 @@ use Rattle.desk_model.specs.Limits.{most_version}
 use Rattle.desk_book.specs.Plans.{IsKeptFor, IsTableFor}
 use Rattle.desk_model.specs.Print.{print_of}
 use Rattle.desk_model.specs.Refusals.{print_to_translate}
+use Rattle.desk_model.proofs.Lists.Options.{IsSomeAnd-of}
 use Rattle.desk_model.proofs.Commands.Turns.{accepted_after, past_table, past_version, to_turn}
 use Rattle.desk_book.proofs.Plans.Planning.{full_version, no_memory, no_table, past_named, past_print, past_struck, turned_down, undefined, unnamed}
 use Rattle.desk_book.proofs.book.Book.plan_retable.Goals as goal
@@ -67,7 +68,7 @@ returns-then-paragraph c =
     record {
       planned = tt;
       refused = turned_down c.args.self.now (Retable c.args.id c.args.table.now) 60 Struck Struck passes refl
-          (record { id = c.args.id; paragraph = _; named = refl; found = kept.found; struck = c.if-paragraph.true }) refl;
+          (IsSomeAnd-of (λ (p : Paragraph). p.struck ≡ true) kept.found c.if-paragraph.true) refl;
     }
 
 pub returns-in_err-check_version : goal.returns-in_err-check_version
