@@ -45,7 +45,8 @@ with_new_entries rows = record rows { entries = Named [] }
 -- these are the entries of the book's histories, in any order
 abbrev pub AreEntriesOf : Book → List NamedCorr → Type 0
 AreEntriesOf book entries =
-    All (HasTexts tables.NamedCorr) entries × IsPermutation (map (spelled tables.NamedCorr) entries) (flat_map entry_rows_of book.paragraphs)
+    All (HasTexts tables.NamedCorr) entries
+    × IsPermutation (map (spelled tables.NamedCorr) entries) (flat_map entry_rows_of book.paragraphs)
 
 -- what brings rows of this version to the second format, once they have its tables: the row of `book`, each entry, and the
 -- braille of each paragraph

@@ -62,7 +62,8 @@ Reorders command = IsSome (named_by command).place_given
 abbrev pub IsLent : (book next : Book) → Command → RowPut → Type 0
 IsLent book next command (PutRow tables.Book row) = ⊥
 IsLent book next command (PutRow tables.Tab row) =
-    (name : List ℕ) × (text : List ℕ) × ((named_by command).table_given ≡ Some (name, text)) × (row.name ≡ encode_utf8_all name) × (row.body ≡ text)
+    (name : List ℕ) × (text : List ℕ) × ((named_by command).table_given ≡ Some (name, text))
+    × (row.name ≡ encode_utf8_all name) × (row.body ≡ text)
 IsLent book next command (PutRow tables.Para row) = (id : ℕ) × (row.id ≡ row_number id) × Comes book command id
 IsLent book next command (PutRow tables.Corr row) = ⊥
 IsLent book next command (PutRow tables.Mark row) = row.id ≡ row_number (next_mark book)

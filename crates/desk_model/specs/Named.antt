@@ -160,7 +160,7 @@ named_by (Move id anchor) = record nothing_named {
   turn_after_asking = Some 200;
 }
 
--- ---- what follows from it
+-- ---- what follows from what is named
 
 -- the number that is answered: a new paragraph's or mark's id, or the number of a new entry of a history
 abbrev pub number_of : Book → Command → Option ℕ

@@ -19,7 +19,7 @@ use Rattle.desk_model.specs.Named.{Cells, Changed, Characters, Retabled, Span, T
 use Rattle.desk_model.specs.NormalForm.{IsFirstBarred}
 use Rattle.desk_model.specs.Translation.{LacksCells}
 
--- ---- what the refusals speak of
+-- ---- what makes refusals hold, where that takes more than a line
 
 -- the book has another version than the one expected, and this is the book's
 pub record IsMoved (book : Book) (expect : Option ℕ) (version : ℕ) : Type 0 where
@@ -28,7 +28,7 @@ pub record IsMoved (book : Book) (expect : Option ℕ) (version : ℕ) : Type 0 
   pub other : expected ≢ book.version
   pub told : version ≡ book.version
 
--- the print ends before the characters do, or the braille before the cells do, or there is no cell
+-- the book has the paragraph, and its print ends before the characters do, or its braille before the cells do, or no cell is asked for
 abbrev pub LacksSpan : Book → Span → Type 0
 LacksSpan book (Characters id end) = IsSomeAnd (paragraph_of book id) (λ paragraph. length (print_of paragraph) < end)
 LacksSpan book (Cells id cell count) = LacksCells book id cell count
@@ -43,11 +43,12 @@ print_made book (Retabled id table) = None
 abbrev pub new_print : Book → Command → Option (List ℕ)
 new_print book command = option_and_then (print_made book) (named_by command).paragraph_translated
 
--- a text of more than so many characters
+-- there is such a text, of more than so many characters
 abbrev pub IsLongerThan : ℕ → Option (List ℕ) → Type 0
 IsLongerThan most text = IsSomeAnd text (λ characters. most < length characters)
 
--- the command would add to what is at its limit: to the tables, the paragraphs, the entries of a history, the marks, or the version
+-- what the command would add to is at its limit: the tables, if the name is new, the paragraphs, the entries of a history, or the marks;
+-- or the version is
 abbrev pub IsFull : Book → Command → Limit → Type 0
 IsFull book command Tables =
     IsSomeAnd (named_by command).table_given (λ given. (text_of book given.0 ≡ None) × (most_tables ≤ length book.tables))
@@ -106,11 +107,28 @@ pub record IsUntranslatable (book : Book) (command : Command) (id place : ℕ) :
   pub means : Means text meaning
   pub user : IsFirstUser meaning name book.paragraphs id place
 
--- ---- which is reported
+-- ---- when each holds
 
--- What makes a refusal hold of a command: that a name which it gives isn't one, a text has a barred character, first at this place, or what it
--- names isn't there, or is struck, or isn't, or is resolved; that a text as it is stored, the new print or the note is over its limit; that
--- the text of a table is bad at this line.
+-- When each refusal holds of a command.
+-- Moved: the book has another version than the one expected, and this is the book's.
+-- BadName: the name that it gives a table isn't a table's name.
+-- BadReader: the name of a proofreader that it gives isn't one.
+-- BadText: the text, as it was given, has a barred character, first at this place.
+-- NoParagraph: a paragraph that it speaks of isn't there.
+-- NoTable: the table that a paragraph is to use isn't there.
+-- NoMark: the mark that it speaks of isn't there.
+-- Struck: the paragraph is there and is struck, and must not be.
+-- NotStruck: the paragraph is there and isn't struck, and must be.
+-- Resolved: the mark is there, and is resolved already.
+-- BadSpan: the paragraph is there, but not all the characters or cells that are named, or no cell is asked for.
+-- NothingToUndo: the paragraph is there, and no correction of it is in force.
+-- TooLong: a text as it is stored, the print that the paragraph would have, or the note is over its limit.
+-- Full: what it would add to is at this limit.
+-- BadTable: the text of the table is bad, at the line and for the cause that the fault tells.
+-- Undefined: the table doesn't define the print that the paragraph would have, first at this place.
+-- Untranslatable: by its new text the table doesn't define the print of a paragraph that uses it, of which this is the first, first at
+-- this place.
+-- NoMemory: never; when it may be answered is said by MayLackMemory.
 abbrev pub Holds : Book → Option ℕ → Command → Refusal → Type 0
 Holds book expect command (Moved version) = IsMoved book expect version
 Holds book expect command BadName = IsSomeAnd (named_by command).table_given (λ given. ¬ IsTableName given.0)
@@ -141,6 +159,8 @@ Holds book expect command (BadTable fault) =
 Holds book expect command (Undefined place) = IsUndefined book command place
 Holds book expect command (Untranslatable id place) = IsUntranslatable book command id place
 Holds book expect command NoMemory = ⊥
+
+-- ---- which is reported
 
 -- the order in which refusals are reported, with gaps for others
 abbrev pub turn : Refusal → ℕ

@@ -56,7 +56,7 @@ pub data RowPut : Type 0 where
   PutRow : (t : FileTable) → RowOf t → RowPut
   SetColumns : (t : FileTable) → KeyOf t → ColumnsOf t → RowPut
 
--- what an iterator lends, as a value of its own
+-- the value of an iterator that lends puts: what it has yet to put
 abbrev pub RowPuts : Type 0
 RowPuts = List RowPut
 
@@ -64,7 +64,7 @@ RowPuts = List RowPut
 abbrev pub put_rows : (t : FileTable) → List (RowOf t) → List RowPut
 put_rows t rows = map (PutRow t) rows
 
--- the row of a paragraph, of a mark, or of an entry that is lent
+-- a lent row of a paragraph, of a mark, or of an entry
 abbrev pub lent_para : ParaPut → Para
 lent_para row = record {
   id = row.id;

@@ -31,6 +31,7 @@ pub record IsNoteText (text : List ℕ) : Type 0 where
   pub short : length text ≤ most_note
   pub unbarred : IsUnbarred text
 
+-- its two flags are each 0 or 1
 pub record HasFlags (row : MarkRow) : Type 0 where
   pub touched : IsFlag row.touched
   pub resolved : IsFlag row.resolved
@@ -43,7 +44,7 @@ pub record IsMarkOn (items : List KeptParagraph) (row : MarkRow) : Type 0 where
   pub note : IsNoteText (chars row.note)
   pub flags : HasFlags row
 
--- the kept mark has what its row says: with the row's id, it has that row
+-- the kept mark has what the row says: its own row, given the id of this one, is this one with its note as characters
 abbrev pub IsKeptOf : MarkRow → KeptMark → Type 0
 IsKeptOf row mark = record (mark_row_of (mark_kept (0, mark))) { id = row.id } ≡ spelled tables.Mark row
 
@@ -51,7 +52,12 @@ IsKeptOf row mark = record (mark_row_of (mark_kept (0, mark))) { id = row.id } �
 
 -- what is asked of the rows beside these paragraphs
 abbrev pub mark_rule : List KeptParagraph → RowRule MarkRow
-mark_rule items = record { id = λ row. row.id; most = most_marks; IsSound = λ index row. IsMarkOn items row; HasTexts = HasTexts tables.Mark }
+mark_rule items = record {
+  id = λ row. row.id;
+  most = most_marks;
+  IsSound = λ index row. IsMarkOn items row;
+  HasTexts = HasTexts tables.Mark;
+}
 
 -- each row is sound, and has its mark
 abbrev pub AreKeptOf : List KeptParagraph → List MarkRow → List KeptMark → Type 0

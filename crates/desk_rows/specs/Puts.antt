@@ -47,8 +47,8 @@ Writes puts old new =
 
 -- ---- the statement of a put
 
--- The statement that puts a row of a table, or sets columns. Nothing is put into `corr`: its text is empty and takes no parameters,
--- so that it never runs with the six columns of a row.
+-- The statement that puts a row of a table, or sets columns. Nothing is put into `corr`: there the text is empty and takes no
+-- parameters, so that it never runs with the six columns of a row.
 abbrev pub statement : RowPut → Statement
 statement (PutRow t x) = record { text = (description_of t).put; params = columns_of t x }
 statement (SetColumns tables.Book id (Version version)) =
