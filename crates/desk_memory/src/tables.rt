@@ -58,7 +58,8 @@ impl BookTable {
     }
 }
 
-/// A table of a book on the heap, so that what holds one stays small. Contracts see the table.
+/// A table of a book on the heap, so that what holds or moves one stays small: a table takes some kilobytes. Contracts see
+/// the table.
 pub struct BoxedTable {
     table: Box<BookTable>,
 }
@@ -102,19 +103,18 @@ impl BoxedTable {
         &self.table.rules
     }
 
-    /// The table, taken off the heap.
-    pub(crate) fn into_inner(self) -> BookTable
-        ensures { result ≡ self }
+    /// The table itself.
+    fn table(&self) -> &BookTable
+        ensures { result.now ≡ self.now }
     {
-        let BoxedTable { table } = self;
-        Box::into_inner(table)
+        &self.table
     }
 }
 
 /// Room for so many tables.
 #[derive(Drop)]
 pub struct TablesRoom {
-    entries: IndexMap<String, BookTable>,
+    entries: IndexMap<String, BoxedTable>,
 }
 
 impl Model for TablesRoom {
@@ -142,7 +142,7 @@ impl TablesRoom {
 /// Tables by name.
 #[derive(Drop)]
 pub struct Tables {
-    entries: IndexMap<String, BookTable>,
+    entries: IndexMap<String, BoxedTable>,
 }
 
 impl Model for Tables {
@@ -180,11 +180,11 @@ impl Tables {
     pub fn get(&self, name: &str) -> Option<&BookTable>
         ensures { option_copied result ≡ lookup (pointwise nat_eq (chars name.now)) self.now }
     {
-        self.entries.get(name)
+        Some(self.entries.get(name)?.table())
     }
 
     /// Puts in a table under a name that no other has.
-    pub fn insert(&mut self, name: String, table: BookTable) -> Result<(), AllocError>
+    pub fn insert(&mut self, name: String, table: BoxedTable) -> Result<(), AllocError>
         requires new { lookup (pointwise nat_eq (chars (string_bytes name))) self.old ≡ None }
         ensures { OnOk result (self.new ≡ with_table (chars (string_bytes name)) table self.old) }
     {
@@ -200,7 +200,7 @@ impl Tables {
         let Some(old) = self.entries.get_mut(name) else {
             unreachable!()
         };
-        *old = table.into_inner();
+        *old = table;
     }
 
     /// These tables and a new one. It allocates nothing.
@@ -213,9 +213,7 @@ impl Tables {
         let mut entries = room.entries;
         let mut old = self.entries;
         entries.append(&mut old).unwrap();
-        entries
-            .insert(name.into_string(), table.into_inner())
-            .unwrap();
+        entries.insert(name.into_string(), table).unwrap();
         Tables { entries }
     }
 }

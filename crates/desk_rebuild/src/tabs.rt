@@ -12,7 +12,7 @@ ghost use Rattle.std.specs.List.Sorted.{IsPermutation};
 ghost use Rattle.std.specs.Prelude.{◌≡◌, ◌≤◌, [], ◌∷◌, ◌++◌, ◌↔◌, List, IfErr, IfOk, IsTrue, OnOk, length};
 
 use super::damage::{RowsFault, of_table};
-use desk_memory::{BookTable, MOST_TABLES, Tables, is_table_name};
+use desk_memory::{BookTable, BoxedTable, MOST_TABLES, Tables, is_table_name};
 use desk_model::PartsFault;
 use desk_parts::{FileTable, StoredTab, TabRow};
 use louis_table::ReadFault;
@@ -43,13 +43,13 @@ fn may_come(tables: &Tables, name: &str) -> bool
 }
 
 /// Reads the text of a row's table. The fault is damage at this number, if the text has no meaning.
-fn read_body(alloc: Global, body: &[u8], id: i64) -> Result<BookTable, RowsFault>
+fn read_body(alloc: Global, body: &[u8], id: i64) -> Result<BoxedTable, RowsFault>
     ensures text { IfOk result (λ table. table.text ≡ body.now) }
     ensures means { IfOk result (λ table. Means body.now table.rules) }
     ensures told { IfErr result (TellsNoMeaning body.now id) }
 {
     match BookTable::read(alloc, body) {
-        Ok(table) => Ok(table),
+        Ok(table) => Ok(BoxedTable::new(alloc, table)?),
         Err(ReadFault::Table(_)) => Err(RowsFault::Damaged(id)),
         Err(ReadFault::NoMemory) => Err(RowsFault::NoMemory),
     }

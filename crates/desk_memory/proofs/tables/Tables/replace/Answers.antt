@@ -16,9 +16,8 @@ pub returns : goal.returns
 returns c =
     let same = sym (ap (lookup (pointwise nat_eq (chars c.args.name.now))) c.self.view_is)
     ∙ lookup-by_name c.args.name.now c.self.inside.entries.entries c.utf8.name c.self.invariant in
-    let written = c.get_mut.follows.holds c.into_inner.result in
+    let written = c.get_mut.follows.holds c.args.table in
     ap by_name written.0
-    ∙ (by_name-set_value c.args.name.now c.into_inner.result c.self.inside.entries.entries c.utf8.name (subst IsSome same c.requires) c.self.invariant
+    ∙ (by_name-set_value c.args.name.now c.args.table c.self.inside.entries.entries c.utf8.name (subst IsSome same c.requires) c.self.invariant
     (subst (λ entries. IsDistinct string_eq (keys_of entries)) written.0 written.4)
-    ∙ (ap (with_table (chars c.args.name.now) c.into_inner.result) c.self.view_is
-    ∙ ap (λ table. with_table (chars c.args.name.now) table c.args.self.now) c.into_inner.ensures))
+    ∙ ap (with_table (chars c.args.name.now) c.args.table) c.self.view_is)
