@@ -2,8 +2,6 @@
 use Rattle.std.specs.Prelude.{◌≡◌, ◌≢◌, ℕ, Bool, true}
 use Rattle.sqlite_schema.specs.declared.schema.Schema.{Schema}
 use Rattle.desk_parts.specs.declared.file_table.FileTable.{FileTable}
-use Rattle.sql_tables.specs.Tables.{IsDeclared}
-use Rattle.desk_rows.specs.Descriptions.{table_of}
 
 -- A schema, some tables that a file has, and a tree for each. What else there is, under whatever name, is beside them: a table of ours too,
 -- unless the layout is exact.
@@ -11,10 +9,6 @@ pub record Layout : Type 0 where
   pub schema : Schema
   pub has : FileTable → Bool
   pub tree : FileTable → ℕ
-
--- the schema declares these tables in their trees, as a new file has them
-abbrev pub AreDeclared : Layout → Type 0
-AreDeclared l = (t : FileTable) → l.has t ≡ true → IsDeclared l.schema (table_of t (l.tree t))
 
 -- the tree of none of them
 abbrev pub IsOther : Layout → ℕ → Type 0

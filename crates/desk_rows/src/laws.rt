@@ -5,14 +5,15 @@ ghost use Rattle.desk_rows.specs.Contents.{Contents};
 ghost use Rattle.desk_parts.specs.declared.file_table.FileTable.{FileTable};
 ghost use Rattle.desk_parts.specs.Puts.{LendsFirst, RowPut};
 ghost use Rattle.desk_parts.specs.Rows.{StoredTab};
-ghost use Rattle.desk_rows.specs.Descriptions.{description_of, shows_rowid};
+ghost use Rattle.desk_rows.specs.Descriptions.{description_of, shows_rowid, table_of};
 ghost use Rattle.sql_tables.specs.Kinds.{HaveIntegerRowids};
-ghost use Rattle.desk_rows.specs.Layout.{AreDeclared, Layout};
+ghost use Rattle.desk_rows.specs.Layout.{Layout};
 ghost use Rattle.desk_rows.specs.Making.{Differ, IsNew, MakesTables, new_layout, with_none, with_tables};
 ghost use Rattle.sql_tables.specs.Making.{KeepsAside};
 ghost use Rattle.desk_rows.specs.States.{IsFile, IsUnder, ShowsContents};
 ghost use Rattle.desk_rows.specs.Rows.{shown_columns};
 ghost use Rattle.sql_tables.specs.Rows.{Lists, columns_at};
+ghost use Rattle.sql_tables.specs.Tables.{IsDeclared};
 ghost use Rattle.desk_rows.specs.Whole.{AreApart, AreRows, AreUtf8, HaveOwnRowids, HaveSameRows, IsUtf8Put, Rows, contents_of};
 ghost use Rattle.sqlite.specs.Effect.{Database};
 ghost use Rattle.sqlite.specs.Held.{state};
@@ -63,8 +64,9 @@ pub fn one_contents()
 
 /// What was read whole, and differs by its keys, is what the file holds.
 pub fn read_whole()
-    ensures { (l : Layout) (rows : Rows) (db : Trees) → AreDeclared l → IsSound l.schema db
-        → AreRows l rows db → AreApart rows → IsFile l (contents_of rows db) db }
+    ensures { (l : Layout) (rows : Rows) (db : Trees)
+        → ((t : FileTable) → l.has t ≡ true → IsDeclared l.schema (table_of t (l.tree t)))
+        → IsSound l.schema db → AreRows l rows db → AreApart rows → IsFile l (contents_of rows db) db }
 {}
 
 /// The rows of a file can be read: the rowids that are read are integers, and the texts are UTF-8 if those of the file are; the rowids of

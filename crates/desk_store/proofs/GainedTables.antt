@@ -30,12 +30,10 @@ module _ (l : Layout) (c : Contents) (book : Book) (s : State) where
     is = record {
       declared = shows.is.declared;
       sound = shows.is.sound;
-      holds = record {
-        tables = shows.is.holds.tables;
-        ids = shows.is.holds.ids;
-        others = all_of (λ (t : Table). IsOther l t.tree → s.now.trees t.tree ≡ s.now.trees t.tree) (λ t other. refl) l.schema.tables;
-        aside = λ tree other no_index. refl;
-      };
+      tables = shows.is.tables;
+      ids = shows.is.ids;
+      others = all_of (λ (t : Table). IsOther l t.tree → s.now.trees t.tree ≡ s.now.trees t.tree) (λ t other. refl) l.schema.tables;
+      aside = λ tree other no_index. refl;
     };
   }
 

@@ -90,7 +90,7 @@ module _ (l : Layout) (c : Contents) (s : State) (is_open : IsTrue s.is_open) (s
     owns : AllByRecursion (λ r. (y : RowOf t) × (columns_at (description_of t).own r ≡ columns_of t y)) tree
     owns =
         all_from_map (λ v. (y : RowOf t) × (v ≡ columns_of t y)) (columns_at (description_of t).own) tree
-        (all-permutation (λ v. (y : RowOf t) × (v ≡ columns_of t y)) _ _ (shows.is.holds.tables t there) (all_written (columns_of t) (c.rows t)))
+        (all-permutation (λ v. (y : RowOf t) × (v ≡ columns_of t y)) _ _ (shows.is.tables t there) (all_written (columns_of t) (c.rows t)))
 
     answer : (rows : List Row) × Shown (description_of t).read [] s s rows × IsPermutation (map (columns_at (description_of t).shown) tree) rows
     answer =
@@ -113,7 +113,7 @@ module _ (l : Layout) (c : Contents) (s : State) (is_open : IsTrue s.is_open) (s
     -- what it gives are the table's rows
     same_rows : (xs : List (ShownOf t)) → Gives (query_of t) (shown_columns t) s s xs → IsPermutation (c.rows t) (map (own t) xs)
     same_rows xs gives_xs =
-        one_list t (columns_at (description_of t).own) (c.rows t) (map (own t) xs) tree (shows.is.holds.tables t there) (own_listed t xs tree (listed xs gives_xs))
+        one_list t (columns_at (description_of t).own) (c.rows t) (map (own t) xs) tree (shows.is.tables t there) (own_listed t xs tree (listed xs gives_xs))
 
   apart : (t : FileTable) → l.has t ≡ true → (xs : List (ShownOf t)) → Gives (query_of t) (shown_columns t) s s xs → AreToldApart t xs
   apart t there xs gives_xs = told_apart t l c s shows there xs (listed t there xs gives_xs)

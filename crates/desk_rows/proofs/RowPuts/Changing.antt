@@ -20,13 +20,13 @@ use Rattle.sql_tables.proofs.PutLists.{apart, differ}
 use Rattle.sql_tables.proofs.Running.{Wrote}
 use Rattle.sql_tables.proofs.Writing.{Spares}
 use Rattle.desk_rows.specs.Descriptions.{description_of, table_of}
-use Rattle.desk_rows.specs.Layout.{Layout, AreDeclared}
-use Rattle.desk_rows.specs.Contents.{Contents, Holds, with_rows}
+use Rattle.desk_rows.specs.Layout.{Layout}
+use Rattle.desk_rows.specs.Contents.{Contents, with_rows}
 use Rattle.desk_rows.specs.Puts.{IsPut, PutsAll, PutsRow, RunsTo, put_into, puts_into, statement}
 use Rattle.desk_rows.specs.Turns.{FailsWith, Ran}
 use Rattle.desk_rows.specs.Rows.{columns_of, set_at}
 use Rattle.desk_parts.specs.Rows.{RowOf}
-use Rattle.desk_rows.specs.States.{IsUnder}
+use Rattle.desk_rows.specs.States.{IsFile, IsUnder}
 use Rattle.desk_rows.proofs.RowPuts.PutTables.{does}
 
 -- ---- each table
@@ -46,14 +46,16 @@ each_set P t f rows own v other = other refl
 
 -- ---- all tables
 
-module _ (l : Layout) (c : Contents) (d : AreDeclared l) (old new : Trees) (h : Holds l c old) where
+module _ (l : Layout) (c : Contents) (old new : Trees) (h : IsFile l c old) where
   -- the rows of one table change, and others stay
-  pub holds : (table : FileTable) (f : List (RowOf table) → List (RowOf table)) → l.has table ≡ true → Spares l.schema (l.tree table) old new → Lists (columns_of table) (columns_at (description_of table).own) (f (c.rows table)) (new (l.tree table)) → ((description_of table).is_changed ≡ true → HaveRowids (new (l.tree table)))
-      → Holds l (with_rows table f c) new
-  holds table f there spares lists ids =
+  pub holds : (table : FileTable) (f : List (RowOf table) → List (RowOf table)) → l.has table ≡ true → IsSound l.schema new → Spares l.schema (l.tree table) old new → Lists (columns_of table) (columns_at (description_of table).own) (f (c.rows table)) (new (l.tree table)) → ((description_of table).is_changed ≡ true → HaveRowids (new (l.tree table)))
+      → IsFile l (with_rows table f c) new
+  holds table f there sound spares lists ids =
       let stays = λ (v : FileTable) (is : l.has v ≡ true) (other : bytes_eq (description_of v).name (description_of table).name ≡ false).
-      all_has _ l.schema.tables (table_of v (l.tree v)) spares.tables (has_table l.schema (table_of v (l.tree v)) (d v is))
-      (apart l.schema (table_of v (l.tree v)) (table_of table (l.tree table)) (d v is) (d table there) (differ (description_of v).name (description_of table).name other)) in record {
+      all_has _ l.schema.tables (table_of v (l.tree v)) spares.tables (has_table l.schema (table_of v (l.tree v)) (h.declared v is))
+      (apart l.schema (table_of v (l.tree v)) (table_of table (l.tree table)) (h.declared v is) (h.declared table there) (differ (description_of v).name (description_of table).name other)) in record {
+        declared = h.declared;
+        sound = sound;
         tables = λ v. each_set (λ v xs. l.has v ≡ true → Lists (columns_of v) (columns_at (description_of v).own) xs (new (l.tree v))) table f c.rows (λ _. lists) v
             (λ other has. rw (stays v has other) (h.tables v has));
         ids = λ v. each_set (λ v _. l.has v ≡ true → (description_of v).is_changed ≡ true → HaveRowids (new (l.tree v))) table f c.rows (λ _. ids) v
@@ -62,11 +64,11 @@ module _ (l : Layout) (c : Contents) (d : AreDeclared l) (old new : Trees) (h : 
         aside = λ t other none. spares.aside t (other table there) none ∙ h.aside t other none;
       }
 
-goes_on : (old new : State) (l : Layout) (c next : Contents) (committed : _) → IsUnder committed l c old → Wrote old new → Holds l next new.now.trees → IsUnder committed l next new
+goes_on : (old new : State) (l : Layout) (c next : Contents) (committed : _) → IsUnder committed l c old → Wrote old new → IsFile l next new.now.trees → IsUnder committed l next new
 goes_on old new l c next committed was wrote all = record {
   shows = record {
     schema = wrote.schema ∙ was.shows.schema;
-    is = record { declared = was.shows.is.declared; sound = subst (λ s. IsSound s new.now.trees) (wrote.schema ∙ was.shows.schema) wrote.sound; holds = all };
+    is = all;
   };
   inside = wrote.shown.mode ∙ was.inside;
   over = (rw was.inside at wrote.shown.committed_is) ∙ was.over;
@@ -79,8 +81,9 @@ module _ (it : RowPut) (old new : State) where
     put = λ committed l c there was.
         let t = table_put it in
         let file = was.shows.is in
-        let did = does it l.schema (l.tree t) (file.declared t there) old new count (c.rows t) was.shows.schema file.sound (file.holds.ids t there) (file.holds.tables t there) h.0 in
-        goes_on old new l c (put_into c it) committed was did.wrote (holds l c file.declared old.now.trees new.now.trees file.holds t (change_of it) there did.spares did.lists did.ids);
+        let did = does it l.schema (l.tree t) (file.declared t there) old new count (c.rows t) was.shows.schema file.sound (file.ids t there) (file.tables t there) h.0 in
+        let sound = subst (λ s. IsSound s new.now.trees) (did.wrote.schema ∙ was.shows.schema) did.wrote.sound in
+        goes_on old new l c (put_into c it) committed was did.wrote (holds l c old.now.trees new.now.trees file t (change_of it) there sound did.spares did.lists did.ids);
     ran = (count, h);
     is_open = h.1.was_open;
     inside = h.1.mode;

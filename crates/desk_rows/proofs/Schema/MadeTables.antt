@@ -213,12 +213,10 @@ module _ (tables : List FileTable) (s : Schema) (committed : Database) (rows : T
       is = record {
         declared = λ t is. (each t is).0;
         sound = m.sound;
-        holds = record {
-          tables = λ t is. (each t is).1;
-          ids = λ t is. (each t is).2;
-          others = all_of _ (λ t other. refl) (after tables s).tables;
-          aside = λ tree other none. refl;
-        };
+        tables = λ t is. (each t is).1;
+        ids = λ t is. (each t is).2;
+        others = all_of _ (λ t other. refl) (after tables s).tables;
+        aside = λ tree other none. refl;
       };
     };
     inside = m.inside;

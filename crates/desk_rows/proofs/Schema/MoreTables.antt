@@ -48,7 +48,7 @@ module _ (l : Layout) (c : Contents) (tables : List FileTable) (differ : Differ 
         (λ v. elim (cases_Bool (is_among tables v)) [
           | inl is ↦ rw is (λ there. made_empty tables s committed old.now.trees new making differ low free v is)
           | inr is ↦ rw is (λ there.
-              let held = was.shows.is.holds in
+              let held = was.shows.is in
               let declared = through tables s (table_of v (l.tree v)) (was.shows.is.declared v there) in
               (declared, rw (old_row v there) (held.tables v there), λ changed. rw (old_row v there) (held.ids v there changed)))
         ]),

@@ -141,7 +141,7 @@ module _ {V X : Type 0} (items : V → List X) (t : FileTable) (view : X → Sho
         apart = on_ok r _ tt;
         utf8 = utf8;
         rows = read;
-        shows = λ l c there is. IfOk-weaker r _ _ (λ xs all. one_list t (columns_at (description_of t).own) (c.rows t) (map (λ x. own t (view x)) (items xs)) (old.now.trees (l.tree t)) (is.is.holds.tables t there)
+        shows = λ l c there is. IfOk-weaker r _ _ (λ xs all. one_list t (columns_at (description_of t).own) (c.rows t) (map (λ x. own t (view x)) (items xs)) (old.now.trees (l.tree t)) (is.is.tables t there)
             (subst₂ IsPermutation (maps_shown t view (items xs)) (maps_own t (old.now.trees (l.tree t))) (IsPermutation-map (own_of t) _ _ all.0))) (read (l.tree t) (has_table t l c old there is));
         unchanged = on_ok r _ (shown_quietly (description_of t).read (reads_only t) [] old new rows seen);
         told = fails_to_read (query_of t) (λ x. shown_columns t (view x)) old new rows seen r not_lost kinds begins;

@@ -41,12 +41,12 @@ is_changed t is = refl
 
 module _ (l : Layout) (c : Contents) (db : Trees) (is : IsFile l c db) where
   pub rowids : (t : FileTable) → l.has t ≡ true → shows_rowid t ≡ true → HaveIntegerRowids (db (l.tree t))
-  rowids t there shows = (is.holds.ids t there (is_changed t shows)).integers
+  rowids t there shows = (is.ids t there (is_changed t shows)).integers
 
   -- those of one table, if its texts are UTF-8
   pub readable_table : (t : FileTable) → l.has t ≡ true → AllByRecursion (HasTexts t) (c.rows t) → AreReadable t (db (l.tree t))
   readable_table t there utf8 =
-      let texts = in_rows (columns_of t) (columns_at (description_of t).own) (HasTexts t) (columns_utf8 t) (c.rows t) (db (l.tree t)) utf8 (is.holds.tables t there) in
+      let texts = in_rows (columns_of t) (columns_at (description_of t).own) (HasTexts t) (columns_utf8 t) (c.rows t) (db (l.tree t)) utf8 (is.tables t there) in
       let own = kept l.schema (table_of t (l.tree t)) (is.declared t there) db is.sound in
       let all = all_both (IsKept (table_of t (l.tree t))) (λ row. AllByRecursion IsUtf8Text (columns_at (description_of t).own row)) (λ row. AllByRecursion IsUtf8Text (drop 1 row)) (row_utf8 t (l.tree t)) (db (l.tree t)) own texts in
       record { ids = rowids t there; texts = λ has. all }

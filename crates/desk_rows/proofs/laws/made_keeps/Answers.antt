@@ -20,7 +20,7 @@ use Rattle.desk_rows.proofs.laws.made_keeps.Goals as goal
 module _ (l : Layout) (c : Contents) (db : Trees) (is : IsFile l c db) where
   -- a tree of no table and no index is beside those that are described
   aside : (tree : ℕ) → ((t : Table) → Has l.schema.tables t → t.tree ≢ tree) → IsNoIndex l.schema tree → db tree ≡ c.others tree
-  aside tree no_table no_index = is.holds.aside tree (λ t there e. no_table (table_of t (l.tree t)) (has_table l.schema (table_of t (l.tree t)) (is.declared t there)) (sym e)) no_index
+  aside tree no_table no_index = is.aside tree (λ t there e. no_table (table_of t (l.tree t)) (has_table l.schema (table_of t (l.tree t)) (is.declared t there)) (sym e)) no_index
 
   -- the list of the schema and the user version stand past all of them
   past_all : (tree : ℕ) → 65536 ≤ tree → db tree ≡ c.others tree
