@@ -3,13 +3,8 @@ use Rattle.std.specs.Prelude.{List}
 use Rattle.sqlite_trees.specs.Tree.{Trees}
 use Rattle.desk_parts.specs.declared.file_table.FileTable.{FileTable}
 use Rattle.desk_parts.specs.Rows.{RowOf}
-use Rattle.desk_rows.specs.Rows.{set_at}
 
 -- the rows of the tables, each list in any order, and those of the other trees
 pub record Contents : Type 0 where
   pub rows : (t : FileTable) → List (RowOf t)
   pub others : Trees
-
--- with other rows in one table
-abbrev pub with_rows : (t : FileTable) → (List (RowOf t) → List (RowOf t)) → Contents → Contents
-with_rows t f c = record c { rows = set_at t f c.rows }

@@ -16,17 +16,17 @@ use Rattle.desk_parts.specs.declared.file_table.FileTable.TheVariants as tables
 use Rattle.desk_parts.specs.declared.put.Put.{Put}
 use Rattle.desk_parts.specs.Puts.{RowPut, PutRow, SetColumns, Flags, Place, Print, Resolved, Span, Table, Version, change_of, put_of, table_put}
 use Rattle.desk_parts.specs.Rows.{RowOf}
-use Rattle.desk_rows.specs.Contents.{Contents, with_rows}
+use Rattle.desk_rows.specs.Contents.{Contents}
 use Rattle.desk_rows.specs.Descriptions.{description_of}
 use Rattle.desk_rows.specs.Layout.{Layout}
-use Rattle.desk_rows.specs.Rows.{columns_of}
+use Rattle.desk_rows.specs.Rows.{columns_of, set_at}
 use Rattle.desk_rows.specs.States.{IsFile, IsUnder, ShowsContents}
 use Rattle.desk_rows.specs.Turns.{FailsWith, Ran, RunInTurn, Statement, Stops}
 use Rattle.desk_rows.specs.declared.texts.TheConstants.{SET_FLAGS, SET_PLACE, SET_PRINT, SET_RESOLVED, SET_SPAN, SET_TABLE, SET_VERSION}
 
 -- the contents with this put, and with these in turn
 abbrev pub put_into : Contents → RowPut → Contents
-put_into c it = with_rows (table_put it) (change_of it) c
+put_into c it = record c { rows = set_at (table_put it) (change_of it) c.rows }
 
 abbrev pub puts_into : List RowPut → Contents → Contents
 puts_into puts c = fold put_into c puts

@@ -6,9 +6,10 @@ use Rattle.desk_parts.specs.FileRows.{EntryRows, Named, Unnamed}
 use Rattle.desk_parts.specs.Puts.{LendsFirst, RowPut, change_of, table_put, with_named, with_puts, with_rows_of, with_unnamed}
 use Rattle.desk_parts.specs.Rows.{ParaCells, RowOf}
 use Rattle.desk_store.specs.BookFile.{rows_of}
-use Rattle.desk_rows.specs.Contents.{Contents, with_rows}
+use Rattle.desk_rows.specs.Contents.{Contents}
 use Rattle.desk_rows.specs.Layout.{Layout}
 use Rattle.desk_rows.specs.Puts.{OfItems, put_into, puts_into}
+use Rattle.desk_rows.specs.Rows.{set_at}
 use Rattle.desk_rows.proofs.RowPuts.LentPuts.{all_lent}
 
 -- what holds of what is put, for an iterator that lends the first of what is left
@@ -22,7 +23,7 @@ either_changed change x y false = refl
 
 module _ (l : Layout) where
   -- other rows in one table
-  rows_changed : (t : FileTable) (change : List (RowOf t) → List (RowOf t)) (c : Contents) → rows_of l (with_rows t change c) ≡ with_rows_of t change (rows_of l c)
+  rows_changed : (t : FileTable) (change : List (RowOf t) → List (RowOf t)) (c : Contents) → rows_of l (record c { rows = set_at t change c.rows }) ≡ with_rows_of t change (rows_of l c)
   rows_changed tables.Corr change c =
       ap (λ (entries : EntryRows). record (rows_of l c) { entries = entries }) (either_changed (with_unnamed change) (Named (c.rows tables.NamedCorr)) (Unnamed (c.rows tables.Corr)) (l.has tables.NamedCorr))
   rows_changed tables.Cache change c =

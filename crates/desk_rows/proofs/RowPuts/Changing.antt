@@ -21,7 +21,7 @@ use Rattle.sql_tables.proofs.Running.{Wrote}
 use Rattle.sql_tables.proofs.Writing.{Spares}
 use Rattle.desk_rows.specs.Descriptions.{description_of, table_of}
 use Rattle.desk_rows.specs.Layout.{Layout}
-use Rattle.desk_rows.specs.Contents.{Contents, with_rows}
+use Rattle.desk_rows.specs.Contents.{Contents}
 use Rattle.desk_rows.specs.Puts.{IsPut, PutsAll, PutsRow, RunsTo, put_into, puts_into, statement}
 use Rattle.desk_rows.specs.Turns.{FailsWith, Ran}
 use Rattle.desk_rows.specs.Rows.{columns_of, set_at}
@@ -49,7 +49,7 @@ each_set P t f rows own v other = other refl
 module _ (l : Layout) (c : Contents) (old new : Trees) (h : IsFile l c old) where
   -- the rows of one table change, and others stay
   pub holds : (table : FileTable) (f : List (RowOf table) → List (RowOf table)) → l.has table ≡ true → IsSound l.schema new → Spares l.schema (l.tree table) old new → Lists (columns_of table) (columns_at (description_of table).own) (f (c.rows table)) (new (l.tree table)) → ((description_of table).is_changed ≡ true → HaveRowids (new (l.tree table)))
-      → IsFile l (with_rows table f c) new
+      → IsFile l (record c { rows = set_at table f c.rows }) new
   holds table f there sound spares lists ids =
       let stays = λ (v : FileTable) (is : l.has v ≡ true) (other : bytes_eq (description_of v).name (description_of table).name ≡ false).
       all_has _ l.schema.tables (table_of v (l.tree v)) spares.tables (has_table l.schema (table_of v (l.tree v)) (h.declared v is))

@@ -5,8 +5,9 @@ use Rattle.sqlite_trees.proofs.ListLemmas.{all-filter, all-map, all_weaker}
 use Rattle.desk_parts.specs.declared.file_table.FileTable.{FileTable}
 use Rattle.desk_parts.specs.declared.file_table.FileTable.TheVariants as tables
 use Rattle.desk_parts.specs.Puts.{ColumnsOf, KeyOf, RowPut, PutRow, SetColumns, Flags, Place, Print, Resolved, Span, Table, Version, has_key, put_to, set_by_key, with_columns}
-use Rattle.desk_rows.specs.Contents.{Contents, with_rows}
+use Rattle.desk_rows.specs.Contents.{Contents}
 use Rattle.desk_rows.specs.Puts.{put_into, puts_into}
+use Rattle.desk_rows.specs.Rows.{set_at}
 use Rattle.desk_parts.specs.Rows.{RowOf}
 use Rattle.desk_parts.specs.FileRows.{HasTexts}
 use Rattle.desk_rows.specs.Whole.{AreUtf8, IsUtf8Put}
@@ -29,7 +30,7 @@ all_put t x xs is all = (is, all-filter (HasTexts t) _ xs all)
 -- ---- all tables
 
 -- the rows of one table change, and those of others stay
-changed : (t : FileTable) (f : List (RowOf t) → List (RowOf t)) (c : Contents) → (AllByRecursion (HasTexts t) (c.rows t) → AllByRecursion (HasTexts t) (f (c.rows t))) → AreUtf8 c → AreUtf8 (with_rows t f c)
+changed : (t : FileTable) (f : List (RowOf t) → List (RowOf t)) (c : Contents) → (AllByRecursion (HasTexts t) (c.rows t) → AllByRecursion (HasTexts t) (f (c.rows t))) → AreUtf8 c → AreUtf8 (record c { rows = set_at t f c.rows })
 changed t f c stays all v = each_set (λ v. AllByRecursion (HasTexts v)) t f c.rows (stays (all t)) v (λ other. all v)
 
 columns_stay : (t : FileTable) (key : KeyOf t) (columns : ColumnsOf t) → IsUtf8Put (SetColumns t key columns) → (x : RowOf t) → HasTexts t x → HasTexts t (with_columns t columns x)
