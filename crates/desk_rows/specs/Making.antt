@@ -51,28 +51,17 @@ is_among tables t = list_any (λ v. bytes_eq (description_of v).name (descriptio
 abbrev pub new_layout : Schema → Layout
 new_layout s = record { schema = after new_tables s; has = is_among new_tables; tree = tree_in new_tables s }
 
--- no rows in the tables, beside those of the other trees
-abbrev pub no_contents : Trees → Contents
-no_contents others = record { rows = λ t. []; others = others }
-
 -- the row of a new book, in format 2 and at version 0
 abbrev pub first_row : BookRow
 first_row = record { id = pos 1; format = pos 2; version = pos 0 }
 
--- this row alone
-abbrev pub first_contents : Trees → Contents
-first_contents others = put_into (no_contents others) (PutRow tables.Book first_row)
-
--- The counter, if it was missing and is made, has no rows.
-abbrev pub CountsNone : Schema → Trees → Type 0
-CountsNone s db = lacks_sequence s ≡ true → db (next_tree (created s (table_of tables.Book 0))) ≡ []
-
--- The contents of a new file, beside the tables that were there with the rows that they had, an empty counter if it was missing, and
--- what the database keeps aside.
+-- The contents of a new file: this row alone, beside the tables that were there with the rows that they had, the counter, with no rows if it
+-- was missing and is made, and what the database keeps aside.
 abbrev pub IsNew : Schema → Trees → (Contents → Type 0) → Type 0
 IsNew s rows P =
-    (others : Trees) × KeepsRows s.tables rows others × CountsNone s others × KeepsAside s rows others
-    × P (first_contents others)
+    (others : Trees) × KeepsRows s.tables rows others
+    × (lacks_sequence s ≡ true → others (next_tree (created s (table_of tables.Book 0))) ≡ [])
+    × KeepsAside s rows others × P (put_into (record { rows = λ t. []; others = others }) (PutRow tables.Book first_row))
 
 -- each differs from those after it
 abbrev pub Differ : List FileTable → Type 0

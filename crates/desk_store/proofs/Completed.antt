@@ -15,7 +15,8 @@ use Rattle.desk_store.specs.Books.{HasNewTables, HoldsBook, ShowsBook}
 use Rattle.desk_rows.specs.Contents.{Contents}
 use Rattle.desk_store.specs.Formats.{Format, IsOfFormat, IsPresent, Presence, named, needed, presence, unnamed}
 use Rattle.desk_rows.specs.Layout.{Layout}
-use Rattle.desk_rows.specs.Making.{IsMade, IsNew, first_contents, is_among, new_layout}
+use Rattle.desk_rows.specs.Making.{IsMade, IsNew, is_among, new_layout}
+use Rattle.desk_rows.proofs.Schema.MadeTables.{first_contents}
 use Rattle.desk_store.proofs.Exact.{stays_there}
 use Rattle.desk_store.proofs.Opened.{in_both}
 use Rattle.desk_store.specs.Opened.{have_names, lacked_by, lacking, missing_tables, which_lacked, with_missing_tables}

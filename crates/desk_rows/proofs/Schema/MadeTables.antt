@@ -16,6 +16,7 @@ use Rattle.sqlite_catalog.proofs.StepLemmas.{table_below}
 use Rattle.sqlite_rules.specs.Lists.{Has}
 use Rattle.sqlite_rules.proofs.ListLemmas.{all_from, all_has}
 use Rattle.sqlite_trees.specs.declared.store.Store.{Ghosts}
+use Rattle.sqlite.specs.Does.{lacks_sequence}
 use Rattle.sqlite.specs.Held.{Held, state}
 use Rattle.sqlite.specs.Effect.{Database}
 use Rattle.sqlite.specs.State.{State, IsLive}
@@ -32,8 +33,9 @@ use Rattle.sql_tables.proofs.Declaring.{has_table}
 use Rattle.sql_tables.proofs.Makes.{none_below}
 use Rattle.desk_rows.specs.Descriptions.{description_of, table_of}
 use Rattle.desk_rows.specs.Commits.{making_file}
-use Rattle.desk_rows.specs.Making.{AreFreeIn, CountsNone, Differ, MakesTables, after, creation, first_contents, first_row, is_among, making, new_tables, new_layout, no_contents, tree_in}
-use Rattle.desk_rows.specs.Puts.{statement}
+use Rattle.desk_rows.specs.Contents.{Contents}
+use Rattle.desk_rows.specs.Making.{AreFreeIn, Differ, MakesTables, after, creation, first_row, is_among, making, new_tables, new_layout, tree_in}
+use Rattle.desk_rows.specs.Puts.{put_into, statement}
 use Rattle.desk_rows.specs.Rows.{columns_of}
 use Rattle.desk_rows.specs.States.{IsUnder}
 use Rattle.desk_rows.specs.Turns.{with_transaction}
@@ -224,6 +226,17 @@ module _ (tables : List FileTable) (s : Schema) (committed : Database) (rows : T
   }
 
 -- ---- the tables of a new file
+
+-- the contents with no rows in the tables, and with the row of a new book alone
+abbrev no_contents : Trees → Contents
+no_contents others = record { rows = λ t. []; others = others }
+
+abbrev pub first_contents : Trees → Contents
+first_contents others = put_into (no_contents others) (PutRow tables.Book first_row)
+
+-- the counter, if it was missing and is made, has no rows
+abbrev CountsNone : Schema → Trees → Type 0
+CountsNone s db = lacks_sequence s ≡ true → db (next_tree (created s (table_of tables.Book 0))) ≡ []
 
 differ : Differ new_tables
 differ = ((refl, (refl, (refl, (refl, (refl, tt))))), ((refl, (refl, (refl, (refl, tt)))), ((refl, (refl, (refl, tt))), ((refl, (refl, tt)), ((refl, tt), (tt, tt))))))
