@@ -1,12 +1,12 @@
 -- Why a change in one transaction fails, in the database's words. Between two statements the connection keeps its limit on steps and counts
 -- its failures, and a crash leaves nothing new.
-use Rattle.std.specs.Prelude.{◌≡◌, ◌⊎◌, List, ◌∷◌, ◌++◌, map, Option}
+use Rattle.std.specs.Prelude.{◌≡◌, ◌⊎◌, List, [], ◌∷◌, ◌++◌, map, Option}
 use Rattle.sqlite_trees.specs.declared.store.Store.{Ghosts}
 use Rattle.sqlite.specs.declared.error.Error.{Error}
 use Rattle.sqlite.specs.Held.{Held, state}
 use Rattle.sqlite.specs.State.{State, Fails, Survives}
 use Rattle.desk_rows.specs.Making.{AreMade, MakesTables, creation, first_row}
-use Rattle.desk_rows.specs.Puts.{ArePut, OfItems, OfItemsBefore, PutsRow, StopsAt, statement}
+use Rattle.desk_rows.specs.Puts.{ArePut, OfItems, OfItemsBefore, PutsAll, StopsAt, statement}
 use Rattle.desk_rows.specs.Turns.{FailsWith, Ran, Stops}
 use Rattle.desk_parts.specs.declared.file_table.FileTable.{FileTable}
 use Rattle.desk_parts.specs.declared.file_table.FileTable.TheVariants as tables
@@ -39,7 +39,7 @@ of_items g gives it = record {
 abbrev pub of_first_row : {S : Type 0} → Ghosts S → Putting S
 of_first_row g = record {
   stops = λ old new e. FailsWith (statement (PutRow tables.Book first_row)) (state g old) new e;
-  puts = λ old new. PutsRow tables.Book first_row (state g old) (state g new)
+  puts = λ old new. PutsAll (PutRow tables.Book first_row ∷ []) (state g old) (state g new)
       × Ran (statement (PutRow tables.Book first_row)) (state g old) (state g new);
 }
 

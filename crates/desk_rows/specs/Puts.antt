@@ -15,7 +15,6 @@ use Rattle.desk_parts.specs.declared.file_table.FileTable.{FileTable}
 use Rattle.desk_parts.specs.declared.file_table.FileTable.TheVariants as tables
 use Rattle.desk_parts.specs.declared.put.Put.{Put}
 use Rattle.desk_parts.specs.Puts.{RowPut, PutRow, SetColumns, Flags, Place, Print, Resolved, Span, Table, Version, change_of, put_of, table_put}
-use Rattle.desk_parts.specs.Rows.{RowOf}
 use Rattle.desk_rows.specs.Contents.{Contents}
 use Rattle.desk_rows.specs.Descriptions.{description_of}
 use Rattle.desk_rows.specs.Layout.{Layout}
@@ -74,12 +73,6 @@ abbrev pub RunsTo : {V : Type 0} → Result V Error → List ℕ → Row → Sta
 RunsTo (Ok v) text params old new = (count : ℕ) × ExecutesInside 0 text params old new (Ok count)
 RunsTo (Err e) text params old new =
     KeepsCommit old new × (old.in_transaction ≡ true → ExecutesInside 0 text params old new (Err e))
-
--- a row is put, over the same commit
-abbrev pub PutsRow : (t : FileTable) → RowOf t → State → State → Type 0
-PutsRow t x old new =
-    (committed : Database) (l : Layout) (c : Contents) → l.has t ≡ true
-    → IsUnder committed l c old → IsUnder committed l (put_into c (PutRow t x)) new
 
 -- A put that allocates before its statement runs: a print is encoded, and cells are written as bytes.
 abbrev pub TakesMemory : RowPut → Type 0

@@ -22,7 +22,7 @@ use Rattle.sql_tables.proofs.Writing.{Spares}
 use Rattle.desk_rows.specs.Descriptions.{description_of, table_of}
 use Rattle.desk_rows.specs.Layout.{Layout}
 use Rattle.desk_rows.specs.Contents.{Contents}
-use Rattle.desk_rows.specs.Puts.{IsPut, PutsAll, PutsRow, RunsTo, put_into, puts_into, statement}
+use Rattle.desk_rows.specs.Puts.{IsPut, PutsAll, RunsTo, put_into, puts_into, statement}
 use Rattle.desk_rows.specs.Turns.{FailsWith, Ran}
 use Rattle.desk_rows.specs.Rows.{columns_of, set_at}
 use Rattle.desk_parts.specs.Rows.{RowOf}
@@ -93,8 +93,8 @@ module _ (it : RowPut) (old new : State) where
   put_ran (Err e) ran = record { put = λ committed l c there was. tt; ran = tt; is_open = tt; inside = tt; kept = ran.0; told = λ was. inl (ran.1 was) }
 
 module _ (x : BookRow) (old new : State) where
-  pub puts_row : (r : Result (Unit {0}) Error) → IsPut r (PutRow tables.Book x) old new → OnOk r (PutsRow tables.Book x old new × Ran (statement (PutRow tables.Book x)) old new)
-  puts_row (Ok v) it = (it.put, it.ran)
+  pub puts_row : (r : Result (Unit {0}) Error) → IsPut r (PutRow tables.Book x) old new → OnOk r (PutsAll (PutRow tables.Book x ∷ []) old new × Ran (statement (PutRow tables.Book x)) old new)
+  puts_row (Ok v) it = (λ committed l c there was. it.put committed l c there.0 was, it.ran)
   puts_row (Err e) it = tt
 
   -- it allocates nothing of its own

@@ -284,7 +284,7 @@ module _ {S : Type 0} (g : Ghosts S) (old last : Held S) (live : IsLive (state g
       let made = makes.made committed old.schema rows old.schema differ (begins_making committed old.schema (state g (with_transaction old)) refl sound refl refl) makes.taken.0 in
       let done = finished old.schema makes.taken.0 (sound_is_low old.schema rows sound) committed rows (state g mid) made in
       let others = (state g mid).now.trees in
-      let shown = (put.4.0 committed (new_layout old.schema) (no_contents others) refl done.0).shows in (
+      let shown = (put.4.0 committed (new_layout old.schema) (no_contents others) (refl, tt) done.0).shows in (
         makes.taken.0,
         (others, done.1, done.2, done.3, shows_on (state g last) new (new_layout old.schema) (first_contents others) same shown),
         (last, run_then g (map creation new_tables) (statement (PutRow tables.Book first_row) ∷ []) (with_transaction old) mid last put.2.1 (one_ran g (statement (PutRow tables.Book first_row)) mid last put.4.1 put.3), same),
