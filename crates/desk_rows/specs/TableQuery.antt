@@ -28,16 +28,17 @@ pub record TableQuery : Type 0 where
   pub columns : Row → Row
   pub kinds : List Kind
 
--- the first columns of a row that the query shows
-abbrev pub given : FileTable → Row → Row
-given t = columns_at (numbers_from 0 (description_of t).shown)
-
+-- the one that reads a table: as many of the first columns are read as it shows
 abbrev pub query_of : FileTable → TableQuery
 query_of t = record {
   text = (description_of t).read;
-  columns = given t;
+  columns = columns_at (numbers_from 0 (description_of t).shown);
   kinds = map (kind_at (description_of t).columns) (description_of t).shown;
 }
+
+-- the columns that are read of a row that the query shows
+abbrev pub given : FileTable → Row → Row
+given t = (query_of t).columns
 
 -- what is read are the rows that the statement showed, in turn
 abbrev pub Gives : {X : Type 0} → TableQuery → (X → Row) → State → State → List X → Type 0
