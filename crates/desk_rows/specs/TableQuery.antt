@@ -59,13 +59,8 @@ Begins at (Text ∷ kinds) row = IsOfKind Text (column row at)
 Begins at (Blob ∷ kinds) row = IsOfKind Blob (column row at)
 Begins at (Any ∷ kinds) row = Begins (suc at) kinds row
 
--- there is a row, and the first of them begins so
-abbrev pub BeginWith : List Kind → List Row → Type 0
-BeginWith kinds [] = ⊥
-BeginWith kinds (row ∷ rows) = Begins 0 kinds row
-
 -- Why nothing is read: the statement failed, or not all rows that it showed have the kinds, or they aren't apart as they have to be, or an
--- allocation for them failed, the first of which is for the first row.
+-- allocation for them failed, the first of which is for the first row once that begins so.
 pub data FailsAs {X : Type 0} (query : TableQuery) (written : X → Row) (Apart : List X → Type 0)
     (before after : State) (fault : DatabaseFault) : Type 0 where
   failed : (e : Error) → FailsToQuery query.text [] before after e → IsToldAs e fault
@@ -75,9 +70,14 @@ pub data FailsAs {X : Type 0} (query : TableQuery) (written : X → Row) (Apart 
       → fault ≡ Refused → FailsAs query written Apart before after fault
   together : (xs : List X) → Gives query written before after xs → ¬ Apart xs → fault ≡ Refused
       → FailsAs query written Apart before after fault
-  no_memory : (rows : List Row) → Shown query.text [] before after rows
-      → BeginWith query.kinds rows → fault ≡ NoMemory
+  no_memory : (row : Row) (rows : List Row) → Shown query.text [] before after (row ∷ rows)
+      → Begins 0 query.kinds row → fault ≡ NoMemory
       → FailsAs query written Apart before after fault
+
+-- There is a row, and the first of them begins so. Only a private function needs this.
+abbrev pub BeginWith : List Kind → List Row → Type 0
+BeginWith kinds [] = ⊥
+BeginWith kinds (row ∷ rows) = Begins 0 kinds row
 
 -- The rows of a tree can be read: their rowids are integers where these are shown, and the texts are UTF-8 where there are any.
 pub record AreReadable (t : FileTable) (rows : List Row) : Type 0 where

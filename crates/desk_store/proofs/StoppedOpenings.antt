@@ -1,5 +1,5 @@
 -- What a connection shows after its file wasn't opened, though it isn't refused.
-use Rattle.std.proofs.Common.{◌≡◌, ◌∙◌, List, [], None, inl, inr, subst, sym}
+use Rattle.std.proofs.Common.{◌≡◌, ◌∙◌, List, [], ◌∷◌, None, inl, inr, subst, sym}
 use Rattle.sqlite_trees.specs.declared.store.Store.{Ghosts}
 use Rattle.sqlite_value.specs.Order.{Row}
 use Rattle.sqlite.specs.Clock.{timed}
@@ -34,7 +34,7 @@ read_as_before : {X : Type 0} (t : FileTable) (written : X → Row) (Apart : Lis
 read_as_before t written Apart old new why same (failed e fails told) opened = query_as_before t old new e same fails opened
 read_as_before t written Apart old new why same (unreadable rows seen not is) opened = (shown_quietly (description_of t).read (reads_only t) [] old new rows seen).0.now_is
 read_as_before t written Apart old new why same (together xs gives not is) opened = (shown_quietly (description_of t).read (reads_only t) [] old new gives.0 gives.1).0.now_is
-read_as_before t written Apart old new why same (no_memory rows seen begins is) opened = (shown_quietly (description_of t).read (reads_only t) [] old new rows seen).0.now_is
+read_as_before t written Apart old new why same (no_memory row rows seen begins is) opened = (shown_quietly (description_of t).read (reads_only t) [] old new (row ∷ rows) seen).0.now_is
 
 module _ {S : Type 0} (g : Ghosts S) (old : Held S) (new : State) (told : OpenFault) (same : (state g old).now ≡ (state g old).committed) where
   pub still_shown : StopsOpening g old new told → ShowsAsBefore (state g old) new

@@ -40,12 +40,18 @@ head_or d (x ∷ xs) = x
 
 -- ---- a read that fails
 
+-- an allocation for rows of which the first begins so
+pub lacks_memory : {X : Type 0} (query : TableQuery) (written : X → Row) (Apart : List X → Type 0) (before after : State) (rows : List Row) → Shown query.text [] before after rows
+    → BeginWith query.kinds rows → FailsAs query written Apart before after NoMemory
+lacks_memory query written Apart before after [] shown begins = absurd begins
+lacks_memory query written Apart before after (row ∷ rows) shown begins = no_memory row rows shown begins refl
+
 module _ {X : Type 0} (query : TableQuery) (written : X → Row) (before after : State) where
   fails_to_read : {A : Type 0} (rows : List Row) → Shown query.text [] before after rows → (r : Result A DatabaseFault) → IfErr r (λ fault. fault ≢ Lost)
       → (AllByRecursion (HasKinds query.kinds) rows → IfErr r (λ fault. fault ≡ NoMemory))
       → IfErr r (λ fault. fault ≡ NoMemory → BeginWith query.kinds rows) → IfErr r (FailsAs query written AnyRows before after)
   fails_to_read rows shown (Ok a) not_lost kinds begins = tt
-  fails_to_read rows shown (Err NoMemory) not_lost kinds begins = no_memory rows shown (begins refl) refl
+  fails_to_read rows shown (Err NoMemory) not_lost kinds begins = lacks_memory query written AnyRows before after rows shown (begins refl)
   fails_to_read rows shown (Err Lost) not_lost kinds begins = absurd (not_lost refl)
   fails_to_read rows shown (Err Refused) not_lost kinds begins = unreadable rows shown (λ all. absurd (let none = kinds all in cc)) refl
 
@@ -164,7 +170,7 @@ module _ {V X : Type 0} (items : V → List X) (t : FileTable) (view : X → Sho
   still_fails fault (failed e fails told) = failed e fails told
   still_fails fault (unreadable rows seen not is) = unreadable rows seen not is
   still_fails fault (together xs gives not is) = absurd (not tt)
-  still_fails fault (no_memory rows seen begins is) = no_memory rows seen begins is
+  still_fails fault (no_memory row rows seen begins is) = no_memory row rows seen begins is
 
   are_apart : (xs : V) → AnswersRows (Ok xs) items t view AnyRows old new → Apart (items xs) → AnswersRows (Ok xs) items t view Apart old new
   are_apart xs a is = record {
@@ -191,7 +197,7 @@ module _ {V X : Type 0} (items : V → List X) (t : FileTable) (view : X → Sho
 
   not_judged : (xs : V) (a : AnswersRows (Ok xs) items t view AnyRows old new) → BeginWith (query_of t).kinds a.gives.0 → AnswersRows (Err NoMemory) items t view Apart old new
   not_judged xs a begins =
-      not_read items t view Apart old new NoMemory (no_memory a.gives.0 a.gives.1 begins refl) (λ is. a.unchanged) (λ can unlimited readable apart is. absurd (cc))
+      not_read items t view Apart old new NoMemory (lacks_memory (query_of t) (λ x. shown_columns t (view x)) Apart old new a.gives.0 a.gives.1 begins) (λ is. a.unchanged) (λ can unlimited readable apart is. absurd (cc))
 
   -- by whether they were found to be apart, where memory for that is asked only once the first row begins with values of its kinds
   pub judged : (xs : V) (apart : Result Bool AllocError) (r : Result V DatabaseFault) (a : AnswersRows (Ok xs) items t view AnyRows old new)
