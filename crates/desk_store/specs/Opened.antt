@@ -187,9 +187,6 @@ filled_as fault.NoMemory = NoMemory
 filled_as fault.Lost = Lost
 filled_as fault.Refused = Lost
 
-abbrev pub IsFilledAs : Error → OpenFault → Type 0
-IsFilledAs e told = (why : DatabaseFault) × IsToldAs e why × (told ≡ filled_as why)
-
 -- A statement that makes these tables or puts what the book has for them failed with an error that is reported so, or the commit did. If the
 -- connection is open still, it shows what it showed before.
 pub record StopsFilling {S : Type 0} (g : Ghosts S) (tables : NewTables) (book : Book) (old : Held S)
@@ -198,7 +195,9 @@ pub record StopsFilling {S : Type 0} (g : Ghosts S) (tables : NewTables) (book :
   pub fill : Fills tables book puts
   pub error : Error
   pub fails : FailsToChange g (which_new tables) (of_items g LendsFirst puts) (with_transaction old) new error
-  pub is_told : IsFilledAs error told
+  pub why : DatabaseFault
+  pub is_why : IsToldAs error why
+  pub is_told : told ≡ filled_as why
   pub as_before : ShowsAsBefore (state g old) new
 
 -- A table isn't read; or all of them are, and there is no memory for the book; or they show a book, and what the file lacks isn't filled.

@@ -2,9 +2,11 @@
 
 ghost use Rattle.std.specs.Prelude.{◌≡◌, false, IfErr, OnOk};
 ghost use Rattle.desk_parts.specs.Parts.{rows_in};
+ghost use Rattle.desk_rows.specs.Fault.{IsToldAs};
 ghost use Rattle.desk_rows.specs.Layout.{Layout};
+ghost use Rattle.desk_rows.specs.declared.fault.DatabaseFault.{DatabaseFault};
 ghost use Rattle.desk_store.specs.Filling.{HoldsWith};
-ghost use Rattle.desk_store.specs.Opened.{HasGained, IsFilledAs, Stands, StopsFilling, lacked_by, which_new};
+ghost use Rattle.desk_store.specs.Opened.{HasGained, Stands, StopsFilling, filled_as, lacked_by, which_new};
 ghost use Rattle.desk_store.specs.Opening.{IsRefusal};
 ghost use Rattle.desk_rows.specs.States.{ShowsContents};
 ghost use Rattle.sql_tables.specs.States.{IsCommitted, IsSettled};
@@ -33,7 +35,7 @@ pub(crate) fn lacked_by(parts: &Parts) -> Option<NewTables>
 /// How an error is reported that stopped the filling of a file which shows a book: that one is there is known by then, so no
 /// error says that there is none.
 fn stopped_by(error: Error) -> OpenFault
-    ensures told { IsFilledAs error result }
+    ensures told { (why : DatabaseFault) × IsToldAs error why × (result ≡ filled_as why) }
     ensures not_refused { ¬ IsRefusal result }
 {
     match DatabaseFault::of(error) {

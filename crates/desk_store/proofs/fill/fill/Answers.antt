@@ -41,6 +41,8 @@ returns-in-Err-clause-stops g c clean = record {
   error = c.in-Err.error;
   fails = subst (λ (tables : List FileTable). FailsToChange g.S.Store tables (of_items g.S.Store LendsFirst c.filling.result) (with_transaction c.args.conn.now) (state g.S.Store c.write_with_tables.new.conn) c.in-Err.error)
       c.file_tables.ensures (c.in-Err.ensures.commits clean).fails;
-  is_told = c.stopped_by.ensures.told;
+  why = c.stopped_by.ensures.told.0;
+  is_why = c.stopped_by.ensures.told.1;
+  is_told = c.stopped_by.ensures.told.2;
   as_before = (c.in-Err.ensures.commits clean).as_before;
 }
