@@ -1,5 +1,5 @@
 -- The book of a new file, and a file that has all tables of one.
-use Rattle.std.proofs.Common.{◌≡◌, Bool, true, false, if◌then◌else◌, List, Option, Some, None, is_some, refl, sym, subst, ap₂, ◌∙◌}
+use Rattle.std.proofs.Common.{◌≡◌, Bool, not, true, false, cond, if◌then◌else◌, List, [], ◌∷◌, Option, Some, None, refl, sym, subst, ◌∙◌}
 use Rattle.sqlite_schema.specs.declared.schema.Schema.{Schema}
 use Rattle.sqlite_trees.specs.Tree.{Trees}
 use Rattle.sqlite.specs.State.{State}
@@ -19,7 +19,8 @@ use Rattle.desk_rows.specs.Making.{IsMade, IsNew, is_among, new_layout}
 use Rattle.desk_rows.proofs.Schema.MadeTables.{first_contents}
 use Rattle.desk_store.proofs.Exact.{stays_there}
 use Rattle.desk_store.proofs.Opened.{in_both}
-use Rattle.desk_store.specs.Opened.{have_names, lacked_by, lacking, missing_tables, which_lacked, with_missing_tables}
+use Rattle.desk_store.specs.Filling.{which_lacked}
+use Rattle.desk_store.specs.Opened.{lacking, missing_tables, with_missing_tables}
 use Rattle.desk_rows.specs.States.{ShowsContents}
 use Rattle.desk_rows.specs.Tables.{is_there}
 
@@ -36,11 +37,16 @@ made_holds s db is = (first_contents is.1.0, is.1.4, new-shown)
 
 -- ---- a file with all tables of a new one
 
-gains : (names cells : Bool) → ((if is_among (which_lacked (lacking names cells)) tables.Cache then true else cells) ≡ true)
-    × ((if is_among (which_lacked (lacking names cells)) tables.NamedCorr then true else names) ≡ true)
+-- those that it lacks, by whether it has a table for entries with names and one for cells
+abbrev missing : (names cells : Bool) → List FileTable
+missing names cells = cond (not cells) (tables.Cache ∷ cond (not names) (tables.NamedCorr ∷ []) []) (cond (not names) (tables.NamedCorr ∷ []) [])
+
+gains : (names cells : Bool) → ((if is_among (missing names cells) tables.Cache then true else cells) ≡ true)
+    × ((if is_among (missing names cells) tables.NamedCorr then true else names) ≡ true)
 gains false false = (refl, refl)
-gains names false = (refl, refl)
-gains names cells = (refl, refl)
+gains false true = (refl, refl)
+gains true false = (refl, refl)
+gains true true = (refl, refl)
 
 pub completed_tables : (f : Format) (l : Layout) → IsOfFormat f l → HasNewTables (with_missing_tables l)
 completed_tables f l of =
@@ -52,24 +58,29 @@ completed_tables f l of =
 
 -- ---- what the rows say of it
 
-pub lacked_rows : (l : Layout) (c : Contents) → lacked_by (rows_of l c) ≡ lacking (l.has tables.NamedCorr) (l.has tables.Cache)
-lacked_rows l c = by_tables (l.has tables.NamedCorr) (l.has tables.Cache) refl refl
+pub lacked_rows : (l : Layout) (c : Contents) → which_lacked (lacking (rows_of l c).entries (rows_of l c).caches) ≡ missing_tables l
+lacked_rows l c = by_tables (l.has tables.NamedCorr) (l.has tables.Cache)
   where
-    by_tables : (entries cells : Bool) → l.has tables.NamedCorr ≡ entries → l.has tables.Cache ≡ cells → lacked_by (rows_of l c) ≡ lacking (l.has tables.NamedCorr) (l.has tables.Cache)
-    by_tables true true e k = rw (e, k) refl
-    by_tables entries true e k = rw (e, k) refl
-    by_tables entries cells e k = rw (e, k) refl
+    by_tables : (names cells : Bool)
+        → which_lacked (lacking (if names then Named (c.rows tables.NamedCorr) else Unnamed (c.rows tables.Corr)) (if cells then Some (c.rows tables.Cache) else None)) ≡ missing names cells
+    by_tables false false = refl
+    by_tables false true = refl
+    by_tables true false = refl
+    by_tables true true = refl
 
-same_names : (x y : EntryRows) → AreSameEntries x y → have_names x ≡ have_names y
-same_names (Unnamed x) (Unnamed y) same = refl
-same_names (Named x) (Named y) same = refl
-same_names x y same = absurd same
+same_entries : (x y : EntryRows) (p : Option (List ParaCells)) → AreSameEntries x y → lacking x p ≡ lacking y p
+same_entries (Unnamed x) (Unnamed y) None same = refl
+same_entries (Unnamed x) (Unnamed y) (Some p) same = refl
+same_entries (Named x) (Named y) None same = refl
+same_entries (Named x) (Named y) (Some p) same = refl
+same_entries x y p same = absurd same
 
-same_cells : (p q : Option (List ParaCells)) → AreSameCaches p q → is_some p ≡ is_some q
-same_cells None None same = refl
-same_cells (Some p) (Some q) same = refl
-same_cells p q same = absurd same
+same_cells : (x : EntryRows) (p q : Option (List ParaCells)) → AreSameCaches p q → lacking x p ≡ lacking x q
+same_cells x None None same = refl
+same_cells (Unnamed x) (Some p) (Some q) same = refl
+same_cells (Named x) (Some p) (Some q) same = refl
+same_cells x p q same = absurd same
 
-pub lacked_same : (a b : FileRows) → AreSameRows a b → lacked_by a ≡ lacked_by b
+pub lacked_same : (a b : FileRows) → AreSameRows a b → lacking a.entries a.caches ≡ lacking b.entries b.caches
 lacked_same a b same =
-    ap₂ lacking (same_names a.entries b.entries same.entries) (same_cells a.caches b.caches same.caches)
+    same_entries a.entries b.entries a.caches same.entries ∙ same_cells b.entries a.caches b.caches same.caches

@@ -14,8 +14,8 @@ use Rattle.desk_rows.specs.Contents.{Contents}
 use Rattle.desk_rows.specs.Layout.{IsOther, Layout}
 use Rattle.desk_rows.specs.Making.{with_tables}
 use Rattle.desk_model.specs.declared.new_tables.NewTables.{NewTables}
-use Rattle.desk_store.specs.Filling.{HoldsEitherWith}
-use Rattle.desk_store.specs.Opened.{HasGained, Keeps, which_lacked}
+use Rattle.desk_store.specs.Filling.{HoldsEitherWith, which_lacked}
+use Rattle.desk_store.specs.Opened.{HasGained, Keeps}
 use Rattle.desk_rows.specs.States.{ShowsContents}
 use Rattle.desk_store.proofs.BookKeeps.{leaves_shown}
 

@@ -28,8 +28,8 @@ use Rattle.desk_store.specs.Formats.{HasThoseRead, IsOfEither}
 use Rattle.desk_store.specs.Found.{HasNone, RowsShowIn}
 use Rattle.desk_rows.specs.Layout.{Layout}
 use Rattle.desk_rows.specs.Making.{IsNew, new_layout, new_tables, with_tables}
-use Rattle.desk_store.specs.Filling.{HoldsEitherWith, HoldsWith}
-use Rattle.desk_store.specs.Opened.{HasGained, HoldsEither, HoldsEmpty, HoldsNone, IsMadeNew, MayBring, OpensBook, Stands, TellsOf, TellsOfNone, lacked_by, missing_tables, which_lacked}
+use Rattle.desk_store.specs.Filling.{HoldsEitherWith, HoldsWith, which_lacked}
+use Rattle.desk_store.specs.Opened.{HasGained, HoldsEither, HoldsEmpty, HoldsNone, IsMadeNew, MayBring, OpensBook, Stands, TellsOf, TellsOfNone, lacking, missing_tables}
 use Rattle.desk_store.specs.Reading.{ReadsFile}
 use Rattle.desk_store.specs.Opening.{IsOpenedAs, IsRefusal, rebuilt_as}
 use Rattle.desk_rows.specs.States.{IsFile, ShowsContents}
@@ -105,7 +105,7 @@ module _ {S : Type 0} (g : Ghosts S) (make : Bool) (old : Held S) (there : ¬ Ha
 
     -- ---- once they show a book
 
-    module _ {book : Book} {some : Option NewTables} (shows_it : RowsShow rows book) (is : some ≡ lacked_by rows) where
+    module _ {book : Book} {some : Option NewTables} (shows_it : RowsShow rows book) (is : some ≡ lacking rows.entries rows.caches) where
       stood : (l : Layout) (c : Contents) → IsOfEither l → ShowsContents l c s → RowsShow (rows_of l c) book
       stood l c of shows = shown rows (rows_of l c) (turned (rows_of l c) rows (read.read of.0 l c of.1 shows).same) book shows_it
 
@@ -114,7 +114,7 @@ module _ {S : Type 0} (g : Ghosts S) (make : Bool) (old : Held S) (there : ¬ Ha
       one_stood l other (of, (c, shows, others)) = one_book rows other book (shown (rows_of l c) rows (read.read of.0 l c of.1 shows).same other others) shows_it
 
       lacks : (l : Layout) (c : Contents) → IsOfEither l → ShowsContents l c s → which_lacked some ≡ missing_tables l
-      lacks l c of shows = ap which_lacked (is ∙ sym (lacked_same (rows_of l c) rows (read.read of.0 l c of.1 shows).same) ∙ lacked_rows l c)
+      lacks l c of shows = ap which_lacked (is ∙ sym (lacked_same (rows_of l c) rows (read.read of.0 l c of.1 shows).same)) ∙ lacked_rows l c
 
       pub brings : (db : Trees) → HoldsWith (which_lacked some) book mid db → MayBring make s db
       brings db holds = record {
@@ -154,7 +154,7 @@ module _ {S : Type 0} (g : Ghosts S) (make : Bool) (old : Held S) (there : ¬ Ha
       }
 
   -- if the tables that it lacks are made, a crash leaves nothing new but all of it
-  pub fills : {rows : FileRows} {book : Book} {mid new : State} {some : Option NewTables} → some ≡ lacked_by rows → RowsShow rows book
+  pub fills : {rows : FileRows} {book : Book} {mid new : State} {some : Option NewTables} → some ≡ lacking rows.entries rows.caches → RowsShow rows book
       → (HasCleanDisk mid → ReadsFile s mid rows) → Survives s mid (λ _. ⊥) → Survives mid new (HoldsWith (which_lacked some) book mid)
       → Survives s new (MayBring make s)
   fills {mid} {new} is shows_it read reads writes =

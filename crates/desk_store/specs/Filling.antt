@@ -1,14 +1,19 @@
 -- How tables that a book's file lacks are made and filled. Only private functions and proofs need these words.
-use Rattle.std.specs.Prelude.{◌⊎◌, List}
+use Rattle.std.specs.Prelude.{◌⊎◌, List, [], Option, option_map, unwrap_or}
 use Rattle.sqlite_trees.specs.Tree.{Trees}
 use Rattle.sqlite.specs.State.{State}
 use Rattle.desk_model.specs.Book.{Book}
+use Rattle.desk_model.specs.declared.new_tables.NewTables.{NewTables}
 use Rattle.desk_parts.specs.declared.file_table.FileTable.{FileTable}
 use Rattle.desk_rows.specs.Layout.{Layout}
 use Rattle.desk_rows.specs.Making.{with_tables}
 use Rattle.desk_rows.specs.States.{IsFile}
 use Rattle.desk_store.specs.Books.{HoldsBook}
-use Rattle.desk_store.specs.Opened.{HasGained, Stands}
+use Rattle.desk_store.specs.Opened.{HasGained, Stands, which_new}
+
+-- the tables that are lacked, if any are, in the order in which they are made
+abbrev pub which_lacked : Option NewTables → List FileTable
+which_lacked tables = unwrap_or (option_map which_new tables) []
 
 -- Whatever file the book stood in, the trees hold it in that file with these tables too, and nothing else there is lost.
 abbrev pub HoldsWith : List FileTable → Book → State → Trees → Type 0

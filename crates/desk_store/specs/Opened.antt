@@ -1,5 +1,5 @@
 -- What opening a book's file reports, what it writes, and what the connection shows then.
-use Rattle.std.specs.Prelude.{◌≡◌, ◌⊎◌, ℤ, Bool, true, false, IsTrue, List, [], ◌∷◌, Option, Some, None, IfErr, IfOk, OnOk, Result, Err, is_some, option_map, unwrap_or, ⊤}
+use Rattle.std.specs.Prelude.{not, ◌≡◌, ◌⊎◌, ℤ, Bool, true, false, IsTrue, List, [], ◌∷◌, filter, Option, Some, None, IfErr, IfOk, OnOk, Result, Err, ⊤}
 use Rattle.sqlite_catalog.specs.Change.{KeepsRows}
 use Rattle.sqlite_catalog.specs.Listing.{IsSound}
 use Rattle.sqlite_schema.specs.declared.schema.Schema.{Schema}
@@ -16,6 +16,7 @@ use Rattle.desk_parts.specs.declared.file_table.FileTable.{FileTable}
 use Rattle.desk_parts.specs.declared.file_table.FileTable.TheVariants as tables
 use Rattle.desk_parts.specs.FileRows.{EntryRows, FileRows, Named, Unnamed}
 use Rattle.desk_parts.specs.Puts.{LendsFirst, RowPut}
+use Rattle.desk_parts.specs.Rows.{ParaCells}
 use Rattle.desk_model.specs.FilledRows.{Fills}
 use Rattle.desk_model.specs.Shows.{Shows as RowsShow}
 use Rattle.desk_model.specs.declared.new_tables.NewTables.{NewTables}
@@ -87,19 +88,12 @@ TellsOfNone make g old new NoMemory = make ≡ true
 
 -- ---- the tables that a book's file lacks
 
--- a table for entries with names, and one for the cells of the paragraphs
-abbrev pub lacking : (has_entries has_cells : Bool) → Option NewTables
-lacking false false = Some EntriesAndBraille
-lacking false true = Some Entries
-lacking true false = Some Braille
-lacking true true = None
-
-abbrev pub have_names : EntryRows → Bool
-have_names (Unnamed rows) = false
-have_names (Named rows) = true
-
-abbrev pub lacked_by : FileRows → Option NewTables
-lacked_by rows = lacking (have_names rows.entries) (is_some rows.caches)
+-- what a file lacks of a table for entries with names and one for the cells of the paragraphs, if it lacks any, by its rows
+abbrev pub lacking : EntryRows → Option (List ParaCells) → Option NewTables
+lacking (Unnamed entries) None = Some EntriesAndBraille
+lacking (Unnamed entries) (Some cells) = Some Entries
+lacking (Named entries) None = Some Braille
+lacking (Named entries) (Some cells) = None
 
 -- these tables, in the order in which they are made
 abbrev pub which_new : NewTables → List FileTable
@@ -107,13 +101,9 @@ which_new EntriesAndBraille = tables.Cache ∷ tables.NamedCorr ∷ []
 which_new Entries = tables.NamedCorr ∷ []
 which_new Braille = tables.Cache ∷ []
 
--- those that are lacked, if any are
-abbrev pub which_lacked : Option NewTables → List FileTable
-which_lacked tables = unwrap_or (option_map which_new tables) []
-
--- the tables of a new file that it lacks, and the layout with them
+-- those that a layout lacks, in the same order, and the layout with them
 abbrev pub missing_tables : Layout → List FileTable
-missing_tables l = which_lacked (lacking (l.has tables.NamedCorr) (l.has tables.Cache))
+missing_tables l = filter (λ t. not (l.has t)) (tables.Cache ∷ tables.NamedCorr ∷ [])
 
 abbrev pub with_missing_tables : Layout → Layout
 with_missing_tables l = with_tables (missing_tables l) l
@@ -207,7 +197,7 @@ pub data StopsOpening {S : Type 0} (g : Ghosts S) (old : Held S) (new : State) (
   rebuilding : (rows : FileRows) → AreFileRows (state g old) rows → Stays (state g old) new → told ≡ NoMemory
       → StopsOpening g old new told
   filling : (rows : FileRows) (book : Book) (tables : NewTables) (before : Held S)
-      → AreFileRows (state g old) rows → RowsShow rows book → lacked_by rows ≡ Some tables
+      → AreFileRows (state g old) rows → RowsShow rows book → lacking rows.entries rows.caches ≡ Some tables
       → Stays (state g old) (state g before) → StopsFilling g tables book before new told
       → StopsOpening g old new told
 

@@ -6,7 +6,7 @@ ghost use Rattle.desk_rows.specs.Fault.{IsToldAs};
 ghost use Rattle.desk_rows.specs.Layout.{Layout};
 ghost use Rattle.desk_rows.specs.declared.fault.DatabaseFault.{DatabaseFault};
 ghost use Rattle.desk_store.specs.Filling.{HoldsWith};
-ghost use Rattle.desk_store.specs.Opened.{HasGained, Stands, StopsFilling, filled_as, lacked_by, which_new};
+ghost use Rattle.desk_store.specs.Opened.{HasGained, Stands, StopsFilling, filled_as, lacking, which_new};
 ghost use Rattle.desk_store.specs.Opening.{IsRefusal};
 ghost use Rattle.desk_rows.specs.States.{ShowsContents};
 ghost use Rattle.sql_tables.specs.States.{IsCommitted, IsSettled};
@@ -22,7 +22,7 @@ use std::alloc::Global;
 
 /// What the file of these parts lacks of a new one.
 pub(crate) fn lacked_by(parts: &Parts) -> Option<NewTables>
-    ensures { result ≡ lacked_by (rows_in parts.now) }
+    ensures { result ≡ lacking (rows_in parts.now).entries (rows_in parts.now).caches }
 {
     match (&parts.entries, &parts.cache) {
         (EntryRows::Unnamed(_), None) => Some(NewTables::EntriesAndBraille),
