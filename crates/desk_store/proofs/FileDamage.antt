@@ -1,5 +1,5 @@
 -- When a file shows a book, and that at most one refusal is reported of any other.
-use Rattle.std.proofs.Common.{◌≡◌, ◌∙◌, ℤ, pos, ◌≤ℤ◌, List, [], ◌∷◌, map, inl, inr, arith, refl, sym, subst, ap, ap₂, true≢false}
+use Rattle.std.proofs.Common.{◌≡◌, ◌⊎◌, ◌∙◌, ℤ, pos, ◌≤ℤ◌, List, [], ◌∷◌, map, inl, inr, arith, refl, sym, subst, ap, ap₂, true≢false}
 use Rattle.std.specs.List.{AllByRecursion}
 use Rattle.std.proofs.lemmas.Int.{ints}
 use Rattle.std.proofs.lemmas.List.Elements.{All-from_recursion}
@@ -13,7 +13,7 @@ use Rattle.desk_parts.specs.declared.rows.BookRow.{BookRow}
 use Rattle.desk_rows.specs.Contents.{Contents}
 use Rattle.desk_rows.specs.Layout.{Layout}
 use Rattle.desk_store.specs.BookFile.{rows_of}
-use Rattle.desk_store.specs.Formats.{Format, HasThoseRead, IsOfFormat, Presence, named, presence, unnamed}
+use Rattle.desk_store.specs.Formats.{Format, IsExact, IsOfEither, IsOfFormat, Presence, named, presence, unnamed}
 use Rattle.desk_store.specs.Opened.{LacksTables, TellsOf}
 use Rattle.desk_store.specs.Opening.{CanAllBeRead, CanBeRead, IsBookRow, IsNewer, IsRefusal, format_in}
 use Rattle.desk_store.specs.Undamaged.{HasBook, IsUndamaged}
@@ -72,7 +72,7 @@ module _ (l : Layout) (c : Contents) where
     marks = All-from_recursion _ _ (readable_in_both f tables.Mark can refl).1;
   }
 
-  pub has_book : HasThoseRead l → IsUndamaged l c → HasBook l c
+  pub has_book : (IsExact l ⊎ IsOfEither l) → IsUndamaged l c → HasBook l c
   has_book those u =
       let f = format_in u.row.format in
       let of = of_read f l c those u.readable in

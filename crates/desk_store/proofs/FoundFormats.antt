@@ -1,5 +1,5 @@
 -- Which format a file is of whose rows were found.
-use Rattle.std.proofs.Common.{◌≡◌, Bool, ◌&&◌, true, refl, sym, subst, inl, inr}
+use Rattle.std.proofs.Common.{◌≡◌, ◌⊎◌, Bool, ◌&&◌, true, refl, sym, subst, inl, inr}
 use Rattle.std.proofs.lemmas.Bool.{and_parts, not-true}
 use Rattle.sqlite_schema.specs.declared.schema.Schema.{Schema}
 use Rattle.sqlite.specs.State.{State}
@@ -7,7 +7,7 @@ use Rattle.desk_parts.specs.declared.file_table.FileTable.{FileTable}
 use Rattle.desk_parts.specs.declared.file_table.FileTable.TheVariants as tables
 use Rattle.desk_parts.specs.FileRows.{FileRows}
 use Rattle.desk_rows.specs.Contents.{Contents}
-use Rattle.desk_store.specs.Formats.{Format, HasThoseRead, IsExact, IsOfFormat, IsPresent, named, presence, unnamed}
+use Rattle.desk_store.specs.Formats.{Format, IsExact, IsOfEither, IsOfFormat, IsPresent, named, presence, unnamed}
 use Rattle.desk_store.specs.Found.{AreFileRows, format_kept}
 use Rattle.desk_rows.specs.Layout.{Layout}
 use Rattle.desk_store.specs.Opening.{has_tables}
@@ -42,7 +42,7 @@ exact_of l exact f book is t =
     subst (λ (has : Bool). IsPresent (presence f t) has (is_there l.schema t)) (sym (exact t)) (there_in l.schema f book is t)
 
 -- rows were found, so the tables of their format are there
-pub of_format : (s : State) (rows : FileRows) (l : Layout) (c : Contents) → AreFileRows s rows → HasThoseRead l → ShowsContents l c s → (format : Format) × IsOfFormat format l
+pub of_format : (s : State) (rows : FileRows) (l : Layout) (c : Contents) → AreFileRows s rows → (IsExact l ⊎ IsOfEither l) → ShowsContents l c s → (format : Format) × IsOfFormat format l
 of_format s rows l c are (inr of) shows = of
 of_format s rows l c are (inl exact) shows =
     let format = format_kept rows.entries in (

@@ -1,5 +1,5 @@
 -- How the tables of a book's file are checked, from what was read of `book`.
-use Rattle.std.proofs.Common.{arith, ◌≡◌, ◌≢◌, ℕ, ℤ, pos, ◌≤ℤ◌, Bool, true, false, if◌then◌else◌, List, [], ◌∷◌, length, None, Ok, inl, inr, refl, sym, subst, ap, ◌∙◌, true≢false, IsPermutation}
+use Rattle.std.proofs.Common.{arith, ◌≡◌, ◌≢◌, ◌⊎◌, ℕ, ℤ, pos, ◌≤ℤ◌, Bool, true, false, if◌then◌else◌, List, [], ◌∷◌, length, None, Ok, inl, inr, refl, sym, subst, ap, ◌∙◌, true≢false, IsPermutation}
 use Rattle.std.specs.List.{AllByRecursion}
 use Rattle.std.specs.Ordering.{int_eq}
 use Rattle.std.proofs.lemmas.Bool.{and_parts, not-true}
@@ -23,7 +23,7 @@ use Rattle.desk_model.proofs.Callers.{undamaged as sound}
 use Rattle.desk_rows.specs.TableQuery.{AnswersRows, AnyRows}
 use Rattle.desk_store.specs.BookFile.{rows_of}
 use Rattle.desk_rows.specs.Contents.{Contents}
-use Rattle.desk_store.specs.Formats.{Format, HasThoseRead, IsOfFormat, IsPresent, Presence, foreign, named, needed, optional, presence, unnamed, unread}
+use Rattle.desk_store.specs.Formats.{Format, IsExact, IsOfEither, IsOfFormat, IsPresent, Presence, foreign, named, needed, optional, presence, unnamed, unread}
 use Rattle.desk_store.specs.Found.{AreFileRows, AreOtherRows, AreRowsIn, RowsShowIn, format_kept}
 use Rattle.desk_rows.specs.Layout.{Layout}
 use Rattle.desk_store.specs.Opened.{LacksTables, TellsOf}
@@ -109,7 +109,7 @@ present foreign has there Utf8 same can = (same, can)
 present unread has there Utf8 same can = tt
 
 -- a file that can be read as one of a format is of it
-pub of_read : (f : Format) (l : Layout) (c : Contents) → HasThoseRead l → CanAllBeRead f l c → IsOfFormat f l
+pub of_read : (f : Format) (l : Layout) (c : Contents) → (IsExact l ⊎ IsOfEither l) → CanAllBeRead f l c → IsOfFormat f l
 of_read f l c (inl exact) can = λ t. present (presence f t) (l.has t) (is_there l.schema t) _ (exact t) (can t)
 of_read f l c (inr other) can = go f other.0 other.1 can
   where
@@ -133,7 +133,7 @@ one_format unnamed named l all of =
 one_format named unnamed l all of = absurd (true≢false (sym (and_parts _ (is_there l.schema tables.NamedCorr) all).1 ∙ sym (of tables.NamedCorr).0 ∙ (of tables.NamedCorr).1))
 one_format named named l all of = refl
 
-pub books_there : (l : Layout) → HasThoseRead l → l.has tables.Book ≡ is_there l.schema tables.Book
+pub books_there : (l : Layout) → (IsExact l ⊎ IsOfEither l) → l.has tables.Book ≡ is_there l.schema tables.Book
 books_there l (inl exact) = exact tables.Book
 books_there l (inr other) = (has_in_both other.0 l tables.Book other.1 refl).0
 
@@ -183,7 +183,7 @@ judged {old} {new} {row} as_there has answers value is = record {
 }
 
 -- a layout has `book` if it is there
-pub has_books : (l : Layout) (c : Contents) (s : State) → HasThoseRead l → ShowsContents l c s → is_there s.now.schema tables.Book ≡ true → l.has tables.Book ≡ true
+pub has_books : (l : Layout) (c : Contents) (s : State) → (IsExact l ⊎ IsOfEither l) → ShowsContents l c s → is_there s.now.schema tables.Book ≡ true → l.has tables.Book ≡ true
 has_books l c s those was there = books_there l those ∙ ap (λ (schema : Schema). is_there schema tables.Book) (sym was.schema) ∙ there
 
 module _ {old new : State} {rows : List BookRow} {row : BookRow} (it : IsJudged old new rows row) where
@@ -194,20 +194,20 @@ module _ {old new : State} {rows : List BookRow} {row : BookRow} (it : IsJudged 
       ap (λ (g : Format). has_tables g old.now.schema) (sym of) ∙ ap (λ (d : Database). has_tables f d.schema) (sym it.so_far.now) ∙ sym told ∙ found
 
   -- the row is the file's
-  row_of_file : (l : Layout) (c : Contents) → HasThoseRead l → ShowsContents l c old → (l.has tables.Book ≡ true) × IsBookRow (c.rows tables.Book) row
+  row_of_file : (l : Layout) (c : Contents) → (IsExact l ⊎ IsOfEither l) → ShowsContents l c old → (l.has tables.Book ≡ true) × IsBookRow (c.rows tables.Book) row
   row_of_file l c those was =
       let has = has_books l c old those was it.there in
       (has, book_row_in (c.rows tables.Book) rows row (it.shows l c has was) it.is)
 
   -- a table of its format isn't there
-  pub lacks_tables : (l : Layout) (c : Contents) → HasThoseRead l → ShowsContents l c old → has_tables (format_in row.format) old.now.schema ≡ false → LacksTables l c
+  pub lacks_tables : (l : Layout) (c : Contents) → (IsExact l ⊎ IsOfEither l) → ShowsContents l c old → has_tables (format_in row.format) old.now.schema ≡ false → LacksTables l c
   lacks_tables l c those was none =
       let f = format_in row.format in
       let here = row_of_file l c those was in
       inr (row, here.0, here.1, λ can. true≢false (sym (tables_of f l (of_read f l c those can)) ∙ ap (λ (schema : Schema). has_tables f schema) (sym was.schema) ∙ none))
 
   -- or one can't be read
-  pub lacks_readable : (l : Layout) (c : Contents) → HasThoseRead l → ShowsContents l c old → old.step_limit ≡ None → ¬ ShowsReadable (format_in row.format) old → LacksTables l c
+  pub lacks_readable : (l : Layout) (c : Contents) → (IsExact l ⊎ IsOfEither l) → ShowsContents l c old → old.step_limit ≡ None → ¬ ShowsReadable (format_in row.format) old → LacksTables l c
   lacks_readable l c those was limit none =
       let here = row_of_file l c those was in
       inr (row, here.0, here.1, λ can. none (l, c, of_read (format_in row.format) l c those can, was, can, limit))

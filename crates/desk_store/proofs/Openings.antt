@@ -24,7 +24,7 @@ use Rattle.desk_store.specs.BookFile.{rows_of}
 use Rattle.desk_store.specs.Books.{LeavesBook, MayServe}
 use Rattle.desk_rows.specs.Contents.{Contents}
 use Rattle.desk_rows.specs.Failing.{FailsToChange, of_first_row}
-use Rattle.desk_store.specs.Formats.{HasThoseRead, IsOfEither}
+use Rattle.desk_store.specs.Formats.{IsExact, IsOfEither}
 use Rattle.desk_store.specs.Found.{HasNone, RowsShowIn}
 use Rattle.desk_rows.specs.Layout.{Layout}
 use Rattle.desk_rows.specs.Making.{IsNew, new_layout, new_tables, with_tables}
@@ -78,7 +78,7 @@ module _ {S : Type 0} (g : Ghosts S) (make : Bool) (old : Held S) (there : ¬ Ha
   s = state g old
 
   pub refuses : (new : State) (fault : OpenFault) → ((book : Book) → RowsShowIn s book → ¬ IsRefusal fault)
-      → ((l : Layout) (c : Contents) → HasThoseRead l → ShowsContents l c s → TellsOf l c fault) → (IsRefusal fault → ShowsAsBefore s new) → OpensBook g make old new (Err fault)
+      → ((l : Layout) (c : Contents) → (IsExact l ⊎ IsOfEither l) → ShowsContents l c s → TellsOf l c fault) → (IsRefusal fault → ShowsAsBefore s new) → OpensBook g make old new (Err fault)
   refuses new fault unrefused told before = record {
     answers = record { found = tt; shown = λ book shows. (tt, unrefused book shows) };
     reports = record { declared = λ l c some. told l c; bare = λ none. absurd (there none) };
@@ -88,7 +88,7 @@ module _ {S : Type 0} (g : Ghosts S) (make : Bool) (old : Held S) (there : ¬ Ha
   -- ---- once the rows are read
 
   module _ {mid : State} {rows : FileRows} (read : ReadsFile s mid rows) where
-    damage_told : (fault : PartsFault) → IsFaultOf rows fault → (l : Layout) (c : Contents) → HasThoseRead l → ShowsContents l c s → TellsOf l c (rebuilt_as fault)
+    damage_told : (fault : PartsFault) → IsFaultOf rows fault → (l : Layout) (c : Contents) → (IsExact l ⊎ IsOfEither l) → ShowsContents l c s → TellsOf l c (rebuilt_as fault)
     damage_told (rebuilt.Damaged table id) first l c those shows =
         let of = of_format s rows l c read.found those shows in
         let it = read.read of.0 l c of.1 shows in

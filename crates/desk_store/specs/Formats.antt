@@ -1,5 +1,5 @@
 -- The formats of a file, and which tables each has.
-use Rattle.std.specs.Prelude.{◌≡◌, ◌⊎◌, Bool, true, false, ⊤}
+use Rattle.std.specs.Prelude.{◌≡◌, Bool, true, false, ⊤}
 use Rattle.desk_parts.specs.declared.file_table.FileTable.{FileTable}
 use Rattle.desk_parts.specs.declared.file_table.FileTable.TheVariants as tables
 use Rattle.desk_rows.specs.Layout.{Layout}
@@ -51,7 +51,3 @@ IsOfFormat format l = (t : FileTable) → IsPresent (presence format t) (l.has t
 -- it is of one of the two formats
 abbrev pub IsOfEither : Layout → Type 0
 IsOfEither l = (format : Format) × IsOfFormat format l
-
--- It has each of our tables that is there, or those that are read in a file of a format.
-abbrev pub HasThoseRead : Layout → Type 0
-HasThoseRead l = IsExact l ⊎ IsOfEither l

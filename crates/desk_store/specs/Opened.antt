@@ -28,7 +28,7 @@ use Rattle.desk_rows.specs.Contents.{Contents}
 use Rattle.desk_rows.specs.TableQuery.{FailsAs, query_of}
 use Rattle.desk_rows.specs.Failing.{FailsToChange, of_first_row, of_items}
 use Rattle.desk_rows.specs.Fault.{IsToldAs}
-use Rattle.desk_store.specs.Formats.{HasThoseRead, IsOfEither, IsOfFormat}
+use Rattle.desk_store.specs.Formats.{IsExact, IsOfEither, IsOfFormat}
 use Rattle.desk_store.specs.Found.{AreFileRows, AreToldApart, HasNone, RowsShowIn, ShowsIn}
 use Rattle.desk_rows.specs.Layout.{Layout}
 use Rattle.desk_rows.specs.Making.{IsMade, IsNew, new_layout, new_tables, with_tables}
@@ -212,10 +212,11 @@ pub record AnswersBook (make : Bool) (old new : State) (result : Result Book Ope
   pub found : IfOk result (λ book. ShowsIn old book ⊎ IsMadeNew make book old new)
   pub shown : (book : Book) → RowsShowIn old book → FindsBook (λ found. found ≡ book) result
 
--- What is reported: exactly this if the tables that are there are declared as those of a new file, and of any file that has none of them.
+-- What is reported: exactly this if the tables that are there, or those that are read in a file of a format, are declared as those of a new
+-- file, and of any file that has none of them.
 pub record Reports {S : Type 0} (g : Ghosts S) (make : Bool) (old : Held S) (new : State) (fault : OpenFault)
     : Type 0 where
-  pub declared : (l : Layout) (c : Contents) → (¬ HasNone l.schema) → HasThoseRead l
+  pub declared : (l : Layout) (c : Contents) → (¬ HasNone l.schema) → IsExact l ⊎ IsOfEither l
       → ShowsContents l c (state g old) → TellsOf l c fault
   pub bare : HasNone (state g old).now.schema → TellsOfNone make g old new fault
 

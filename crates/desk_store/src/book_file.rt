@@ -2,7 +2,7 @@
 //!
 //! Of a file that is declared as a new one the rows are given as they stand, in any order.
 
-ghost use Rattle.std.specs.Prelude.{◌≡◌, false, IfErr, IfOk, MatchBool, None, option_map};
+ghost use Rattle.std.specs.Prelude.{◌≡◌, ◌⊎◌, false, IfErr, IfOk, MatchBool, None, option_map};
 ghost use Rattle.std.specs.List.{list_all, list_any};
 ghost use Rattle.sqlite.specs.Held.{state};
 ghost use Rattle.desk_model.specs.Damage.{IsSoundBookRow};
@@ -10,7 +10,7 @@ ghost use Rattle.sqlite.specs.State.{HasCleanDisk, Survives};
 ghost use Rattle.desk_model.specs.Book.{Book};
 ghost use Rattle.desk_parts.specs.Parts.{entry_rows, rows_in};
 ghost use Rattle.desk_rows.specs.Contents.{Contents};
-ghost use Rattle.desk_store.specs.Formats.{HasThoseRead};
+ghost use Rattle.desk_store.specs.Formats.{IsExact, IsOfEither};
 ghost use Rattle.desk_store.specs.Found.{RowsShowIn, format_kept};
 ghost use Rattle.desk_rows.specs.Layout.{Layout};
 ghost use Rattle.desk_store.specs.Opened.{StopsOpening, TellsOf};
@@ -198,7 +198,8 @@ pub(crate) fn read_parts<S: Alter>(
         → RowsShowIn (state S.Store conn.old) book → IfErr result (λ fault. ¬ IsRefusal fault) }
     // If the tables that are there are declared as those of a new file, this is reported.
     ensures told { HasCleanDisk (state S.Store conn.new) → (l : Layout) (c : Contents)
-        → HasThoseRead l → ShowsContents l c (state S.Store conn.old) → IfErr result (TellsOf l c) }
+        → IsExact l ⊎ IsOfEither l → ShowsContents l c (state S.Store conn.old)
+        → IfErr result (TellsOf l c) }
     ensures refused { HasCleanDisk (state S.Store conn.new) → IfErr result (λ fault. IsRefusal fault
         → Stays (state S.Store conn.old) (state S.Store conn.new)) }
     // What isn't refused has a cause.

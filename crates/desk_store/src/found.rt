@@ -4,7 +4,7 @@ ghost use Rattle.desk_model.specs.Book.{Book, empty_book};
 ghost use Rattle.desk_rows.specs.Contents.{Contents};
 ghost use Rattle.desk_rows.specs.Layout.{Layout};
 ghost use Rattle.desk_store.specs.Books.{HasNewTables, LeavesBook, LeavesEither};
-ghost use Rattle.desk_store.specs.Formats.{Format, HasThoseRead, IsOfFormat};
+ghost use Rattle.desk_store.specs.Formats.{Format, IsExact, IsOfEither, IsOfFormat};
 ghost use Rattle.desk_store.specs.Found.{HasNone, RowsShowIn};
 ghost use Rattle.desk_store.specs.Opened.{FindsBook, HoldsEither, HoldsEmpty, HoldsNone, OpensBook, Stands, StopsOpening, TellsOf};
 ghost use Rattle.desk_store.specs.Opening.{IsRefusal};
@@ -70,7 +70,8 @@ pub fn left_at_any_exit<S: Alter>(conn: &Connection<S>)
 /// A file whose tables are declared as those of a new one shows a book exactly if its row of `book` is sound, its tables can be read and
 /// there is no damage. Nothing for which a file is refused is then reported of it; and of any other file at most one such thing.
 pub fn files_that_show_a_book()
-    ensures book { (l : Layout) (c : Contents) → HasThoseRead l → (HasBook l c ↔ IsUndamaged l c) }
+    ensures book { (l : Layout) (c : Contents) → IsExact l ⊎ IsOfEither l
+        → (HasBook l c ↔ IsUndamaged l c) }
     ensures unrefused { (l : Layout) (c : Contents) (fault : OpenFault) → HasBook l c
         → TellsOf l c fault → ¬ IsRefusal fault }
     ensures one { (l : Layout) (c : Contents) (fault other : OpenFault) → IsRefusal fault
