@@ -134,16 +134,9 @@ pub record StopsAt {S : Type 0} (g : Ghosts S) (done : List RowPut) (next : RowP
   pub stops : Stops g (map statement done) (NotPut next) old new e
   pub put : PutsAll done (state g old) (state g stops.before)
 
--- what an iterator lends until it ends, as what it puts
-pub record Lends {I : Type 0} (gives : I → Option Put → I → Type 0) (it : I) (puts : List RowPut)
-    : Type 0 where
-  pub lent : List Put
-  pub drained : Drains gives it lent
-  pub are : puts ≡ map put_of lent
-
 -- what an iterator puts until it ends, with this
 abbrev pub OfItems : {I : Type 0} → (I → Option Put → I → Type 0) → I → (List RowPut → Type 0) → Type 0
-OfItems gives it P = (puts : List RowPut) × Lends gives it puts × P puts
+OfItems gives it P = (lent : List Put) × Drains gives it lent × P (map put_of lent)
 
 -- what it puts before an item, and the item, with this
 abbrev pub OfItemsBefore : {I : Type 0} → (I → Option Put → I → Type 0) → I

@@ -3,7 +3,8 @@
 ghost use Rattle.desk_rows.specs.TableQuery.{AreReadable};
 ghost use Rattle.desk_rows.specs.Contents.{Contents};
 ghost use Rattle.desk_parts.specs.declared.file_table.FileTable.{FileTable};
-ghost use Rattle.desk_parts.specs.Puts.{LendsFirst, RowPut};
+ghost use Rattle.desk_parts.specs.declared.put.Put.{Put};
+ghost use Rattle.desk_parts.specs.Puts.{LendsFirst, RowPut, put_of};
 ghost use Rattle.desk_parts.specs.Rows.{StoredTab};
 ghost use Rattle.desk_rows.specs.Descriptions.{description_of, shows_rowid, table_of};
 ghost use Rattle.sql_tables.specs.Kinds.{HaveIntegerRowids};
@@ -22,9 +23,10 @@ ghost use Rattle.sqlite_catalog.specs.Change.{KeepsRows};
 ghost use Rattle.sqlite_catalog.specs.Listing.{IsSound};
 ghost use Rattle.sqlite_schema.specs.declared.schema.Schema.{Schema};
 ghost use Rattle.sqlite_trees.specs.Tree.{Trees};
-ghost use Rattle.std.specs.Prelude.{IsTrue, List, false, true, ◌≡◌, ◌↔◌};
+ghost use Rattle.std.specs.Prelude.{IsTrue, List, false, map, true, ◌≡◌, ◌↔◌};
+ghost use Rattle.std.specs.Iterator.{Drains};
 ghost use Rattle.std.specs.List.{AllByRecursion};
-ghost use Rattle.desk_rows.specs.Puts.{Lends, puts_into};
+ghost use Rattle.desk_rows.specs.Puts.{puts_into};
 ghost use Rattle.desk_rows.specs.Tables.{is_there};
 ghost use Rattle.sqlite_catalog.specs.Change.{is_used};
 
@@ -103,9 +105,9 @@ pub fn more_tables<S: Alter>(old: &Connection<S>, new: &Connection<S>)
 {}
 
 /// Of an iterator that lends the first of what is left, all is lent until it ends.
-#[tactic(auto, using(crate::proofs::RowPuts::LentPuts::all_lent))]
 pub fn all_is_lent()
-    ensures { (puts xs : List RowPut) → Lends LendsFirst puts xs → xs ≡ puts }
+    ensures { (puts : List RowPut) (lent : List Put) → Drains LendsFirst puts lent
+        → map put_of lent ≡ puts }
 {}
 
 /// Texts in UTF-8 that are put leave the texts of a file in UTF-8.

@@ -3,13 +3,9 @@ use Rattle.std.proofs.Common.{◌≡◌, List, [], ◌∷◌, map, sym, ap, ◌�
 use Rattle.std.specs.Iterator.{Drains}
 use Rattle.desk_parts.specs.declared.put.Put.{Put}
 use Rattle.desk_parts.specs.Puts.{LendsFirst, RowPuts, put_of}
-use Rattle.desk_rows.specs.Puts.{Lends}
 
-drained : (puts : RowPuts) (lent : List Put) → Drains LendsFirst puts lent → map put_of lent ≡ puts
-drained puts [] d = sym (d.1.1 ∙ d.1.2.0)
-drained puts (p ∷ ps) d =
-    let rest = drained d.1.1.0 ps (d.0, (d.1.0, d.1.1.2, d.1.2)) in
+pub all_lent : (puts : RowPuts) (lent : List Put) → Drains LendsFirst puts lent → map put_of lent ≡ puts
+all_lent puts [] d = sym (d.1.1 ∙ d.1.2.0)
+all_lent puts (p ∷ ps) d =
+    let rest = all_lent d.1.1.0 ps (d.0, (d.1.0, d.1.1.2, d.1.2)) in
     ap (λ (xs : RowPuts). put_of p ∷ xs) rest ∙ sym d.1.1.1
-
-pub all_lent : (puts xs : RowPuts) → Lends LendsFirst puts xs → xs ≡ puts
-all_lent puts xs h = h.are ∙ drained puts h.lent h.drained

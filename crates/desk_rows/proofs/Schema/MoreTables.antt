@@ -11,6 +11,7 @@ use Rattle.sqlite.specs.Held.{Held, state}
 use Rattle.sqlite.specs.State.{State}
 use Rattle.desk_parts.specs.declared.file_table.FileTable.{FileTable}
 use Rattle.desk_parts.specs.declared.put.Put.{Put}
+use Rattle.desk_parts.specs.Puts.{put_of}
 use Rattle.sql_tables.specs.Making.{IndexesLow, IsMaking, KeepsAside}
 use Rattle.sql_tables.proofs.Creating.{sound_is_low}
 use Rattle.sql_tables.proofs.Declaring.{has_table}
@@ -71,8 +72,8 @@ module _ {S I : Type 0} (g : Ghosts S) (tables : List FileTable) (gives : I → 
           let after = with_tables tables l in
           let next = with_none tables others c in
           let more = more_made l c tables differ committed (state g (with_transaction old)) (state g put.0) (begins g old l c was) put.2.0 in
-          (others, more.1, more.2, shows_on (state g last) new after (puts_into put.4.0 next) same (put.4.2.0 committed after next there more.0).shows)),
-      (last, run_then g (map creation tables) (map statement put.4.0) (with_transaction old) put.0 last put.2.1 put.4.2.1, same),
+          (others, more.1, more.2, shows_on (state g last) new after (puts_into (map put_of put.4.0) next) same (put.4.2.0 committed after next there more.0).shows)),
+      (last, run_then g (map creation tables) (map statement (map put_of put.4.0)) (with_transaction old) put.0 last put.2.1 put.4.2.1, same),
     ),
   )
 

@@ -1,11 +1,11 @@
 -- What was put within a transaction, once it is committed.
-use Rattle.std.proofs.Common.{List, ◌≡◌, Option, true, refl, sym, ap, subst, ◌∙◌}
+use Rattle.std.proofs.Common.{List, map, ◌≡◌, Option, true, refl, sym, ap, subst, ◌∙◌}
 use Rattle.sqlite_trees.specs.declared.store.Store.{Ghosts}
 use Rattle.sqlite.specs.Effect.{Database}
 use Rattle.sqlite.specs.Held.{Held, state}
 use Rattle.sqlite.specs.State.{State}
 use Rattle.desk_parts.specs.declared.put.Put.{Put}
-use Rattle.desk_parts.specs.Puts.{RowPut}
+use Rattle.desk_parts.specs.Puts.{RowPut, put_of}
 use Rattle.desk_rows.specs.Commits.{putting_items}
 use Rattle.desk_rows.specs.Contents.{Contents}
 use Rattle.desk_rows.specs.Layout.{Layout}
@@ -28,7 +28,7 @@ writes_on g old last new puts all same l c there was = shows_on (state g last) n
 -- what an iterator gave is shown once it is committed, and left by a crash
 module _ {S I : Type 0} (g : Ghosts S) (gives : I → Option Put → I → Type 0) (it : I) (old last : Held S) where
   pub shows_items : (new : State) → new.now ≡ (state g last).now → (putting_items g gives it).putting.puts (with_transaction old) last → (putting_items g gives it).Shown old new
-  shows_items new same put = (put.0, put.1, (writes_on g old last new put.0 put.2.0 same, (last, put.2.1, same)))
+  shows_items new same put = (put.0, put.1, (writes_on g old last new (map put_of put.0) put.2.0 same, (last, put.2.1, same)))
 
   pub left_items : (new : State) → (putting_items g gives it).Shown old new → (putting_items g gives it).Left old new.now.trees
   left_items new shown = (shown.0, shown.1, ((λ l c there was. (shown.2.0 l c there was).is), is_left g _ old new shown.2.1))

@@ -1,4 +1,4 @@
-use Rattle.std.proofs.Common.{arith, map, refl, subst, sym, ◌∙◌}
+use Rattle.std.proofs.Common.{arith, map, subst, sym, ◌∙◌}
 use Rattle.std.specs.Iterator.{Yields}
 use Rattle.std.proofs.lemmas.List.{map_push}
 use Rattle.std.proofs.lemmas.Result.{err_from_is_err_and}
@@ -37,8 +37,8 @@ loop-one-preserved g c =
 pub returns-clause-put : goal.returns-clause-put
 returns-clause-put g c clean =
     let given = subst (λ it. Yields g.I.Iterator.next_gives it c.loop-one.yielded c.loop-one.one-iterator) c.into_iter-one-iterator.ensures.into_iter_gives c.loop-one.yielded_by in (
-      map put_of c.loop-one.yielded,
-      record { lent = c.loop-one.yielded; drained = (c.next.new.self, (c.loop-one.one-iterator, given, c.in-None.ensures.steps)); are = refl },
+      c.loop-one.yielded,
+      (c.next.new.self, (c.loop-one.one-iterator, given, c.in-None.ensures.steps)),
       c.loop-one.invariant.put clean,
     )
 

@@ -5,7 +5,7 @@ use Rattle.desk_parts.specs.Puts.{LendsFirst}
 use Rattle.desk_rows.specs.Failing.{FailsToChange, of_items}
 use Rattle.desk_rows.specs.Turns.{with_transaction}
 use Rattle.desk_rows.specs.States.{ShowsContents}
-use Rattle.desk_store.proofs.BookPuts.{lent}
+use Rattle.desk_store.proofs.BookPuts.{left_made, shown_made}
 use Rattle.desk_store.proofs.Filled.{are_written, crash_gained, gains}
 use Rattle.desk_store.proofs.fill.fill.Goals as goal
 
@@ -16,7 +16,7 @@ write_with_tables-requires g c κs =
 pub returns-in-Ok-clause-filled : goal.returns-in-Ok-clause-filled
 returns-in-Ok-clause-filled g c clean =
     gains c.args.tables c.args.book.now c.filling.result c.filling.ensures c.file_tables.result.now c.file_tables.ensures _
-    (λ after d. ShowsContents after d (state g.S.Store c.write_with_tables.new.conn)) (lent c.filling.result _ _ (c.in-Ok.ensures.commits clean).shown).0
+    (λ after d. ShowsContents after d (state g.S.Store c.write_with_tables.new.conn)) (shown_made g.S.Store c.filling.result c.args.conn.now c.file_tables.result.now (state g.S.Store c.write_with_tables.new.conn) (c.in-Ok.ensures.commits clean).shown)
 
 pub returns-in-Ok-clause-open : goal.returns-in-Ok-clause-open
 returns-in-Ok-clause-open g c clean = (c.in-Ok.ensures.commits clean).committed
@@ -27,12 +27,12 @@ returns-in-Ok-clause-settled g c clean = (c.in-Ok.ensures.commits clean).settled
 pub returns-in-Ok-clause-crash : goal.returns-in-Ok-clause-crash
 returns-in-Ok-clause-crash g c =
     crash_gained c.args.tables c.args.book.now c.filling.result c.filling.ensures c.file_tables.result.now c.file_tables.ensures _
-    (λ db left. (lent c.filling.result _ _ left).0) c.write_with_tables.ensures.crash
+    (left_made g.S.Store c.filling.result c.args.conn.now c.file_tables.result.now) c.write_with_tables.ensures.crash
 
 pub returns-in-Err-clause-crash : goal.returns-in-Err-clause-crash
 returns-in-Err-clause-crash g c =
     crash_gained c.args.tables c.args.book.now c.filling.result c.filling.ensures c.file_tables.result.now c.file_tables.ensures _
-    (λ db left. (lent c.filling.result _ _ left).0) c.write_with_tables.ensures.crash
+    (left_made g.S.Store c.filling.result c.args.conn.now c.file_tables.result.now) c.write_with_tables.ensures.crash
 
 pub returns-in-Err-clause-stops : goal.returns-in-Err-clause-stops
 returns-in-Err-clause-stops g c clean = record {
