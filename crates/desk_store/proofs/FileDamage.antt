@@ -14,7 +14,7 @@ use Rattle.desk_rows.specs.Contents.{Contents}
 use Rattle.desk_rows.specs.Layout.{Layout}
 use Rattle.desk_store.specs.BookFile.{rows_of}
 use Rattle.desk_store.specs.Formats.{Format, IsExact, IsOfEither, IsOfFormat, Presence, named, presence, unnamed}
-use Rattle.desk_store.specs.Opened.{LacksTables, TellsOf}
+use Rattle.desk_store.specs.Opened.{TellsOf}
 use Rattle.desk_store.specs.Opening.{CanAllBeRead, CanBeRead, IsBookRow, IsNewer, IsRefusal, format_in}
 use Rattle.desk_store.specs.Undamaged.{HasBook, IsUndamaged}
 use Rattle.desk_store.specs.declared.fault.OpenFault.{OpenFault}
@@ -83,14 +83,14 @@ module _ (l : Layout) (c : Contents) where
 
   -- ---- at most one refusal is reported
 
-  lacks_damaged : (table : FileTable) (id : ℤ) → LacksTables l c → ¬ TellsOf l c (Damaged table id)
+  lacks_damaged : (table : FileTable) (id : ℤ) → TellsOf l c NotABook → ¬ TellsOf l c (Damaged table id)
   lacks_damaged table id (inl none) (inl (has, is_book, damaged, known)) = true≢false (sym has ∙ none)
   lacks_damaged table id (inl none) (inr at) = true≢false (sym (readable_in_both (format_in at.row.format) tables.Book at.readable refl).0 ∙ none)
   lacks_damaged table id (inr (row, there, is, not)) (inl (has, is_book, damaged, known)) = not_damaged (c.rows tables.Book) row id is damaged
   lacks_damaged table id (inr (row, there, is, not)) (inr at) =
       not (subst (λ (r : BookRow). CanAllBeRead (format_in r.format) l c) (same_head at.row row (sym at.book.alone ∙ is.alone)) at.readable)
 
-  lacks_newer : LacksTables l c → ¬ TellsOf l c NewerFormat
+  lacks_newer : TellsOf l c NotABook → ¬ TellsOf l c NewerFormat
   lacks_newer (inl none) (has, newer) = true≢false (sym has ∙ none)
   lacks_newer (inr (row, there, is, not)) (has, newer) = not_newer (c.rows tables.Book) row is newer
 

@@ -26,7 +26,7 @@ use Rattle.desk_rows.specs.Contents.{Contents}
 use Rattle.desk_store.specs.Formats.{Format, IsExact, IsOfEither, IsOfFormat, IsPresent, Presence, foreign, named, needed, optional, presence, unnamed, unread}
 use Rattle.desk_store.specs.Found.{AreFileRows, AreOtherRows, AreRowsIn, RowsShowIn, format_kept}
 use Rattle.desk_rows.specs.Layout.{Layout}
-use Rattle.desk_store.specs.Opened.{LacksTables, TellsOf}
+use Rattle.desk_store.specs.Opened.{TellsOf}
 use Rattle.desk_store.specs.Opening.{CanAllBeRead, CanBeRead, IsBookRow, IsNewer, IsRefusal, Stays, TellsOfRow, format_in, has_tables, opened_as}
 use Rattle.desk_store.specs.Reading.{IsReadOf, ShowsReadable}
 use Rattle.desk_rows.specs.States.{ShowsContents}
@@ -34,7 +34,7 @@ use Rattle.desk_rows.specs.Tables.{is_there}
 use Rattle.desk_rows.specs.declared.fault.DatabaseFault.{DatabaseFault}
 use Rattle.desk_rows.specs.declared.fault.DatabaseFault.TheVariants as reading
 use Rattle.desk_store.specs.declared.fault.OpenFault.{OpenFault}
-use Rattle.desk_store.specs.declared.fault.OpenFault.TheVariants.{Damaged, NewerFormat, Lost, NoMemory}
+use Rattle.desk_store.specs.declared.fault.OpenFault.TheVariants.{NotABook, Damaged, NewerFormat, Lost, NoMemory}
 use Rattle.desk_store.proofs.AnyFile.{cells_before, entries_before, gives_before}
 use Rattle.desk_store.proofs.TablesRead.{reads_table}
 use Rattle.desk_store.proofs.Opened.{as_it_was, as_listed, has_in_both, is_here, same_state}
@@ -143,7 +143,7 @@ pub refusal_is : (fault : DatabaseFault) → IsRefusal (opened_as fault) → fau
 refusal_is reading.Refused is = refl
 refusal_is fault is = absurd is
 
-pub read_told : (l : Layout) (c : Contents) (fault : DatabaseFault) → (fault ≡ reading.Refused → LacksTables l c) → TellsOf l c (opened_as fault)
+pub read_told : (l : Layout) (c : Contents) (fault : DatabaseFault) → (fault ≡ reading.Refused → TellsOf l c NotABook) → TellsOf l c (opened_as fault)
 read_told l c reading.Refused lacks = lacks refl
 read_told l c fault lacks = tt
 
@@ -200,14 +200,14 @@ module _ {old new : State} {rows : List BookRow} {row : BookRow} (it : IsJudged 
       (has, book_row_in (c.rows tables.Book) rows row (it.shows l c has was) it.is)
 
   -- a table of its format isn't there
-  pub lacks_tables : (l : Layout) (c : Contents) → (IsExact l ⊎ IsOfEither l) → ShowsContents l c old → has_tables (format_in row.format) old.now.schema ≡ false → LacksTables l c
+  pub lacks_tables : (l : Layout) (c : Contents) → (IsExact l ⊎ IsOfEither l) → ShowsContents l c old → has_tables (format_in row.format) old.now.schema ≡ false → TellsOf l c NotABook
   lacks_tables l c those was none =
       let f = format_in row.format in
       let here = row_of_file l c those was in
       inr (row, here.0, here.1, λ can. true≢false (sym (tables_of f l (of_read f l c those can)) ∙ ap (λ (schema : Schema). has_tables f schema) (sym was.schema) ∙ none))
 
   -- or one can't be read
-  pub lacks_readable : (l : Layout) (c : Contents) → (IsExact l ⊎ IsOfEither l) → ShowsContents l c old → old.step_limit ≡ None → ¬ ShowsReadable (format_in row.format) old → LacksTables l c
+  pub lacks_readable : (l : Layout) (c : Contents) → (IsExact l ⊎ IsOfEither l) → ShowsContents l c old → old.step_limit ≡ None → ¬ ShowsReadable (format_in row.format) old → TellsOf l c NotABook
   lacks_readable l c those was limit none =
       let here = row_of_file l c those was in
       inr (row, here.0, here.1, λ can. none (l, c, of_read (format_in row.format) l c those can, was, can, limit))

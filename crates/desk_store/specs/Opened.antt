@@ -44,13 +44,6 @@ use Rattle.desk_store.specs.declared.fault.OpenFault.TheVariants.{NotABook, Dama
 
 -- ---- what is reported of a file whose tables are declared as those of a new one
 
--- `book` is missing; or its row is sound and of a known format, and a table of that format can't be read
-abbrev pub LacksTables : Layout → Contents → Type 0
-LacksTables l c =
-    (l.has tables.Book ≡ false)
-    ⊎ ((row : BookRow) × (l.has tables.Book ≡ true) × IsBookRow (c.rows tables.Book) row
-    × ¬ CanAllBeRead (format_in row.format) l c)
-
 -- the tables of its format can all be read, and this is the first damage in their rows
 pub record IsDamagedIn (l : Layout) (c : Contents) (table : FileTable) (id : ℤ) : Type 0 where
   pub row : BookRow
@@ -60,9 +53,13 @@ pub record IsDamagedIn (l : Layout) (c : Contents) (table : FileTable) (id : ℤ
   pub first : IsFirstDamage (rows_of l c) table id
 
 -- What is reported of a file that has a table of a book, the first of these that holds: `book` is missing, is of a later format or is damaged;
--- another table can't be read; rows of the tables are damaged. Nothing is said here of `Lost` and `NoMemory`.
+-- its row is sound and of a known format, and a table of that format can't be read; rows of the tables are damaged. Nothing is said here of
+-- `Lost` and `NoMemory`.
 abbrev pub TellsOf : Layout → Contents → OpenFault → Type 0
-TellsOf l c NotABook = LacksTables l c
+TellsOf l c NotABook =
+    (l.has tables.Book ≡ false)
+    ⊎ ((row : BookRow) × (l.has tables.Book ≡ true) × IsBookRow (c.rows tables.Book) row
+    × ¬ CanAllBeRead (format_in row.format) l c)
 TellsOf l c (Damaged table id) =
     ((l.has tables.Book ≡ true) × (table ≡ tables.Book) × IsDamagedBook (c.rows tables.Book) id × ¬ IsNewer (c.rows tables.Book))
     ⊎ IsDamagedIn l c table id
