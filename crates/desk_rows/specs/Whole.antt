@@ -9,7 +9,6 @@ use Rattle.desk_parts.specs.declared.file_table.FileTable.{FileTable}
 use Rattle.desk_parts.specs.declared.file_table.FileTable.TheVariants as tables
 use Rattle.desk_parts.specs.FileRows.{HasTexts}
 use Rattle.desk_parts.specs.Puts.{RowPut, PutRow, SetColumns, Flags, Place, Print, Resolved, Span, Table, Version}
-use Rattle.desk_parts.specs.Rows.{RowOf, StoredTab}
 use Rattle.desk_rows.specs.Contents.{Contents}
 use Rattle.desk_rows.specs.Descriptions.{description_of}
 use Rattle.desk_rows.specs.Layout.{Layout, IsOther}
@@ -34,14 +33,10 @@ AreRows l rows db =
 abbrev pub DifferBy : {X : Type 0} → (X → ℤ) → List X → Type 0
 DifferBy key xs = IsDistinct int_eq (map key xs)
 
--- no two braille tables have the same rowid
-abbrev pub HaveOwnRowids : List StoredTab → Type 0
-HaveOwnRowids = DifferBy (λ t. t.rowid)
-
 -- The rows that may be changed differ by their keys, those of `tab` by their rowids.
 abbrev pub DifferIn : (t : FileTable) → List (ShownOf t) → Type 0
 DifferIn tables.Book = DifferBy (λ b. b.id)
-DifferIn tables.Tab = HaveOwnRowids
+DifferIn tables.Tab = DifferBy (λ s. s.rowid)
 DifferIn tables.Para = DifferBy (λ p. p.id)
 DifferIn tables.Corr = λ es. ⊤
 DifferIn tables.Mark = DifferBy (λ m. m.id)

@@ -15,7 +15,7 @@ ghost use Rattle.desk_rows.specs.States.{IsFile, IsUnder, ShowsContents};
 ghost use Rattle.desk_rows.specs.Rows.{shown_columns};
 ghost use Rattle.sql_tables.specs.Rows.{Lists, columns_at};
 ghost use Rattle.sql_tables.specs.Tables.{IsDeclared};
-ghost use Rattle.desk_rows.specs.Whole.{AreApart, AreRows, AreUtf8, HaveOwnRowids, HaveSameRows, IsUtf8Put, Rows, contents_of};
+ghost use Rattle.desk_rows.specs.Whole.{AreApart, AreRows, AreUtf8, DifferBy, HaveSameRows, IsUtf8Put, Rows, contents_of};
 ghost use Rattle.sqlite.specs.Effect.{Database};
 ghost use Rattle.sqlite.specs.Held.{state};
 ghost use Rattle.sqlite.specs.State.{Opens};
@@ -82,7 +82,7 @@ pub fn texts_as_written()
         → (xs : List StoredTab)
         → Lists (shown_columns FileTable.Tab) (columns_at (description_of FileTable.Tab).shown) xs
         (db (l.tree FileTable.Tab))
-        → HaveOwnRowids xs }
+        → DifferBy (λ s. s.rowid) xs }
 {}
 
 /// A file in which the tables were made keeps what the database keeps aside.

@@ -18,7 +18,7 @@ ghost use Rattle.desk_parts.specs.declared.file_table.FileTable.{FileTable};
 ghost use Rattle.desk_parts.specs.FileRows.{HasTexts};
 ghost use Rattle.desk_rows.specs.Fault.{IsToldAs};
 ghost use Rattle.desk_rows.specs.Rows.{own, shown_columns};
-ghost use Rattle.desk_rows.specs.Whole.{HaveOwnRowids};
+ghost use Rattle.desk_rows.specs.Whole.{DifferBy};
 
 use crate::fault::DatabaseFault;
 use crate::row::TableRow;
@@ -87,8 +87,8 @@ pub fn read_rows<T: TableRow, S: Alter>(
 
 /// Whether no two braille tables have the same rowid.
 fn have_own_rowids(alloc: Global, tabs: &[StoredTab]) -> Result<bool, AllocError>
-    ensures apart { IfOk result (λ apart. MatchBool apart (HaveOwnRowids tabs.now)
-        (¬ HaveOwnRowids tabs.now)) }
+    ensures apart { IfOk result (λ apart. MatchBool apart (DifferBy (λ s. s.rowid) tabs.now)
+        (¬ DifferBy (λ s. s.rowid) tabs.now)) }
     // Memory is asked for only if there is a table.
     ensures no_memory { OnErr result (tabs.now ≢ []) }
 {
@@ -124,8 +124,8 @@ pub fn read_tabs<S: Alter>(
     conn: &mut Connection<S>,
 ) -> Result<Vec<StoredTab>, DatabaseFault>
     ensures answers { HasCleanDisk (state S.Store conn.new)
-        → AnswersRows result (λ xs. xs.items) FileTable.Tab (λ x. x) HaveOwnRowids (state S.Store conn.old)
-        (state S.Store conn.new) }
+        → AnswersRows result (λ xs. xs.items) FileTable.Tab (λ x. x) (DifferBy (λ s. s.rowid))
+        (state S.Store conn.old) (state S.Store conn.new) }
     ensures mode { conn.old.in_transaction ≡ false → conn.new.in_transaction ≡ false }
     ensures survives { Survives (state S.Store conn.old) (state S.Store conn.new) (λ _. ⊥) }
 {

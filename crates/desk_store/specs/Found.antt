@@ -17,7 +17,7 @@ use Rattle.desk_store.specs.Formats.{Format, Presence, needed, optional, foreign
 use Rattle.desk_store.specs.Opening.{has_tables}
 use Rattle.desk_rows.specs.Rows.{ShownOf, shown_columns}
 use Rattle.desk_rows.specs.Tables.{is_there}
-use Rattle.desk_rows.specs.Whole.{HaveOwnRowids}
+use Rattle.desk_rows.specs.Whole.{DifferBy}
 
 -- ---- which tables are there
 
@@ -31,7 +31,7 @@ HasNone s =
 -- the rows of `tab` have different rowids, and nothing is required of the others
 abbrev pub AreToldApart : (t : FileTable) → List (ShownOf t) → Type 0
 AreToldApart tables.Book rows = ⊤
-AreToldApart tables.Tab rows = HaveOwnRowids rows
+AreToldApart tables.Tab rows = DifferBy (λ s. s.rowid) rows
 AreToldApart tables.Para rows = ⊤
 AreToldApart tables.Corr rows = ⊤
 AreToldApart tables.Mark rows = ⊤

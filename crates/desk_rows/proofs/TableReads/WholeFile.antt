@@ -19,7 +19,7 @@ use Rattle.desk_rows.specs.Descriptions.{description_of, table_of}
 use Rattle.desk_rows.specs.Layout.{Layout}
 use Rattle.desk_rows.specs.Rows.{ShownOf, columns_of, own, shown_columns}
 use Rattle.desk_rows.specs.States.{IsFile}
-use Rattle.desk_rows.specs.Whole.{HaveSameRows, Rows, AreRows, AreApart, DifferIn, HaveOwnRowids, contents_of}
+use Rattle.desk_rows.specs.Whole.{HaveSameRows, Rows, AreRows, AreApart, DifferBy, DifferIn, contents_of}
 use Rattle.desk_rows.proofs.TableReads.Answering.{maps_own, maps_shown, own_of}
 use Rattle.desk_rows.proofs.TableReads.OneList.{one_list}
 
@@ -69,7 +69,7 @@ is_file l rows db declared sound are apart = record {
 }
 
 -- the rowids of the braille tables of a file differ
-pub tabs_apart : (l : Layout) (c : Contents) (db : Trees) → IsFile l c db → l.has tables.Tab ≡ true → (xs : List StoredTab) → Lists (shown_columns tables.Tab) (columns_at (description_of tables.Tab).shown) xs (db (l.tree tables.Tab)) → HaveOwnRowids xs
+pub tabs_apart : (l : Layout) (c : Contents) (db : Trees) → IsFile l c db → l.has tables.Tab ≡ true → (xs : List StoredTab) → Lists (shown_columns tables.Tab) (columns_at (description_of tables.Tab).shown) xs (db (l.tree tables.Tab)) → DifferBy (λ (s : StoredTab). s.rowid) xs
 tabs_apart l c db is there xs lists =
     apart int_eq Decides-int_eq (λ (t : StoredTab). t.rowid) xs (λ id.
     subst (λ n. n ≤ 1) (as_many (shown_columns tables.Tab) (columns_at (description_of tables.Tab).shown) (λ (t : StoredTab). t.rowid) (λ t. refl) (λ r. refl) id xs _ lists) ((is.ids tables.Tab there refl).once id))
