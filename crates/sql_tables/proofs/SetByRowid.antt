@@ -7,6 +7,7 @@ use Rattle.sqlite_ast.specs.declared.Expr.{Expr}
 use Rattle.sqlite_ast.specs.declared.Expr.TheOpen.{Expr-F}
 use Rattle.sqlite_ast.specs.declared.Expr.TheViews.{out-roll-Expr, roll-Expr}
 use Rattle.sqlite_schema.specs.declared.schema.Column.{Column}
+use Rattle.sqlite_schema.specs.declared.schema.Kind.TheVariants.{Any}
 use Rattle.sqlite_schema.specs.declared.schema.Schema.{Schema}
 use Rattle.sqlite_schema.specs.declared.schema.Table.{Table}
 use Rattle.sqlite_resolve.specs.Lowering.{begin, finish, spend, nothing, chosen, first_found, fresh, max_budget}
@@ -20,7 +21,7 @@ use Rattle.sqlite_schema.specs.declared.command.Command.TheVariants.{Update}
 use Rattle.sqlite_resolve.specs.Body.{tests}
 use Rattle.sqlite_resolve.specs.Compile.{command, update}
 use Rattle.sqlite_resolve.specs.Write.{assigned, row, picked, updated, updated_in}
-use Rattle.sql_tables.specs.Tables.{IsDeclared, numbered_table, untyped_column}
+use Rattle.sql_tables.specs.Tables.{IsDeclared, needed, numbered_table}
 use Rattle.sql_tables.proofs.Declaring.{classes_are, low_tree, uncovered}
 use Rattle.sql_tables.proofs.Meaning.{IsText, parse_of, update_is}
 use Rattle.sql_tables.proofs.OneTable.{Parts, program_on, is_typed, program_is}
@@ -67,7 +68,7 @@ module _ (schema : Schema) (at : ℕ) (table : Table) (there : slice_get schema.
 
 -- the first column of a table
 abbrev first_of_columns : List Column → Column
-first_of_columns [] = untyped_column []
+first_of_columns [] = needed [] Any
 first_of_columns (c ∷ columns) = c
 
 -- a column of the row that is made: the parameter for its place, counted from the first, or what it was
