@@ -43,10 +43,6 @@ para_of (place, paragraph) = record {
   struck = flag_number paragraph.struck;
 }
 
--- the paragraphs of a book with their places, from 1
-abbrev pub paras_of : List Paragraph → List Para
-paras_of paragraphs = map para_of (enumerate_from 1 paragraphs)
-
 -- The entry with this number, from 1, in the history of the paragraph with this id. An undo has the number of the entry
 -- that it takes back in place of a start, and nothing else.
 abbrev pub entry_row_of : ℕ → ℕ × Entry → NamedCorr
@@ -99,7 +95,7 @@ pub record Shows (rows : FileRows) (book : Book) : Type 0 where
   pub texts : AreTexts rows
   pub row : rows.books ≡ book_row_of (format_of rows.entries) book.version ∷ []
   pub tables : IsPermutation (map (spelled file.Tab) rows.tabs) (map tab_of book.tables)
-  pub paragraphs : IsPermutation (map (spelled file.Para) rows.paras) (paras_of book.paragraphs)
+  pub paragraphs : IsPermutation (map (spelled file.Para) rows.paras) (map para_of (enumerate_from 1 book.paragraphs))
   pub entries : IsPermutation (map (spelled file.NamedCorr) (entries_in rows.entries)) (flat_map entry_rows_of book.paragraphs)
   pub marks : IsPermutation (map (spelled file.Mark) rows.marks) (map mark_row_of book.marks)
   pub caches : ForSome rows.caches (AreCached book)

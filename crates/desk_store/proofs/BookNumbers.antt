@@ -10,7 +10,8 @@ use Rattle.desk_model.specs.Book.{Book, Mark, Paragraph}
 use Rattle.desk_parts.specs.declared.file_table.FileTable.TheVariants as tables
 use Rattle.desk_parts.specs.FileRows.{FileRows, spelled}
 use Rattle.desk_parts.specs.Rows.{Mark as MarkRow, Para, ParaCells}
-use Rattle.desk_model.specs.Shows.{Shows, mark_row_of, para_of, paras_of}
+use Rattle.desk_model.specs.Shows.{Shows, mark_row_of, para_of}
+use Rattle.desk_model.proofs.Rows.ParaRows.{paras_of}
 use Rattle.desk_model.proofs.Callers.{IsDistinct-numbers, IsDistinct-range, int_eq-pos}
 use Rattle.desk_store.specs.BookFile.{HaveOwnNumbers}
 use Rattle.desk_rows.specs.Whole.{DifferBy}

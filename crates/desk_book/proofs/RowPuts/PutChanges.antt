@@ -20,7 +20,8 @@ use Rattle.desk_parts.specs.declared.file_table.FileTable.TheVariants as file
 use Rattle.desk_parts.specs.FileRows.{FileRows, HasTexts, format_of, spelled}
 use Rattle.desk_parts.specs.Puts.{with_put}
 use Rattle.desk_parts.specs.Rows.{Mark as MarkRow, Para, ParaCells}
-use Rattle.desk_model.specs.Shows.{AreCached, IsCached, Shows, entry_rows_of, flag_number, mark_row_of, para_of, paras_of, style_number}
+use Rattle.desk_model.specs.Shows.{AreCached, IsCached, Shows, entry_rows_of, flag_number, mark_row_of, para_of, style_number}
+use Rattle.desk_model.proofs.Rows.ParaRows.{paras_of}
 use Rattle.desk_model.specs.Sound.{IsSound}
 use Rattle.desk_model.specs.Step.{next_with_marks, next_with_paragraphs, resolved_by, with_change, with_resolved}
 use Rattle.desk_model.specs.Translation.{IsBraille}

@@ -19,7 +19,8 @@ use Rattle.desk_parts.specs.declared.file_table.FileTable.TheVariants as file
 use Rattle.desk_parts.specs.FileRows.{FileRows, HasTexts, format_of, spelled}
 use Rattle.desk_parts.specs.Puts.{RowPut, with_put, with_puts}
 use Rattle.desk_parts.specs.Rows.{ParaCells, Para}
-use Rattle.desk_model.specs.Shows.{IsCached, Shows, entry_rows_of, para_of, paras_of}
+use Rattle.desk_model.specs.Shows.{IsCached, Shows, entry_rows_of, para_of}
+use Rattle.desk_model.proofs.Rows.ParaRows.{paras_of}
 use Rattle.desk_model.specs.Sound.{IsSound}
 use Rattle.desk_model.specs.Step.{next_with_paragraphs}
 use Rattle.desk_model.proofs.Lists.Items.{Contains-there}

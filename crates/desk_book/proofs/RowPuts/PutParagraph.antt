@@ -28,7 +28,8 @@ use Rattle.desk_model.specs.Print.{corrected_print, print_of}
 use Rattle.desk_parts.specs.declared.file_table.FileTable.TheVariants as tables
 use Rattle.desk_parts.specs.Puts.{PutRow, RowPut, put_by_key, with_put, with_puts}
 use Rattle.desk_parts.specs.Rows.{NamedCorr, Para, ParaCells}
-use Rattle.desk_model.specs.Shows.{AreCached, IsCached, Shows, entry_row_of, entry_rows_of, para_of, paras_of}
+use Rattle.desk_model.specs.Shows.{AreCached, IsCached, Shows, entry_row_of, entry_rows_of, para_of}
+use Rattle.desk_model.proofs.Rows.ParaRows.{paras_of}
 use Rattle.desk_model.specs.Sound.{IsSound, IsSoundParagraph}
 use Rattle.desk_model.specs.Step.{next_id, next_with_paragraphs}
 use Rattle.desk_command.specs.Characters.{AreCharacters}

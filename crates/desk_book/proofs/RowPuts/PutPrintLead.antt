@@ -27,7 +27,8 @@ use Rattle.desk_model.specs.ParagraphMarks.{marks_on}
 use Rattle.desk_model.specs.Print.{corrected_print, print_of, with_entry}
 use Rattle.desk_parts.specs.Puts.{PutRow, RowPut, put_by_key, with_entry_row, with_put, with_puts}
 use Rattle.desk_parts.specs.Rows.{Mark as MarkRow, NamedCorr, Para, ParaCells}
-use Rattle.desk_model.specs.Shows.{AreCached, Shows, book_row_of, entry_row_of, entry_rows_of, flag_number, mark_row_of, para_of, paras_of}
+use Rattle.desk_model.specs.Shows.{AreCached, Shows, book_row_of, entry_row_of, entry_rows_of, flag_number, mark_row_of, para_of}
+use Rattle.desk_model.proofs.Rows.ParaRows.{paras_of}
 use Rattle.desk_model.specs.Sound.{IsSound, IsSoundEntry, IsSoundMark, IsSoundParagraph}
 use Rattle.desk_model.specs.Step.{moved_on, next_with_entry}
 use Rattle.desk_command.specs.Characters.{AreCharacters}

@@ -19,7 +19,8 @@ use Rattle.desk_parts.specs.FileRows.{FileRows, HasTexts, spelled}
 use Rattle.desk_model.specs.Limits.{most_marks, most_note, most_paragraphs, most_print}
 use Rattle.desk_model.specs.Print.{corrected_print, print_of}
 use Rattle.desk_parts.specs.Rows.{Para, Mark as MarkRow}
-use Rattle.desk_model.specs.Shows.{Shows, mark_row_of, para_of, paras_of}
+use Rattle.desk_model.specs.Shows.{Shows, mark_row_of, para_of}
+use Rattle.desk_model.proofs.Rows.ParaRows.{paras_of}
 use Rattle.desk_model.specs.Sound.{IsSoundEntry, IsSoundMark, IsSoundParagraph}
 use Rattle.desk_model.specs.NormalForm.{IsUnbarred, is_barred}
 use Rattle.desk_model.proofs.Lists.Members.{Contains-map}

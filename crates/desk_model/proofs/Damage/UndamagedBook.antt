@@ -31,7 +31,8 @@ use Rattle.desk_model.specs.Limits.{most_marks, most_paragraphs, most_version}
 use Rattle.desk_model.specs.Name.{IsTableName, is_name_character}
 use Rattle.desk_model.specs.Print.{corrected_print, print_of}
 use Rattle.desk_parts.specs.Rows.{Mark as MarkRow, NamedCorr, Para, ParaCells, Tab}
-use Rattle.desk_model.specs.Shows.{AreCached, IsCached, Shows, book_row_of, entry_rows_of, mark_row_of, para_of, paras_of, tab_of}
+use Rattle.desk_model.specs.Shows.{AreCached, IsCached, Shows, book_row_of, entry_rows_of, mark_row_of, para_of, tab_of}
+use Rattle.desk_model.proofs.Rows.ParaRows.{paras_of}
 use Rattle.desk_model.specs.Sound.{IsSound, IsSoundMark, IsSoundParagraph, IsSoundTable}
 use Rattle.desk_model.proofs.Rows.BookRows.{name_low}
 use Rattle.desk_model.proofs.Lists.Items.{Contains-there}

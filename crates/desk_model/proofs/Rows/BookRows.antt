@@ -18,7 +18,8 @@ use Rattle.desk_parts.specs.FileRows.{FileRows, HasTexts, Named, Unnamed, spelle
 use Rattle.desk_model.specs.Name.{IsTableName, is_name_character}
 use Rattle.desk_model.specs.Print.{print_of}
 use Rattle.desk_parts.specs.Rows.{Corr, Tab, Para, NamedCorr, Mark as MarkRow, ParaCells}
-use Rattle.desk_model.specs.Shows.{AreCached, IsCached, IsUnnamed, Shows, book_row_of, entry_row_of, entry_rows_of, mark_row_of, para_of, paras_of, tab_of}
+use Rattle.desk_model.specs.Shows.{AreCached, IsCached, IsUnnamed, Shows, book_row_of, entry_row_of, entry_rows_of, mark_row_of, para_of, tab_of}
+use Rattle.desk_model.proofs.Rows.ParaRows.{paras_of}
 use Rattle.desk_model.specs.Sound.{IsSound, IsSoundEntry, IsSoundMark, IsSoundParagraph, IsSoundTable}
 use Rattle.desk_command.specs.Characters.{AreCharacters}
 use Rattle.desk_model.proofs.Lists.Permutations.{IsPermutation-same}

@@ -19,7 +19,8 @@ use Rattle.desk_model.specs.Book.{Entry, Corrects, Undoes, Paragraph, Mark, Book
 use Rattle.desk_parts.specs.declared.file_table.FileTable.TheVariants as file
 use Rattle.desk_parts.specs.FileRows.{FileRows, entries_in, format_of, spelled}
 use Rattle.desk_parts.specs.Rows.{Tab, Para, NamedCorr, Mark as MarkRow}
-use Rattle.desk_model.specs.Shows.{Shows, book_row_of, entry_row_of, entry_rows_of, flag_number, mark_row_of, para_of, paras_of, style_number, tab_of}
+use Rattle.desk_model.specs.Shows.{Shows, book_row_of, entry_row_of, entry_rows_of, flag_number, mark_row_of, para_of, style_number, tab_of}
+use Rattle.desk_model.proofs.Rows.ParaRows.{paras_of}
 use Rattle.desk_model.proofs.Lists.Members.{Contains-behind, Contains-cases, Contains-here, Contains-none}
 use Rattle.desk_model.proofs.Books.ParagraphLists.{AreApart, found-own}
 use Rattle.desk_model.proofs.Books.SoundBooks.{paragraphs-apart}
