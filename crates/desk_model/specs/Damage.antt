@@ -56,10 +56,6 @@ IsDamagedBook books id = (id ≡ pos 1) × ¬ ((row : BookRow) × (books ≡ row
 
 -- ---- tab
 
--- tables in order of their names, and those of one name in order of their texts
-abbrev pub AreInOrder : List TabRow → Type 0
-AreInOrder = IsSortedBy (λ a b. is_lt (ordering_then (slice_cmp nat_cmp a.name b.name) (slice_cmp nat_cmp a.body b.body)))
-
 -- the row at this index has a name that no row before it has, a text with a meaning, and there is room for it
 pub record IsSoundTabRow (sorted : List TabRow) (index : ℕ) (row : TabRow) : Type 0 where
   pub named : IsTableName (chars row.name)
@@ -68,10 +64,11 @@ pub record IsSoundTabRow (sorted : List TabRow) (index : ℕ) (row : TabRow) : T
   pub room : index < most_tables
   pub new : (before : ℕ) (other : TabRow) → before < index → slice_get sorted before ≡ Some other → other.name ≢ row.name
 
--- the row with this number, from 1, in order isn't sound
+-- in order of their names, and those of one name in order of their texts, the row with this number, from 1, isn't sound
 abbrev pub IsDamagedTab : List TabRow → ℤ → Type 0
 IsDamagedTab tabs id =
-    (sorted : List TabRow) × IsPermutation tabs sorted × AreInOrder sorted
+    (sorted : List TabRow) × IsPermutation tabs sorted
+    × IsSortedBy (λ a b. is_lt (ordering_then (slice_cmp nat_cmp a.name b.name) (slice_cmp nat_cmp a.body b.body))) sorted
     × ((index : ℕ) × (row : TabRow) × (slice_get sorted index ≡ Some row) × (id ≡ pos (index + 1)) × ¬ IsSoundTabRow sorted index row)
 
 -- ---- para

@@ -24,7 +24,7 @@ use Rattle.louis_table.specs.Table.{Means}
 use Rattle.desk_rebuild.specs.declared.damage.RowsFault.{RowsFault}
 use Rattle.desk_rebuild.specs.declared.damage.RowsFault.TheVariants.{Damaged, NoMemory}
 use Rattle.desk_memory.specs.declared.tables.BookTable.{BookTable}
-use Rattle.desk_model.specs.Damage.{AreInOrder, IsDamagedTab, IsSoundTabRow}
+use Rattle.desk_model.specs.Damage.{IsDamagedTab, IsSoundTabRow}
 use Rattle.desk_parts.specs.declared.file_table.FileTable.TheVariants as file
 use Rattle.desk_parts.specs.FileRows.{HasTexts, spelled}
 use Rattle.desk_rebuild.specs.Rows.{AreTables, IsWhole, TellsDamage}
@@ -47,6 +47,9 @@ order_total = then_total (on_total (λ (t : Tab). t.name) nat_list_cmp_total) (o
 
 abbrev pub less : Tab → Tab → Bool
 less one other = is_lt (tab_order one other)
+
+abbrev AreInOrder : List Tab → Type 0
+AreInOrder = IsSortedBy (λ a b. is_lt (tab_order a b))
 
 pub weak : IsStrictWeakOrder less
 weak = ranks_by order_total (λ (t : Tab). t)

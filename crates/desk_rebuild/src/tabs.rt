@@ -1,5 +1,5 @@
 //! The rows of `tab`, validated and converted into tables.
-ghost use Rattle.desk_model.specs.Damage.{AreInOrder, IsDamagedTab};
+ghost use Rattle.desk_model.specs.Damage.{IsDamagedTab};
 ghost use Rattle.desk_rebuild.specs.Faults.{TellsDamageOf};
 ghost use Rattle.desk_rebuild.specs.Rows.{AreTables, IsWhole};
 ghost use Rattle.desk_rebuild.specs.Tabs.{AreRead, MayCome, TellsFirstUnsound, TellsNoMeaning, TellsUnsoundTab, rows_of, tab_order};
@@ -8,7 +8,8 @@ ghost use Rattle.desk_parts.specs.Rows.{Tab};
 ghost use Rattle.desk_parts.specs.declared.file_table.FileTable.{FileTable};
 ghost use Rattle.louis_table.specs.Table.{Means};
 ghost use Rattle.std.specs.Str.{chars};
-ghost use Rattle.std.specs.List.Sorted.{IsPermutation};
+ghost use Rattle.std.specs.List.Sorted.{IsPermutation, IsSortedBy};
+ghost use Rattle.std.specs.Ordering.{is_lt};
 ghost use Rattle.std.specs.Prelude.{◌≡◌, ◌≤◌, [], ◌∷◌, ◌++◌, ◌↔◌, List, IfErr, IfOk, IsTrue, OnOk, length};
 
 use super::damage::{RowsFault, of_table};
@@ -30,7 +31,7 @@ fn order_of(one: &StoredTab, other: &StoredTab) -> Ordering
 /// Puts rows in order.
 fn sort(rows: &mut Vec<StoredTab>)
     ensures same { IsPermutation rows.old.items rows.new.items }
-    ensures sorted { AreInOrder (rows_of rows.new.items) }
+    ensures sorted { IsSortedBy (λ a b. is_lt (tab_order a b)) (rows_of rows.new.items) }
 {
     rows.sort_unstable_by(|one, other| order_of(one, other));
 }

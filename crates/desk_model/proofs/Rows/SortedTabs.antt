@@ -9,7 +9,6 @@ use Rattle.std.specs.declared.cmp.Ordering.TheVariants.{Less, Equal, Greater}
 use Rattle.std.proofs.lemmas.Bool.{cases_Bool}
 use Rattle.std.proofs.lemmas.Cmp.{nat_list_cmp_total}
 use Rattle.std.proofs.lemmas.List.Sorted.{IsPermutation-cons, IsPermutation-refl, IsPermutation-trans}
-use Rattle.desk_model.specs.Damage.{AreInOrder}
 use Rattle.desk_parts.specs.Rows.{Tab}
 use Rattle.desk_model.proofs.Lists.Permutations.{IsPermutation-turn}
 use Rattle.desk_model.proofs.Lists.TableEntries.{same_name}
@@ -86,7 +85,7 @@ RisesTabs = Rises tab_less other_way
 pub tabs_in_order : (tabs : List Tab) → (sorted : List Tab) × IsPermutation tabs sorted × RisesTabs sorted
 tabs_in_order = arranged tab_less other_way
 
-pub AreInOrder-rises : (tabs : List Tab) → RisesTabs tabs → AreInOrder tabs
+pub AreInOrder-rises : (tabs : List Tab) → RisesTabs tabs → IsSortedBy tab_less tabs
 AreInOrder-rises = rises-sorted tab_less other_way
 
 -- ---- names that differ stand in strict order
