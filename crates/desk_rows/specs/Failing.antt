@@ -1,17 +1,18 @@
 -- Why a change in one transaction fails, in the database's words. Between two statements the connection keeps its limit on steps and counts
 -- its failures, and a crash leaves nothing new.
-use Rattle.std.specs.Prelude.{◌≡◌, ◌⊎◌, List, [], ◌∷◌, ◌++◌, map, Option}
+use Rattle.std.specs.Prelude.{◌≡◌, ◌⊎◌, List, [], ◌∷◌, ◌++◌, map, Option, Some}
+use Rattle.std.specs.Iterator.{YieldsThen}
 use Rattle.sqlite_trees.specs.declared.store.Store.{Ghosts}
 use Rattle.sqlite.specs.declared.error.Error.{Error}
 use Rattle.sqlite.specs.Held.{Held, state}
 use Rattle.sqlite.specs.State.{State, Fails, Survives}
 use Rattle.desk_rows.specs.Making.{AreMade, MakesTables, creation, first_row}
-use Rattle.desk_rows.specs.Puts.{ArePut, OfItems, OfItemsBefore, PutsAll, StopsAt, statement}
+use Rattle.desk_rows.specs.Puts.{ArePut, OfItems, PutsAll, StopsAt, statement}
 use Rattle.desk_rows.specs.Turns.{FailsWith, Ran, Stops}
 use Rattle.desk_parts.specs.declared.file_table.FileTable.{FileTable}
 use Rattle.desk_parts.specs.declared.file_table.FileTable.TheVariants as tables
 use Rattle.desk_parts.specs.declared.put.Put.{Put}
-use Rattle.desk_parts.specs.Puts.{PutRow}
+use Rattle.desk_parts.specs.Puts.{PutRow, put_of}
 
 -- Of these tables those so far were made, and this is what the database answered to the statement that makes the next.
 pub record StopsMaking {S : Type 0} (g : Ghosts S) (tables : List FileTable) (old : Held S) (new : State) (e : Error)
@@ -28,10 +29,11 @@ pub record Putting (S : Type 0) : Type 1 where
   pub stops : Held S → State → Error → Type 0
   pub puts : Held S → Held S → Type 0
 
--- what an iterator gives
+-- what an iterator gives: an item stops it that isn't put after those before it
 abbrev pub of_items : {S I : Type 0} → Ghosts S → (I → Option Put → I → Type 0) → I → Putting S
-of_items g gives it = record {
-  stops = λ old new e. OfItemsBefore gives it (λ xs next. StopsAt g xs next old new e);
+of_items {S} {I} g gives it = record {
+  stops = λ old new e. (lent : List Put) × (next : Put) × (rest : I) × YieldsThen gives it lent (Some next) rest
+      × StopsAt g (map put_of lent) (put_of next) old new e;
   puts = λ old new. OfItems gives it (λ xs. ArePut g xs old new);
 }
 

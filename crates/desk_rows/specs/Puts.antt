@@ -1,6 +1,6 @@
 -- The contents once rows are put in turn.
-use Rattle.std.specs.Prelude.{◌≡◌, ◌⊎◌, ℕ, true, List, [], ◌∷◌, map, fold, Option, Some, Result, Ok, Err, IfErr, IsTrue, OnOk, ⊤}
-use Rattle.std.specs.Iterator.{Drains, YieldsThen}
+use Rattle.std.specs.Prelude.{◌≡◌, ◌⊎◌, ℕ, true, List, [], ◌∷◌, map, fold, Option, Result, Ok, Err, IfErr, IsTrue, OnOk, ⊤}
+use Rattle.std.specs.Iterator.{Drains}
 use Rattle.std.specs.List.{AllByRecursion}
 use Rattle.sqlite_value.specs.declared.value.Value.TheVariants.{Int, Text}
 use Rattle.sqlite_value.specs.Order.{Row}
@@ -137,10 +137,3 @@ pub record StopsAt {S : Type 0} (g : Ghosts S) (done : List RowPut) (next : RowP
 -- what an iterator puts until it ends, with this
 abbrev pub OfItems : {I : Type 0} → (I → Option Put → I → Type 0) → I → (List RowPut → Type 0) → Type 0
 OfItems gives it P = (lent : List Put) × Drains gives it lent × P (map put_of lent)
-
--- what it puts before an item, and the item, with this
-abbrev pub OfItemsBefore : {I : Type 0} → (I → Option Put → I → Type 0) → I
-    → (List RowPut → RowPut → Type 0) → Type 0
-OfItemsBefore {I} gives it P =
-    (lent : List Put) × (next : Put) × (rest : I) × YieldsThen gives it lent (Some next) rest
-    × P (map put_of lent) (put_of next)
