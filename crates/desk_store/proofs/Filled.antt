@@ -24,7 +24,7 @@ use Rattle.desk_store.specs.Formats.{Format, IsOfFormat}
 use Rattle.desk_rows.specs.Layout.{Layout}
 use Rattle.desk_rows.specs.Making.{Differ, IsFileWithTables, IsGrown, is_among, new_layout, new_tables, with_none, with_tables}
 use Rattle.desk_store.specs.Filling.{HoldsWith}
-use Rattle.desk_store.specs.Opened.{HasGained, Keeps, Stands, which_new}
+use Rattle.desk_store.specs.Opened.{HasGained, Stands, which_new}
 use Rattle.desk_rows.specs.Puts.{HasThem, put_into, puts_into}
 use Rattle.desk_rows.specs.States.{IsFile, ShowsContents}
 use Rattle.desk_rows.specs.Tables.{AreWritten}
@@ -106,14 +106,14 @@ module _ (t : NewTables) (l : Layout) (book : Book) (puts : List RowPut) (fills 
       let c = stands.1.0 in
       let after = with_tables (which_new t) l in
       let empty = with_none (which_new t) others c in
-      let same = all_put after empty puts ∙ ap (with_puts puts) (emptied t l others c) in
-      let keeps : Keeps l c s.now.trees (puts_into puts empty) = record {
-        corrs = keep_corrs l.schema puts empty (fills_new t l.schema book puts fills) ∙ none_of_corrs t others c;
-        others = subst (KeepsRows l.schema.tables s.now.trees) (sym (keep_others puts empty)) rows;
-        aside = subst (KeepsAside l.schema s.now.trees) (sym (keep_others puts empty)) aside;
-      } in (
+      let same = all_put after empty puts ∙ ap (with_puts puts) (emptied t l others c) in (
         puts_into puts empty,
-        (is, keeps),
+        (
+          is,
+          keep_corrs l.schema puts empty (fills_new t l.schema book puts fills) ∙ none_of_corrs t others c,
+          subst (KeepsRows l.schema.tables s.now.trees) (sym (keep_others puts empty)) rows,
+          subst (KeepsAside l.schema s.now.trees) (sym (keep_others puts empty)) aside,
+        ),
         subst (λ (rows : FileRows). RowsShow rows book) (sym same) (filled-shown t (rows_of l c) book puts stands.1.2 fills),
       )
 

@@ -15,7 +15,7 @@ use Rattle.desk_rows.specs.Layout.{IsOther, Layout}
 use Rattle.desk_rows.specs.Making.{with_tables}
 use Rattle.desk_model.specs.declared.new_tables.NewTables.{NewTables}
 use Rattle.desk_store.specs.Filling.{HoldsEitherWith, which_lacked}
-use Rattle.desk_store.specs.Opened.{HasGained, Keeps}
+use Rattle.desk_store.specs.Opened.{HasGained}
 use Rattle.desk_rows.specs.States.{ShowsContents}
 use Rattle.desk_store.proofs.BookKeeps.{leaves_shown}
 
@@ -37,15 +37,17 @@ module _ (l : Layout) (c : Contents) (book : Book) (s : State) where
     };
   }
 
-  keeps_all : Keeps l c s.now.trees as_it_stands
-  keeps_all = record {
-    corrs = refl;
-    others = all_of (λ (t : Table). s.now.trees t.tree ≡ s.now.trees t.tree) (λ t. refl) l.schema.tables;
-    aside = record { rows = λ tree is. refl; texts = λ row has foreign. has; version = refl };
-  }
-
   pub gains_none : ShowsContents l c s → RowsShow (rows_of l c) book → HasGained [] l c book s.now.trees (λ after d. ShowsContents after d s)
-  gains_none shows rows = (as_it_stands, (stays_shown shows, keeps_all), rows)
+  gains_none shows rows = (
+    as_it_stands,
+    (
+      stays_shown shows,
+      refl,
+      all_of (λ (t : Table). s.now.trees t.tree ≡ s.now.trees t.tree) (λ t. refl) l.schema.tables,
+      record { rows = λ tree is. refl; texts = λ row has foreign. has; version = refl },
+    ),
+    rows,
+  )
 
   pub leaves_gained : (tables : List FileTable) (rows : Trees) → HasGained tables l c book rows (λ after d. ShowsContents after d s) → IsSettled s → LeavesBook (with_tables tables l) book s
   leaves_gained tables rows gained = leaves_shown (with_tables tables l) book s (gained.0, gained.1.0, gained.2)

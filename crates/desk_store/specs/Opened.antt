@@ -111,17 +111,13 @@ with_missing_tables l = with_tables (missing_tables l) l
 abbrev pub Stands : Layout → Book → State → Type 0
 Stands l book s = IsOfEither l × ShowsBook l book s
 
--- The rows of `corr`, of all tables that aren't those of a book, and what the database keeps aside are as they were.
-pub record Keeps (l : Layout) (c : Contents) (rows : Trees) (d : Contents) : Type 0 where
-  pub corrs : d.rows tables.Corr ≡ c.rows tables.Corr
-  pub others : KeepsRows l.schema.tables rows d.others
-  pub aside : KeepsAside l.schema rows d.others
-
--- The book in the file with these tables too, in which nothing else is lost.
+-- The book in the file with these tables too, in which nothing else is lost: the rows of `corr`, of all tables that aren't those of a book,
+-- and what the database keeps aside are as they were.
 abbrev pub HasGained :
     List FileTable → Layout → Contents → Book → Trees → (Layout → Contents → Type 0) → Type 0
-HasGained tables l c book rows P =
-    WithBook (with_tables tables l) book (λ d. P (with_tables tables l) d × Keeps l c rows d)
+HasGained made l c book rows P =
+    WithBook (with_tables made l) book (λ d. P (with_tables made l) d × (d.rows tables.Corr ≡ c.rows tables.Corr)
+    × KeepsRows l.schema.tables rows d.others × KeepsAside l.schema rows d.others)
 
 -- the trees are those of a database without the tables of a book
 abbrev pub HoldsNone : Trees → Type 0
