@@ -7,8 +7,8 @@ use Rattle.sqlite.specs.declared.error.Error.{Error}
 use Rattle.sqlite.specs.Held.{Held, state}
 use Rattle.sqlite.specs.State.{State, Fails, Survives}
 use Rattle.desk_rows.specs.Making.{AreMade, MakesTables, creation, first_row}
-use Rattle.desk_rows.specs.Puts.{ArePut, OfItems, PutsAll, StopsAt, statement}
-use Rattle.desk_rows.specs.Turns.{FailsWith, Ran, Stops}
+use Rattle.desk_rows.specs.Puts.{OfItems, PutsAll, StopsAt, statement}
+use Rattle.desk_rows.specs.Turns.{FailsWith, Ran, RunInTurn, Stops}
 use Rattle.desk_parts.specs.declared.file_table.FileTable.{FileTable}
 use Rattle.desk_parts.specs.declared.file_table.FileTable.TheVariants as tables
 use Rattle.desk_parts.specs.declared.put.Put.{Put}
@@ -29,12 +29,12 @@ pub record Putting (S : Type 0) : Type 1 where
   pub stops : Held S → State → Error → Type 0
   pub puts : Held S → Held S → Type 0
 
--- what an iterator gives: an item stops it that isn't put after those before it
+-- What an iterator gives, each item by its statement: one stops it that isn't put after those before it.
 abbrev pub of_items : {S I : Type 0} → Ghosts S → (I → Option Put → I → Type 0) → I → Putting S
 of_items {S} {I} g gives it = record {
   stops = λ old new e. (lent : List Put) × (next : Put) × (rest : I) × YieldsThen gives it lent (Some next) rest
       × StopsAt g (map put_of lent) (put_of next) old new e;
-  puts = λ old new. OfItems gives it (λ xs. ArePut g xs old new);
+  puts = λ old new. OfItems gives it (λ xs. PutsAll xs (state g old) (state g new) × RunInTurn g (map statement xs) old new);
 }
 
 -- the row of a new book

@@ -20,7 +20,7 @@ use Rattle.desk_rows.specs.Descriptions.{description_of}
 use Rattle.desk_rows.specs.Layout.{Layout}
 use Rattle.desk_rows.specs.Rows.{columns_of, set_at}
 use Rattle.desk_rows.specs.States.{IsFile, IsUnder, ShowsContents}
-use Rattle.desk_rows.specs.Turns.{FailsWith, Ran, RunInTurn, Statement, Stops}
+use Rattle.desk_rows.specs.Turns.{FailsWith, Ran, Statement, Stops}
 use Rattle.desk_rows.specs.declared.texts.TheConstants.{SET_FLAGS, SET_PLACE, SET_PRINT, SET_RESOLVED, SET_SPAN, SET_TABLE, SET_VERSION}
 
 -- the contents with this put, and with these in turn
@@ -123,10 +123,6 @@ abbrev pub PutsAll : List RowPut → State → State → Type 0
 PutsAll puts old new =
     (committed : Database) (l : Layout) (c : Contents) → HasThem l puts
     → IsUnder committed l c old → IsUnder committed l (puts_into puts c) new
-
--- All of these were put so by their statements.
-abbrev pub ArePut : {S : Type 0} → Ghosts S → List RowPut → Held S → Held S → Type 0
-ArePut g puts old new = PutsAll puts (state g old) (state g new) × RunInTurn g (map statement puts) old new
 
 -- Those so far were put, and then this one wasn't, with this error.
 pub record StopsAt {S : Type 0} (g : Ghosts S) (done : List RowPut) (next : RowPut) (old : Held S)

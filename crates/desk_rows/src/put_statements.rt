@@ -14,7 +14,7 @@ ghost use Rattle.sql_tables.specs.States.{seen};
 ghost use Rattle.desk_parts.specs.Puts.{PutRow, lent_entry, lent_mark, lent_para, put_of};
 ghost use Rattle.desk_parts.specs.declared.file_table.FileTable.{FileTable};
 ghost use Rattle.desk_rows.specs.Failing.{of_items};
-ghost use Rattle.desk_rows.specs.Puts.{ArePut, IsPut, OfItems, RunsTo, statement};
+ghost use Rattle.desk_rows.specs.Puts.{IsPut, RunsTo, statement};
 ghost use Rattle.desk_rows.specs.Rows.{columns_of};
 
 use crate::texts::{
@@ -221,8 +221,7 @@ pub(crate) fn put_all<'a, S: Alter, I: Iterator<Item = Put<'a>> + Drop>(
     requires ends { IsFinite (I.remaining puts) }
     ensures same_reference { tx.new.conn.ghost_name ≡ tx.old.conn.ghost_name }
     ensures put { HasCleanDisk (seen S.Store tx.new)
-        → OnOk result (OfItems I.next_gives puts
-        (λ xs. ArePut S.Store xs tx.old.conn.now tx.new.conn.now)) }
+        → OnOk result ((of_items S.Store I.next_gives puts).puts tx.old.conn.now tx.new.conn.now) }
     ensures inside { HasCleanDisk (seen S.Store tx.new)
         → (seen S.Store tx.old).in_transaction ≡ true
         → OnOk result ((seen S.Store tx.new).in_transaction ≡ true) }

@@ -1,6 +1,7 @@
 -- What a statement that puts rows does to the contents.
-use Rattle.std.proofs.Common.{◌≡◌, ◌++◌, inl, inr, true, false, List, [], ◌∷◌, Ok, Err, IfErr, OnOk, refl, sym, subst, ◌∙◌, bytes_eq, Result}
+use Rattle.std.proofs.Common.{◌≡◌, ◌++◌, inl, inr, true, false, List, [], ◌∷◌, map, Ok, Err, IfErr, OnOk, refl, sym, subst, ◌∙◌, bytes_eq, Result}
 use Rattle.sqlite_trees.specs.Tree.{Trees}
+use Rattle.sqlite_trees.specs.declared.store.Store.{Ghosts}
 use Rattle.sqlite_trees.proofs.ListLemmas.{all_both}
 use Rattle.sqlite_rules.specs.Lists.{Has}
 use Rattle.sqlite_rules.proofs.ListLemmas.{all_from, all_has, has_left, has_right}
@@ -8,6 +9,7 @@ use Rattle.std.proofs.lemmas.List.Sums.{fold_push}
 use Rattle.sqlite_catalog.specs.Listing.{IsSound}
 use Rattle.sqlite.specs.declared.error.Error.{Error}
 use Rattle.sqlite.specs.Effect.{Database}
+use Rattle.sqlite.specs.Held.{Held, state}
 use Rattle.sqlite.specs.State.{State}
 use Rattle.sqlite.proofs.InsideLemmas.{inside_keeps}
 use Rattle.desk_parts.specs.declared.file_table.FileTable.{FileTable}
@@ -23,7 +25,7 @@ use Rattle.desk_rows.specs.Descriptions.{description_of, table_of}
 use Rattle.desk_rows.specs.Layout.{Layout}
 use Rattle.desk_rows.specs.Contents.{Contents}
 use Rattle.desk_rows.specs.Puts.{IsPut, PutsAll, RunsTo, put_into, puts_into, statement}
-use Rattle.desk_rows.specs.Turns.{FailsWith, Ran}
+use Rattle.desk_rows.specs.Turns.{FailsWith, Ran, RunInTurn}
 use Rattle.desk_rows.specs.Rows.{columns_of, set_at}
 use Rattle.desk_parts.specs.Rows.{RowOf}
 use Rattle.desk_rows.specs.States.{IsFile, IsUnder}
@@ -103,6 +105,10 @@ module _ (x : BookRow) (old new : State) where
   row_told (Err e) it was = elim (it.told was) [ inl failed ↦ failed | inr none ↦ absurd none.0 ]
 
 -- ---- puts in turn
+
+-- all of these were put by their statements
+abbrev pub ArePut : {S : Type 0} → Ghosts S → List RowPut → Held S → Held S → Type 0
+ArePut g puts old new = PutsAll puts (state g old) (state g new) × RunInTurn g (map statement puts) old new
 
 -- one is put after others
 pub puts_more : (xs : List RowPut) (x : RowPut) (old mid new : State) → PutsAll xs old mid

@@ -7,8 +7,8 @@ use Rattle.sqlite.proofs.InsideLemmas.{keeps_then}
 use Rattle.sqlite.proofs.StateLemmas.{survives_then}
 use Rattle.sql_tables.specs.States.{seen}
 use Rattle.desk_parts.specs.Puts.{put_of}
-use Rattle.desk_rows.specs.Puts.{ArePut, statement}
-use Rattle.desk_rows.proofs.RowPuts.Changing.{puts_more}
+use Rattle.desk_rows.specs.Puts.{statement}
+use Rattle.desk_rows.proofs.RowPuts.Changing.{ArePut, puts_more}
 use Rattle.desk_rows.proofs.Transactions.Turns.{one_more_ran}
 use Rattle.desk_rows.proofs.put_statements.put_all.Goals as goal
 

@@ -1,7 +1,7 @@
 use Rattle.std.proofs.Common.{◌≡◌, map, true}
 use Rattle.sqlite.specs.State.{HasCleanDisk, KeepsCommit, Survives}
 use Rattle.desk_parts.specs.Puts.{put_of}
-use Rattle.desk_rows.specs.Puts.{ArePut}
+use Rattle.desk_rows.proofs.RowPuts.Changing.{ArePut}
 use Rattle.sql_tables.specs.States.{seen}
 use Rattle.desk_rows.proofs.put_statements.put_all.Given as goal
 
