@@ -131,10 +131,6 @@ LendsFirst puts item left = MatchOption item ((puts ≡ []) × (left ≡ [])) (�
 abbrev pub put_by_key : {X : Type 0} → (X → Bool) → X → List X → List X
 put_by_key has_key x xs = x ∷ filter (λ y. not (has_key y)) xs
 
--- the rows, with this done to those that have the key
-abbrev pub set_by_key : {X : Type 0} → (X → Bool) → (X → X) → List X → List X
-set_by_key has_key set xs = map (λ x. if has_key x then set x else x) xs
-
 -- whether this is the key of a row
 abbrev pub has_key : (t : FileTable) → KeyOf t → RowOf t → Bool
 has_key tables.Book id b = int_eq b.id id
@@ -176,7 +172,7 @@ table_put (SetColumns t key columns) = t
 -- what it makes of the rows of that table
 abbrev pub change_of : (it : RowPut) → List (RowOf (table_put it)) → List (RowOf (table_put it))
 change_of (PutRow t row) = put_to t row
-change_of (SetColumns t key columns) = set_by_key (has_key t key) (with_columns t columns)
+change_of (SetColumns t key columns) = map (λ row. if has_key t key row then with_columns t columns row else row)
 
 -- the entries, with this done to those without names, to those with names
 abbrev pub with_unnamed : (List Corr → List Corr) → EntryRows → EntryRows

@@ -1,6 +1,6 @@
 //! A book from the rows of its file.
 ghost use Rattle.desk_model.specs.Damage.{IsDamagedEntries, IsDamagedPara, IsWithin};
-ghost use Rattle.desk_parts.specs.FileRows.{HasTexts, entries_in, table_of, without_name};
+ghost use Rattle.desk_parts.specs.FileRows.{HasTexts, Unnamed, entries_in, table_of};
 ghost use Rattle.desk_rebuild.specs.Faults.{IsDamagedBraille, TellsDamageOf};
 ghost use Rattle.desk_rebuild.specs.Rows.{AreOf, AreTables, HasCells, HasHistory, IsWhole, without_cells, without_history};
 ghost use Rattle.desk_memory.specs.Kept.{IsKept, book_kept, paragraph_with_id};
@@ -40,7 +40,7 @@ fn version_of(version: i64) -> Option<u64>
 
 /// The entries of format 1 as those of proofreaders without a name.
 fn with_no_names(alloc: Global, rows: Vec<CorrRow>) -> Result<Vec<NamedCorrRow>, AllocError>
-    ensures { IfOk result (λ named. named.items ≡ map without_name rows.items) }
+    ensures { IfOk result (λ named. named.items ≡ entries_in (Unnamed rows.items)) }
 {
     let mut named = Vec::with_capacity(alloc, rows.len())?;
     for entry in rows {

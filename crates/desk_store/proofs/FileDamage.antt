@@ -7,7 +7,7 @@ use Rattle.desk_model.specs.Damage.{HasItsTables, IsDamagedBook}
 use Rattle.desk_model.proofs.Callers.{book-undamaged as sound-book, one_damage, shown-undamaged as shown, undamaged as sound}
 use Rattle.desk_parts.specs.declared.file_table.FileTable.{FileTable}
 use Rattle.desk_parts.specs.declared.file_table.FileTable.TheVariants as tables
-use Rattle.desk_parts.specs.FileRows.{AreTexts, HasTexts, entries_in, without_name}
+use Rattle.desk_parts.specs.FileRows.{AreTexts, HasTexts, Unnamed, entries_in}
 use Rattle.desk_parts.specs.Rows.{Corr}
 use Rattle.desk_parts.specs.declared.rows.BookRow.{BookRow}
 use Rattle.desk_rows.specs.Contents.{Contents}
@@ -56,7 +56,7 @@ module _ (l : Layout) (c : Contents) where
       → CanBeRead (presence named t) (l.has t) (AllByRecursion (HasTexts t) (c.rows t))
   readable_in_both f t can alike = subst (λ (p : Presence). CanBeRead p (l.has t) (AllByRecursion (HasTexts t) (c.rows t))) (in_both f t alike) (can t)
 
-  unnamed_texts : (rows : List Corr) → AllByRecursion (HasTexts tables.Corr) rows → AllByRecursion (HasTexts tables.NamedCorr) (map without_name rows)
+  unnamed_texts : (rows : List Corr) → AllByRecursion (HasTexts tables.Corr) rows → AllByRecursion (HasTexts tables.NamedCorr) (entries_in (Unnamed rows))
   unnamed_texts [] all = tt
   unnamed_texts (row ∷ rows) all = ((all.0, ([], (refl, refl))), unnamed_texts rows all.1)
 

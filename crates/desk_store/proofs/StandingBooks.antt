@@ -9,7 +9,7 @@ use Rattle.sqlite.specs.Held.{Held, state}
 use Rattle.sqlite.specs.State.{State}
 use Rattle.desk_model.specs.Book.{Book}
 use Rattle.desk_parts.specs.declared.file_table.FileTable.TheVariants as tables
-use Rattle.desk_parts.specs.FileRows.{HasTexts, Named, Unnamed, entries_in, format_of, without_name}
+use Rattle.desk_parts.specs.FileRows.{HasTexts, Named, Unnamed, entries_in, format_of}
 use Rattle.desk_parts.specs.Rows.{Corr}
 use Rattle.desk_model.specs.Shows.{Shows as RowsShow, book_row_of}
 use Rattle.desk_parts.specs.declared.rows.BookRow.{BookRow}
@@ -36,7 +36,7 @@ abbrev pub AreTextsIf : Contents → Bool → Type 0
 AreTextsIf c has =
     AllByRecursion (HasTexts tables.NamedCorr) (entries_in (if has then Named (c.rows tables.NamedCorr) else Unnamed (c.rows tables.Corr)))
 
-bodies : (rows : List Corr) → AllByRecursion (HasTexts tables.NamedCorr) (map without_name rows) → AllByRecursion (HasTexts tables.Corr) rows
+bodies : (rows : List Corr) → AllByRecursion (HasTexts tables.NamedCorr) (entries_in (Unnamed rows)) → AllByRecursion (HasTexts tables.Corr) rows
 bodies [] all = tt
 bodies (row ∷ rows) all = (all.0.0, bodies rows all.1)
 

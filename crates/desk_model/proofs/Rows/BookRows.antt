@@ -14,7 +14,7 @@ use Rattle.louis_translate.proofs.Tilings.{one_tiling}
 use Rattle.desk_parts.specs.declared.file_table.FileTable.TheVariants.{Corr as CorrTable, NamedCorr as NamedCorrTable}
 use Rattle.desk_model.specs.Book.{Entry, Corrects, Undoes, Paragraph, Book}
 use Rattle.desk_parts.specs.declared.file_table.FileTable.TheVariants as file
-use Rattle.desk_parts.specs.FileRows.{FileRows, HasTexts, Named, Unnamed, spelled, table_of, without_name}
+use Rattle.desk_parts.specs.FileRows.{FileRows, HasTexts, Named, Unnamed, spelled, table_of}
 use Rattle.desk_model.specs.Name.{IsTableName, is_name_character}
 use Rattle.desk_model.specs.Print.{print_of}
 use Rattle.desk_parts.specs.Rows.{Corr, Tab, Para, NamedCorr, Mark as MarkRow, ParaCells}
@@ -129,6 +129,10 @@ entries-characters (p ∷ ps) all =
 
 abbrev encoded_corr : NamedCorr → Corr
 encoded_corr e = record e.entry { body = encodes e.entry.body }
+
+-- an entry as that of a proofreader without a name
+abbrev without_name : Corr → NamedCorr
+without_name entry = record { entry = entry; who = [] }
 
 abbrev HasNoName : NamedCorr → Type 0
 HasNoName e = e.who ≡ []

@@ -1,5 +1,5 @@
 -- What becomes of the rows of a file when some are put, table by table.
-use Rattle.std.proofs.Common.{◌≡◌, ℕ, ◌≤◌, ℤ, pos, Bool, true, false, cond, List, [], ◌∷◌, map, min, refl, sym, ap, subst, ◌∙◌, arith, inl, inr}
+use Rattle.std.proofs.Common.{◌≡◌, ℕ, ◌≤◌, ℤ, pos, Bool, true, false, cond, if◌then◌else◌, List, [], ◌∷◌, map, min, refl, sym, ap, subst, ◌∙◌, arith, inl, inr}
 use Rattle.std.specs.List.{All, filter}
 use Rattle.std.specs.List.Sorted.{IsPermutation}
 use Rattle.std.specs.Ordering.{int_eq}
@@ -14,7 +14,7 @@ use Rattle.desk_model.specs.Book.{Book, Paragraph, text_of}
 use Rattle.desk_model.specs.Loans.{row_number}
 use Rattle.desk_model.specs.Limits.{most_version}
 use Rattle.desk_model.specs.Print.{print_of}
-use Rattle.desk_parts.specs.Puts.{put_by_key, set_by_key}
+use Rattle.desk_parts.specs.Puts.{put_by_key}
 use Rattle.desk_parts.specs.Rows.{ParaCells}
 use Rattle.desk_model.specs.Shows.{AreCached, IsCached, book_row_of}
 use Rattle.desk_model.specs.Translation.{IsBraille}
@@ -27,6 +27,10 @@ pub number-small : (n : ℕ) → n ≤ 9223372036854775807 → row_number n ≡ 
 number-small n small = ap pos (let least : min n 9223372036854775807 ≡ n = omega arith in least)
 
 -- ---- columns
+
+-- the rows, with this done to those that have the key
+abbrev set_by_key : {X : Type 0} → (X → Bool) → (X → X) → List X → List X
+set_by_key has_key set xs = map (λ x. if has_key x then set x else x) xs
 
 -- the version
 pub versioned : (f v w : ℕ) (rows : List BookRow) → w ≤ most_version → rows ≡ book_row_of f v ∷ []

@@ -6,9 +6,9 @@ use Rattle.std.specs.Option.{ForSome}
 use Rattle.std.proofs.lemmas.List.Sorted.{All-permutation, IsPermutation-map, IsPermutation-sym, IsPermutation-trans}
 use Rattle.desk_model.specs.Book.{Book, Paragraph}
 use Rattle.desk_parts.specs.declared.file_table.FileTable.TheVariants as file
-use Rattle.desk_parts.specs.FileRows.{AreTexts, EntryRows, FileRows, HasTexts, Named, Unnamed, entries_in, format_of, spelled, table_of, without_name}
+use Rattle.desk_parts.specs.FileRows.{AreTexts, EntryRows, FileRows, HasTexts, Named, Unnamed, entries_in, format_of, spelled, table_of}
 use Rattle.desk_model.specs.FilledRows.{AreEntriesOf}
-use Rattle.desk_parts.specs.Rows.{ParaCells, NamedCorr}
+use Rattle.desk_parts.specs.Rows.{ParaCells, Corr, NamedCorr}
 use Rattle.desk_model.specs.SameRows.{AreSameCaches, AreSameEntries, AreSameRows}
 use Rattle.desk_model.specs.Shows.{AreCached, IsCached, Shows, book_row_of, entry_rows_of}
 use Rattle.desk_model.proofs.Commands.Turns.{same_some}
@@ -40,7 +40,7 @@ turned a b same = record {
 -- ---- entries
 
 pub entries_in-moved : (a b : EntryRows) → AreSameEntries a b → IsPermutation (entries_in a) (entries_in b)
-entries_in-moved (Unnamed a) (Unnamed b) moved = IsPermutation-map without_name a b moved
+entries_in-moved (Unnamed a) (Unnamed b) moved = IsPermutation-map (λ (corr : Corr). record { entry = corr; who = [] }) a b moved
 entries_in-moved (Unnamed a) (Named b) other = absurd other
 entries_in-moved (Named a) (Unnamed b) other = absurd other
 entries_in-moved (Named a) (Named b) moved = moved

@@ -1,5 +1,5 @@
 -- What the statements that put and set rows do to their tables.
-use Rattle.std.proofs.Common.{◌≡◌, ℕ, ℤ, true, List, [], ◌∷◌, length, map, codes, bytes_eq, unwrap_or, Some, refl, sym, ap, subst, ◌∙◌, Ok, arith}
+use Rattle.std.proofs.Common.{◌≡◌, ℕ, ℤ, Bool, true, if◌then◌else◌, List, [], ◌∷◌, length, map, codes, bytes_eq, unwrap_or, Some, refl, sym, ap, subst, ◌∙◌, Ok, arith}
 use Rattle.std.specs.List.{position_from}
 use Rattle.std.specs.Ordering.{int_eq}
 use Rattle.std.proofs.lemmas.List.Sorted.{IsPermutation-sym, IsPermutation-trans, IsPermutation-cons, IsPermutation-map}
@@ -18,7 +18,7 @@ use Rattle.sqlite.specs.State.{State, Executes, ExecutesIn}
 use Rattle.sqlite_tied.specs.Compute.{everything}
 use Rattle.desk_parts.specs.declared.file_table.FileTable.{FileTable}
 use Rattle.desk_parts.specs.declared.file_table.FileTable.TheVariants as tables
-use Rattle.desk_parts.specs.Puts.{RowPut, PutRow, SetColumns, Flags, Place, Print, Resolved, Span, Table, Version, change_of, put_by_key, put_to, set_by_key, table_put}
+use Rattle.desk_parts.specs.Puts.{RowPut, PutRow, SetColumns, Flags, Place, Print, Resolved, Span, Table, Version, change_of, put_by_key, put_to, table_put}
 use Rattle.desk_parts.specs.Rows.{Corr, NamedCorr, RowOf, Tab}
 use Rattle.sql_tables.specs.Rows.{HaveRowids, Lists, columns_at, numbers_from}
 use Rattle.sql_tables.specs.Tables.{IsDeclared, numbered_table}
@@ -48,6 +48,10 @@ abbrev pub Does : (t : FileTable) → (List (RowOf t) → List (RowOf t)) → Li
 Does t f text params =
     (schema : Schema) (tree : ℕ) (d : IsDeclared schema (table_of t tree)) (old new : State) (count : ℕ) (xs : List (RowOf t)) → old.now.schema ≡ schema → IsSound schema old.now.trees → ((description_of t).is_changed ≡ true → HaveRowids (old.now.trees tree))
     → Lists (columns_of t) (columns_at (description_of t).own) xs (old.now.trees tree) → Executes text params old new (Ok count) → Did t schema tree (f xs) old new
+
+-- the rows, with this done to those that have the key
+abbrev pub set_by_key : {X : Type 0} → (X → Bool) → (X → X) → List X → List X
+set_by_key has_key set xs = map (λ x. if has_key x then set x else x) xs
 
 -- ---- tables whose key is their rowid
 

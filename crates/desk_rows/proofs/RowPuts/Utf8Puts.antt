@@ -4,7 +4,7 @@ use Rattle.std.specs.List.{AllByRecursion}
 use Rattle.sqlite_trees.proofs.ListLemmas.{all-filter, all-map, all_weaker}
 use Rattle.desk_parts.specs.declared.file_table.FileTable.{FileTable}
 use Rattle.desk_parts.specs.declared.file_table.FileTable.TheVariants as tables
-use Rattle.desk_parts.specs.Puts.{ColumnsOf, KeyOf, RowPut, PutRow, SetColumns, Flags, Place, Print, Resolved, Span, Table, Version, has_key, put_to, set_by_key, with_columns}
+use Rattle.desk_parts.specs.Puts.{ColumnsOf, KeyOf, RowPut, PutRow, SetColumns, Flags, Place, Print, Resolved, Span, Table, Version, has_key, put_to, with_columns}
 use Rattle.desk_rows.specs.Contents.{Contents}
 use Rattle.desk_rows.specs.Puts.{put_into, puts_into}
 use Rattle.desk_rows.specs.Rows.{set_at}
@@ -12,6 +12,7 @@ use Rattle.desk_parts.specs.Rows.{RowOf}
 use Rattle.desk_parts.specs.FileRows.{HasTexts}
 use Rattle.desk_rows.specs.Whole.{AreUtf8, IsUtf8Put}
 use Rattle.desk_rows.proofs.RowPuts.Changing.{each_set}
+use Rattle.desk_rows.proofs.RowPuts.PutTables.{set_by_key}
 
 all_set : {X : Type 0} (P : X → Type 0) (has_key : X → Bool) (set : X → X) → ((x : X) → P x → P (set x)) → (xs : List X) → AllByRecursion P xs → AllByRecursion P (set_by_key has_key set xs)
 all_set {X} P has_key set stays xs all = all-map P _ xs (all_weaker P _ (λ x is. go x is (has_key x)) xs all)
