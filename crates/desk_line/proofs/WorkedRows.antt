@@ -10,8 +10,7 @@ use Rattle.desk_command.specs.declared.command.Command.TheVariants as commands
 use Rattle.desk_command.specs.declared.refusal.Limit.TheVariants as limits
 use Rattle.desk_command.specs.declared.refusal.Refusal.TheVariants as refusals
 use Rattle.desk_command.specs.declared.style.Style.TheVariants.{Body}
-use Rattle.desk_model.specs.Book.{empty_book, Corrects, Undoes}
-use Rattle.desk_model.specs.Step.{new_mark}
+use Rattle.desk_model.specs.Book.{empty_book, Corrects, Undoes, new_mark}
 use Rattle.desk_line.specs.declared.answer.Answer.TheVariants as answers
 use Rattle.desk_line.specs.declared.head.Head.{Head}
 use Rattle.desk_line.specs.declared.head.Head.TheVariants as heads

@@ -1,5 +1,5 @@
 -- A book: what was typed, corrected and marked, and nothing that follows from that.
-use Rattle.std.specs.Prelude.{ℕ, nat_eq, Bool, List, [], Option}
+use Rattle.std.specs.Prelude.{ℕ, nat_eq, Bool, false, List, [], Option}
 use Rattle.std.specs.Map.{lookup}
 use Rattle.std.specs.List.{find}
 use Rattle.std.specs.Cmp.Lexicographic.{pointwise}
@@ -36,6 +36,18 @@ pub record Mark : Type 0 where
   pub note : List ℕ
   pub touched : Bool
   pub resolved : Bool
+
+-- a mark that was just put on places of a print
+abbrev pub new_mark : (id paragraph start end : ℕ) → List ℕ → Mark
+new_mark id paragraph start end note = record {
+  id = id;
+  paragraph = paragraph;
+  start = start;
+  end = end;
+  note = note;
+  touched = false;
+  resolved = false;
+}
 
 -- the texts of the tables stand in the order of their names, the paragraphs in the order of the book, the marks in
 -- the order of their ids

@@ -10,7 +10,7 @@ use Rattle.desk_command.specs.declared.command.Anchor.TheVariants.{Front, End, P
 use Rattle.desk_command.specs.declared.command.Command.{Command}
 use Rattle.desk_command.specs.declared.command.Command.TheVariants.{Table, TypeIn, Correct, Undo, Mark, Resolve, Strike, Restore, Style, Volume, Retable, Move}
 use Rattle.desk_command.specs.declared.style.Style.TheVariants.{Body}
-use Rattle.desk_model.specs.Book.{Replacement, Entry, Corrects, Undoes, Book, Paragraph, Mark as BookMark, paragraph_of}
+use Rattle.desk_model.specs.Book.{Replacement, Entry, Corrects, Undoes, Book, Paragraph, Mark as BookMark, new_mark, paragraph_of}
 use Rattle.desk_model.specs.Marks.{mark_moved, mark_moved_back}
 use Rattle.desk_model.specs.Print.{newest, with_entry}
 use Rattle.desk_model.specs.NormalForm.{normal_form}
@@ -104,18 +104,6 @@ pub record IsNewest (book : Book) (id number : ℕ) (correction : Replacement) :
 -- the id of the next mark
 abbrev pub next_mark : Book → ℕ
 next_mark book = length book.marks + 1
-
--- a mark that was just put on places of a print
-abbrev pub new_mark : (id paragraph start end : ℕ) → List ℕ → BookMark
-new_mark id paragraph start end note = record {
-  id = id;
-  paragraph = paragraph;
-  start = start;
-  end = end;
-  note = note;
-  touched = false;
-  resolved = false;
-}
 
 -- the mark, resolved if it has this id
 abbrev pub resolved_by : ℕ → BookMark → BookMark

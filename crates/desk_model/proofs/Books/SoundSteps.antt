@@ -22,7 +22,7 @@ use Rattle.std.proofs.lemmas.List.Elements.{All-push}
 use Rattle.louis_translate.specs.Braille.{braille}
 use Rattle.louis_translate.specs.Position.{AreDefined}
 use Rattle.desk_command.specs.declared.refusal.Refusal.TheVariants.{BadSpan}
-use Rattle.desk_model.specs.Book.{Book, Corrects, Mark as BookMark, Paragraph, Replacement, Undoes, text_of, empty_book}
+use Rattle.desk_model.specs.Book.{Book, Corrects, Mark as BookMark, Paragraph, Replacement, Undoes, new_mark, text_of, empty_book}
 use Rattle.desk_model.specs.Marks.{mark_moved, mark_moved_back}
 use Rattle.desk_model.specs.Print.{corrected_print, print_of, print_undone, with_entry, with_replacement}
 use Rattle.desk_model.specs.Translation.{AreMarked}
@@ -34,7 +34,7 @@ use Rattle.desk_model.specs.Named.{HasCharacters, paragraph_before}
 use Rattle.desk_model.specs.Refusals.{DefinesUser, IsAccepted}
 use Rattle.desk_model.specs.Limits.{most_tables, most_print}
 use Rattle.desk_model.specs.Sound.{IsSoundHistory, IsSoundTable, IsSoundParagraph, IsSoundMark, IsSound}
-use Rattle.desk_model.specs.Step.{new_paragraph, with_change, with_paragraph, with_move, next_id, IsNewest, new_mark, next_mark, next_with_entry, next_with_marks, next_with_paragraphs, next_with_tables, replacement_by, Makes}
+use Rattle.desk_model.specs.Step.{new_paragraph, with_change, with_paragraph, with_move, next_id, IsNewest, next_mark, next_with_entry, next_with_marks, next_with_paragraphs, next_with_tables, replacement_by, Makes}
 use Rattle.desk_model.specs.NormalForm.{is_barred, IsClean, IsUnbarred, normal_form}
 use Rattle.desk_command.specs.Characters.{AreCharacters}
 use Rattle.desk_model.proofs.Lists.Options.{IsSomeAnd-of}

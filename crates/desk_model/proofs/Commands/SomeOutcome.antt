@@ -7,7 +7,7 @@ use Rattle.desk_command.specs.declared.refusal.Limit.TheVariants.{Tables, Paragr
 use Rattle.desk_command.specs.declared.refusal.Refusal.{Refusal}
 use Rattle.desk_command.specs.declared.refusal.Refusal.TheVariants.{Moved, BadName, BadReader, BadText, NoParagraph, NoTable, NoMark, Struck, NotStruck, Resolved, BadSpan, NothingToUndo, TooLong, Full, BadTable, Undefined, Untranslatable}
 use Rattle.desk_model.specs.After.{After}
-use Rattle.desk_model.specs.Book.{Book, Paragraph, Replacement, Undoes, paragraph_of}
+use Rattle.desk_model.specs.Book.{Book, Paragraph, Replacement, Undoes, new_mark, paragraph_of}
 use Rattle.desk_model.specs.Judging.{Passes}
 use Rattle.desk_model.specs.Marks.{mark_moved_back}
 use Rattle.desk_model.specs.Outcome.{HasOneOutcome}
@@ -15,7 +15,7 @@ use Rattle.desk_model.specs.Print.{newest}
 use Rattle.desk_model.specs.Refusals.{Holds, IsAccepted, IsRefused, turn}
 use Rattle.desk_model.specs.Sound.{IsSound}
 use Rattle.desk_model.specs.Translation.{AreMarked}
-use Rattle.desk_model.specs.Step.{Makes, next_with_entry, next_with_marks, new_mark, next_mark}
+use Rattle.desk_model.specs.Step.{Makes, next_with_entry, next_with_marks, next_mark}
 use Rattle.desk_model.proofs.Commands.Accepted.{named_paragraph}
 use Rattle.desk_model.proofs.Commands.Judging.{IsAccepted-passes, IsRefused-passes, NoneHolds, Passes-past, Passes-start, skips}
 use Rattle.desk_model.proofs.Commands.MarkedPlaces.{one_span, some_span}

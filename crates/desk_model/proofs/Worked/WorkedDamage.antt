@@ -15,7 +15,7 @@ use Rattle.desk_model.specs.Limits.{most_marks, most_note, most_paragraphs, most
 use Rattle.desk_model.specs.Name.{IsTableName}
 use Rattle.desk_parts.specs.Rows.{Mark, NamedCorr, Para, ParaCells, Tab}
 use Rattle.desk_model.specs.Shows.{book_row_of, mark_row_of}
-use Rattle.desk_model.specs.Step.{new_mark}
+use Rattle.desk_model.specs.Book.{new_mark}
 use Rattle.desk_model.specs.NormalForm.{IsUnbarred, is_barred}
 use Rattle.desk_model.proofs.Damage.FirstDamage.{IsWholeBefore, before-book, before-cache, before-entries, before-mark, before-para, before-tab}
 use Rattle.desk_model.proofs.Lists.Members.{Contains-behind, Contains-cases, Contains-here, Contains-none}

@@ -24,7 +24,7 @@ use Rattle.desk_command.specs.declared.refusal.Refusal.{Refusal}
 use Rattle.desk_command.specs.declared.refusal.Refusal.TheVariants.{Moved, BadName, BadReader, BadText, NoParagraph, NoTable, NoMark, Struck, NotStruck, Resolved, BadSpan, NothingToUndo, TooLong, Full, BadTable, Undefined, Untranslatable, NoMemory}
 use Rattle.desk_command.specs.declared.command.Command.TheVariants.{Correct, Undo, Strike, Restore}
 use Rattle.desk_command.specs.declared.style.Style.TheVariants.{Body}
-use Rattle.desk_model.specs.Book.{Book, Paragraph, Replacement, Entry, Corrects, Undoes, Mark, paragraph_of}
+use Rattle.desk_model.specs.Book.{Book, Paragraph, Replacement, Entry, Corrects, Undoes, Mark, new_mark, paragraph_of}
 use Rattle.desk_model.specs.Print.{corrected_print, newest, stack}
 use Rattle.desk_model.specs.Marks.{mark_moved, mark_moved_back}
 use Rattle.desk_model.specs.Judging.{Passes}
@@ -33,7 +33,7 @@ use Rattle.desk_model.specs.Refusals.{IsRefused, new_print, print_to_translate, 
 use Rattle.desk_model.specs.Limits.{most_entries, most_print}
 use Rattle.desk_command.specs.Numbers.{code_of}
 use Rattle.desk_model.specs.Named.{number_of}
-use Rattle.desk_model.specs.Step.{Makes, new_mark}
+use Rattle.desk_model.specs.Step.{Makes}
 use Rattle.desk_model.specs.NormalForm.{IsUnbarred, is_barred}
 use Rattle.desk_model.proofs.Commands.Expecting.{moved}
 use Rattle.desk_model.proofs.Commands.Judging.{IsRefused-passes, Passes-past}
