@@ -90,14 +90,7 @@ impl Book {
         check_note(note)?;
         self.check_marks()?;
         self.check_version()?;
-        let mark = KeptMark {
-            paragraph: id,
-            start,
-            end,
-            note: copy(alloc, note.as_str())?,
-            touched: false,
-            resolved: false,
-        };
+        let mark = KeptMark::new(id, start, end, copy(alloc, note.as_str())?);
         Ok(Effect::AddMark {
             mark,
             room: self.marks.room(alloc)?,

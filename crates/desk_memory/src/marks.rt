@@ -1,5 +1,7 @@
 //! The marks of proofreaders.
 ghost use Rattle.desk_memory.specs.KeptMarks.{AreWithin, IsWithin, indexes_on, moved_kept, kept_mark, span_kept, with_kept_moved, with_kept_resolved};
+ghost use Rattle.desk_memory.specs.Kept.{mark_kept};
+ghost use Rattle.desk_model.specs.Book.{new_mark};
 ghost use Rattle.desk_model.specs.Limits.{most_print};
 ghost use Rattle.desk_memory.specs.Room.{Suffices};
 ghost use Rattle.std.specs.Option.{option_copied};
@@ -42,6 +44,20 @@ impl Drop for KeptMark {
 }
 
 impl KeptMark {
+    /// A mark that was just put on places of a print: neither touched nor resolved.
+    pub fn new(paragraph: u64, start: usize, end: usize, note: Text) -> Self
+        ensures { (id : ℕ) → mark_kept (id, result) ≡ new_mark id paragraph start end note }
+    {
+        KeptMark {
+            paragraph,
+            start,
+            end,
+            note,
+            touched: false,
+            resolved: false,
+        }
+    }
+
     /// The places that it covers.
     fn span(&self) -> Span
         ensures { result ≡ span_kept self.now }

@@ -1,6 +1,8 @@
-use Rattle.std.proofs.Common.{◌≡◌, ℕ, length, refl, sym, ap, subst, ◌∙◌, arith}
+use Rattle.std.proofs.Common.{◌≡◌, ℕ, [], ◌∷◌, ◌++◌, length, refl, sym, ap, subst, ◌∙◌, arith}
 use Rattle.std.proofs.lemmas.Result.{err_from_is_err_and}
-use Rattle.desk_model.specs.Book.{Book}
+use Rattle.desk_model.specs.Book.{Book, Mark, new_mark}
+use Rattle.desk_model.specs.ParagraphMarks.{marks_on}
+use Rattle.desk_model.specs.Step.{next_mark, next_with_marks}
 use Rattle.desk_memory.specs.Room.{Suffices}
 use Rattle.desk_command.specs.Characters.{AreCharacters}
 use Rattle.desk_memory.proofs.Callers.{count-marks, few-on}
@@ -44,11 +46,23 @@ returns-clause-planned c =
     let book = c.args.self.now in
     let count : length c.self.inside.marks ≡ length book.marks = sym (count-marks c.self.inside.marks) ∙ ap (λ (b : Book). length b.marks) c.self.view_is in
     let noted = c.in_ok-copy.ensures.text ∙ c.as_str.ensures in
+    let kept = c.new-mark.ensures (next_mark book) in
+    let is = kept ∙ ap (new_mark (next_mark book) c.args.id _ _) noted in
+    let on = ap (λ (m : Mark). m.paragraph) kept in
     let marked = marked_here c.args.self.now c.args.id c.args.cell c.args.count c.args.note.now c.in_ok-check_text.ensures.unbarred _ _ c.in_ok-paragraph.ensures.found.0 c.in_ok-paragraph.ensures.found.1 _ _ c.as_slice-print.result.now c.as_slice-print.ensures c.in_ok-start.ensures.there in
     let characters = subst AreCharacters noted c.in_ok-copy.ensures.characters in
-    rw noted (
+    let few = subst (λ (n : ℕ). Suffices n c.in_ok-room-2.field-0) c.in_ok-paragraph.ensures.found.0.marked c.in_ok-room-2.ensures in (
       accepted_mark c.args.self.now c.args.id c.args.cell c.args.count c.args.note.now c.in_ok-check_text.ensures.unbarred _ _ c.in_ok-paragraph.ensures.found.0 c.in_ok-paragraph.ensures.found.1 _ _ c.as_slice-print.result.now c.as_slice-print.ensures c.in_ok-start.ensures.there c.in_ok-check_note.ensures.short c.in_ok-check_marks.ensures.left c.in_ok-check_version.ensures.left,
-      (_, (_, _, marked, refl), (refl, subst (λ (n : ℕ). Suffices n c.in_ok-room.field-0) count c.in_ok-room.ensures, c.in_ok-check_marks.ensures.left, subst (λ (n : ℕ). Suffices n c.in_ok-room-2.field-0) c.in_ok-paragraph.ensures.found.0.marked c.in_ok-room-2.ensures)),
+      (
+        _,
+        (_, _, marked, refl),
+        (
+          ap (λ (m : Mark). next_with_marks book (book.marks ++ m ∷ [])) (sym is),
+          subst (λ (n : ℕ). Suffices n c.in_ok-room.field-0) count c.in_ok-room.ensures,
+          c.in_ok-check_marks.ensures.left,
+          subst (λ (id : ℕ). Suffices (length (marks_on id book.marks)) c.in_ok-room-2.field-0) (sym on) few,
+        ),
+      ),
       (tt, tt, characters),
     )
 
