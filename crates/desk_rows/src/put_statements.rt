@@ -5,24 +5,25 @@
 //! the transaction goes on. The error is the database's; if an allocation for a print or for cells fails, that is the error, and nothing
 //! was done.
 
-ghost use Rattle.std.specs.Prelude.{◌≡◌, true, [], ◌∷◌, IfErr, IfOk, OnErr, OnOk, encode_utf8_all, string_bytes};
+ghost use Rattle.std.specs.Prelude.{◌≡◌, true, IfErr, IfOk, OnOk, encode_utf8_all, string_bytes};
 ghost use Rattle.std.specs.Iterator.{IsFinite};
-ghost use Rattle.sqlite_value.specs.declared.value.Value.TheVariants.{Blob, Int, Text};
 ghost use Rattle.sqlite.specs.State.{HasCleanDisk, KeepsCommit, Survives};
 ghost use Rattle.sqlite.specs.Values.{bound};
 ghost use Rattle.sql_tables.specs.States.{seen};
-ghost use Rattle.desk_parts.specs.Puts.{PutRow, lent_entry, lent_mark, lent_para, put_of};
+ghost use Rattle.desk_parts.specs.Puts.{PutRow, lent_para, put_of};
 ghost use Rattle.desk_parts.specs.declared.file_table.FileTable.{FileTable};
 ghost use Rattle.desk_rows.specs.Failing.{of_items};
 ghost use Rattle.desk_rows.specs.Puts.{IsPut, RunsTo, statement};
-ghost use Rattle.desk_rows.specs.Rows.{columns_of};
 
+use crate::row::{
+    book_columns, cache_columns, entry_columns, mark_columns, para_columns, tab_columns,
+};
 use crate::texts::{
     PUT_BOOK, PUT_CACHE, PUT_MARK, PUT_NAMED_CORR, PUT_PARA, PUT_TAB, SET_FLAGS, SET_PLACE,
     SET_PRINT, SET_RESOLVED, SET_SPAN, SET_TABLE, SET_VERSION,
 };
 use cell_core::Cell;
-use desk_parts::{BookRow, MarkPut, NamedCorrPut, ParaPut, Put};
+use desk_parts::{BookRow, ParaPut, Put};
 use sqlite::types::{ToSql, ValueRef};
 use sqlite::{Alter, Error, Transaction};
 use std::alloc::{AllocError, Global};
@@ -99,8 +100,7 @@ pub(crate) fn put_book<S: Alter>(tx: &mut Transaction<'_, S>, row: &BookRow) -> 
         → IsPut result (PutRow FileTable.Book row.now) (seen S.Store tx.old) (seen S.Store tx.new) }
     ensures survives { Survives (seen S.Store tx.old) (seen S.Store tx.new) (λ _. ⊥) }
 {
-    let columns = [row.id.to_sql(), row.format.to_sql(), row.version.to_sql()];
-    run_put(tx, &Put::Book(*row), &columns)
+    run_put(tx, &Put::Book(*row), &book_columns(row))
 }
 
 /// Puts the row of a paragraph by its key, with its print as a text.
@@ -116,47 +116,7 @@ fn put_para<S: Alter>(
     ensures survives { Survives (seen S.Store tx.old) (seen S.Store tx.new) (λ _. ⊥) }
 {
     let print = encoded(alloc, row.print)?;
-    let columns = [
-        row.id.to_sql(),
-        row.place.to_sql(),
-        row.tab.to_sql(),
-        row.original.to_sql(),
-        print.as_str().to_sql(),
-        row.style.to_sql(),
-        row.volume.to_sql(),
-        row.struck.to_sql(),
-    ];
-    run_put(tx, &Put::Para(*row), &columns)
-}
-
-/// The columns of a mark.
-fn mark_columns<'a>(row: &MarkPut<'a>) -> [ValueRef<'a>; 7]
-    ensures { bound result ≡ columns_of FileTable.Mark (lent_mark row.now) }
-{
-    [
-        row.id.to_sql(),
-        row.para.to_sql(),
-        row.start.to_sql(),
-        row.stop.to_sql(),
-        row.note.to_sql(),
-        row.touched.to_sql(),
-        row.resolved.to_sql(),
-    ]
-}
-
-/// The columns of an entry of a history.
-fn entry_columns<'a>(row: &NamedCorrPut<'a>) -> [ValueRef<'a>; 7]
-    ensures { bound result ≡ columns_of FileTable.NamedCorr (lent_entry row.now) }
-{
-    [
-        row.para.to_sql(),
-        row.seq.to_sql(),
-        row.kind.to_sql(),
-        row.start.to_sql(),
-        row.len.to_sql(),
-        row.body.to_sql(),
-        row.who.to_sql(),
-    ]
+    run_put(tx, &Put::Para(*row), &para_columns(row, print.as_str()))
 }
 
 /// Puts a row by its key, or sets columns of the row with a key, if it is there. If a history has an entry of that number, the database
@@ -169,12 +129,12 @@ fn put<S: Alter>(alloc: Global, tx: &mut Transaction<'_, S>, put: Put<'_>) -> Re
 {
     match put {
         Put::Book(row) => put_book(tx, &row),
-        Put::Tab(row) => run_put(tx, &put, &[row.name.to_sql(), row.body.to_sql()]),
+        Put::Tab(row) => run_put(tx, &put, &tab_columns(&row)),
         Put::Para(row) => put_para(alloc, tx, &row),
         Put::Mark(row) => run_put(tx, &put, &mark_columns(&row)),
         Put::Cache(row) => {
             let cells = masks(alloc, row.cells)?;
-            run_put(tx, &put, &[row.para.to_sql(), cells.to_sql()])
+            run_put(tx, &put, &cache_columns(&row, &cells))
         }
         Put::NamedCorr(row) => run_put(tx, &put, &entry_columns(&row)),
         Put::Place { id, place } => run_put(tx, &put, &[id.to_sql(), place.to_sql()]),

@@ -1,25 +1,29 @@
-//! The types of the rows: how each is read.
+//! The types of the rows: how each is read, and with which columns it is put.
 
 ghost use Rattle.std.specs.Prelude.{◌≡◌, ◌≢◌, true, IfErr, IfOk, IsUtf8, string_bytes};
 ghost use Rattle.sqlite_value.specs.Order.{column};
 ghost use Rattle.sqlite_value.specs.declared.value.Value.TheVariants.{Blob, Int, Text};
 ghost use Rattle.sqlite_schema.specs.declared.schema.Kind.{Kind};
-ghost use Rattle.sqlite.specs.Values.{IsInt};
+ghost use Rattle.sqlite.specs.Values.{IsInt, bound};
 ghost use Rattle.sql_tables.specs.Kinds.{IsOfKind};
 ghost use Rattle.desk_rows.specs.TableQuery.{AreOfKinds, Begins, given, query_of};
 ghost use Rattle.desk_rows.specs.Fault.{IsValueFault};
 ghost use Rattle.desk_parts.specs.declared.file_table.FileTable.{FileTable};
 ghost use Rattle.desk_parts.specs.FileRows.{HasTexts};
+ghost use Rattle.desk_parts.specs.Puts.{lent_entry, lent_mark, lent_para};
 ghost use Rattle.desk_rows.specs.Descriptions.{description_of};
-ghost use Rattle.desk_rows.specs.Rows.{ShownOf, own, shown_columns};
+ghost use Rattle.desk_rows.specs.Rows.{ShownOf, columns_of, own, shown_columns};
 
 use crate::fault::DatabaseFault;
 use crate::texts::{
     READ_BOOKS, READ_CACHES, READ_CORRS, READ_MARKS, READ_NAMED_CORRS, READ_PARAS, READ_TABS,
 };
-use desk_parts::{BookRow, CacheRow, CorrRow, MarkRow, NamedCorrRow, ParaRow, StoredTab, TabRow};
+use desk_parts::{
+    BookRow, CachePut, CacheRow, CorrRow, MarkPut, MarkRow, NamedCorrPut, NamedCorrRow, ParaPut,
+    ParaRow, StoredTab, TabPut, TabRow,
+};
 use sqlite::Row;
-use sqlite::types::ValueRef;
+use sqlite::types::{ToSql, ValueRef};
 use std::alloc::Global;
 
 /// The integer in a column.
@@ -103,6 +107,13 @@ impl TableRow for BookRow {
     }
 }
 
+/// The columns of the row of a book.
+pub(crate) fn book_columns(row: &BookRow) -> [ValueRef<'_>; 3]
+    ensures { bound result ≡ columns_of FileTable.Book row.now }
+{
+    [row.id.to_sql(), row.format.to_sql(), row.version.to_sql()]
+}
+
 impl TableRow for StoredTab {
     ghost table = { FileTable.Tab };
 
@@ -121,6 +132,14 @@ impl TableRow for StoredTab {
             },
         })
     }
+}
+
+/// The columns of a braille table.
+pub(crate) fn tab_columns<'a>(row: &TabPut<'a>) -> [ValueRef<'a>; 2]
+    ensures { bound result ≡ columns_of FileTable.Tab
+        (record { name = row.now.name.now; body = row.now.body.now }) }
+{
+    [row.name.to_sql(), row.body.to_sql()]
 }
 
 impl TableRow for ParaRow {
@@ -144,6 +163,23 @@ impl TableRow for ParaRow {
             struck: integer(row, 7)?,
         })
     }
+}
+
+/// The columns of a paragraph, with its print as this text.
+pub(crate) fn para_columns<'a>(row: &'a ParaPut<'_>, print: &'a str) -> [ValueRef<'a>; 8]
+    ensures { bound result ≡ columns_of FileTable.Para
+        (record (lent_para row.now) { print = print.now }) }
+{
+    [
+        row.id.to_sql(),
+        row.place.to_sql(),
+        row.tab.to_sql(),
+        row.original.to_sql(),
+        print.to_sql(),
+        row.style.to_sql(),
+        row.volume.to_sql(),
+        row.struck.to_sql(),
+    ]
 }
 
 impl TableRow for CorrRow {
@@ -189,6 +225,21 @@ impl TableRow for MarkRow {
     }
 }
 
+/// The columns of a mark.
+pub(crate) fn mark_columns<'a>(row: &MarkPut<'a>) -> [ValueRef<'a>; 7]
+    ensures { bound result ≡ columns_of FileTable.Mark (lent_mark row.now) }
+{
+    [
+        row.id.to_sql(),
+        row.para.to_sql(),
+        row.start.to_sql(),
+        row.stop.to_sql(),
+        row.note.to_sql(),
+        row.touched.to_sql(),
+        row.resolved.to_sql(),
+    ]
+}
+
 impl TableRow for CacheRow {
     ghost table = { FileTable.Cache };
 
@@ -206,6 +257,14 @@ impl TableRow for CacheRow {
     }
 }
 
+/// The columns of the braille of a paragraph, with its cells as these bytes.
+pub(crate) fn cache_columns<'a>(row: &CachePut<'_>, cells: &'a [u8]) -> [ValueRef<'a>; 2]
+    ensures { bound result ≡ columns_of FileTable.Cache
+        (record { para = row.now.para; cells = cells.now }) }
+{
+    [row.para.to_sql(), cells.to_sql()]
+}
+
 impl TableRow for NamedCorrRow {
     ghost table = { FileTable.NamedCorr };
 
@@ -221,4 +280,19 @@ impl TableRow for NamedCorrRow {
             who: text(alloc, row, 6)?,
         })
     }
+}
+
+/// The columns of an entry of a history.
+pub(crate) fn entry_columns<'a>(row: &NamedCorrPut<'a>) -> [ValueRef<'a>; 7]
+    ensures { bound result ≡ columns_of FileTable.NamedCorr (lent_entry row.now) }
+{
+    [
+        row.para.to_sql(),
+        row.seq.to_sql(),
+        row.kind.to_sql(),
+        row.start.to_sql(),
+        row.len.to_sql(),
+        row.body.to_sql(),
+        row.who.to_sql(),
+    ]
 }
