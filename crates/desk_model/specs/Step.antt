@@ -59,10 +59,7 @@ with_move id anchor book =
 abbrev pub next_id : Book → ℕ
 next_id book = length book.paragraphs + 1
 
--- the book at its next version, with these tables, or with these paragraphs
-abbrev pub next_with_tables : Book → List (List ℕ × List ℕ) → Book
-next_with_tables book tables = record book { version = book.version + 1; tables = tables }
-
+-- the book at its next version, with these paragraphs, or with these marks
 abbrev pub next_with_paragraphs : Book → List Paragraph → Book
 next_with_paragraphs book paragraphs = record book { version = book.version + 1; paragraphs = paragraphs }
 
@@ -71,7 +68,8 @@ next_with_marks book marks = record book { version = book.version + 1; marks = m
 
 -- the book at its next version, in which the table with this name has this text
 abbrev pub next_with_table : Book → (name text : List ℕ) → Book
-next_with_table book name text = next_with_tables book (put (slice_cmp nat_cmp) name text book.tables)
+next_with_table book name text =
+    record book { version = book.version + 1; tables = put (slice_cmp nat_cmp) name text book.tables }
 
 -- ---- corrections and marks
 

@@ -23,7 +23,7 @@ use Rattle.desk_parts.specs.Puts.{PutRow, put_by_key, with_puts}
 use Rattle.desk_parts.specs.Rows.{ParaCells}
 use Rattle.desk_model.specs.Shows.{AreCached, IsCached, Shows}
 use Rattle.desk_model.specs.Sound.{IsSound}
-use Rattle.desk_model.specs.Step.{next_with_tables}
+use Rattle.desk_model.specs.Step.{next_with_table}
 use Rattle.desk_model.specs.Translation.{IsBraille}
 use Rattle.desk_model.proofs.Books.ParagraphLists.{Contains-found, id-found}
 use Rattle.desk_book.proofs.RowPuts.PutCells.{ForSome-map, id-small, ids-once}
@@ -31,7 +31,7 @@ use Rattle.desk_model.proofs.Rows.PutRows.{All-put_apart, IsBraille-same, IsPerm
 use Rattle.desk_book.proofs.RowPuts.PutTables.{shown-tabled}
 use Rattle.desk_model.proofs.Lists.RowNumbers.{int_eq-pos}
 use Rattle.desk_model.proofs.Books.SoundBooks.{paragraph_of-own, paragraph_of-some, paragraph_of-within}
-use Rattle.desk_model.proofs.Lists.TableEntries.{text-put_other, text-put_same, with_text}
+use Rattle.desk_model.proofs.Lists.TableEntries.{text-put_other, text-put_same}
 use Rattle.desk_book.proofs.Plans.Users.{Renews}
 
 -- the row is a paragraph's, and has its braille in the next book unless the paragraph uses the table and has this number
@@ -53,7 +53,7 @@ RenewsFrom book meaning name n cells = (k : ℕ) (item : Option (List ℕ)) → 
 
 module _ (book : Book) (name text : List ℕ) (meaning : Meaning) (sound : IsSound book) (means : Means text meaning) where
   abbrev retexted : Book
-  retexted = next_with_tables book (with_text name text book.tables)
+  retexted = next_with_table book name text
 
   abbrev Below : ℕ → ParaCells → Type 0
   Below n = IsCachedBelow book retexted name n

@@ -24,7 +24,7 @@ use Rattle.desk_parts.specs.Puts.{PutRow, RowPut, put_by_key, with_puts}
 use Rattle.desk_parts.specs.Rows.{ParaCells, Tab}
 use Rattle.desk_model.specs.Shows.{AreCached, IsCached, Shows, tab_of}
 use Rattle.desk_model.specs.Sound.{IsSound}
-use Rattle.desk_model.specs.Step.{next_with_tables}
+use Rattle.desk_model.specs.Step.{next_with_table}
 use Rattle.desk_command.specs.Characters.{AreCharacters}
 use Rattle.desk_model.proofs.Rows.BookRows.{encoded-text, name-characters, spelled-encoded}
 use Rattle.desk_book.proofs.RowPuts.PutAdditions.{All-put_in, IsPermutation-put_in}
@@ -112,15 +112,15 @@ module _ (name text : List ℕ) (characters : AreCharacters name) where
       (IsPermutation-map tab_of ((name, text) ∷ under_others name tables) (with_text name text tables) (IsPermutation-with_text name text tables sorted))
 
 -- the name of a table that was put is of characters
-pub put-characters : (book : Book) (name text : List ℕ) → IsSound (next_with_tables book (with_text name text book.tables)) → AreCharacters name
+pub put-characters : (book : Book) (name text : List ℕ) → IsSound (next_with_table book name text) → AreCharacters name
 put-characters book name text after =
-    name-characters name (IsSoundTable-found (next_with_tables book (with_text name text book.tables)) after name text (text-put_same name name text book.tables refl)).named
+    name-characters name (IsSoundTable-found (next_with_table book name text) after name text (text-put_same name name text book.tables refl)).named
 
 -- ---- a table's text
 
 module _ (book : Book) (name text : List ℕ) (sound : IsSound book) where
   abbrev tabled : Book
-  tabled = next_with_tables book (with_text name text book.tables)
+  tabled = next_with_table book name text
 
   abbrev LeadPuts : List RowPut
   LeadPuts = version_put tabled.version ∷ PutRow file.Tab (record { name = encode_utf8_all name; body = text }) ∷ []

@@ -21,7 +21,7 @@ use Rattle.desk_parts.specs.Puts.{PutRow, RowPut}
 use Rattle.desk_model.specs.Named.{paragraph_before}
 use Rattle.desk_model.specs.Refusals.{IsAccepted}
 use Rattle.desk_model.specs.Sound.{IsSound}
-use Rattle.desk_model.specs.Step.{Makes, new_paragraph, next_id, next_with_entry, next_with_paragraphs, next_with_tables, with_paragraph}
+use Rattle.desk_model.specs.Step.{Makes, new_paragraph, next_id, next_with_entry, next_with_paragraphs, next_with_table, with_paragraph}
 use Rattle.desk_model.specs.NormalForm.{normal_form}
 use Rattle.desk_model.proofs.Commands.Accepted.{named_paragraph}
 use Rattle.desk_model.proofs.Lists.Members.{Contains-map}
@@ -37,7 +37,6 @@ use Rattle.desk_book.proofs.RowPuts.PutTables.{table-lead}
 use Rattle.desk_book.proofs.Kept.Settled.{IsEffect-carried}
 use Rattle.desk_model.proofs.Books.SoundBooks.{paragraphs-apart}
 use Rattle.desk_model.proofs.Books.SoundSteps.{IsSound-makes}
-use Rattle.desk_model.proofs.Lists.TableEntries.{with_text}
 
 no-entries : (history : List KeptEntry) → entries_kept history ≡ [] → history ≡ []
 no-entries [] e = refl
@@ -50,10 +49,10 @@ module _ (book next : Book) (command : Command) (sound : IsSound book) (accepted
 
   pub leads : (e : Effect) → Does book command next e → Leads e next
   leads (effect.AddTable name table room) does =
-      let is : next ≡ next_with_tables book (with_text name table.text book.tables) = does.0.1 in
+      let is : next ≡ next_with_table book name table.text = does.0.1 in
       subst (Leads (effect.AddTable name table room)) (sym is) (table-lead book name table.text sound does.1 (subst IsSound is after))
   leads (effect.ReplaceTable name table cells) does =
-      let is : next ≡ next_with_tables book (with_text name table.text book.tables) = does.0.1 in
+      let is : next ≡ next_with_table book name table.text = does.0.1 in
       subst (Leads (effect.ReplaceTable name table cells)) (sym is)
       (replaced-lead book name table.text table.rules sound does.2 cells.items does.3 does.4 (subst IsSound is after))
   leads (effect.AddParagraph kept room order_room place) does =

@@ -34,7 +34,7 @@ use Rattle.desk_model.specs.Named.{HasCharacters, paragraph_before}
 use Rattle.desk_model.specs.Refusals.{DefinesUser, IsAccepted}
 use Rattle.desk_model.specs.Limits.{most_tables, most_print}
 use Rattle.desk_model.specs.Sound.{IsSoundHistory, IsSoundTable, IsSoundParagraph, IsSoundMark, IsSound}
-use Rattle.desk_model.specs.Step.{new_paragraph, with_change, with_paragraph, with_move, next_id, IsNewest, next_mark, next_with_entry, next_with_marks, next_with_paragraphs, next_with_tables, replacement_by, Makes}
+use Rattle.desk_model.specs.Step.{new_paragraph, with_change, with_paragraph, with_move, next_id, IsNewest, next_mark, next_with_entry, next_with_marks, next_with_paragraphs, replacement_by, Makes, next_with_table}
 use Rattle.desk_model.specs.NormalForm.{is_barred, IsClean, IsUnbarred, normal_form}
 use Rattle.desk_command.specs.Characters.{AreCharacters}
 use Rattle.desk_model.proofs.Lists.Options.{IsSomeAnd-of}
@@ -48,10 +48,10 @@ use Rattle.desk_model.proofs.Lists.TableEntries.{keys-is_sorted, Decides-name, w
 
 -- ---- the text of a table
 
-sound_table : (book : Book) (expect : Option ℕ) (name text : List ℕ) → IsSound book → IsAccepted book expect (Table name text) → IsSound (next_with_tables book (with_text name text book.tables))
+sound_table : (book : Book) (expect : Option ℕ) (name text : List ℕ) → IsSound book → IsAccepted book expect (Table name text) → IsSound (next_with_table book name text)
 sound_table book expect name text sound accepted =
     let command : Command = Table name text in
-    let next : Book = next_with_tables book (with_text name text book.tables) in
+    let next : Book = next_with_table book name text in
     let named = given_name book expect command accepted name text refl in
     let given = given_meaning book expect command accepted name text refl in
     let users = users_defined book expect command accepted name text refl given.0 given.1 in
@@ -75,7 +75,7 @@ sound_table book expect name text sound accepted =
         omega (arith, room, count-put_new name text book.tables sound.names e)
     few (Some old) e = subst (λ (n : ℕ). n ≤ most_tables) (sym (count-put_old name text old book.tables sound.names e)) sound.few_tables
 
-    shown : (meaning : Meaning) → Means text meaning → (p : Paragraph) → IsSoundParagraph book p → DefinesUser meaning name p → IsSoundParagraph (next_with_tables book (with_text name text book.tables)) p
+    shown : (meaning : Meaning) → Means text meaning → (p : Paragraph) → IsSoundParagraph book p → DefinesUser meaning name p → IsSoundParagraph (next_with_table book name text) p
     shown meaning means p s user =
         elim (cases_Bool (pointwise nat_eq p.table name)) [
           | inl e ↦
