@@ -77,13 +77,9 @@ next_with_table book name text =
 abbrev pub replacement_by : (start count : ℕ) → List ℕ → Replacement
 replacement_by start count text = record { start = start; count = count; text = normal_form text }
 
--- the mark, moved if it is on the paragraph with this id
-abbrev pub moved_on : ℕ → (BookMark → BookMark) → BookMark → BookMark
-moved_on id move mark = if mark.paragraph == id then move mark else mark
-
 -- the marks, those of the paragraph with this id moved
 abbrev pub with_marks_moved : ℕ → (BookMark → BookMark) → List BookMark → List BookMark
-with_marks_moved id move marks = map (moved_on id move) marks
+with_marks_moved id move marks = map (λ mark. if mark.paragraph == id then move mark else mark) marks
 
 -- the book at its next version with one entry more in the history of the paragraph with this id, whose marks move
 abbrev pub next_with_entry : Book → ℕ → Entry → (BookMark → BookMark) → Book
@@ -103,13 +99,9 @@ pub record IsNewest (book : Book) (id number : ℕ) (correction : Replacement) :
 abbrev pub next_mark : Book → ℕ
 next_mark book = length book.marks + 1
 
--- the mark, resolved if it has this id
-abbrev pub resolved_by : ℕ → BookMark → BookMark
-resolved_by id mark = if mark.id == id then record mark { resolved = true } else mark
-
 -- the marks with the one with this id resolved
 abbrev pub with_resolved : ℕ → List BookMark → List BookMark
-with_resolved id marks = map (resolved_by id) marks
+with_resolved id marks = map (λ (mark : BookMark). if mark.id == id then record mark { resolved = true } else mark) marks
 
 -- ---- each command
 

@@ -30,7 +30,7 @@ use Rattle.desk_parts.specs.Rows.{Mark as MarkRow, NamedCorr, Para, ParaCells}
 use Rattle.desk_model.specs.Shows.{AreCached, Shows, book_row_of, entry_row_of, entry_rows_of, flag_number, mark_row_of, para_of}
 use Rattle.desk_model.proofs.Rows.ParaRows.{paras_of}
 use Rattle.desk_model.specs.Sound.{IsSound, IsSoundEntry, IsSoundMark, IsSoundParagraph}
-use Rattle.desk_model.specs.Step.{moved_on, next_with_entry}
+use Rattle.desk_model.specs.Step.{next_with_entry}
 use Rattle.desk_command.specs.Characters.{AreCharacters}
 use Rattle.desk_model.proofs.Rows.BookRows.{HasCharacters, encoded-text, entry-text, history-characters, spelled-encoded}
 use Rattle.desk_memory.proofs.Callers.{IsWithin-sound}
@@ -44,6 +44,7 @@ use Rattle.desk_book.proofs.RowPuts.PutPrints.{Columns, columns_of, entries-more
 use Rattle.desk_model.proofs.Rows.PutRows.{All-set_where, IsPermutation-set, number-small, versioned}
 use Rattle.desk_model.proofs.Lists.Items.{here-at}
 use Rattle.desk_model.proofs.Books.SoundBooks.{IsSoundParagraph-found, paragraph_of-own, paragraph_of-within, paragraphs-apart}
+use Rattle.desk_model.proofs.Books.SoundEntries.{moved_on}
 
 -- ---- marks with their numbers
 

@@ -1,5 +1,5 @@
 -- Sound books after an entry more of a history, and after marks that come or are resolved.
-use Rattle.std.proofs.Common.{◌≡◌, ℕ, ◌+◌, ◌-◌, ◌<◌, ◌≤◌, true, false, List, [], ◌∷◌, ◌++◌, length, map, take, drop, Some, refl, sym, ap, subst, ◌∙◌, arith, inl, inr}
+use Rattle.std.proofs.Common.{◌≡◌, ℕ, ◌+◌, ◌-◌, ◌<◌, ◌≤◌, true, false, cond, List, [], ◌∷◌, ◌++◌, length, map, take, drop, Some, refl, sym, ap, subst, ◌∙◌, arith, inl, inr}
 use Rattle.std.specs.List.{All, range_with_len}
 use Rattle.std.specs.List.Sorted.{IsPermutation}
 use Rattle.std.specs.Prelude.{nat_eq, nat_le, min, max}
@@ -15,7 +15,7 @@ use Rattle.desk_model.specs.Limits.{most_entries, most_marks, most_note, most_pa
 use Rattle.desk_model.specs.Marks.{mark_moved_by}
 use Rattle.desk_model.specs.Print.{corrected_print, print_of, with_entry, with_replacement}
 use Rattle.desk_model.specs.Sound.{AreSoundEntries, IsSoundEntry, IsSoundHistory, IsSoundParagraph, IsSoundMark, IsSound}
-use Rattle.desk_model.specs.Step.{moved_on, next_with_entry, next_with_marks, resolved_by, with_change, with_marks_moved, with_resolved}
+use Rattle.desk_model.specs.Step.{next_with_entry, next_with_marks, with_change, with_marks_moved, with_resolved}
 use Rattle.desk_model.proofs.Lists.Items.{each-push}
 use Rattle.desk_model.proofs.Books.ParagraphLists.{ids_of, found, changed, found-changed, found-unchanged, ids-with_change, All-with_change}
 use Rattle.desk_model.proofs.Books.SoundBooks.{IsSoundParagraph-same_texts, paragraph_of-own}
@@ -87,6 +87,10 @@ MovesTo-mark_moved_by start removed added before after le same = record {
 }
 
 -- ---- the book with an entry more
+
+-- the mark, moved if it is on the paragraph with this id
+abbrev pub moved_on : ℕ → (Mark → Mark) → Mark → Mark
+moved_on id move m = cond (nat_eq m.paragraph id) (move m) m
 
 module _ (book : Book) (id : ℕ) (entry : Entry) (move : Mark → Mark) (p : Paragraph) (sound : IsSound book) (room : book.version < most_version) (there : paragraph_of book id ≡ Some p)
     (its : IsSoundParagraph book (with_entry entry p)) (moves : MovesTo move (length (print_of p)) (length (print_of (with_entry entry p)))) where
@@ -170,6 +174,10 @@ IsSound-with_marks book marks sound room few numbers all =
       numbers = numbers;
       marks = All-weaker (IsSoundMark book) (IsSoundMark next) (IsSoundMark-kept book next (λ id p e. (p, e, refl))) marks all;
     }
+
+-- the mark, resolved if it has this id
+abbrev pub resolved_by : ℕ → Mark → Mark
+resolved_by id m = cond (nat_eq m.id id) (record m { resolved = true }) m
 
 IsSoundMark-resolved : (book : Book) (id : ℕ) (m : Mark) → IsSoundMark book m → IsSoundMark book (resolved_by id m)
 IsSoundMark-resolved book id m s =
