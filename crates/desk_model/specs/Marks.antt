@@ -17,16 +17,11 @@ moved_span start removed added span =
       touched = true;
     })
 
--- what a mark covers, and the mark with another span
-abbrev pub span_of : Mark → Span
-span_of mark = record { start = mark.start; end = mark.end; touched = mark.touched }
-
-abbrev pub with_span : Span → Mark → Mark
-with_span span mark = record mark { start = span.start; end = span.end; touched = span.touched }
-
--- the mark after so many characters from a place on gave way to others
+-- the mark after so many characters from a place on gave way to others: with what becomes of the span that it covers
 abbrev pub mark_moved_by : (start removed added : ℕ) → Mark → Mark
-mark_moved_by start removed added mark = with_span (moved_span start removed added (span_of mark)) mark
+mark_moved_by start removed added mark =
+    let span = moved_span start removed added (record { start = mark.start; end = mark.end; touched = mark.touched }) in
+    record mark { start = span.start; end = span.end; touched = span.touched }
 
 -- the mark after a replacement
 abbrev pub mark_moved : Replacement → Mark → Mark
