@@ -8,8 +8,8 @@ use Rattle.desk_command.specs.declared.command.Anchor.{Anchor}
 use Rattle.desk_command.specs.declared.command.Anchor.TheVariants.{Front, End, Para}
 use Rattle.desk_model.specs.Book.{Book, Paragraph, paragraph_of}
 use Rattle.desk_memory.specs.Kept.{KeptParagraphs, ids, paragraph_kept, with_id, with_id_moved}
-use Rattle.desk_model.proofs.Books.ParagraphLists.{ids_of}
-use Rattle.desk_model.specs.Step.{is_after, with_move, with_paragraph, without_paragraph}
+use Rattle.desk_model.proofs.Books.ParagraphLists.{ids_of, without_paragraph}
+use Rattle.desk_model.specs.Step.{is_after, with_move, with_paragraph}
 
 pub ids_of-kept : (kept : KeptParagraphs) → ids_of (map paragraph_kept kept) ≡ ids kept
 ids_of-kept [] = refl

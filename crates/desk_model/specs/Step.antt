@@ -23,10 +23,6 @@ with_paragraph End new paragraphs = paragraphs ++ new ∷ []
 with_paragraph (Para id) new paragraphs =
     flat_map (λ paragraph. if paragraph.id == id then paragraph ∷ new ∷ [] else paragraph ∷ []) paragraphs
 
--- the paragraphs without the one with this id
-abbrev pub without_paragraph : ℕ → List Paragraph → List Paragraph
-without_paragraph id paragraphs = filter (λ paragraph. not (paragraph.id == id)) paragraphs
-
 -- the paragraphs with a change of the one with this id
 abbrev pub with_change : ℕ → (Paragraph → Paragraph) → List Paragraph → List Paragraph
 with_change id change paragraphs = map (λ paragraph. if paragraph.id == id then change paragraph else paragraph) paragraphs
@@ -49,11 +45,12 @@ is_after id Front = false
 is_after id End = false
 is_after id (Para other) = other == id
 
--- the paragraphs with the one with this id taken out and put elsewhere; after itself it stays
+-- the paragraphs with the one with this id taken out from among the others and put elsewhere; after itself it stays
 abbrev pub with_move : ℕ → Anchor → Book → List Paragraph
 with_move id anchor book =
+    let others = filter (λ paragraph. not (paragraph.id == id)) book.paragraphs in
     if is_after id anchor then book.paragraphs
-    else option_map_or (λ paragraph. with_paragraph anchor paragraph (without_paragraph id book.paragraphs)) (paragraph_of book id) book.paragraphs
+    else option_map_or (λ paragraph. with_paragraph anchor paragraph others) (paragraph_of book id) book.paragraphs
 
 -- the id of the next paragraph
 abbrev pub next_id : Book → ℕ

@@ -21,10 +21,10 @@ use Rattle.desk_model.specs.Shows.{AreCached, IsCached}
 use Rattle.desk_model.specs.Sound.{IsSound}
 use Rattle.desk_command.specs.Characters.{AreCharacters}
 use Rattle.desk_model.specs.Translation.{IsBraille}
-use Rattle.desk_model.specs.Step.{next_with_paragraphs, with_change, without_paragraph}
+use Rattle.desk_model.specs.Step.{next_with_paragraphs, with_change}
 use Rattle.desk_model.proofs.Rows.BookRows.{encoded-text, name-characters, spelled-encoded}
 use Rattle.desk_model.proofs.Lists.Members.{Contains-map}
-use Rattle.desk_model.proofs.Books.ParagraphLists.{Contains-found, IsPermutation-without_paragraph, changed, id-found, ids-with_change}
+use Rattle.desk_model.proofs.Books.ParagraphLists.{Contains-found, IsPermutation-without_paragraph, changed, id-found, ids-with_change, without_paragraph}
 use Rattle.desk_book.proofs.RowPuts.PutChanges.{shown-changed}
 use Rattle.desk_model.proofs.Rows.PutRows.{AreCached-put, IsBraille-same, id_number, number-small, numbers-same}
 use Rattle.desk_model.proofs.Lists.RowNumbers.{filter-map, int_eq-pos}

@@ -24,10 +24,10 @@ use Rattle.desk_parts.specs.Puts.{with_puts}
 use Rattle.desk_parts.specs.Rows.{Mark as MarkRow, NamedCorr}
 use Rattle.desk_model.specs.Shows.{entry_row_of, entry_rows_of, flag_number}
 use Rattle.desk_model.specs.Sound.{IsSoundEntry}
-use Rattle.desk_model.specs.Step.{with_change, without_paragraph}
+use Rattle.desk_model.specs.Step.{with_change}
 use Rattle.desk_model.proofs.Rows.BookRows.{encoded-text, spelled-encoded}
 use Rattle.desk_model.proofs.Books.HistoryLists.{IsLast-parts, enumerate_from-append, newest-parts}
-use Rattle.desk_model.proofs.Books.ParagraphLists.{AreApart, IsPermutation-without_paragraph, changed, found, id-found}
+use Rattle.desk_model.proofs.Books.ParagraphLists.{AreApart, IsPermutation-without_paragraph, changed, found, id-found, without_paragraph}
 use Rattle.desk_book.proofs.RowPuts.PutOrder.{IsPermutation-flat_map}
 use Rattle.desk_book.proofs.RowPuts.PutPlaces.{map-agree}
 use Rattle.desk_model.proofs.Rows.PutRows.{number-small}

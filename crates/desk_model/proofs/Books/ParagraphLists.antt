@@ -1,6 +1,6 @@
 -- Paragraphs in a list, found by their ids.
 use Rattle.std.proofs.Common.{◌≡◌, ℕ, false, cond, List, [], ◌∷◌, ◌++◌, map, Option, Some, None, Contains, refl, sym, ap, subst, ◌∙◌, inl, inr}
-use Rattle.std.specs.List.{All, find, IsDistinct}
+use Rattle.std.specs.List.{All, filter, find, IsDistinct}
 use Rattle.std.specs.List.Sorted.{IsPermutation}
 use Rattle.std.specs.Prelude.{nat_eq, not, option_map, ◌≢◌}
 use Rattle.std.specs.Option.{option_map_or}
@@ -13,7 +13,7 @@ use Rattle.desk_command.specs.declared.command.Anchor.{Anchor}
 use Rattle.desk_command.specs.declared.command.Anchor.TheVariants.{Front, End, Para}
 use Rattle.desk_model.specs.Book.{Book, Paragraph, paragraph_of}
 use Rattle.desk_model.specs.Named.{paragraph_before}
-use Rattle.desk_model.specs.Step.{with_paragraph, without_paragraph, with_change, is_after, with_move}
+use Rattle.desk_model.specs.Step.{with_paragraph, with_change, is_after, with_move}
 use Rattle.desk_model.proofs.Lists.Members.{Contains-here, Contains-behind, Contains-cases, Contains-none, Contains-map, find-passes, Contains-find, find-map}
 
 -- ---- the ids
@@ -139,6 +139,10 @@ none-behind id new [] none = refl
 none-behind id new (p ∷ ps) none =
     ap (λ (front : List Paragraph). front ++ with_paragraph (Para id) new ps) (cond-false (nat_eq p.id id) (p ∷ new ∷ []) (p ∷ []) (none p (Contains-here p ps)))
     ∙ ap (λ (rest : List Paragraph). p ∷ rest) (none-behind id new ps (λ q c. none q (Contains-behind p q ps c)))
+
+-- the paragraphs without the one with this id
+abbrev pub without_paragraph : ℕ → List Paragraph → List Paragraph
+without_paragraph id ps = filter (λ p. not (nat_eq p.id id)) ps
 
 -- all others stay where no paragraph has the id
 none-without : (id : ℕ) (ps : List Paragraph) → ((p : Paragraph) → Contains ps p → nat_eq p.id id ≡ false) → without_paragraph id ps ≡ ps
