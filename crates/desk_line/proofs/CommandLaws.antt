@@ -11,7 +11,7 @@ use Rattle.desk_command.specs.declared.command.Command.TheVariants as commands
 use Rattle.desk_line.specs.declared.directive.Directive.{Directive}
 use Rattle.desk_line.specs.declared.directive.Directive.TheVariants.{Table, Supply, TypeIn, Correct, Undo, Mark, Resolve, Strike, Restore, Style, Volume, Retable, Move}
 use Rattle.desk_line.specs.declared.directive.SpanText.{SpanText}
-use Rattle.desk_line.specs.Commands.{FitsForm, HasText, IsSpanText, SaysDirective, command_of, directive_block_lines, form, form_fields, table, supply, type_in, correct, correct_by, undo, mark, resolve, strike, restore, style, volume, retable, move}
+use Rattle.desk_line.specs.Commands.{FitsForm, HasText, IsSpanText, SaysDirective, announced, form, form_fields, table, supply, type_in, correct, correct_by, undo, mark, resolve, strike, restore, style, volume, retable, move}
 use Rattle.desk_line.specs.Fields.{fields_of, line_of_fields, IsNumber}
 use Rattle.desk_line.specs.Operands.{IsOneLineText, IsSmall, IsWord, anchor_field, flag_field, style_field}
 use Rattle.desk_line.specs.Reading.{name_in, number_in, count_in, anchor_in, style_in, flag_in, paragraph_in, span_text, span_text_in, with_one, with_two, with_two_and_text, with_one_before, numbered_directive, directive_by, directive_in}
@@ -185,7 +185,7 @@ directive-found fields directive (move number after id anchor n a e is) =
 
 -- a text or a name is copied whatever the lines after the head line are; or none is, and no line follows
 copies : (directive : Directive)
-    → ((text : List ℕ) → HasText (command_of directive text)) ⊎ ((directive_block_lines directive ≡ 0) × ((text : List ℕ) → ¬ HasText (command_of directive text)))
+    → ((text : List ℕ) → HasText ((announced directive).command text)) ⊎ (((announced directive).lines ≡ 0) × ((text : List ℕ) → ¬ HasText ((announced directive).command text)))
 copies (Table name count) = inl (λ text. refl)
 copies (Supply name) = inl (λ text. refl)
 copies (TypeIn place name print) = inl (λ text. refl)
@@ -201,10 +201,10 @@ copies (Retable id name) = inl (λ text. refl)
 copies (Move id place) = inr (refl, λ text h. cc)
 
 -- what takes lines copies a text
-pub directive-asks : (directive : Directive) → 0 < directive_block_lines directive → HasText (command_of directive [])
+pub directive-asks : (directive : Directive) → 0 < (announced directive).lines → HasText ((announced directive).command [])
 directive-asks directive some = elim (copies directive) [ inl h ↦ h [] | inr h ↦ let none = h.0 in absurd (omega arith) ]
 
-pub directive-text : (directive : Directive) (text : List ℕ) → HasText (command_of directive text) → HasText (command_of directive [])
+pub directive-text : (directive : Directive) (text : List ℕ) → HasText ((announced directive).command text) → HasText ((announced directive).command [])
 directive-text directive text some = elim (copies directive) [ inl h ↦ h [] | inr h ↦ absurd (h.1 text some) ]
 
 -- ---- how a command is written
@@ -214,11 +214,11 @@ pub record IsSaid (command : Command) : Type 0 where
   pub plain : IsPlain (line_of_fields (form_fields (form command)))
   pub directive : Directive
   pub says : SaysDirective (fields_of (line_of_fields (form_fields (form command)))) directive
-  pub counts : length (lines_of (form command).block) ≡ directive_block_lines directive
-  pub is : command_of directive (form command).block ≡ command
+  pub counts : length (lines_of (form command).block) ≡ (announced directive).lines
+  pub is : (announced directive).command (form command).block ≡ command
 
 said : (command : Command) (fields : List (List ℕ)) (directive : Directive) → IsLine (form_fields (form command)) fields → SaysDirective fields directive
-    → length (lines_of (form command).block) ≡ directive_block_lines directive → command_of directive (form command).block ≡ command → IsSaid command
+    → length (lines_of (form command).block) ≡ (announced directive).lines → (announced directive).command (form command).block ≡ command → IsSaid command
 said command fields directive line says counts is = record {
   plain = line.plain;
   directive = directive;

@@ -14,7 +14,7 @@ use Rattle.desk_command.specs.declared.command.Command.{Command}
 use Rattle.desk_line.specs.declared.head.Head.TheVariants as heads
 use Rattle.desk_line.specs.declared.request.Request.{Request}
 use Rattle.desk_line.specs.declared.request.Request.TheVariants.{Do}
-use Rattle.desk_line.specs.Commands.{HasText, command_of}
+use Rattle.desk_line.specs.Commands.{HasText, announced}
 use Rattle.desk_line.specs.Head.{Says}
 use Rattle.desk_ends.specs.Limits.{most_line_bytes}
 use Rattle.desk_line.specs.Lines.{IsShort, after_first_line}
@@ -162,7 +162,7 @@ asks-for-memory bytes line block count lines (unsaid none same) some = absurd (o
 head-text : (bytes line : List ℕ) (block : List (List ℕ)) (head : Head) (command : Command) (expect : Option ℕ) (text : List ℕ) → lines_of bytes ≡ line ∷ block → Says line head
     → Do command expect ≡ request_of head text → HasText command → AsksForMemory bytes
 head-text bytes line block (heads.Do directive other) command expect text lines says is h =
-    let same : command ≡ command_of directive text = cc in
+    let same : command ≡ (announced directive).command text = cc in
     record { line = line; block = block; directive = directive; expect = other; lines = lines; says = says; text = directive-text directive text (subst HasText same h) }
 head-text bytes line block (heads.Ask query) command expect text lines says is h = absurd (cc)
 

@@ -82,6 +82,7 @@ pub record Announced : Type 0 where
 abbrev pub alone : Command → Announced
 alone command = record { lines = 0; command = λ text. command }
 
+-- what is announced by a head line that says this
 abbrev pub announced : Directive → Announced
 announced (Table name count) = record { lines = count; command = λ text. commands.Table (chars name) text }
 announced (Supply name) = alone (commands.Table (chars name) EN.now)
@@ -96,14 +97,6 @@ announced (Style id look) = alone (commands.Style id look)
 announced (Volume id begins) = alone (commands.Volume id begins)
 announced (Retable id name) = alone (commands.Retable id (chars name))
 announced (Move id after) = alone (commands.Move id after)
-
--- how many lines follow what a head line says
-abbrev pub directive_block_lines : Directive → ℕ
-directive_block_lines directive = (announced directive).lines
-
--- the command that a head line and the bytes of the lines after it give
-abbrev pub command_of : Directive → List ℕ → Command
-command_of directive text = (announced directive).command text
 
 -- ---- how a command is written
 

@@ -10,7 +10,7 @@ use Rattle.desk_line.specs.declared.head.Head.TheVariants as heads
 use Rattle.desk_line.specs.declared.directive.Directive.{Directive}
 use Rattle.desk_line.specs.declared.request.Request.{Request}
 use Rattle.desk_line.specs.declared.request.Request.TheVariants.{Do, Ask}
-use Rattle.desk_line.specs.Commands.{HasText, command_of, directive_block_lines}
+use Rattle.desk_line.specs.Commands.{HasText, announced}
 use Rattle.desk_line.specs.Head.{Says}
 use Rattle.desk_line.specs.Lines.{IsShort, after_first_line}
 
@@ -18,7 +18,7 @@ use Rattle.desk_line.specs.Lines.{IsShort, after_first_line}
 
 -- how many lines follow what a head line says
 abbrev pub block_lines : Head → ℕ
-block_lines (heads.Do directive expect) = directive_block_lines directive
+block_lines (heads.Do directive expect) = (announced directive).lines
 block_lines (heads.Ask query) = 0
 
 -- how many lines a head line takes: as many as it says, or none if it says nothing
@@ -67,7 +67,7 @@ WholeRequests bytes (request ∷ requests) =
 
 -- the request that a head line and the bytes of the lines after it give
 abbrev pub request_of : Head → List ℕ → Request
-request_of (heads.Do directive expect) text = Do (command_of directive text) expect
+request_of (heads.Do directive expect) text = Do ((announced directive).command text) expect
 request_of (heads.Ask query) text = Ask query
 
 -- the bytes are this request: a head line that says it, and exactly the lines that it takes, none of them too long
@@ -97,7 +97,7 @@ pub record AsksForMemory (bytes : List ℕ) : Type 0 where
   pub expect : Option ℕ
   pub lines : lines_of bytes ≡ line ∷ block
   pub says : Says line (heads.Do directive expect)
-  pub text : HasText (command_of directive [])
+  pub text : HasText ((announced directive).command [])
 
 -- the fault is reported of the bytes: they aren't a request; a failed allocation is reported only of commands that have
 -- a text or a name

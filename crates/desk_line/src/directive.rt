@@ -1,5 +1,5 @@
 //! What the head line of a command says, and the command that it makes with the lines after it.
-ghost use Rattle.desk_line.specs.Commands.{HasText, command_of, correction_of, mark_of};
+ghost use Rattle.desk_line.specs.Commands.{HasText, announced, correction_of, mark_of};
 ghost use Rattle.desk_line.specs.Reading.{anchor_in, count_in, directive_by, flag_in, name_in, number_in, numbered_directive, paragraph_in, span_text_in, style_in, with_one, with_one_before, with_two, with_two_and_text};
 ghost use Rattle.std.specs.Prelude.{◌≡◌, [], IfOk, OnErr, option_map};
 ghost use Rattle.std.specs.Str.{chars};
@@ -282,8 +282,8 @@ pub(crate) fn make_command(
     directive: Directive<'_>,
     text: &[u8],
 ) -> Result<Command, AllocError>
-    ensures made { IfOk result (λ command. command ≡ command_of directive.entry text.now) }
-    ensures short { OnErr result (HasText (command_of directive.entry text.now)) }
+    ensures made { IfOk result (λ command. command ≡ (announced directive.entry).command text.now) }
+    ensures short { OnErr result (HasText ((announced directive.entry).command text.now)) }
 {
     match directive {
         Directive::Table { name, .. } => make_table(alloc, &name, text),
