@@ -13,9 +13,9 @@ use Rattle.desk_line.specs.declared.directive.Directive.TheVariants.{Table, Supp
 use Rattle.desk_line.specs.declared.directive.SpanText.{SpanText}
 use Rattle.desk_line.specs.Commands.{FitsForm, HasText, IsSpanText, SaysDirective, announced, form, form_fields, table, supply, type_in, correct, correct_by, undo, mark, resolve, strike, restore, style, volume, retable, move}
 use Rattle.desk_line.specs.Fields.{fields_of, line_of_fields, IsNumber}
-use Rattle.desk_line.specs.Operands.{IsOneLineText, IsSmall, IsWord, anchor_field, flag_field, style_field}
+use Rattle.desk_line.specs.Operands.{IsOneLineText, IsSmall, IsWord, anchor_field}
 use Rattle.desk_line.specs.Reading.{name_in, number_in, count_in, anchor_in, style_in, flag_in, paragraph_in, span_text, span_text_in, with_one, with_two, with_two_and_text, with_one_before, numbered_directive, directive_by, directive_in}
-use Rattle.desk_line.specs.Reply.{shown_text}
+use Rattle.desk_line.specs.Reply.{shown_text, style_word, word_if}
 use Rattle.desk_line.proofs.HeadLines.{some-is}
 use Rattle.desk_line.proofs.FieldParts.{made-of-three, one-read, one-found, two-read, two-found, texted-read, texted-found, before-read, before-found, numbered-read, numbered-found}
 use Rattle.desk_line.proofs.OperandLaws.{worded, mapped, name-read, name-found, number-read, number-found, count-read, count-found, anchor-read, anchor-found, style-read, style-found, flag-read, flag-found}
@@ -315,13 +315,13 @@ command-said (commands.Restore id) fits =
     said (commands.Restore id) (codes "restore" ∷ decimal id ∷ []) (Restore id) (number-line (codes "restore") refl id fits.operands.0)
     (restore (decimal id) id (number-written id fits.operands.0) refl refl) refl refl
 command-said (commands.Style id look) fits =
-    said (commands.Style id look) (codes "style" ∷ decimal id ∷ style_field look ∷ []) (Style id look)
-    (line-closed (codes "style" ∷ decimal id ∷ []) (style_field look) (word-closed (codes "style") refl, (number-closed id fits.operands.0, tt)) (style-closed look))
-    (style (decimal id) (style_field look) id look (number-written id fits.operands.0) (style-written look) refl refl) refl refl
+    said (commands.Style id look) (codes "style" ∷ decimal id ∷ style_word look ∷ []) (Style id look)
+    (line-closed (codes "style" ∷ decimal id ∷ []) (style_word look) (word-closed (codes "style") refl, (number-closed id fits.operands.0, tt)) (style-closed look))
+    (style (decimal id) (style_word look) id look (number-written id fits.operands.0) (style-written look) refl refl) refl refl
 command-said (commands.Volume id begins) fits =
-    said (commands.Volume id begins) (codes "volume" ∷ decimal id ∷ flag_field begins ∷ []) (Volume id begins)
-    (line-closed (codes "volume" ∷ decimal id ∷ []) (flag_field begins) (word-closed (codes "volume") refl, (number-closed id fits.operands.0, tt)) (flag-closed begins))
-    (volume (decimal id) (flag_field begins) id begins (number-written id fits.operands.0) (flag-written begins) refl refl) refl refl
+    said (commands.Volume id begins) (codes "volume" ∷ decimal id ∷ word_if begins (codes "on") (codes "off") ∷ []) (Volume id begins)
+    (line-closed (codes "volume" ∷ decimal id ∷ []) (word_if begins (codes "on") (codes "off")) (word-closed (codes "volume") refl, (number-closed id fits.operands.0, tt)) (flag-closed begins))
+    (volume (decimal id) (word_if begins (codes "on") (codes "off")) id begins (number-written id fits.operands.0) (flag-written begins) refl refl) refl refl
 command-said (commands.Retable id name) fits =
     said (commands.Retable id name) (codes "retable" ∷ decimal id ∷ shown_text name ∷ []) (Retable id (shown_text name))
     (line-closed (codes "retable" ∷ decimal id ∷ []) (shown_text name) (word-closed (codes "retable") refl, (number-closed id fits.operands.0, tt)) (name-closed name fits.operands.1.0))

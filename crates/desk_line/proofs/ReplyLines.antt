@@ -19,7 +19,7 @@ use Rattle.desk_model.proofs.Callers.{IsSoundParagraph-found, IsSoundTable-found
 use Rattle.desk_ends.specs.Cells.{text_of}
 use Rattle.desk_line.specs.declared.request.Query.{Query}
 use Rattle.desk_line.specs.Fields.{line_of_fields}
-use Rattle.desk_line.specs.Reply.{BeginsWith, EndsAfterBars, RepliesToQuery, ShowsLines, print, braille, history, marks, where_is, whence, list, version, shown, refused, details, entry_line, life_word, list_line, mark_line, shown_line, shown_text, state_word, style_word, touch_word, volume_word, word_and}
+use Rattle.desk_line.specs.Reply.{BeginsWith, EndsAfterBars, RepliesToQuery, ShowsLines, print, braille, history, marks, where_is, whence, list, version, shown, refused, details, entry_line, list_line, mark_line, shown_line, shown_text, style_word, word_and, word_if}
 use Rattle.desk_line.proofs.LackedBytes.{Lacks, Lacks-decimal, Lacks-joined, Lacks-shown, lacks, one-line, other-byte}
 
 -- a line without a line feed
@@ -95,27 +95,27 @@ style-lone : (style : Style) → Lone (style_word style)
 style-lone Body = lacks 10 (codes "body") refl
 style-lone Heading = lacks 10 (codes "heading") refl
 
--- a word for each value of a flag
-either-lone : (word : Bool → List ℕ) → Lone (word true) → Lone (word false) → (set : Bool) → Lone (word set)
-either-lone word this other true = this
-either-lone word this other false = other
+-- one of two words by a flag
+either-lone : (this other : List ℕ) → Lone this → Lone other → (set : Bool) → Lone (word_if set this other)
+either-lone this other one two true = one
+either-lone this other one two false = two
 
-volume-lone : (begins : Bool) → Lone (volume_word begins)
-volume-lone = either-lone volume_word (lacks 10 (codes "volume") refl) (lacks 10 (codes "-") refl)
+volume-lone : (begins : Bool) → Lone (word_if begins (codes "volume") (codes "-"))
+volume-lone = either-lone (codes "volume") (codes "-") (lacks 10 (codes "volume") refl) (lacks 10 (codes "-") refl)
 
-life-lone : (struck : Bool) → Lone (life_word struck)
-life-lone = either-lone life_word (lacks 10 (codes "struck") refl) (lacks 10 (codes "live") refl)
+life-lone : (struck : Bool) → Lone (word_if struck (codes "struck") (codes "live"))
+life-lone = either-lone (codes "struck") (codes "live") (lacks 10 (codes "struck") refl) (lacks 10 (codes "live") refl)
 
-state-lone : (resolved : Bool) → Lone (state_word resolved)
-state-lone = either-lone state_word (lacks 10 (codes "resolved") refl) (lacks 10 (codes "open") refl)
+state-lone : (resolved : Bool) → Lone (word_if resolved (codes "resolved") (codes "open"))
+state-lone = either-lone (codes "resolved") (codes "open") (lacks 10 (codes "resolved") refl) (lacks 10 (codes "open") refl)
 
-touch-lone : (touched : Bool) → Lone (touch_word touched)
-touch-lone = either-lone touch_word (lacks 10 (codes "touched") refl) (lacks 10 (codes "kept") refl)
+touch-lone : (touched : Bool) → Lone (word_if touched (codes "touched") (codes "kept"))
+touch-lone = either-lone (codes "touched") (codes "kept") (lacks 10 (codes "touched") refl) (lacks 10 (codes "kept") refl)
 
 module _ (book : Book) (sound : IsSound book) where
   mark-lone : (mark : Mark) → IsSoundMark book mark → Lone (mark_line mark)
   mark-lone mark s =
-      line_of_fields-lone (decimal mark.id ∷ decimal mark.start ∷ decimal mark.end ∷ state_word mark.resolved ∷ touch_word mark.touched ∷ shown_text mark.note ∷ []) (
+      line_of_fields-lone (decimal mark.id ∷ decimal mark.start ∷ decimal mark.end ∷ word_if mark.resolved (codes "resolved") (codes "open") ∷ word_if mark.touched (codes "touched") (codes "kept") ∷ shown_text mark.note ∷ []) (
         number-lone mark.id,
         (
           number-lone mark.start,
@@ -128,7 +128,7 @@ module _ (book : Book) (sound : IsSound book) where
 
   list_line-lone : (p : Paragraph) → IsSoundParagraph book p → Lone (list_line p)
   list_line-lone p s =
-      line_of_fields-lone (decimal p.id ∷ shown_text p.table ∷ style_word p.style ∷ volume_word p.begins_volume ∷ life_word p.struck ∷ decimal (length (print_of p)) ∷ []) (
+      line_of_fields-lone (decimal p.id ∷ shown_text p.table ∷ style_word p.style ∷ word_if p.begins_volume (codes "volume") (codes "-") ∷ word_if p.struck (codes "struck") (codes "live") ∷ decimal (length (print_of p)) ∷ []) (
         number-lone p.id,
         (
           text-lone p.table (All-weaker (λ c. is_name_character c ≡ true) (λ c. eqb c 10 ≡ false) name-other p.table (IsSoundTable-found book sound p.table s.text s.found).named.characters),

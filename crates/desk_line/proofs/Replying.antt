@@ -19,7 +19,7 @@ use Rattle.desk_model.specs.Translation.{LacksCell, LacksPlace}
 use Rattle.desk_line.specs.declared.request.Query.{Query}
 use Rattle.desk_line.specs.declared.request.Query.TheVariants as queries
 use Rattle.desk_line.specs.declared.waiting.Waiting.{Waiting}
-use Rattle.desk_line.specs.Reply.{AddsQueryReply, AddsShown, Refuses, no_paragraph, no_place, no_cell, paragraph_asked, ShowsLines, correction_line, details, entry_line, life_word, line_of, list_line, mark_line, state_word, style_word, touch_word, volume_word, refusal_line, refused, shown, shown_line, shown_text, word_and}
+use Rattle.desk_line.specs.Reply.{AddsQueryReply, AddsShown, Refuses, no_paragraph, no_place, no_cell, paragraph_asked, ShowsLines, correction_line, details, entry_line, line_of, list_line, mark_line, style_word, refusal_line, refused, shown, shown_line, shown_text, word_and, word_if}
 use Rattle.desk_line.specs.Waiting.{Adds}
 use Rattle.desk_line.proofs.Putting.{Adds-nothing, Adds-same, Adds-then}
 
@@ -91,12 +91,12 @@ module _ {A : Type 0} (show : A → List ℕ) (F : Type 0) (a : Option (List ℕ
 -- ---- one line
 
 pub mark-fields : (told : Mark) (id start end state touch note : List ℕ) → id ≡ decimal told.id → start ≡ decimal told.start → end ≡ decimal told.end
-    → state ≡ state_word told.resolved → touch ≡ touch_word told.touched → note ≡ shown_text told.note
+    → state ≡ word_if told.resolved (codes "resolved") (codes "open") → touch ≡ word_if told.touched (codes "touched") (codes "kept") → note ≡ shown_text told.note
     → line_of (codes "|" ∷ id ∷ start ∷ end ∷ state ∷ touch ∷ note ∷ []) ≡ shown_line (mark_line told)
 mark-fields told id start end state touch note a b c d e f = rw (a, b, c, d, e, f) refl
 
 pub list_line-fields : (told : Paragraph) (id table style volume life size : List ℕ) → id ≡ decimal told.id → table ≡ shown_text told.table
-    → style ≡ style_word told.style → volume ≡ volume_word told.begins_volume → life ≡ life_word told.struck → size ≡ decimal (length (print_of told))
+    → style ≡ style_word told.style → volume ≡ word_if told.begins_volume (codes "volume") (codes "-") → life ≡ word_if told.struck (codes "struck") (codes "live") → size ≡ decimal (length (print_of told))
     → line_of (codes "|" ∷ id ∷ table ∷ style ∷ volume ∷ life ∷ size ∷ []) ≡ shown_line (list_line told)
 list_line-fields told id table style volume life size a b c d e f = rw (a, b, c, d, e, f) refl
 

@@ -15,8 +15,8 @@ use Rattle.desk_command.specs.declared.style.Style.{Style}
 use Rattle.desk_command.specs.declared.style.Style.TheVariants.{Body, Heading}
 use Rattle.desk_command.specs.Characters.{AreCharacters}
 use Rattle.desk_line.specs.Fields.{IsAnchor, IsFlag, IsNumber, IsStyle, after, body, end, fields_of, front, heading, line_of_fields, off, on}
-use Rattle.desk_line.specs.Operands.{IsOneLineText, IsSmall, IsSmallAnchor, IsWord, anchor_field, flag_field, style_field}
-use Rattle.desk_line.specs.Reply.{shown_text}
+use Rattle.desk_line.specs.Operands.{IsOneLineText, IsSmall, IsSmallAnchor, IsWord, anchor_field}
+use Rattle.desk_line.specs.Reply.{shown_text, style_word, word_if}
 use Rattle.desk_line.proofs.LackedBytes.{Lacks, Lacks-decimal, Lacks-joined, Lacks-shown, other-byte}
 
 -- ---- fields
@@ -189,18 +189,18 @@ anchor-written Front h = front refl refl
 anchor-written End h = end refl refl
 anchor-written (Para id) h = after id (number-written id h) refl
 
-pub style-closed : (look : Style) → IsClosed (style_field look)
+pub style-closed : (look : Style) → IsClosed (style_word look)
 style-closed Body = word-closed (codes "body") refl
 style-closed Heading = word-closed (codes "heading") refl
 
-pub style-written : (look : Style) → IsStyle (style_field look) look
+pub style-written : (look : Style) → IsStyle (style_word look) look
 style-written Body = body refl refl
 style-written Heading = heading refl refl
 
-pub flag-closed : (flag : Bool) → IsClosed (flag_field flag)
+pub flag-closed : (flag : Bool) → IsClosed (word_if flag (codes "on") (codes "off"))
 flag-closed true = word-closed (codes "on") refl
 flag-closed false = word-closed (codes "off") refl
 
-pub flag-written : (flag : Bool) → IsFlag (flag_field flag) flag
+pub flag-written : (flag : Bool) → IsFlag (word_if flag (codes "on") (codes "off")) flag
 flag-written true = on refl refl
 flag-written false = off refl refl

@@ -6,10 +6,9 @@ use Rattle.louis_table.specs.Table.{most_lines}
 use Rattle.desk_command.specs.declared.command.Anchor.{Anchor}
 use Rattle.desk_command.specs.declared.command.Anchor.TheVariants.{Front, End, Para}
 use Rattle.desk_command.specs.declared.style.Style.{Style as ParagraphStyle}
-use Rattle.desk_command.specs.declared.style.Style.TheVariants.{Body, Heading}
 use Rattle.desk_command.specs.Characters.{AreCharacters}
 use Rattle.desk_line.specs.Limits.{most_number}
-use Rattle.desk_line.specs.Reply.{shown_text}
+use Rattle.desk_line.specs.Reply.{shown_text, style_word, word_if}
 
 -- an operand that is written: a number, how many lines a text has, where a paragraph is put, a style, a flag, a name, the name
 -- of a proofreader if one is named, or a text, which is the rest of the line
@@ -68,14 +67,6 @@ anchor_field Front = codes "front"
 anchor_field End = codes "end"
 anchor_field (Para id) = decimal id
 
-abbrev pub style_field : ParagraphStyle → List ℕ
-style_field Body = codes "body"
-style_field Heading = codes "heading"
-
-abbrev pub flag_field : Bool → List ℕ
-flag_field true = codes "on"
-flag_field false = codes "off"
-
 abbrev pub proofreader_fields : List ℕ → List (List ℕ)
 proofreader_fields [] = []
 proofreader_fields (c ∷ who) = shown_text (c ∷ who) ∷ []
@@ -85,8 +76,8 @@ abbrev pub operand_fields : Operand → List (List ℕ)
 operand_fields (Number number) = decimal number ∷ []
 operand_fields (Lines text) = decimal (length (lines_of text)) ∷ []
 operand_fields (Place anchor) = anchor_field anchor ∷ []
-operand_fields (Look style) = style_field style ∷ []
-operand_fields (Flag set) = flag_field set ∷ []
+operand_fields (Look style) = style_word style ∷ []
+operand_fields (Flag set) = word_if set (codes "on") (codes "off") ∷ []
 operand_fields (Name name) = shown_text name ∷ []
 operand_fields (Proofreader who) = proofreader_fields who
 operand_fields (Text text) = shown_text text ∷ []

@@ -65,22 +65,21 @@ refusal_line refusal = word_and (codes "no") (code_of refusal ∷ details refusa
 abbrev pub shown_text : List ℕ → List ℕ
 shown_text = encode_utf8_all
 
+-- a style, in a request as in a reply
 abbrev pub style_word : Style → List ℕ
 style_word Body = codes "body"
 style_word Heading = codes "heading"
 
-abbrev pub volume_word : Bool → List ℕ
-volume_word true = codes "volume"
-volume_word false = codes "-"
-
-abbrev pub life_word : Bool → List ℕ
-life_word true = codes "struck"
-life_word false = codes "live"
+-- the first word if the flag is set, and the other if not
+abbrev pub word_if : Bool → List ℕ → List ℕ → List ℕ
+word_if true word other = word
+word_if false word other = other
 
 -- a paragraph in the list of a book
 abbrev pub list_line : Paragraph → List ℕ
 list_line paragraph = line_of_fields (decimal paragraph.id ∷ shown_text paragraph.table ∷ style_word paragraph.style
-    ∷ volume_word paragraph.begins_volume ∷ life_word paragraph.struck ∷ decimal (length (print_of paragraph)) ∷ [])
+    ∷ word_if paragraph.begins_volume (codes "volume") (codes "-") ∷ word_if paragraph.struck (codes "struck") (codes "live")
+    ∷ decimal (length (print_of paragraph)) ∷ [])
 
 -- a correction, with the name of its proofreader if somebody is named
 abbrev pub correction_line : ℕ → Replacement → List ℕ → List ℕ
@@ -94,18 +93,11 @@ abbrev pub entry_line : ℕ × Entry → List ℕ
 entry_line (number, Corrects r who) = correction_line number r who
 entry_line (number, Undoes undone) = line_of_fields (decimal number ∷ codes "undo" ∷ decimal undone ∷ [])
 
-abbrev pub state_word : Bool → List ℕ
-state_word true = codes "resolved"
-state_word false = codes "open"
-
-abbrev pub touch_word : Bool → List ℕ
-touch_word true = codes "touched"
-touch_word false = codes "kept"
-
 -- a mark of a paragraph
 abbrev pub mark_line : Mark → List ℕ
-mark_line mark = line_of_fields (decimal mark.id ∷ decimal mark.start ∷ decimal mark.end ∷ state_word mark.resolved
-    ∷ touch_word mark.touched ∷ shown_text mark.note ∷ [])
+mark_line mark = line_of_fields (decimal mark.id ∷ decimal mark.start ∷ decimal mark.end
+    ∷ word_if mark.resolved (codes "resolved") (codes "open") ∷ word_if mark.touched (codes "touched") (codes "kept")
+    ∷ shown_text mark.note ∷ [])
 
 -- the lines that the book shows for the query
 pub data ShowsLines (book : Book) (query : Query) (lines : List (List ℕ)) : Type 0 where

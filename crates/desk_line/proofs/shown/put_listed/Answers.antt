@@ -1,8 +1,8 @@
-use Rattle.std.proofs.Common.{◌≡◌, Bor, List, ℕ, ap, sym, ◌∙◌}
+use Rattle.std.proofs.Common.{◌≡◌, Bool, Bor, List, ℕ, ap, codes, sym, ◌∙◌}
 use Rattle.std.specs.Prelude.{decimal}
 use Rattle.std.specs.Str.{chars}
 use Rattle.std.proofs.lemmas.Str.{encodes-chars}
-use Rattle.desk_line.specs.Reply.{life_word, list_line, shown_line, shown_text, style_word, volume_word}
+use Rattle.desk_line.specs.Reply.{list_line, shown_line, shown_text, style_word, word_if}
 use Rattle.desk_line.proofs.Putting.{Adds-same}
 use Rattle.desk_line.proofs.Replying.{list_line-fields}
 use Rattle.desk_line.proofs.shown.put_listed.Goals as goal
@@ -10,6 +10,8 @@ use Rattle.desk_line.proofs.shown.put_listed.Goals.{in-Body, in-Heading, then-pa
 
 pub returns : goal.returns
 returns g c = λ told is.
+    let volume_word : Bool → List ℕ = λ set. word_if set (codes "volume") (codes "-") in
+    let life_word : Bool → List ℕ = λ set. word_if set (codes "struck") (codes "live") in
     let style : c.match-paragraph.style.now ≡ style_word told.style = elim c.match-paragraph.branch [
       | in-Body w ↦ ap (λ (b : Bor (List ℕ)). b.now) w.style-is ∙ ap style_word (sym w.in-Body.is ∙ is.style)
       | in-Heading w ↦ ap (λ (b : Bor (List ℕ)). b.now) w.style-is ∙ ap style_word (sym w.in-Heading.is ∙ is.style)

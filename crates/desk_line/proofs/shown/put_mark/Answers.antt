@@ -1,8 +1,8 @@
-use Rattle.std.proofs.Common.{◌≡◌, Bor, List, ℕ, ap, sym, ◌∙◌}
+use Rattle.std.proofs.Common.{◌≡◌, Bool, Bor, List, ℕ, ap, codes, sym, ◌∙◌}
 use Rattle.std.specs.Prelude.{decimal}
 use Rattle.std.specs.Str.{chars}
 use Rattle.std.proofs.lemmas.Str.{encodes-chars}
-use Rattle.desk_line.specs.Reply.{mark_line, shown_line, shown_text, state_word, touch_word}
+use Rattle.desk_line.specs.Reply.{mark_line, shown_line, shown_text, word_if}
 use Rattle.desk_line.proofs.Putting.{Adds-same}
 use Rattle.desk_line.proofs.Replying.{mark-fields}
 use Rattle.desk_line.proofs.shown.put_mark.Goals as goal
@@ -10,6 +10,8 @@ use Rattle.desk_line.proofs.shown.put_mark.Goals.{then-mark, else-mark, then-mar
 
 pub returns : goal.returns
 returns g c = λ told is.
+    let state_word : Bool → List ℕ = λ set. word_if set (codes "resolved") (codes "open") in
+    let touch_word : Bool → List ℕ = λ set. word_if set (codes "touched") (codes "kept") in
     let state : c.if-mark.state.now ≡ state_word told.resolved = elim c.if-mark.branch [
       | then-mark w ↦ ap (λ (b : Bor (List ℕ)). b.now) w.state-is ∙ ap state_word (sym w.if-mark.true ∙ is.resolved)
       | else-mark w ↦ ap (λ (b : Bor (List ℕ)). b.now) w.state-is ∙ ap state_word (sym w.if-mark.false ∙ is.resolved)
