@@ -1,5 +1,5 @@
 -- A session with one turn more.
-use Rattle.std.proofs.Common.{◌≡◌, ◌≢◌, ℕ, true, false, List, [], ◌∷◌, ◌++◌, refl, sym, ap, subst, ◌∙◌, append_assoc, inl, inr}
+use Rattle.std.proofs.Common.{◌≡◌, ◌≢◌, ℕ, true, false, List, [], ◌∷◌, ◌++◌, map, refl, sym, ap, subst, ◌∙◌, append_assoc, inl, inr}
 use Rattle.std.specs.List.{AllByRecursion}
 use Rattle.std.proofs.lemmas.List.{append-nil}
 use Rattle.desk_model.specs.After.{After}
@@ -7,7 +7,6 @@ use Rattle.desk_model.specs.Book.{Book}
 use Rattle.desk_line.specs.declared.answer.Answer.{Answer}
 use Rattle.desk_line.specs.declared.answer.Answer.TheVariants as answers
 use Rattle.desk_line.specs.Answers.{IsAnswered, accepted, asked, lost, no_request, refused, unplanned, unread}
-use Rattle.desk_session.specs.Service.{AllTaken, requests_of}
 use Rattle.desk_session.specs.Session.{EndsLost, GivenCommand, Gives, IsHeld, IsSession, MayGoOn, Turn, TurnsFrom, commands_of}
 use Rattle.desk_session.proofs.Sessions.{IsSession-held}
 
@@ -41,6 +40,13 @@ lost-stays bytes book next answer (unplanned command expect reads lacks same ans
 lost-stays bytes book next answer (lost command expect made reads is makes same answer_) e = same
 
 -- ---- how the turns end
+
+-- the writer has taken the whole reply to each request
+abbrev pub AllTaken : List Turn → Type 0
+AllTaken turns = AllByRecursion (λ turn. turn.taken ≡ true) turns
+
+abbrev pub requests_of : List Turn → List (List ℕ)
+requests_of turns = map (λ turn. turn.request) turns
 
 pub goes-held : (turns : List Turn) → AllByRecursion MayGoOn turns → ¬ EndsLost turns
 goes-held [] goes ends = ends

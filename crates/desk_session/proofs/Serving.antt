@@ -30,10 +30,10 @@ use Rattle.desk_session.specs.declared.session.Ended.{Ended}
 use Rattle.desk_session.specs.declared.session.Ended.TheVariants as ended
 use Rattle.desk_session.specs.Reading.{ReadsRequest}
 use Rattle.desk_session.specs.Requests.{FirstRequests}
-use Rattle.desk_session.specs.Service.{AllTaken, AreRequests, EndsAs, EndsFlushed, GoesOut, HoldsGiven, IsHonest, IsLeft, IsWritten, MayLack, Serves, SessionEnds, ends_of, requests_of}
+use Rattle.desk_session.specs.Service.{AreRequests, EndsAs, EndsFlushed, GoesOut, HoldsGiven, IsHonest, IsLeft, IsWritten, MayLack, Serves, SessionEnds, ends_of}
 use Rattle.desk_session.specs.Session.{EndsLost, GivenCommand, Gives, IsCommand, IsSession, MayGoOn, Turn, commands_of}
 use Rattle.desk_session.specs.Turns.{LeavesLost, LeftBy, SendsReply, TakesTurn}
-use Rattle.desk_session.proofs.MoreTurns.{TurnsFrom-more, after-given, ends-held, ends-lost, gives-some, goes-held, goes-more, requests-more, taken-more}
+use Rattle.desk_session.proofs.MoreTurns.{AllTaken, TurnsFrom-more, after-given, ends-held, ends-lost, gives-some, goes-held, goes-more, requests-more, requests_of, taken-more}
 use Rattle.desk_session.proofs.RequestCuts.{CutInto, CutInto-all, CutInto-first, CutInto-more, CutInto-whole, next-some}
 
 -- ---- the file

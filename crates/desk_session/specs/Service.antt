@@ -53,9 +53,6 @@ ends_of source read_old read_new sink write_old write_new old new = record {
 
 -- ---- what is read
 
-abbrev pub requests_of : List Turn → List (List ℕ)
-requests_of turns = map (λ turn. turn.request) turns
-
 -- Each request of the bytes that were read was answered: all at the end of the input, and all whole ones before a failed read. Where
 -- the session ended otherwise, the first of them were.
 abbrev pub AreRequests : Ended → (AtEnd : Type 0) → (read : List ℕ) → List (List ℕ) → Type 0
@@ -96,17 +93,14 @@ IsHonest Input read ends = ends.ReadsFail ⊎ (most_input ≤ read)
 IsHonest Output read ends = ends.WritesFail
 IsHonest Lost read ends = Unit {0}
 
--- the writer has taken the whole reply to each request
-abbrev pub AllTaken : List Turn → Type 0
-AllTaken turns = AllByRecursion (λ turn. turn.taken ≡ true) turns
-
--- All replies are flushed, unless a write or a flush failed. If a command was lost, the reply that reports it was taken and is
--- flushed, or the writer can fail.
+-- All replies are flushed, unless a write or a flush failed. If a command was lost, the writer has taken the whole reply to each
+-- request, also the one that reports it, and all are flushed, or it can fail.
 abbrev pub EndsFlushed : Ended → List Turn → SessionEnds → Type 0
 EndsFlushed Done turns ends = (turns ≡ []) ⊎ IsFlushed ends.written ends.flushed
 EndsFlushed Input turns ends = (turns ≡ []) ⊎ IsFlushed ends.written ends.flushed
 EndsFlushed Output turns ends = Unit {0}
-EndsFlushed Lost turns ends = (AllTaken turns × IsFlushed ends.written ends.flushed) ⊎ ends.WritesFail
+EndsFlushed Lost turns ends =
+    (AllByRecursion (λ turn. turn.taken ≡ true) turns × IsFlushed ends.written ends.flushed) ⊎ ends.WritesFail
 
 -- ---- what is in the file
 
@@ -144,7 +138,7 @@ pub record Serves (book last : Book) (ended : Ended) (over : SessionEnds) : Type
   pub turns : List Turn
   pub given : List GivenCommand
   pub consumes : Consumes over.unread over.left read
-  pub requests : AreRequests ended (IsAtEnd over.left) read (requests_of turns)
+  pub requests : AreRequests ended (IsAtEnd over.left) read (map (λ turn. turn.request) turns)
   pub session : IsSession book turns given last
   pub written : IsWritten book turns output last
   pub appends : Appends over.before over.written output
