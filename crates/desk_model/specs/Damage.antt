@@ -64,7 +64,7 @@ pub record IsSoundTabRow (sorted : List TabRow) (index : ℕ) (row : TabRow) : T
   pub room : index < most_tables
   pub new : (before : ℕ) (other : TabRow) → before < index → slice_get sorted before ≡ Some other → other.name ≢ row.name
 
--- in order of their names, and those of one name in order of their texts, the row with this number, from 1, isn't sound
+-- of the tables in order of their names, those of one name in order of their texts, the one with this number, from 1, isn't sound
 abbrev pub IsDamagedTab : List TabRow → ℤ → Type 0
 IsDamagedTab tabs id =
     (sorted : List TabRow) × IsPermutation tabs sorted

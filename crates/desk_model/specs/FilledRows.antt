@@ -6,7 +6,7 @@ use Rattle.desk_model.specs.declared.new_tables.NewTables.{NewTables}
 use Rattle.desk_model.specs.declared.new_tables.NewTables.TheVariants.{Braille, Entries, EntriesAndBraille}
 use Rattle.desk_parts.specs.declared.rows.BookRow.{BookRow}
 use Rattle.desk_model.specs.Book.{Book}
-use Rattle.desk_parts.specs.FileRows.{FileRows, HasTexts, Named, entries_in, spelled}
+use Rattle.desk_parts.specs.FileRows.{FileRows, HasUtf8Texts, Named, entries_in, spelled}
 use Rattle.desk_parts.specs.declared.file_table.FileTable.TheVariants as tables
 use Rattle.desk_parts.specs.Puts.{PutRow, RowPut, put_rows}
 use Rattle.desk_parts.specs.Rows.{ParaCells, NamedCorr}
@@ -45,7 +45,7 @@ with_new_entries rows = record rows { entries = Named [] }
 -- these are the entries of the book's histories, in any order
 abbrev pub AreEntriesOf : Book → List NamedCorr → Type 0
 AreEntriesOf book entries =
-    All (HasTexts tables.NamedCorr) entries
+    All (HasUtf8Texts tables.NamedCorr) entries
     × IsPermutation (map (spelled tables.NamedCorr) entries) (flat_map entry_rows_of book.paragraphs)
 
 -- what brings rows of this version to the second format, once they have its tables: the row of `book`, each entry, and the

@@ -40,21 +40,21 @@ entries_in (Named corrs) = corrs
 -- ---- texts
 
 -- the texts of a row are UTF-8
-abbrev pub HasTexts : (t : FileTable) → RowOf t → Type 0
-HasTexts tables.Book b = ⊤
-HasTexts tables.Tab t = IsUtf8 t.name
-HasTexts tables.Para p = IsUtf8 p.tab × IsUtf8 p.original × IsUtf8 p.print
-HasTexts tables.Corr e = IsUtf8 e.body
-HasTexts tables.Mark m = IsUtf8 m.note
-HasTexts tables.Cache c = ⊤
-HasTexts tables.NamedCorr e = IsUtf8 e.entry.body × IsUtf8 e.who
+abbrev pub HasUtf8Texts : (t : FileTable) → RowOf t → Type 0
+HasUtf8Texts tables.Book b = ⊤
+HasUtf8Texts tables.Tab t = IsUtf8 t.name
+HasUtf8Texts tables.Para p = IsUtf8 p.tab × IsUtf8 p.original × IsUtf8 p.print
+HasUtf8Texts tables.Corr e = IsUtf8 e.body
+HasUtf8Texts tables.Mark m = IsUtf8 m.note
+HasUtf8Texts tables.Cache c = ⊤
+HasUtf8Texts tables.NamedCorr e = IsUtf8 e.entry.body × IsUtf8 e.who
 
 -- each text is UTF-8
 pub record AreTexts (rows : FileRows) : Type 0 where
-  pub tabs : All (HasTexts tables.Tab) rows.tabs
-  pub paras : All (HasTexts tables.Para) rows.paras
-  pub entries : All (HasTexts tables.NamedCorr) (entries_in rows.entries)
-  pub marks : All (HasTexts tables.Mark) rows.marks
+  pub tabs : All (HasUtf8Texts tables.Tab) rows.tabs
+  pub paras : All (HasUtf8Texts tables.Para) rows.paras
+  pub entries : All (HasUtf8Texts tables.NamedCorr) (entries_in rows.entries)
+  pub marks : All (HasUtf8Texts tables.Mark) rows.marks
 
 -- a row with its texts as characters, in place of their bytes
 abbrev pub spelled : (t : FileTable) → RowOf t → RowOf t

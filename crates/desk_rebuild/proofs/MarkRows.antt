@@ -13,7 +13,7 @@ use Rattle.desk_memory.specs.declared.marks.KeptMark.{KeptMark}
 use Rattle.desk_memory.specs.declared.paragraphs.Paragraph.{Paragraph as KeptParagraph}
 use Rattle.desk_model.specs.Damage.{IsDamagedMark, IsNumber, IsSoundMarkRow, IsSpanned}
 use Rattle.desk_parts.specs.declared.file_table.FileTable.TheVariants as tables
-use Rattle.desk_parts.specs.FileRows.{HasTexts, spelled}
+use Rattle.desk_parts.specs.FileRows.{HasUtf8Texts, spelled}
 use Rattle.desk_rebuild.specs.Rows.{AreMarksOf, AreOf, HasKept, HaveMarks, IsFirstId, IsWhole, without_marks}
 use Rattle.desk_rebuild.specs.Marks.{AreKeptOf, IsKeptOf, IsMarkOn, IsOnOne, mark_rule}
 use Rattle.desk_rebuild.specs.OrderedRows.{AreInOrder, AreSoundUpTo, IsFirstUnsound, IsNext, IsSoundAt}
@@ -85,7 +85,7 @@ module _ (paras : List Para) (items : List KeptParagraph) (of : AreOf paras item
     number-of row s = s.number
 
     abbrev sound-at : (index : ℕ) (row : MarkRow) → slice_get sorted index ≡ Some row → IsNumber (mark_rule items).id most_marks rows row.id
-        → IsSoundAt (mark_rule items) index row → HasTexts tables.Mark row → IsSoundMarkRow paras rows row
+        → IsSoundAt (mark_rule items) index row → HasUtf8Texts tables.Mark row → IsSoundMarkRow paras rows row
     sound-at index row at number s text = sound-row rows row number s.sound
 
     abbrev at-sound : (index : ℕ) (row : MarkRow) → slice_get sorted index ≡ Some row → AreSoundUpTo (mark_rule items) index sorted
@@ -146,9 +146,9 @@ on-ones items sorted marks have k d less =
     (omega (arith, same), omega (arith, same, within))
 
 -- and each row's text is UTF-8
-pub all-texts : (items : List KeptParagraph) (rows sorted : List MarkRow) (marks : List KeptMark) → IsPermutation rows sorted → AreKeptOf items sorted marks → All (HasTexts tables.Mark) rows
+pub all-texts : (items : List KeptParagraph) (rows sorted : List MarkRow) (marks : List KeptMark) → IsPermutation rows sorted → AreKeptOf items sorted marks → All (HasUtf8Texts tables.Mark) rows
 all-texts items rows sorted marks moved have =
-    All-permutation (HasTexts tables.Mark) sorted rows (IsPermutation-sym rows sorted moved) (λ k d within.
+    All-permutation (HasUtf8Texts tables.Mark) sorted rows (IsPermutation-sym rows sorted moved) (λ k d within.
     (have.sound k (get_or sorted k d) within (slice_get-get_or sorted k d within)).1)
 
 -- ---- the indexes of a paragraph's marks

@@ -164,7 +164,7 @@ module _ {X : Type 0} (rule : RowRule X) (rows : List X) where
   first-unsound count row id sound at told unsound =
       record { index = count; row = row; at = at; told = told; before = sound; unsound = unsound }
 
-  sound-more : (count : ℕ) (row : X) → AreSoundUpTo rule count rows → slice_get rows count ≡ Some row → IsSoundAt rule count row → rule.HasTexts row
+  sound-more : (count : ℕ) (row : X) → AreSoundUpTo rule count rows → slice_get rows count ≡ Some row → IsSoundAt rule count row → rule.HasUtf8Texts row
       → AreSoundUpTo rule (count + 1) rows
   sound-more count row sound here own texts i r less at =
       elim (cases_lt i count) [
@@ -173,12 +173,12 @@ module _ {X : Type 0} (rule : RowRule X) (rows : List X) where
             let is : count ≡ i = omega (arith, less, last) in
             let both : Some row ≡ Some r = sym here ∙ (ap (slice_get rows) is ∙ at) in
             let same : row ≡ r = cc in
-            subst (λ x. IsSoundAt rule i x × rule.HasTexts x) same (subst (λ k. IsSoundAt rule k row) is own, texts)
+            subst (λ x. IsSoundAt rule i x × rule.HasUtf8Texts x) same (subst (λ k. IsSoundAt rule k row) is own, texts)
       ]
 
   -- a sound row more, and what is kept of it
   pub kept-more : {K : Type 0} (IsKeptOf : X → K → Type 0) (count : ℕ) (kept : List K) (row : X) (item : K) → AreKeptUpTo rule IsKeptOf count rows kept
-      → slice_get rows count ≡ Some row → IsSoundAt rule count row → rule.HasTexts row → IsKeptOf row item → AreKeptUpTo rule IsKeptOf (count + 1) rows (kept ++ item ∷ [])
+      → slice_get rows count ≡ Some row → IsSoundAt rule count row → rule.HasUtf8Texts row → IsKeptOf row item → AreKeptUpTo rule IsKeptOf (count + 1) rows (kept ++ item ∷ [])
   kept-more IsKeptOf count kept row item have here own texts of =
       record {
         sound = sound-more count row have.sound here own texts;
@@ -235,7 +235,7 @@ module _ {X : Type 0} (rule : RowRule X) (rows : List X) where
 module _ {X : Type 0} (rule : RowRule X) (rows sorted : List X) (moved : IsPermutation rows sorted) (up : AreInOrder rule.id sorted) (IsSoundRow : X → Type 0)
     (number-of : (row : X) → IsSoundRow row → IsNumber rule.id rule.most rows (rule.id row))
     (sound-row : (index : ℕ) (row : X) → slice_get sorted index ≡ Some row → IsNumber rule.id rule.most rows (rule.id row)
-    → IsSoundAt rule index row → rule.HasTexts row → IsSoundRow row)
+    → IsSoundAt rule index row → rule.HasUtf8Texts row → IsSoundRow row)
     (row-sound : (index : ℕ) (row : X) → slice_get sorted index ≡ Some row → AreSoundUpTo rule index sorted → IsNext rule.most index (rule.id row)
     → IsSoundRow row → rule.IsSound index row) where
   abbrev IsDamaged : ℤ → Type 0

@@ -9,7 +9,7 @@ use Rattle.std.proofs.lemmas.List.Sorted.{All-permutation, Contains-permutation,
 use Rattle.std.proofs.lemmas.Option.{slice_get-get_or, slice_get_within}
 use Rattle.desk_memory.specs.declared.paragraphs.Paragraph.{Paragraph as KeptParagraph}
 use Rattle.desk_parts.specs.declared.file_table.FileTable.TheVariants as file
-use Rattle.desk_parts.specs.FileRows.{HasTexts}
+use Rattle.desk_parts.specs.FileRows.{HasUtf8Texts}
 use Rattle.desk_rebuild.specs.Rows.{AreInPlaces, AreOf, HasKept}
 use Rattle.desk_rebuild.specs.Paras.{AreKeptOf, para_rule}
 use Rattle.desk_memory.specs.Kept.{KeptTables}
@@ -78,7 +78,7 @@ module _ (tables : KeptTables) (rows sorted : List Para) (moved : IsPermutation 
   are-of =
       let back = IsPermutation-sym rows sorted moved in
       record {
-        texts = All-permutation (HasTexts file.Para) sorted rows back (λ k d within. (sound k (get_or sorted k d) within (slice_get-get_or sorted k d within)).1);
+        texts = All-permutation (HasUtf8Texts file.Para) sorted rows back (λ k d within. (sound k (get_or sorted k d) within (slice_get-get_or sorted k d within)).1);
         ids = subst (IsPermutation (map key rows)) (all-numbers (para_rule tables sorted) sorted sound ∙ ap (numbers 1) (sym have.kept.count_is)) (IsPermutation-map key rows sorted moved);
         each = All-permutation (HasKept items) sorted rows back (λ k d within. has-kept k (get_or sorted k d) within (slice_get-get_or sorted k d within));
       }

@@ -21,7 +21,7 @@ use Rattle.desk_memory.specs.declared.paragraphs.Paragraph.{Paragraph as KeptPar
 use Rattle.desk_memory.specs.declared.tables.BookTable.{BookTable}
 use Rattle.desk_model.specs.Damage.{IsDamagedPara, IsItsTable, IsNumber, IsSoundParaRow, IsWithin}
 use Rattle.desk_parts.specs.declared.file_table.FileTable.TheVariants as file
-use Rattle.desk_parts.specs.FileRows.{HasTexts, spelled}
+use Rattle.desk_parts.specs.FileRows.{HasUtf8Texts, spelled}
 use Rattle.desk_rebuild.specs.Rows.{AreTables, IsFirstId, IsWhole}
 use Rattle.desk_rebuild.specs.Paras.{AreKeptOf, ArePlacedUpTo, IsFree, IsKeptOf, IsParaAt, IsParaOn, para_rule}
 use Rattle.desk_memory.specs.Kept.{KeptTables}
@@ -59,7 +59,7 @@ module _ (tabs : List Tab) (tables : KeptTables) (are : AreTables tabs tables) w
       record {
         table = stored.0;
         there = stored.1;
-        named = same_bytes stored.0.name row.tab (All-contains (HasTexts file.Tab) tabs stored.0 are.texts stored.1) utf8 (ap (λ (t : Tab). t.name) stored.2);
+        named = same_bytes stored.0.name row.tab (All-contains (HasUtf8Texts file.Tab) tabs stored.0 are.texts stored.1) utf8 (ap (λ (t : Tab). t.name) stored.2);
         means = subst (λ (text : List ℕ). Means text table.rules) (sym body)
             (All-contains (λ (e : List ℕ × BookTable). Means e.1.text e.1.rules) tables (chars row.tab, table) are.means entry);
       }
@@ -167,7 +167,7 @@ module _ (tables : KeptTables) (count : ℕ) (rows : List Para) (order : List �
 -- a sound row more, its paragraph, and its number at its place
 pub kept-more : (tables : KeptTables) (count : ℕ) (rows : List Para) (items : List KeptParagraph) (order : List ℕ) → AreKeptOf tables count rows items order
     → (row : Para) (kept : KeptParagraph) (index : ℕ) → slice_get rows count ≡ Some row → IsNext most_paragraphs count row.id → IsFree order row.place index
-    → IsParaOn tables row → HasTexts file.Para row → IsKeptOf row kept → AreKeptOf tables (count + 1) rows (items ++ kept ∷ []) (set order index (count + 1))
+    → IsParaOn tables row → HasUtf8Texts file.Para row → IsKeptOf row kept → AreKeptOf tables (count + 1) rows (items ++ kept ∷ []) (set order index (count + 1))
 kept-more tables count rows items order have row kept index here next free on texts of =
     record {
       kept = one-more (para_rule tables rows) rows IsKeptOf count items row kept have.kept here
@@ -226,7 +226,7 @@ module _ (tabs : List Tab) (tables : KeptTables) (are : AreTables tabs tables) w
 
     -- a row that is sound at its index, with its number, is sound
     sound-at : (index : ℕ) (row : Para) → slice_get sorted index ≡ Some row → IsNumber key most_paragraphs rows row.id
-        → IsSoundAt rule index row → HasTexts file.Para row → IsSoundParaRow tabs rows row
+        → IsSoundAt rule index row → HasUtf8Texts file.Para row → IsSoundParaRow tabs rows row
     sound-at index row at number s texts =
         let split = drop-there sorted index row at in
         let parts : sorted ≡ take index sorted ++ row ∷ drop (index + 1) sorted =

@@ -26,7 +26,7 @@ use Rattle.desk_rebuild.specs.declared.damage.RowsFault.TheVariants.{Damaged, No
 use Rattle.desk_memory.specs.declared.tables.BookTable.{BookTable}
 use Rattle.desk_model.specs.Damage.{IsDamagedTab, IsSoundTabRow}
 use Rattle.desk_parts.specs.declared.file_table.FileTable.TheVariants as file
-use Rattle.desk_parts.specs.FileRows.{HasTexts, spelled}
+use Rattle.desk_parts.specs.FileRows.{HasUtf8Texts, spelled}
 use Rattle.desk_rebuild.specs.Rows.{AreTables, IsWhole, TellsDamage}
 use Rattle.desk_rebuild.specs.Tabs.{AreRead, MayCome, TellsFirstUnsound, TellsNoMeaning, TellsUnsoundTab, rows_of, tab_order}
 use Rattle.desk_memory.specs.Kept.{KeptTables, with_table}
@@ -182,7 +182,7 @@ to-front (y ∷ xs) ys (suc i) x is = let rest = to-front xs ys i x is in (omega
 abbrev kept_tab : List ℕ × BookTable → Tab
 kept_tab entry = tab_of (entry.0, entry.1.text)
 
-module _ (done rest : List Tab) (row : Tab) (tables : KeptTables) (text : HasTexts file.Tab row) (read : AreRead (done ++ row ∷ rest) done tables) where
+module _ (done rest : List Tab) (row : Tab) (tables : KeptTables) (text : HasUtf8Texts file.Tab row) (read : AreRead (done ++ row ∷ rest) done tables) where
   abbrev sorted : List Tab
   sorted = done ++ row ∷ rest
 
@@ -210,7 +210,7 @@ module _ (done rest : List Tab) (row : Tab) (tables : KeptTables) (text : HasTex
 
   same-bytes : (other : Tab) → Contains done other → chars other.name ≡ chars row.name → other.name ≡ row.name
   same-bytes other c same =
-      sym (encodes-chars other.name (All-contains (HasTexts file.Tab) done other read.texts c)) ∙ (ap encodes same ∙ encodes-chars row.name text)
+      sym (encodes-chars other.name (All-contains (HasUtf8Texts file.Tab) done other read.texts c)) ∙ (ap encodes same ∙ encodes-chars row.name text)
 
   no-table : (other : Tab) → Contains done other → other.name ≡ row.name → ¬ (lookup (pointwise nat_eq (chars row.name)) tables ≡ None)
   no-table other c same none =
@@ -241,7 +241,7 @@ module _ (done rest : List Tab) (row : Tab) (tables : KeptTables) (text : HasTex
       let longer = length_permutation ((chars row.name, table) ∷ tables) (with_table (chars row.name) table tables) moved in
       let room = may.room in
       record {
-        texts = All-push (HasTexts file.Tab) done row read.texts text;
+        texts = All-push (HasUtf8Texts file.Tab) done row read.texts text;
         rows = subst (λ xs. IsPermutation xs (map kept_tab (with_table (chars row.name) table tables))) (sym (map-append (spelled file.Tab) done (row ∷ [])))
             (IsPermutation-push_more (map (spelled file.Tab) done) (map kept_tab tables) (map kept_tab (with_table (chars row.name) table tables)) (spelled file.Tab row) read.rows
             (subst (λ t. IsPermutation (t ∷ map kept_tab tables) (map kept_tab (with_table (chars row.name) table tables))) own
@@ -329,7 +329,7 @@ untold all index row id is NoMemory told = tt
 pub none-read : (all : List Tab) → AreRead all [] []
 unfolding IsStrictlySortedBy
 none-read all = record {
-  texts = All-nil (HasTexts file.Tab);
+  texts = All-nil (HasUtf8Texts file.Tab);
   rows = IsPermutation-refl [];
   means = All-nil (λ (entry : List ℕ × BookTable). Means entry.1.text entry.1.rules);
   names = tt;
@@ -340,7 +340,7 @@ none-read all = record {
 pub are-tables : (tabs all : List Tab) → IsPermutation tabs all → (result : Result KeptTables RowsFault) → IfOk result (AreRead all all) → IfOk result (AreTables tabs)
 are-tables tabs all moved (Err fault) read = tt
 are-tables tabs all moved (Ok tables) read = record {
-  texts = All-permutation (HasTexts file.Tab) all tabs (IsPermutation-sym tabs all moved) read.texts;
+  texts = All-permutation (HasUtf8Texts file.Tab) all tabs (IsPermutation-sym tabs all moved) read.texts;
   rows = IsPermutation-trans (map (spelled file.Tab) tabs) (map (spelled file.Tab) all) (map kept_tab tables) (IsPermutation-map (spelled file.Tab) tabs all moved) read.rows;
   means = read.means;
   sorted = read.names;

@@ -13,7 +13,7 @@ use Rattle.desk_model.specs.declared.fault.PartsFault.{PartsFault}
 use Rattle.desk_parts.specs.declared.rows.BookRow.{BookRow}
 use Rattle.desk_model.specs.Damage.{HasItsTables, IsDamaged, IsDamagedEntries, IsDamagedMark, IsDamagedPara, IsDamagedTab, IsWithin}
 use Rattle.desk_parts.specs.declared.file_table.FileTable.TheVariants as file
-use Rattle.desk_parts.specs.FileRows.{AreTexts, EntryRows, FileRows, HasTexts, Named, Unnamed, entries_in, format_of, table_of}
+use Rattle.desk_parts.specs.FileRows.{AreTexts, EntryRows, FileRows, HasUtf8Texts, Named, Unnamed, entries_in, format_of, table_of}
 use Rattle.desk_rebuild.specs.Faults.{IsDamagedBraille, TellsDamageOf}
 use Rattle.desk_rebuild.specs.Rows.{AreInPlaces, AreMarksOf, AreOf, AreTables, HasCells, HasHistory, HaveMarks, IsWhole, without_cells, without_history, without_marks}
 use Rattle.desk_memory.specs.Kept.{IsKept, KeptTables, book_kept, paragraph_with_id}
@@ -114,9 +114,9 @@ module _ (parts : Parts) (within : IsWithin 0 most_version parts.version) where
 
             module _ (version : ℕ) (is_version : pos version ≡ parts.version) (tables : KeptTables) (are_tables : AreTables rows.tabs tables)
                 (read with_history with_marks items : List KeptParagraph) (order : List ℕ) (of : AreOf rows.paras read) (places : AreInPlaces rows.paras order)
-                (entry_texts : All (HasTexts file.NamedCorr) (entries_in rows.entries)) (histories : All (HasHistory (entries_in rows.entries) with_history) rows.paras)
+                (entry_texts : All (HasUtf8Texts file.NamedCorr) (entries_in rows.entries)) (histories : All (HasHistory (entries_in rows.entries) with_history) rows.paras)
                 (same_history : map without_history with_history ≡ map without_history read)
-                (mark_texts : All (HasTexts file.Mark) rows.marks) (marks : List KeptMark) (are_marks : AreMarksOf rows.marks marks) (have_marks : HaveMarks marks with_marks)
+                (mark_texts : All (HasUtf8Texts file.Mark) rows.marks) (marks : List KeptMark) (are_marks : AreMarksOf rows.marks marks) (have_marks : HaveMarks marks with_marks)
                 (same_marks : map without_marks with_marks ≡ map without_marks with_history)
                 (cells : All (HasCells rows.tabs items) rows.paras) (same_cells : map without_cells items ≡ map without_cells with_marks) where
               texts : AreTexts rows

@@ -8,7 +8,7 @@ use Rattle.desk_model.specs.Damage.{IsFlag}
 use Rattle.desk_rebuild.specs.OrderedRows.{AreKeptUpTo, RowRule}
 use Rattle.desk_model.specs.Limits.{most_marks, most_note}
 use Rattle.desk_parts.specs.declared.file_table.FileTable.TheVariants as tables
-use Rattle.desk_parts.specs.FileRows.{HasTexts, spelled}
+use Rattle.desk_parts.specs.FileRows.{HasUtf8Texts, spelled}
 use Rattle.desk_parts.specs.Rows.{Mark as MarkRow}
 use Rattle.desk_model.specs.Shows.{mark_row_of}
 use Rattle.desk_model.specs.NormalForm.{IsUnbarred}
@@ -56,7 +56,7 @@ mark_rule items = record {
   id = λ row. row.id;
   most = most_marks;
   IsSound = λ index row. IsMarkOn items row;
-  HasTexts = HasTexts tables.Mark;
+  HasUtf8Texts = HasUtf8Texts tables.Mark;
 }
 
 -- each row is sound, and has its mark

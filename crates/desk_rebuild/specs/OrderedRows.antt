@@ -11,7 +11,7 @@ pub record RowRule (X : Type 0) : Type 1 where
   pub id : X → ℤ
   pub most : ℕ
   pub IsSound : ℕ → X → Type 0
-  pub HasTexts : X → Type 0
+  pub HasUtf8Texts : X → Type 0
 
 -- the rows stand in the order of their ids
 abbrev pub AreInOrder : {X : Type 0} → (X → ℤ) → List X → Type 0
@@ -29,7 +29,7 @@ pub record IsSoundAt {X : Type 0} (rule : RowRule X) (index : ℕ) (row : X) : T
 -- so many rows are sound, and their texts UTF-8
 abbrev pub AreSoundUpTo : {X : Type 0} → RowRule X → ℕ → List X → Type 0
 AreSoundUpTo {X} rule count rows =
-    (index : ℕ) (row : X) → index < count → slice_get rows index ≡ Some row → IsSoundAt rule index row × rule.HasTexts row
+    (index : ℕ) (row : X) → index < count → slice_get rows index ≡ Some row → IsSoundAt rule index row × rule.HasUtf8Texts row
 
 -- so many rows are sound, and what is kept of each of them is there
 pub record AreKeptUpTo {X K : Type 0} (rule : RowRule X) (IsKeptOf : X → K → Type 0) (count : ℕ) (rows : List X) (kept : List K) : Type 0 where

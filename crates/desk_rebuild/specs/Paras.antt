@@ -8,7 +8,7 @@ use Rattle.desk_memory.specs.declared.paragraphs.Paragraph.{Paragraph as KeptPar
 use Rattle.desk_memory.specs.declared.tables.BookTable.{BookTable}
 use Rattle.desk_model.specs.Damage.{IsFlag, IsPrintText, IsWithin}
 use Rattle.desk_parts.specs.declared.file_table.FileTable.TheVariants as file
-use Rattle.desk_parts.specs.FileRows.{HasTexts}
+use Rattle.desk_parts.specs.FileRows.{HasUtf8Texts}
 use Rattle.desk_rebuild.specs.Rows.{IsOf}
 use Rattle.desk_memory.specs.Kept.{KeptTables}
 use Rattle.desk_rebuild.specs.OrderedRows.{AreKeptUpTo, RowRule}
@@ -67,7 +67,7 @@ pub record IsParaAt (tables : KeptTables) (rows : List Para) (index : ℕ) (row 
 
 -- what is asked of these rows beside these tables
 abbrev pub para_rule : KeptTables → List Para → RowRule Para
-para_rule tables rows = record { id = λ row. row.id; most = most_paragraphs; IsSound = IsParaAt tables rows; HasTexts = HasTexts file.Para }
+para_rule tables rows = record { id = λ row. row.id; most = most_paragraphs; IsSound = IsParaAt tables rows; HasUtf8Texts = HasUtf8Texts file.Para }
 
 -- so many rows are sound, have their paragraphs, and stand at their places
 pub record AreKeptOf (tables : KeptTables) (count : ℕ) (rows : List Para) (items : List KeptParagraph) (order : List ℕ) : Type 0 where

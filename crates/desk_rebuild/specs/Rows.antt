@@ -14,7 +14,7 @@ use Rattle.desk_rebuild.specs.declared.damage.RowsFault.TheVariants.{Damaged, No
 use Rattle.desk_memory.specs.Braille.{AreCellsOf}
 use Rattle.desk_model.specs.Damage.{IsItsTable, IsPrintText, IsSoundEntryRow, history_of}
 use Rattle.desk_parts.specs.declared.file_table.FileTable.TheVariants as file
-use Rattle.desk_parts.specs.FileRows.{HasTexts, spelled}
+use Rattle.desk_parts.specs.FileRows.{HasUtf8Texts, spelled}
 use Rattle.desk_memory.specs.Histories.{HaveTaken, entries_kept}
 use Rattle.desk_memory.specs.Kept.{KeptTables, marks_kept}
 use Rattle.desk_memory.specs.KeptMarks.{indexes_on}
@@ -41,7 +41,7 @@ TellsDamage damaged NoMemory = ⊤
 
 -- the kept tables, in the order of their names, are those of the rows
 pub record AreTables (tabs : List Tab) (tables : KeptTables) : Type 0 where
-  pub texts : All (HasTexts file.Tab) tabs
+  pub texts : All (HasUtf8Texts file.Tab) tabs
   pub rows : IsPermutation (map (spelled file.Tab) tabs) (map (λ entry. tab_of (entry.0, entry.1.text)) tables)
   pub means : All (λ entry. Means entry.1.text entry.1.rules) tables
   pub sorted : IsStrictlySortedBy (slice_cmp nat_cmp) (map (λ entry. entry.0) tables)
@@ -67,7 +67,7 @@ pub record HasKept (items : List KeptParagraph) (row : Para) : Type 0 where
 
 -- The kept paragraphs, in the order of their ids, are those of the rows, whatever their histories, braille and marks.
 pub record AreOf (paras : List Para) (items : List KeptParagraph) : Type 0 where
-  pub texts : All (HasTexts file.Para) paras
+  pub texts : All (HasUtf8Texts file.Para) paras
   pub ids : IsPermutation (map (λ row. row.id) paras) (map pos (range_with_len 1 (length items)))
   pub each : All (HasKept items) paras
 

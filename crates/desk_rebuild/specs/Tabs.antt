@@ -12,7 +12,7 @@ use Rattle.desk_rebuild.specs.declared.damage.RowsFault.{RowsFault}
 use Rattle.desk_rebuild.specs.declared.damage.RowsFault.TheVariants.{Damaged, NoMemory}
 use Rattle.desk_model.specs.Damage.{IsSoundTabRow}
 use Rattle.desk_parts.specs.declared.file_table.FileTable.TheVariants as file
-use Rattle.desk_parts.specs.FileRows.{HasTexts, spelled}
+use Rattle.desk_parts.specs.FileRows.{HasUtf8Texts, spelled}
 use Rattle.desk_memory.specs.Kept.{KeptTables}
 use Rattle.desk_model.specs.Limits.{most_tables}
 use Rattle.desk_model.specs.Name.{IsTableName}
@@ -28,7 +28,7 @@ tab_order one other = ordering_then (slice_cmp nat_cmp one.name other.name) (sli
 
 -- each of these rows, which are the first of a list in order, is sound, and the kept tables are theirs
 pub record AreRead (sorted done : List Tab) (tables : KeptTables) : Type 0 where
-  pub texts : All (HasTexts file.Tab) done
+  pub texts : All (HasUtf8Texts file.Tab) done
   pub rows : IsPermutation (map (spelled file.Tab) done) (map (λ entry. tab_of (entry.0, entry.1.text)) tables)
   pub means : All (λ entry. Means entry.1.text entry.1.rules) tables
   pub names : IsStrictlySortedBy (slice_cmp nat_cmp) (map (λ entry. entry.0) tables)

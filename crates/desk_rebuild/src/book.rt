@@ -1,6 +1,6 @@
 //! A book from the rows of its file.
 ghost use Rattle.desk_model.specs.Damage.{IsDamagedEntries, IsDamagedPara, IsWithin};
-ghost use Rattle.desk_parts.specs.FileRows.{HasTexts, Unnamed, entries_in, table_of};
+ghost use Rattle.desk_parts.specs.FileRows.{HasUtf8Texts, Unnamed, entries_in, table_of};
 ghost use Rattle.desk_rebuild.specs.Faults.{IsDamagedBraille, TellsDamageOf};
 ghost use Rattle.desk_rebuild.specs.Rows.{AreOf, AreTables, HasCells, HasHistory, IsWhole, without_cells, without_history};
 ghost use Rattle.desk_memory.specs.Kept.{IsKept, book_kept, paragraph_with_id};
@@ -67,7 +67,7 @@ fn give_histories(
     entries: EntryRows,
 ) -> Result<(), PartsFault>
     requires of { (paras : List Para) × AreOf paras items.old.items }
-    ensures texts { OnOk result (All (HasTexts FileTable.NamedCorr) (entries_in (entry_rows entries))) }
+    ensures texts { OnOk result (All (HasUtf8Texts FileTable.NamedCorr) (entries_in (entry_rows entries))) }
     ensures whole { (paras : List Para) → AreOf paras items.old.items
         → OnOk result (IsWhole (IsDamagedEntries paras (entries_in (entry_rows entries)))) }
     ensures histories { (paras : List Para) → AreOf paras items.old.items

@@ -2,7 +2,7 @@
 ghost use Rattle.desk_model.specs.Damage.{IsDamagedEntries, IsWithin};
 ghost use Rattle.desk_rebuild.specs.Rows.{AreOf, HasHistory, IsWhole, TellsDamage, without_history};
 ghost use Rattle.desk_rebuild.specs.Entries.{AreGrouped, HaveRead, IsFirstStray, IsFirstUnread};
-ghost use Rattle.desk_parts.specs.FileRows.{HasTexts};
+ghost use Rattle.desk_parts.specs.FileRows.{HasUtf8Texts};
 ghost use Rattle.desk_parts.specs.declared.file_table.FileTable.{FileTable};
 ghost use Rattle.desk_parts.specs.Rows.{Para};
 ghost use Rattle.std.specs.List.{All};
@@ -60,7 +60,7 @@ impl EntryGroups {
     fn of(alloc: Global, count: usize, rows: Vec<NamedCorrRow>) -> Result<Self, AllocError>
         ensures groups { IfOk result (λ grouped. AreGrouped count rows.items (map (λ group. group.items) grouped.groups.items)) }
         ensures stray { IfOk result (λ grouped. IsFirstStray count rows.items grouped.stray) }
-        ensures texts { OnOk result (All (HasTexts FileTable.NamedCorr) rows.items) }
+        ensures texts { OnOk result (All (HasUtf8Texts FileTable.NamedCorr) rows.items) }
     {
         let mut groups = no_rows(alloc, count)?;
         let mut stray = None;
@@ -104,7 +104,7 @@ pub(crate) fn read_entries(
         → OnOk result (IsWhole (IsDamagedEntries paras rows.items)) }
     ensures histories { (paras : List Para) → AreOf paras items.old.items
         → OnOk result (All (HasHistory rows.items items.new.items) paras) }
-    ensures texts { OnOk result (All (HasTexts FileTable.NamedCorr) rows.items) }
+    ensures texts { OnOk result (All (HasUtf8Texts FileTable.NamedCorr) rows.items) }
     ensures same { OnOk result (map without_history items.new.items ≡ map without_history items.old.items) }
     ensures damaged { (paras : List Para) → AreOf paras items.old.items
         → IfErr result (TellsDamage (IsDamagedEntries paras rows.items)) }

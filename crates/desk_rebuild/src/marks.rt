@@ -1,6 +1,6 @@
 //! The rows of `mark`, validated and converted into marks.
 ghost use Rattle.desk_model.specs.Damage.{IsDamagedMark};
-ghost use Rattle.desk_parts.specs.FileRows.{HasTexts};
+ghost use Rattle.desk_parts.specs.FileRows.{HasUtf8Texts};
 ghost use Rattle.desk_rebuild.specs.Faults.{TellsDamageOf};
 ghost use Rattle.desk_rebuild.specs.Rows.{AreMarksOf, AreOf, HaveMarks, IsWhole, without_marks};
 ghost use Rattle.desk_rebuild.specs.Marks.{AreKeptOf, HasId, IsKeptOf, IsMarkOn, IsNoteText, IsOnOne, IsSpan, mark_rule};
@@ -52,7 +52,7 @@ fn span_of(count: usize, start: i64, stop: i64) -> Option<(usize, usize)>
 /// The mark of a row, if the row is sound but for its id.
 fn mark_of(items: &[Paragraph], row: MarkRow) -> Option<KeptMark>
     ensures { MatchOption result (¬ IsMarkOn items.now row)
-        (λ mark. IsMarkOn items.now row × HasTexts FileTable.Mark row × IsKeptOf row mark) }
+        (λ mark. IsMarkOn items.now row × HasUtf8Texts FileTable.Mark row × IsKeptOf row mark) }
 {
     let paragraph = paragraph_of(items, row.para)?;
     let (start, end) = span_of(paragraph.print.as_slice().len(), row.start, row.stop)?;
@@ -135,7 +135,7 @@ pub(crate) fn read_marks(
     requires unmarked { All (λ kept. kept.marks ≡ []) items.old.items }
     ensures whole { (paras : List Para) → AreOf paras items.old.items
         → IfOk result (λ _. IsWhole (IsDamagedMark paras rows.items)) }
-    ensures texts { IfOk result (λ _. All (HasTexts FileTable.Mark) rows.items) }
+    ensures texts { IfOk result (λ _. All (HasUtf8Texts FileTable.Mark) rows.items) }
     ensures marks { IfOk result (λ marks. AreMarksOf rows.items marks.items) }
     ensures indexes { IfOk result (λ marks. HaveMarks marks.items items.new.items) }
     ensures same { IfOk result (λ _. map without_marks items.new.items ≡ map without_marks items.old.items) }

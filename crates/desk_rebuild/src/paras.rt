@@ -4,7 +4,7 @@ ghost use Rattle.desk_rebuild.specs.Faults.{TellsDamageOf};
 ghost use Rattle.desk_rebuild.specs.Rows.{AreInPlaces, AreOf, AreTables, IsWhole};
 ghost use Rattle.desk_rebuild.specs.Paras.{AreDefinedBy, AreKeptOf, IsFree, IsKeptOf, IsParaOn, para_rule};
 ghost use Rattle.desk_rebuild.specs.OrderedRows.{AreInOrder, TellsUnsound};
-ghost use Rattle.desk_parts.specs.FileRows.{HasTexts};
+ghost use Rattle.desk_parts.specs.FileRows.{HasUtf8Texts};
 ghost use Rattle.desk_parts.specs.Rows.{Tab};
 ghost use Rattle.desk_parts.specs.declared.file_table.FileTable.{FileTable};
 ghost use Rattle.desk_model.specs.Shows.{style_number};
@@ -67,7 +67,7 @@ fn paragraph_of(
     row: ParaRow,
 ) -> Result<Option<Paragraph>, AllocError>
     ensures { IfOk result (λ found. MatchOption found (¬ IsParaOn tables.now row)
-        (λ kept. IsParaOn tables.now row × HasTexts FileTable.Para row × IsKeptOf row kept)) }
+        (λ kept. IsParaOn tables.now row × HasUtf8Texts FileTable.Para row × IsKeptOf row kept)) }
 {
     let (Some(style), Some(begins_volume), Some(struck)) = (
         style_of(row.style),

@@ -1,5 +1,5 @@
 -- The tables of a book's file, each described once.
-use Rattle.std.specs.Prelude.{ℕ, suc, zero, Bool, true, false, List, [], ◌∷◌, ◌++◌, codes, Option, Some, None, ◌==◌}
+use Rattle.std.specs.Prelude.{ℕ, suc, zero, Bool, true, false, List, [], ◌∷◌, codes, Option, Some, None, ◌==◌}
 use Rattle.std.specs.List.{list_any}
 use Rattle.sqlite_value.specs.declared.keys.Order.{Order}
 use Rattle.sqlite_value.specs.Keys.{plain}
@@ -72,15 +72,13 @@ by_columns columns key places = record {
   put = [];
 }
 
--- one of entries of histories, which are only added, in the order of their two keys
+-- One of entries of histories, with these columns besides their own. Entries are only added, in the order of their two keys.
 abbrev pub by_entry : List Column → (places : List ℕ) → Description
 by_entry columns places =
-    record (by_columns columns (1 ∷ 2 ∷ []) places) { is_changed = false; sorted = 0 ∷ 1 ∷ [] }
-
-abbrev pub entry_columns : List Column
-entry_columns =
-    needed (codes "para") Integer ∷ needed (codes "seq") Integer ∷ needed (codes "kind") Integer
-    ∷ needed (codes "start") Integer ∷ needed (codes "len") Integer ∷ needed (codes "body") Text ∷ []
+    record (by_columns
+    (needed (codes "para") Integer ∷ needed (codes "seq") Integer ∷ needed (codes "kind") Integer
+    ∷ needed (codes "start") Integer ∷ needed (codes "len") Integer ∷ needed (codes "body") Text ∷ columns) (1 ∷ 2 ∷ []) places)
+    { is_changed = false; sorted = 0 ∷ 1 ∷ [] }
 
 -- The tables of a book's file in either format: `corr` only in the first, where nothing writes it, and `corr2` only in the second.
 abbrev pub description_of : FileTable → Description
@@ -112,7 +110,7 @@ description_of tables.Para =
       put = PUT_PARA.now;
     }
 description_of tables.Corr =
-    record (by_entry entry_columns (1 ∷ 2 ∷ 3 ∷ 4 ∷ 5 ∷ 6 ∷ [])) {
+    record (by_entry [] (1 ∷ 2 ∷ 3 ∷ 4 ∷ 5 ∷ 6 ∷ [])) {
       name = codes "corr";
       is_written = false;
       read = READ_CORRS.now;
@@ -134,7 +132,7 @@ description_of tables.Cache =
       put = PUT_CACHE.now;
     }
 description_of tables.NamedCorr =
-    record (by_entry (entry_columns ++ needed (codes "who") Text ∷ []) (1 ∷ 2 ∷ 3 ∷ 4 ∷ 5 ∷ 6 ∷ 7 ∷ [])) {
+    record (by_entry (needed (codes "who") Text ∷ []) (1 ∷ 2 ∷ 3 ∷ 4 ∷ 5 ∷ 6 ∷ 7 ∷ [])) {
       name = codes "corr2";
       create = CREATE_NAMED_CORR.now;
       read = READ_NAMED_CORRS.now;

@@ -55,8 +55,8 @@ new_layout s = record { schema = after new_tables s; has = is_among new_tables; 
 abbrev pub first_row : BookRow
 first_row = record { id = pos 1; format = pos 2; version = pos 0 }
 
--- The contents of a new file: this row alone, beside the tables that were there with the rows that they had, the counter, with no rows if it
--- was missing and is made, and what the database keeps aside.
+-- The contents of a new file: the row of a new book alone, beside the tables that were there with the rows that they had, an empty counter
+-- if it was missing, and what the database keeps aside.
 abbrev pub IsNew : Schema → Trees → (Contents → Type 0) → Type 0
 IsNew s rows P =
     (others : Trees) × KeepsRows s.tables rows others

@@ -16,17 +16,18 @@ use Rattle.desk_rows.specs.Rows.{columns_of}
 
 -- the trees are a database of this layout, with this in its tables
 pub record IsFile (l : Layout) (c : Contents) (db : Trees) : Type 0 where
-  -- the schema declares the tables of ours in their trees, as a new file has them
+  -- the schema declares our tables in their trees, as a new file has them
   pub declared : (t : FileTable) → l.has t ≡ true → IsDeclared l.schema (table_of t (l.tree t))
   pub sound : IsSound l.schema db
-  -- they hold just these rows
+  -- our tables hold just these rows
   pub tables : (t : FileTable) → l.has t ≡ true
       → Lists (columns_of t) (columns_at (description_of t).own) (c.rows t) (db (l.tree t))
   -- the rows that may be changed are distinguished, those of `tab` by their hidden rowids too
   pub ids : (t : FileTable) → l.has t ≡ true → (description_of t).is_changed ≡ true → HaveRowids (db (l.tree t))
-  -- and so do the other tables
+  -- the other tables hold just what the contents say
   pub others : AllByRecursion (λ t. IsOther l t.tree → db t.tree ≡ c.others t.tree) l.schema.tables
-  -- and each tree that is no index, among them those that the database keeps as they are, the list of its schema and its user version
+  -- and so does each tree that is no index, among them those that the database keeps as they are, the list of its schema and its user
+  -- version
   pub aside : (tree : ℕ) → IsOther l tree → IsNoIndex l.schema tree → db tree ≡ c.others tree
 
 -- the connection shows such a database

@@ -9,7 +9,7 @@ use Rattle.sqlite_schema.specs.declared.schema.Kind.TheVariants.{Integer, Real, 
 use Rattle.sqlite.specs.declared.error.Error.{Error}
 use Rattle.sqlite.specs.State.{State, Shown, FailsToQuery, IsUnchanged}
 use Rattle.desk_parts.specs.declared.file_table.FileTable.{FileTable}
-use Rattle.desk_parts.specs.FileRows.{HasTexts}
+use Rattle.desk_parts.specs.FileRows.{HasUtf8Texts}
 use Rattle.sql_tables.specs.Kinds.{HasKinds, HaveIntegerRowids, HaveUtf8Texts, IsOfKind}
 use Rattle.sql_tables.specs.Rows.{Lists, columns_at, numbers_from}
 use Rattle.sql_tables.specs.States.{HasAnswer, HasTable}
@@ -28,7 +28,7 @@ pub record TableQuery : Type 0 where
   pub columns : Row → Row
   pub kinds : List Kind
 
--- the one that reads a table: as many of the first columns are read as it shows
+-- the statement that reads a table, of whose rows as many first columns are read as the table shows
 abbrev pub query_of : FileTable → TableQuery
 query_of t = record {
   text = (description_of t).read;
@@ -60,7 +60,7 @@ Begins at (Blob ∷ kinds) row = IsOfKind Blob (column row at)
 Begins at (Any ∷ kinds) row = Begins (suc at) kinds row
 
 -- Why nothing is read: the statement failed, or not all rows that it showed have the kinds, or they aren't apart as they have to be, or an
--- allocation for them failed, the first of which is for the first row once that begins so.
+-- allocation for them failed, the first of which is for the first row, once what stands before its first text or bytes is of its kinds.
 pub data FailsAs {X : Type 0} (query : TableQuery) (written : X → Row) (Apart : List X → Type 0)
     (before after : State) (fault : DatabaseFault) : Type 0 where
   failed : (e : Error) → FailsToQuery query.text [] before after e → IsToldAs e fault
@@ -74,7 +74,7 @@ pub data FailsAs {X : Type 0} (query : TableQuery) (written : X → Row) (Apart 
       → Begins 0 query.kinds row → fault ≡ NoMemory
       → FailsAs query written Apart before after fault
 
--- There is a row, and the first of them begins so. Only a private function needs this.
+-- There is a row, and the first of them begins with values of these kinds. Only a private function needs this.
 abbrev pub BeginWith : List Kind → List Row → Type 0
 BeginWith kinds [] = ⊥
 BeginWith kinds (row ∷ rows) = Begins 0 kinds row
@@ -94,7 +94,7 @@ pub record AnswersRows {V X : Type 0} (result : Result V DatabaseFault) (items :
   -- what the statement shows in any file
   pub gives : IfOk result (λ xs. Gives (query_of t) (λ x. shown_columns t (view x)) old new (items xs))
   pub apart : IfOk result (λ xs. Apart (items xs))
-  pub utf8 : IfOk result (λ xs. AllByRecursion (λ x. HasTexts t (own t (view x))) (items xs))
+  pub utf8 : IfOk result (λ xs. AllByRecursion (λ x. HasUtf8Texts t (own t (view x))) (items xs))
   -- where the table is declared as in a new file, its rows as they stand, in order
   pub rows : (tree : ℕ) → HasTable (table_of t tree) old → IfOk result (λ xs.
       Lists (λ x. shown_columns t (view x)) (columns_at (description_of t).shown) (items xs) (old.now.trees tree)

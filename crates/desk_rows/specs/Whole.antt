@@ -7,7 +7,7 @@ use Rattle.sqlite_rules.specs.Edit.{IsNoIndex}
 use Rattle.sql_tables.specs.Rows.{Lists, columns_at}
 use Rattle.desk_parts.specs.declared.file_table.FileTable.{FileTable}
 use Rattle.desk_parts.specs.declared.file_table.FileTable.TheVariants as tables
-use Rattle.desk_parts.specs.FileRows.{HasTexts}
+use Rattle.desk_parts.specs.FileRows.{HasUtf8Texts}
 use Rattle.desk_parts.specs.Puts.{RowPut, PutRow, SetColumns, Flags, Place, Print, Resolved, Span, Table, Version}
 use Rattle.desk_rows.specs.Contents.{Contents}
 use Rattle.desk_rows.specs.Descriptions.{description_of}
@@ -52,11 +52,11 @@ contents_of rows db = record { rows = λ t. map (own t) (rows t); others = db }
 
 -- each text is UTF-8
 abbrev pub AreUtf8 : Contents → Type 0
-AreUtf8 c = (t : FileTable) → AllByRecursion (HasTexts t) (c.rows t)
+AreUtf8 c = (t : FileTable) → AllByRecursion (HasUtf8Texts t) (c.rows t)
 
 -- the texts of what is put are UTF-8
 abbrev pub IsUtf8Put : RowPut → Type 0
-IsUtf8Put (PutRow t row) = HasTexts t row
+IsUtf8Put (PutRow t row) = HasUtf8Texts t row
 IsUtf8Put (SetColumns tables.Book id (Version version)) = ⊤
 IsUtf8Put (SetColumns tables.Para id (Place place)) = ⊤
 IsUtf8Put (SetColumns tables.Para id (Flags style volume struck)) = ⊤

@@ -15,7 +15,7 @@ ghost use Rattle.sqlite.specs.State.{HasCleanDisk, CommitsShowing, FailsToQuery,
 ghost use Rattle.sql_tables.specs.Kinds.{HasKinds};
 ghost use Rattle.desk_rows.specs.TableQuery.{AnswersRows, AnyRows, BeginWith, given, query_of};
 ghost use Rattle.desk_parts.specs.declared.file_table.FileTable.{FileTable};
-ghost use Rattle.desk_parts.specs.FileRows.{HasTexts};
+ghost use Rattle.desk_parts.specs.FileRows.{HasUtf8Texts};
 ghost use Rattle.desk_rows.specs.Fault.{IsToldAs};
 ghost use Rattle.desk_rows.specs.Rows.{own, shown_columns};
 ghost use Rattle.desk_rows.specs.Whole.{DifferBy};
@@ -56,7 +56,7 @@ fn all_of<T: TableRow>(alloc: Global, rows: &[Row]) -> Result<Vec<T>, DatabaseFa
     ensures not_lost { IfErr result (λ fault. fault ≢ DatabaseFault.Lost) }
     ensures no_memory { IfErr result (λ fault. fault ≡ DatabaseFault.NoMemory
         → BeginWith (query_of T.table).kinds rows.now) }
-    ensures utf8 { IfOk result (λ xs. AllByRecursion (λ x. HasTexts T.table (own T.table
+    ensures utf8 { IfOk result (λ xs. AllByRecursion (λ x. HasUtf8Texts T.table (own T.table
         (T.view x))) xs.items) }
 {
     let mut all = Vec::new(alloc);

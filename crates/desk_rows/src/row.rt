@@ -9,7 +9,7 @@ ghost use Rattle.sql_tables.specs.Kinds.{IsOfKind};
 ghost use Rattle.desk_rows.specs.TableQuery.{AreOfKinds, Begins, given, query_of};
 ghost use Rattle.desk_rows.specs.Fault.{IsValueFault};
 ghost use Rattle.desk_parts.specs.declared.file_table.FileTable.{FileTable};
-ghost use Rattle.desk_parts.specs.FileRows.{HasTexts};
+ghost use Rattle.desk_parts.specs.FileRows.{HasUtf8Texts};
 ghost use Rattle.desk_parts.specs.Puts.{lent_entry, lent_mark, lent_para};
 ghost use Rattle.desk_rows.specs.Descriptions.{description_of};
 ghost use Rattle.desk_rows.specs.Rows.{ShownOf, columns_of, own, shown_columns};
@@ -86,7 +86,7 @@ pub trait TableRow: Drop {
         ensures begins { IfOk result (λ _. Begins 0 (query_of table).kinds row.now) }
         ensures no_memory { IfErr result (λ fault. fault ≡ DatabaseFault.NoMemory
             → Begins 0 (query_of table).kinds row.now) }
-        ensures utf8 { IfOk result (λ x. HasTexts table (own table (view x))) };
+        ensures utf8 { IfOk result (λ x. HasUtf8Texts table (own table (view x))) };
 }
 
 impl TableRow for BookRow {

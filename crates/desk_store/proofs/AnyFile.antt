@@ -13,7 +13,7 @@ use Rattle.sql_tables.specs.States.{HasAnswer}
 use Rattle.sql_tables.proofs.Quiet.{never_returns, reads}
 use Rattle.desk_parts.specs.declared.file_table.FileTable.{FileTable}
 use Rattle.desk_parts.specs.declared.file_table.FileTable.TheVariants as tables
-use Rattle.desk_parts.specs.FileRows.{EntryRows, HasTexts, Named, Unnamed}
+use Rattle.desk_parts.specs.FileRows.{EntryRows, HasUtf8Texts, Named, Unnamed}
 use Rattle.desk_parts.specs.Rows.{ParaCells}
 use Rattle.desk_rows.specs.TableQuery.{Gives, query_of}
 use Rattle.desk_rows.specs.Contents.{Contents}
@@ -86,14 +86,14 @@ module _ (s a : State) (same : Stays s a) where
 -- ---- texts
 
 -- a file of the format can be read if its texts can
-pub all_readable : (f : Format) (l : Layout) (c : Contents) → IsOfFormat f l → AllByRecursion (HasTexts tables.Tab) (c.rows tables.Tab) → AllByRecursion (HasTexts tables.Para) (c.rows tables.Para)
-    → AreEntriesReadable f l c → AllByRecursion (HasTexts tables.Mark) (c.rows tables.Mark) → CanAllBeRead f l c
+pub all_readable : (f : Format) (l : Layout) (c : Contents) → IsOfFormat f l → AllByRecursion (HasUtf8Texts tables.Tab) (c.rows tables.Tab) → AllByRecursion (HasUtf8Texts tables.Para) (c.rows tables.Para)
+    → AreEntriesReadable f l c → AllByRecursion (HasUtf8Texts tables.Mark) (c.rows tables.Mark) → CanAllBeRead f l c
 all_readable unnamed l c of names prints entries notes tables.Corr = ((of tables.Corr).1, entries)
 all_readable named l c of names prints entries notes tables.Corr = tt
 all_readable unnamed l c of names prints entries notes tables.NamedCorr = (of tables.NamedCorr).1
 all_readable named l c of names prints entries notes tables.NamedCorr = ((of tables.NamedCorr).1, entries)
-all_readable f l c of names prints entries notes tables.Book = ((of tables.Book).1, all_of (HasTexts tables.Book) (λ row. tt) (c.rows tables.Book))
+all_readable f l c of names prints entries notes tables.Book = ((of tables.Book).1, all_of (HasUtf8Texts tables.Book) (λ row. tt) (c.rows tables.Book))
 all_readable f l c of names prints entries notes tables.Tab = ((of tables.Tab).1, names)
 all_readable f l c of names prints entries notes tables.Para = ((of tables.Para).1, prints)
 all_readable f l c of names prints entries notes tables.Mark = ((of tables.Mark).1, notes)
-all_readable f l c of names prints entries notes t = λ there. all_of (HasTexts tables.Cache) (λ row. tt) (c.rows tables.Cache)
+all_readable f l c of names prints entries notes t = λ there. all_of (HasUtf8Texts tables.Cache) (λ row. tt) (c.rows tables.Cache)

@@ -7,7 +7,7 @@ use Rattle.desk_model.specs.Damage.{HasItsTables, IsDamagedBook}
 use Rattle.desk_model.proofs.Callers.{book-undamaged as sound-book, one_damage, shown-undamaged as shown, undamaged as sound}
 use Rattle.desk_parts.specs.declared.file_table.FileTable.{FileTable}
 use Rattle.desk_parts.specs.declared.file_table.FileTable.TheVariants as tables
-use Rattle.desk_parts.specs.FileRows.{AreTexts, HasTexts, Unnamed, entries_in}
+use Rattle.desk_parts.specs.FileRows.{AreTexts, HasUtf8Texts, Unnamed, entries_in}
 use Rattle.desk_parts.specs.Rows.{Corr}
 use Rattle.desk_parts.specs.declared.rows.BookRow.{BookRow}
 use Rattle.desk_rows.specs.Contents.{Contents}
@@ -53,14 +53,14 @@ unrefused l c fault ((f, of), (book, shows)) = never_refused l c book shows f of
 
 module _ (l : Layout) (c : Contents) where
   readable_in_both : (f : Format) (t : FileTable) → CanAllBeRead f l c → presence unnamed t ≡ presence named t
-      → CanBeRead (presence named t) (l.has t) (AllByRecursion (HasTexts t) (c.rows t))
-  readable_in_both f t can alike = subst (λ (p : Presence). CanBeRead p (l.has t) (AllByRecursion (HasTexts t) (c.rows t))) (in_both f t alike) (can t)
+      → CanBeRead (presence named t) (l.has t) (AllByRecursion (HasUtf8Texts t) (c.rows t))
+  readable_in_both f t can alike = subst (λ (p : Presence). CanBeRead p (l.has t) (AllByRecursion (HasUtf8Texts t) (c.rows t))) (in_both f t alike) (can t)
 
-  unnamed_texts : (rows : List Corr) → AllByRecursion (HasTexts tables.Corr) rows → AllByRecursion (HasTexts tables.NamedCorr) (entries_in (Unnamed rows))
+  unnamed_texts : (rows : List Corr) → AllByRecursion (HasUtf8Texts tables.Corr) rows → AllByRecursion (HasUtf8Texts tables.NamedCorr) (entries_in (Unnamed rows))
   unnamed_texts [] all = tt
   unnamed_texts (row ∷ rows) all = ((all.0, ([], (refl, refl))), unnamed_texts rows all.1)
 
-  entry_texts : (f : Format) → IsOfFormat f l → CanAllBeRead f l c → AllByRecursion (HasTexts tables.NamedCorr) (entries_in (rows_of l c).entries)
+  entry_texts : (f : Format) → IsOfFormat f l → CanAllBeRead f l c → AllByRecursion (HasUtf8Texts tables.NamedCorr) (entries_in (rows_of l c).entries)
   entry_texts unnamed of can = subst (AreTextsIf c) (sym (of tables.NamedCorr).1) (unnamed_texts (c.rows tables.Corr) (can tables.Corr).1)
   entry_texts named of can = subst (AreTextsIf c) (sym (of tables.NamedCorr).1) (can tables.NamedCorr).1
 

@@ -20,7 +20,7 @@ use Rattle.desk_model.specs.Shows.{Shows as RowsShow, book_row_of}
 use Rattle.desk_model.proofs.Callers.{shown-same as shown_too}
 use Rattle.desk_parts.specs.declared.file_table.FileTable.{FileTable}
 use Rattle.desk_parts.specs.declared.file_table.FileTable.TheVariants as tables
-use Rattle.desk_parts.specs.FileRows.{EntryRows, FileRows, HasTexts, Named, Unnamed, format_of}
+use Rattle.desk_parts.specs.FileRows.{EntryRows, FileRows, HasUtf8Texts, Named, Unnamed, format_of}
 use Rattle.desk_parts.specs.Rows.{ParaCells, StoredTab, RowOf}
 use Rattle.desk_rows.specs.TableQuery.{Gives, given, query_of}
 use Rattle.desk_rows.specs.Contents.{Contents}
@@ -118,7 +118,7 @@ module _ (l : Layout) (c : Contents) (s : State) (is_open : IsTrue s.is_open) (s
   apart : (t : FileTable) → l.has t ≡ true → (xs : List (ShownOf t)) → Gives (query_of t) (shown_columns t) s s xs → AreToldApart t xs
   apart t there xs gives_xs = told_apart t l c s shows there xs (listed t there xs gives_xs)
 
-  can : (t : FileTable) → l.has t ≡ true → AllByRecursion (HasTexts t) (c.rows t) → CanAnswer s t
+  can : (t : FileTable) → l.has t ≡ true → AllByRecursion (HasUtf8Texts t) (c.rows t) → CanAnswer s t
   can t there utf8 = record {
     has =
         can_answer (table_of t (l.tree t)) (description_of t).read _ _ _ _ (is_read t (l.tree t))

@@ -9,7 +9,7 @@ use Rattle.sqlite.specs.Held.{Held, state}
 use Rattle.sqlite.specs.State.{State}
 use Rattle.desk_model.specs.Book.{Book}
 use Rattle.desk_parts.specs.declared.file_table.FileTable.TheVariants as tables
-use Rattle.desk_parts.specs.FileRows.{HasTexts, Named, Unnamed, entries_in, format_of}
+use Rattle.desk_parts.specs.FileRows.{HasUtf8Texts, Named, Unnamed, entries_in, format_of}
 use Rattle.desk_parts.specs.Rows.{Corr}
 use Rattle.desk_model.specs.Shows.{Shows as RowsShow, book_row_of}
 use Rattle.desk_parts.specs.declared.rows.BookRow.{BookRow}
@@ -34,9 +34,9 @@ use Rattle.desk_store.proofs.Opened.{has_in_both}
 -- those of its entries, which have names or not
 abbrev pub AreTextsIf : Contents → Bool → Type 0
 AreTextsIf c has =
-    AllByRecursion (HasTexts tables.NamedCorr) (entries_in (if has then Named (c.rows tables.NamedCorr) else Unnamed (c.rows tables.Corr)))
+    AllByRecursion (HasUtf8Texts tables.NamedCorr) (entries_in (if has then Named (c.rows tables.NamedCorr) else Unnamed (c.rows tables.Corr)))
 
-bodies : (rows : List Corr) → AllByRecursion (HasTexts tables.NamedCorr) (entries_in (Unnamed rows)) → AllByRecursion (HasTexts tables.Corr) rows
+bodies : (rows : List Corr) → AllByRecursion (HasUtf8Texts tables.NamedCorr) (entries_in (Unnamed rows)) → AllByRecursion (HasUtf8Texts tables.Corr) rows
 bodies [] all = tt
 bodies (row ∷ rows) all = (all.0.0, bodies rows all.1)
 
@@ -49,8 +49,8 @@ entries_are l c named of = rw (of tables.NamedCorr).1 refl
 -- ---- the book of a file of a format
 
 module _ (l : Layout) (c : Contents) (book : Book) (shows : RowsShow (rows_of l c) book) where
-  entry_texts : AllByRecursion (HasTexts tables.NamedCorr) (entries_in (rows_of l c).entries)
-  entry_texts = recursion_from_All (HasTexts tables.NamedCorr) (entries_in (rows_of l c).entries) shows.texts.entries
+  entry_texts : AllByRecursion (HasUtf8Texts tables.NamedCorr) (entries_in (rows_of l c).entries)
+  entry_texts = recursion_from_All (HasUtf8Texts tables.NamedCorr) (entries_in (rows_of l c).entries) shows.texts.entries
 
   entries_read : (f : Format) → IsOfFormat f l → AreEntriesReadable f l c
   entries_read unnamed of = bodies (c.rows tables.Corr) (subst (AreTextsIf c) (of tables.NamedCorr).1 entry_texts)

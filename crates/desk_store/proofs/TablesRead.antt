@@ -10,7 +10,7 @@ use Rattle.sqlite.proofs.StateLemmas.{survives_then}
 use Rattle.sql_tables.specs.Rows.{Lists, columns_at}
 use Rattle.desk_parts.specs.declared.file_table.FileTable.{FileTable}
 use Rattle.desk_parts.specs.declared.file_table.FileTable.TheVariants as tables
-use Rattle.desk_parts.specs.FileRows.{FileRows, HasTexts, Named, Unnamed}
+use Rattle.desk_parts.specs.FileRows.{FileRows, HasUtf8Texts, Named, Unnamed}
 use Rattle.desk_parts.specs.Rows.{Corr, NamedCorr, ParaCells, StoredTab}
 use Rattle.desk_model.specs.SameRows.{AreSameRows}
 use Rattle.desk_rows.specs.Contents.{Contents}
@@ -75,8 +75,8 @@ reads_table f t {items} {v} {old} {new} read answers = record {
   given = (gives_before old old (same_state old) t new (items v) answers.gives, answers.apart);
   of = λ l c of shows.
       let same = answers.shows l c (is_had f t old read l c of shows) shows in
-      let utf8 = all-map (HasTexts t) (own t) (items v) answers.utf8 in
-      (same, all-permutation (HasTexts t) (map (own t) (items v)) (c.rows t) (IsPermutation-sym _ _ same) utf8);
+      let utf8 = all-map (HasUtf8Texts t) (own t) (items v) answers.utf8 in
+      (same, all-permutation (HasUtf8Texts t) (map (own t) (items v)) (c.rows t) (IsPermutation-sym _ _ same) utf8);
 }
 
 pub table_fails : {S : Type 0} (g : Ghosts S) (f : Format) (t : FileTable) {V : Type 0} {items : V → List (ShownOf t)}

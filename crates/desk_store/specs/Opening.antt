@@ -11,7 +11,7 @@ use Rattle.desk_parts.specs.declared.file_table.FileTable.TheVariants as tables
 use Rattle.desk_model.specs.declared.fault.PartsFault.{PartsFault}
 use Rattle.desk_model.specs.declared.fault.PartsFault.TheVariants as rebuilt
 use Rattle.desk_parts.specs.declared.rows.BookRow.{BookRow}
-use Rattle.desk_parts.specs.FileRows.{HasTexts}
+use Rattle.desk_parts.specs.FileRows.{HasUtf8Texts}
 use Rattle.desk_rows.specs.Contents.{Contents}
 use Rattle.desk_rows.specs.Fault.{IsToldAs}
 use Rattle.desk_store.specs.Formats.{Format, Presence, needed, optional, foreign, unread, unnamed, named, presence}
@@ -97,7 +97,7 @@ CanBeRead unread has are_utf8 = ⊤
 
 abbrev pub CanAllBeRead : Format → Layout → Contents → Type 0
 CanAllBeRead format l c =
-    (t : FileTable) → CanBeRead (presence format t) (l.has t) (AllByRecursion (HasTexts t) (c.rows t))
+    (t : FileTable) → CanBeRead (presence format t) (l.has t) (AllByRecursion (HasUtf8Texts t) (c.rows t))
 
 -- the connection is as it was, and shows what it showed
 pub record Stays (old new : State) : Type 0 where

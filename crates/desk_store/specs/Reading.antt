@@ -9,7 +9,7 @@ use Rattle.desk_parts.specs.declared.file_table.FileTable.{FileTable}
 use Rattle.desk_parts.specs.declared.file_table.FileTable.TheVariants as tables
 use Rattle.desk_parts.specs.declared.parts.Parts.{Parts}
 use Rattle.desk_parts.specs.declared.rows.BookRow.{BookRow}
-use Rattle.desk_parts.specs.FileRows.{EntryRows, FileRows, HasTexts}
+use Rattle.desk_parts.specs.FileRows.{EntryRows, FileRows, HasUtf8Texts}
 use Rattle.desk_parts.specs.Parts.{rows_in}
 use Rattle.desk_parts.specs.Rows.{ParaCells}
 use Rattle.desk_rows.specs.Contents.{Contents}
@@ -52,15 +52,15 @@ pub record FailsToRead {S : Type 0} (g : Ghosts S) (format : Format) (old : Held
 
 -- the rows of a table, with texts in UTF-8
 abbrev pub AreTableRows : (t : FileTable) → List (ShownOf t) → Contents → Type 0
-AreTableRows t rows c = IsPermutation (c.rows t) (map (own t) rows) × AllByRecursion (HasTexts t) (c.rows t)
+AreTableRows t rows c = IsPermutation (c.rows t) (map (own t) rows) × AllByRecursion (HasUtf8Texts t) (c.rows t)
 
 abbrev pub ReadsTable : Format → (t : FileTable) → List (ShownOf t) → State → State → Type 0
 ReadsTable format t rows old new = IsReadFrom format old new (λ s. AreRowsIn s t rows) (λ l c. AreTableRows t rows c)
 
 -- the texts in the table of the entries are UTF-8
 abbrev pub AreEntriesReadable : Format → Layout → Contents → Type 0
-AreEntriesReadable unnamed l c = AllByRecursion (HasTexts tables.Corr) (c.rows tables.Corr)
-AreEntriesReadable named l c = AllByRecursion (HasTexts tables.NamedCorr) (c.rows tables.NamedCorr)
+AreEntriesReadable unnamed l c = AllByRecursion (HasUtf8Texts tables.Corr) (c.rows tables.Corr)
+AreEntriesReadable named l c = AllByRecursion (HasUtf8Texts tables.NamedCorr) (c.rows tables.NamedCorr)
 
 abbrev pub AreFileEntries : Format → EntryRows → Layout → Contents → Type 0
 AreFileEntries format entries l c = AreSameEntries (rows_of l c).entries entries × AreEntriesReadable format l c

@@ -18,7 +18,7 @@ use Rattle.desk_memory.specs.declared.paragraphs.Paragraph.{Paragraph as KeptPar
 use Rattle.desk_model.specs.Book.{Book, Entry, Paragraph}
 use Rattle.desk_book.specs.ChangePuts.{entry_row}
 use Rattle.desk_model.specs.Loans.{row_number}
-use Rattle.desk_parts.specs.FileRows.{HasTexts, spelled}
+use Rattle.desk_parts.specs.FileRows.{HasUtf8Texts, spelled}
 use Rattle.desk_model.specs.FilledRows.{AreEntriesOf, Fills}
 use Rattle.desk_book.specs.Filling.{HaveHistories, braille_from, braille_put, histories_from, history_puts}
 use Rattle.desk_memory.specs.Histories.{entries_kept, entry_kept}
@@ -62,7 +62,7 @@ enumerate_from-map f n (x ∷ xs) = ap (λ (rest : List _). (n, f x) ∷ rest) (
 
 -- the row shows the entry with this number of the paragraph with this id
 abbrev IsRow : ℕ → ℕ × KeptEntry → Type 0
-IsRow id entry = (spelled file.NamedCorr (numbered_row id entry) ≡ entry_row_of id (entry.0, entry_kept entry.1)) × HasTexts file.NamedCorr (numbered_row id entry)
+IsRow id entry = (spelled file.NamedCorr (numbered_row id entry) ≡ entry_row_of id (entry.0, entry_kept entry.1)) × HasUtf8Texts file.NamedCorr (numbered_row id entry)
 
 module _ (book : Book) where
   -- a paragraph that is kept stands for a sound one, and has a small id
@@ -104,13 +104,13 @@ module _ (book : Book) where
       map-append (spelled file.NamedCorr) (rows_kept entry) (entries_of kept)
       ∙ ap₂ (λ (xs ys : List NamedCorr). xs ++ ys) (spelled-history entry (All-head IsSoundKept entry kept all)) (spelled-all kept (All-tail IsSoundKept entry kept all))
 
-  texts-all : (kept : KeptParagraphs) → All IsSoundKept kept → All (HasTexts file.NamedCorr) (entries_of kept)
-  texts-all [] all = All-nil (HasTexts file.NamedCorr)
+  texts-all : (kept : KeptParagraphs) → All IsSoundKept kept → All (HasUtf8Texts file.NamedCorr) (entries_of kept)
+  texts-all [] all = All-nil (HasUtf8Texts file.NamedCorr)
   texts-all (entry ∷ kept) all =
       let history = enumerate_from 1 entry.1.history in
-      All-append (HasTexts file.NamedCorr) (rows_kept entry) (entries_of kept)
-      (All-map (HasTexts file.NamedCorr) (numbered_row entry.0) history
-      (All-weaker (IsRow entry.0) (λ e. HasTexts file.NamedCorr (numbered_row entry.0 e)) (λ e is. is.1) history (are-rows entry (All-head IsSoundKept entry kept all))))
+      All-append (HasUtf8Texts file.NamedCorr) (rows_kept entry) (entries_of kept)
+      (All-map (HasUtf8Texts file.NamedCorr) (numbered_row entry.0) history
+      (All-weaker (IsRow entry.0) (λ e. HasUtf8Texts file.NamedCorr (numbered_row entry.0 e)) (λ e is. is.1) history (are-rows entry (All-head IsSoundKept entry kept all))))
       (texts-all kept (All-tail IsSoundKept entry kept all))
 
 -- ---- braille

@@ -12,7 +12,7 @@ use Rattle.desk_memory.specs.declared.marks.KeptMark.{KeptMark}
 use Rattle.desk_model.specs.Book.{Book, Mark}
 use Rattle.desk_model.specs.Loans.{LeadTo, row_number}
 use Rattle.desk_book.specs.ChangePuts.{kept_mark_row, version_put}
-use Rattle.desk_parts.specs.FileRows.{HasTexts, format_of, spelled}
+use Rattle.desk_parts.specs.FileRows.{HasUtf8Texts, format_of, spelled}
 use Rattle.desk_memory.specs.Kept.{mark_kept}
 use Rattle.desk_parts.specs.declared.file_table.FileTable.TheVariants as tables
 use Rattle.desk_parts.specs.Puts.{PutRow, put_by_key}
@@ -110,7 +110,7 @@ module _ (book : Book) (kept : KeptMark) (sound : IsSound book) where
         tabs = shows.texts.tabs;
         paras = shows.texts.paras;
         entries = shows.texts.entries;
-        marks = All-put_in (HasTexts tables.Mark) (λ (m : MarkRow). int_eq m.id row.id) row rows.marks (encoded-text kept.note is_sound.clean.characters) shows.texts.marks;
+        marks = All-put_in (HasUtf8Texts tables.Mark) (λ (m : MarkRow). int_eq m.id row.id) row rows.marks (encoded-text kept.note is_sound.clean.characters) shows.texts.marks;
       };
       row = versioned (format_of rows.entries) book.version marked.version rows.books after.version shows.row;
       tables = shows.tables;

@@ -17,7 +17,7 @@ use Rattle.desk_model.specs.Book.{Book, Mark, Paragraph}
 use Rattle.desk_model.specs.Loans.{LeadTo, row_number}
 use Rattle.desk_book.specs.ChangePuts.{flags_put, resolved_put, version_put}
 use Rattle.desk_parts.specs.declared.file_table.FileTable.TheVariants as file
-use Rattle.desk_parts.specs.FileRows.{FileRows, HasTexts, format_of, spelled}
+use Rattle.desk_parts.specs.FileRows.{FileRows, HasUtf8Texts, format_of, spelled}
 use Rattle.desk_parts.specs.Puts.{with_put}
 use Rattle.desk_parts.specs.Rows.{Mark as MarkRow, Para, ParaCells}
 use Rattle.desk_model.specs.Shows.{AreCached, IsCached, Shows, entry_rows_of, flag_number, mark_row_of, para_of, style_number}
@@ -112,7 +112,7 @@ entries-changed id to same (p ∷ ps) = λ i. here i ++ entries-changed id to sa
 
 module _ (book : Book) (id : ℕ) (to : Paragraph → Paragraph) (set bytes : Para → Para) (sound : IsSound book)
     (sets : (place : ℕ) (p : Paragraph) → set (para_of (place, p)) ≡ para_of (place, to p)) (spells : (p : Para) → spelled file.Para (bytes p) ≡ set (spelled file.Para p))
-    (texts : (p : Para) → HasTexts file.Para p → HasTexts file.Para (bytes p)) (entries : (p : Paragraph) → entry_rows_of (to p) ≡ entry_rows_of p) where
+    (texts : (p : Para) → HasUtf8Texts file.Para p → HasUtf8Texts file.Para (bytes p)) (entries : (p : Paragraph) → entry_rows_of (to p) ≡ entry_rows_of p) where
   abbrev next : Book
   next = next_with_paragraphs book (with_change id to book.paragraphs)
 
@@ -126,7 +126,7 @@ module _ (book : Book) (id : ℕ) (to : Paragraph → Paragraph) (set bytes : Pa
     sound = after;
     texts = record {
       tabs = shows.texts.tabs;
-      paras = All-set_where (λ (p : Para). int_eq p.id (row_number id)) bytes (HasTexts file.Para) rows.paras texts shows.texts.paras;
+      paras = All-set_where (λ (p : Para). int_eq p.id (row_number id)) bytes (HasUtf8Texts file.Para) rows.paras texts shows.texts.paras;
       entries = shows.texts.entries;
       marks = shows.texts.marks;
     };
@@ -203,7 +203,7 @@ module _ (book : Book) (id : ℕ) (sound : IsSound book) where
       tabs = shows.texts.tabs;
       paras = shows.texts.paras;
       entries = shows.texts.entries;
-      marks = All-set_where (λ (m : MarkRow). int_eq m.id (row_number id)) resolved_row (HasTexts file.Mark) rows.marks (λ m texts. texts) shows.texts.marks;
+      marks = All-set_where (λ (m : MarkRow). int_eq m.id (row_number id)) resolved_row (HasUtf8Texts file.Mark) rows.marks (λ m texts. texts) shows.texts.marks;
     };
     row = versioned (format_of rows.entries) book.version resolved.version rows.books after.version shows.row;
     tables = shows.tables;

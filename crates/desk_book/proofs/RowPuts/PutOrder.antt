@@ -16,7 +16,7 @@ use Rattle.desk_model.specs.Book.{Book, Paragraph}
 use Rattle.desk_model.specs.Loans.{LeadTo, row_number}
 use Rattle.desk_book.specs.ChangePuts.{elsewhere_from, elsewhere_put, place_put, stays_in, version_put}
 use Rattle.desk_parts.specs.declared.file_table.FileTable.TheVariants as file
-use Rattle.desk_parts.specs.FileRows.{FileRows, HasTexts, format_of, spelled}
+use Rattle.desk_parts.specs.FileRows.{FileRows, HasUtf8Texts, format_of, spelled}
 use Rattle.desk_parts.specs.Puts.{RowPut, with_put, with_puts}
 use Rattle.desk_parts.specs.Rows.{ParaCells, Para}
 use Rattle.desk_model.specs.Shows.{IsCached, Shows, entry_rows_of, para_of}
@@ -237,7 +237,7 @@ module _ (book : Book) (ps : List Paragraph) (sound : IsSound book) (moved : IsP
           sound = after;
           texts = record {
             tabs = shows.texts.tabs;
-            paras = All-map (HasTexts file.Para) (placed es) rows.paras (All-weaker (HasTexts file.Para) (λ p. HasTexts file.Para (placed es p)) (placed-texts es) rows.paras shows.texts.paras);
+            paras = All-map (HasUtf8Texts file.Para) (placed es) rows.paras (All-weaker (HasUtf8Texts file.Para) (λ p. HasUtf8Texts file.Para (placed es p)) (placed-texts es) rows.paras shows.texts.paras);
             entries = shows.texts.entries;
             marks = shows.texts.marks;
           };

@@ -21,7 +21,7 @@ use Rattle.desk_model.specs.Book.{Book, Paragraph, text_of}
 use Rattle.desk_model.specs.Loans.{LeadTo, row_number}
 use Rattle.desk_book.specs.ChangePuts.{cache_put, further_from, kept_row, version_put}
 use Rattle.desk_memory.specs.Braille.{AreCellsOf}
-use Rattle.desk_parts.specs.FileRows.{FileRows, HasTexts, format_of, spelled}
+use Rattle.desk_parts.specs.FileRows.{FileRows, HasUtf8Texts, format_of, spelled}
 use Rattle.desk_memory.specs.Histories.{entries_kept}
 use Rattle.desk_memory.specs.Kept.{paragraph_kept}
 use Rattle.desk_model.specs.Print.{corrected_print, print_of}
@@ -294,13 +294,13 @@ module _ (book : Book) (ps : List Paragraph) (kept : KeptParagraph) (place : ℕ
     shown-placed : (rows : FileRows) → Shows rows book → Shows (with_puts (map place_set es) (with_put (PutRow tables.Cache cached) (with_put (PutRow tables.Para row) (with_put (version_put next.version) rows)))) next
     shown-placed rows shows =
         let at : FileRows = with_put (PutRow tables.Cache cached) (with_put (PutRow tables.Para row) (with_put (version_put next.version) rows)) in
-        let texts : All (HasTexts tables.Para) (put_by_key key row rows.paras) = All-put_in (HasTexts tables.Para) key row rows.paras
+        let texts : All (HasUtf8Texts tables.Para) (put_by_key key row rows.paras) = All-put_in (HasUtf8Texts tables.Para) key row rows.paras
         (encoded-text kept.table characters, encoded-text kept.original is_sound.clean.characters, encoded-text kept.print (subst AreCharacters (sym print) is_sound.clean.characters)) shows.texts.paras in
         subst (λ (r : FileRows). Shows r next) (sym (places-put es at)) (record {
           sound = after;
           texts = record {
             tabs = shows.texts.tabs;
-            paras = All-map (HasTexts tables.Para) (placed es) (put_by_key key row rows.paras) (All-weaker (HasTexts tables.Para) (λ p. HasTexts tables.Para (placed es p)) (placed-texts es) (put_by_key key row rows.paras) texts);
+            paras = All-map (HasUtf8Texts tables.Para) (placed es) (put_by_key key row rows.paras) (All-weaker (HasUtf8Texts tables.Para) (λ p. HasUtf8Texts tables.Para (placed es p)) (placed-texts es) (put_by_key key row rows.paras) texts);
             entries = shows.texts.entries;
             marks = shows.texts.marks;
           };

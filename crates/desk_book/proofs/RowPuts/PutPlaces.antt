@@ -8,7 +8,7 @@ use Rattle.std.proofs.lemmas.List.{map-id}
 use Rattle.std.proofs.lemmas.List.Elements.{All-cons, All-contains_itself, All-head, All-nil, All-tail, All-weaker}
 use Rattle.std.proofs.lemmas.Simd.{map-map}
 use Rattle.desk_model.specs.Book.{Paragraph}
-use Rattle.desk_parts.specs.FileRows.{FileRows, HasTexts, spelled}
+use Rattle.desk_parts.specs.FileRows.{FileRows, HasUtf8Texts, spelled}
 use Rattle.desk_parts.specs.declared.file_table.FileTable.TheVariants as tables
 use Rattle.desk_parts.specs.Puts.{Place, RowPut, SetColumns, with_puts}
 use Rattle.desk_parts.specs.Rows.{Para}
@@ -38,14 +38,14 @@ places-put (e ∷ es) rows =
 
 -- ---- one row
 
-place-texts : (e : ℤ × ℤ) (p : Para) → HasTexts tables.Para p → HasTexts tables.Para (placed_by e p)
+place-texts : (e : ℤ × ℤ) (p : Para) → HasUtf8Texts tables.Para p → HasUtf8Texts tables.Para (placed_by e p)
 place-texts e p texts =
     elim (cases_Bool (int_eq p.id e.0)) [
-      | inl t ↦ subst (HasTexts tables.Para) (sym (cond-true (int_eq p.id e.0) (record p { place = e.1 }) p t)) texts
-      | inr f ↦ subst (HasTexts tables.Para) (sym (cond-false (int_eq p.id e.0) (record p { place = e.1 }) p f)) texts
+      | inl t ↦ subst (HasUtf8Texts tables.Para) (sym (cond-true (int_eq p.id e.0) (record p { place = e.1 }) p t)) texts
+      | inr f ↦ subst (HasUtf8Texts tables.Para) (sym (cond-false (int_eq p.id e.0) (record p { place = e.1 }) p f)) texts
     ]
 
-pub placed-texts : (es : Places) (p : Para) → HasTexts tables.Para p → HasTexts tables.Para (placed es p)
+pub placed-texts : (es : Places) (p : Para) → HasUtf8Texts tables.Para p → HasUtf8Texts tables.Para (placed es p)
 placed-texts [] p texts = texts
 placed-texts (e ∷ es) p texts = placed-texts es (placed_by e p) (place-texts e p texts)
 

@@ -20,7 +20,7 @@ use Rattle.desk_model.specs.Book.{Book, Entry, Mark, Paragraph, paragraph_of}
 use Rattle.desk_model.specs.Loans.{LeadTo, row_number}
 use Rattle.desk_book.specs.ChangePuts.{cache_put, entry_row, print_put, span_put, version_put}
 use Rattle.desk_book.specs.Changes.{ChangesPrint}
-use Rattle.desk_parts.specs.FileRows.{EntryRows, FileRows, HasTexts, Named, Unnamed, entries_in, format_of, spelled, table_of}
+use Rattle.desk_parts.specs.FileRows.{EntryRows, FileRows, HasUtf8Texts, Named, Unnamed, entries_in, format_of, spelled, table_of}
 use Rattle.desk_memory.specs.Histories.{entry_kept}
 use Rattle.desk_model.specs.Marks.{mark_moved_by}
 use Rattle.desk_model.specs.ParagraphMarks.{marks_on}
@@ -231,11 +231,11 @@ module _ (book : Book) (id : ℕ) (change : PrintChange) (sound : IsSound book) 
         sound = after;
         texts = record {
           tabs = shows.texts.tabs;
-          paras = All-set_where (λ (r : Para). int_eq r.id (row_number id)) print_bytes (HasTexts tables.Para) rows.paras (λ r texts. (texts.0, texts.1, encoded-text change.print characters)) shows.texts.paras;
-          entries = All-cons (HasTexts tables.NamedCorr) new_row corrs (let few = given.few in entry-texts p.original p.history id (length p.history + 1) small (omega arith) (omega arith) short change.entry sound-entry)
-              (subst (λ (es : EntryRows). All (HasTexts tables.NamedCorr) (entries_in es)) named shows.texts.entries);
-          marks = All-map (HasTexts tables.Mark) (spanned change.start change.removed change.added (marks_on id book.marks)) rows.marks
-              (All-weaker (HasTexts tables.Mark) (λ m. HasTexts tables.Mark (spanned change.start change.removed change.added (marks_on id book.marks) m))
+          paras = All-set_where (λ (r : Para). int_eq r.id (row_number id)) print_bytes (HasUtf8Texts tables.Para) rows.paras (λ r texts. (texts.0, texts.1, encoded-text change.print characters)) shows.texts.paras;
+          entries = All-cons (HasUtf8Texts tables.NamedCorr) new_row corrs (let few = given.few in entry-texts p.original p.history id (length p.history + 1) small (omega arith) (omega arith) short change.entry sound-entry)
+              (subst (λ (es : EntryRows). All (HasUtf8Texts tables.NamedCorr) (entries_in es)) named shows.texts.entries);
+          marks = All-map (HasUtf8Texts tables.Mark) (spanned change.start change.removed change.added (marks_on id book.marks)) rows.marks
+              (All-weaker (HasUtf8Texts tables.Mark) (λ m. HasUtf8Texts tables.Mark (spanned change.start change.removed change.added (marks_on id book.marks) m))
               (spanned-texts change.start change.removed change.added (marks_on id book.marks)) rows.marks shows.texts.marks);
         };
         row = versioned 2 book.version next.version rows.books after.version (subst (λ (es : EntryRows). rows.books ≡ book_row_of (format_of es) book.version ∷ []) named shows.row);

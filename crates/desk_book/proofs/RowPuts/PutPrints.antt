@@ -16,7 +16,7 @@ use Rattle.desk_model.specs.Book.{Entry, Mark, Paragraph, Replacement}
 use Rattle.desk_book.specs.ChangePuts.{entry_row, span_put}
 use Rattle.desk_model.specs.Loans.{row_number}
 use Rattle.desk_parts.specs.declared.file_table.FileTable.TheVariants as tables
-use Rattle.desk_parts.specs.FileRows.{FileRows, HasTexts, spelled}
+use Rattle.desk_parts.specs.FileRows.{FileRows, HasUtf8Texts, spelled}
 use Rattle.desk_memory.specs.Histories.{entry_kept}
 use Rattle.desk_model.specs.Marks.{mark_moved_by}
 use Rattle.desk_model.specs.Print.{corrected_print, newest, with_entry}
@@ -65,7 +65,7 @@ module _ (original : List ℕ) (before : List Entry) (id seq : ℕ) (small : id 
               let to = is.to in
               omega arith
 
-  pub entry-texts : (kept : KeptEntry) → IsSoundEntry original before (entry_kept kept) → HasTexts tables.NamedCorr (entry_row id seq kept)
+  pub entry-texts : (kept : KeptEntry) → IsSoundEntry original before (entry_kept kept) → HasUtf8Texts tables.NamedCorr (entry_row id seq kept)
   entry-texts (KeptCorrects c) sound = (encoded-text c.text sound.1.characters, encoded-text c.who sound.3)
   entry-texts (KeptUndoes n) sound = (([], (refl, refl)), ([], (refl, refl)))
 
@@ -133,14 +133,14 @@ module _ (start removed added : ℕ) where
       spans-put ms (record rows { marks = map (spanned_by m) rows.marks })
       ∙ (λ i. record rows { marks = map-map (spanned ms) (spanned_by m) rows.marks i })
 
-  span-texts : (m : Mark) (row : MarkRow) → HasTexts tables.Mark row → HasTexts tables.Mark (spanned_by m row)
+  span-texts : (m : Mark) (row : MarkRow) → HasUtf8Texts tables.Mark row → HasUtf8Texts tables.Mark (spanned_by m row)
   span-texts m row text =
       elim (cases_Bool (int_eq row.id (row_number m.id))) [
-        | inl t ↦ subst (HasTexts tables.Mark) (sym (cond-true (int_eq row.id (row_number m.id)) (set_span (span_columns m) row) row t)) text
-        | inr f ↦ subst (HasTexts tables.Mark) (sym (cond-false (int_eq row.id (row_number m.id)) (set_span (span_columns m) row) row f)) text
+        | inl t ↦ subst (HasUtf8Texts tables.Mark) (sym (cond-true (int_eq row.id (row_number m.id)) (set_span (span_columns m) row) row t)) text
+        | inr f ↦ subst (HasUtf8Texts tables.Mark) (sym (cond-false (int_eq row.id (row_number m.id)) (set_span (span_columns m) row) row f)) text
       ]
 
-  pub spanned-texts : (ms : List Mark) (row : MarkRow) → HasTexts tables.Mark row → HasTexts tables.Mark (spanned ms row)
+  pub spanned-texts : (ms : List Mark) (row : MarkRow) → HasUtf8Texts tables.Mark row → HasUtf8Texts tables.Mark (spanned ms row)
   spanned-texts [] row text = text
   spanned-texts (m ∷ ms) row text = spanned-texts ms (spanned_by m row) (span-texts m row text)
 

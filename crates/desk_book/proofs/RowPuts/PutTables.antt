@@ -18,7 +18,7 @@ use Rattle.std.proofs.lemmas.Slice.Eq.{bytes_eq-Decides}
 use Rattle.desk_model.specs.Book.{Book, text_of}
 use Rattle.desk_model.specs.Loans.{LeadTo}
 use Rattle.desk_book.specs.ChangePuts.{version_put}
-use Rattle.desk_parts.specs.FileRows.{FileRows, HasTexts, format_of, spelled}
+use Rattle.desk_parts.specs.FileRows.{FileRows, HasUtf8Texts, format_of, spelled}
 use Rattle.desk_parts.specs.declared.file_table.FileTable.TheVariants as file
 use Rattle.desk_parts.specs.Puts.{PutRow, RowPut, put_by_key, with_puts}
 use Rattle.desk_parts.specs.Rows.{ParaCells, Tab}
@@ -95,16 +95,16 @@ module _ (name text : List ℕ) (characters : AreCharacters name) where
       one_answer {P = bytes ≡ encode_utf8_all name} (bytes_eq bytes (encode_utf8_all name)) (bytes_eq (chars bytes) name) (bytes_eq-Decides bytes (encode_utf8_all name))
       (λ e. text-bytes bytes name utf8 ((bytes_eq-Decides (chars bytes) name).0 e), λ same. (bytes_eq-Decides (chars bytes) name).1 (ap chars same ∙ spelled-encoded name characters))
 
-  pub texts-put : (tabs : List Tab) → All (HasTexts file.Tab) tabs → All (HasTexts file.Tab) (tab_put_in tabs)
-  texts-put tabs texts = All-put_in (HasTexts file.Tab) (λ t. bytes_eq t.name (encode_utf8_all name)) tab_row tabs (encoded-text name characters) texts
+  pub texts-put : (tabs : List Tab) → All (HasUtf8Texts file.Tab) tabs → All (HasUtf8Texts file.Tab) (tab_put_in tabs)
+  texts-put tabs texts = All-put_in (HasUtf8Texts file.Tab) (λ t. bytes_eq t.name (encode_utf8_all name)) tab_row tabs (encoded-text name characters) texts
 
-  pub tables-put : (tabs : List Tab) (tables : TableTexts) → IsStrictlySortedBy (slice_cmp nat_cmp) (keys_of tables) → All (HasTexts file.Tab) tabs
+  pub tables-put : (tabs : List Tab) (tables : TableTexts) → IsStrictlySortedBy (slice_cmp nat_cmp) (keys_of tables) → All (HasUtf8Texts file.Tab) tabs
       → IsPermutation (map (spelled file.Tab) tabs) (map tab_of tables) → IsPermutation (map (spelled file.Tab) (tab_put_in tabs)) (map tab_of (with_text name text tables))
   tables-put tabs tables sorted texts shown =
       let has_key : Tab → Bool = λ t. bytes_eq t.name (encode_utf8_all name) in
       let key : Tab → Bool = λ t. bytes_eq t.name name in
       let moved = IsPermutation-put_in (spelled file.Tab) has_key key tab_row tabs (map tab_of tables)
-      (All-weaker (HasTexts file.Tab) (λ (t : Tab). has_key t ≡ key (spelled file.Tab t)) (λ t utf8. same_named t.name utf8) tabs texts) shown in
+      (All-weaker (HasUtf8Texts file.Tab) (λ (t : Tab). has_key t ≡ key (spelled file.Tab t)) (λ t utf8. same_named t.name utf8) tabs texts) shown in
       let others : filter (λ t. not (key t)) (map tab_of tables) ≡ map tab_of (under_others name tables) = filter-map (λ (t : Tab). not (key t)) tab_of tables in
       let its_row : spelled file.Tab tab_row ≡ tab_of (name, text) = λ i. record { name = spelled-encoded name characters i; body = text } in
       IsPermutation-trans (map (spelled file.Tab) (tab_put_in tabs)) (map tab_of ((name, text) ∷ under_others name tables)) (map tab_of (with_text name text tables))

@@ -21,7 +21,7 @@ use Rattle.desk_parts.specs.declared.file_table.FileTable.{FileTable}
 use Rattle.desk_parts.specs.declared.file_table.FileTable.TheVariants as file
 use Rattle.desk_model.specs.Book.{Entry, Corrects, Undoes, Book, Paragraph}
 use Rattle.desk_model.specs.Damage.{HasPara, HasSoundEntries, IsDamaged, IsDamagedCache, IsDamagedEntries, IsSoundCacheRow, IsSoundCorrection, IsSoundEntryRow, IsSoundUndo, entry_of, history_of, rows_with}
-use Rattle.desk_parts.specs.FileRows.{FileRows, HasTexts, entries_in, spelled}
+use Rattle.desk_parts.specs.FileRows.{FileRows, HasUtf8Texts, entries_in, spelled}
 use Rattle.desk_model.specs.Limits.{most_print}
 use Rattle.desk_model.specs.Name.{IsProofreaderName}
 use Rattle.desk_model.specs.Print.{corrected_print}
@@ -127,7 +127,7 @@ no_text bytes utf8 none = same_bytes bytes [] utf8 ([], (refl, refl)) (sym none 
 
 -- a row of a sound entry is sound
 fits : (original : List ℕ) (before : List Entry) (id n : ℕ) (entry : Entry) (row : NamedCorr) → IsSoundEntry original before entry → entry_row_of id (n, entry) ≡ spelled file.NamedCorr row
-    → HasTexts file.NamedCorr row → IsSoundCorrection (corrected_print original before) row ⊎ IsSoundUndo before row
+    → HasUtf8Texts file.NamedCorr row → IsSoundCorrection (corrected_print original before) row ⊎ IsSoundUndo before row
 fits original before id n (Corrects r who) row sound is texts =
     let start : pos r.start ≡ row.entry.start = ap (λ (e : NamedCorr). e.entry.start) is in
     let len : pos r.count ≡ row.entry.len = ap (λ (e : NamedCorr). e.entry.len) is in
@@ -195,7 +195,7 @@ module _ (rows : FileRows) (book : Book) (shown : Shows rows book) where
           number = sym (ap (λ (e : NamedCorr). e.entry.seq) found.2) ∙ (seq-of p.id (1 + index) found.0 ∙ ap pos next);
           room = omega (arith, within, sound.few);
           fits = subst (λ h. IsSoundCorrection (corrected_print p.original h) row ⊎ IsSoundUndo h row) (sym (taken index))
-              (fits p.original (take index p.history) p.id (1 + index) found.0 row (sound.entries index found.0 found.1) found.2 (All-contains (HasTexts file.NamedCorr) all_entries row shown.texts.entries among));
+              (fits p.original (take index p.history) p.id (1 + index) found.0 row (sound.entries index found.0 found.1) found.2 (All-contains (HasUtf8Texts file.NamedCorr) all_entries row shown.texts.entries among));
           short = subst (λ h. length (corrected_print p.original h) ≤ most_print) (sym (taken (index + 1))) (sound.short (index + 1) (omega (arith, within)));
         })
 

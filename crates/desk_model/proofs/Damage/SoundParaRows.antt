@@ -15,7 +15,7 @@ use Rattle.louis_translate.specs.Position.{AreDefined}
 use Rattle.desk_model.specs.Book.{Entry, Corrects, Undoes, Book, Paragraph, Mark, text_of}
 use Rattle.desk_model.specs.Damage.{IsDamagedMark, IsDamagedPara, IsItsTable, IsNumber, IsPrintText, IsSoundMarkRow, IsSoundParaRow, IsSpanned, IsWithin}
 use Rattle.desk_parts.specs.declared.file_table.FileTable.TheVariants as file
-use Rattle.desk_parts.specs.FileRows.{FileRows, HasTexts, spelled}
+use Rattle.desk_parts.specs.FileRows.{FileRows, HasUtf8Texts, spelled}
 use Rattle.desk_model.specs.Limits.{most_marks, most_note, most_paragraphs, most_print}
 use Rattle.desk_model.specs.Print.{corrected_print, print_of}
 use Rattle.desk_parts.specs.Rows.{Para, Mark as MarkRow}
@@ -100,11 +100,11 @@ module _ (rows : FileRows) (book : Book) (shown : Shows rows book) where
       → text_of book p.table ≡ Some text → Means text meaning → IsItsTable rows.tabs row meaning
   its_table row p text meaning in_rows named there means =
       let found = tab_row rows book shown p.table text (Contains-text p.table text book.tables there) in
-      let texts = All-contains (HasTexts file.Para) rows.paras row shown.texts.paras in_rows in
+      let texts = All-contains (HasUtf8Texts file.Para) rows.paras row shown.texts.paras in_rows in
       record {
         table = found.0;
         there = found.1;
-        named = same_bytes found.0.name row.tab (All-contains (HasTexts file.Tab) rows.tabs found.0 shown.texts.tabs found.1) texts.0 (found.2 ∙ sym named);
+        named = same_bytes found.0.name row.tab (All-contains (HasUtf8Texts file.Tab) rows.tabs found.0 shown.texts.tabs found.1) texts.0 (found.2 ∙ sym named);
         means = subst (λ body. Means body meaning) (sym found.3) means;
       }
 

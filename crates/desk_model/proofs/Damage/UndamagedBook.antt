@@ -26,7 +26,7 @@ use Rattle.desk_parts.specs.declared.file_table.FileTable.TheVariants as file
 use Rattle.desk_parts.specs.declared.rows.BookRow.{BookRow}
 use Rattle.desk_model.specs.Book.{Book, Mark, Paragraph, paragraph_of, text_of}
 use Rattle.desk_model.specs.Damage.{HasItsTables, HasSoundEntries, IsDamaged, IsDamagedCache, IsDamagedEntries, IsItsTable, IsSoundBookRow, IsSoundCacheRow, IsSoundMarkRow, IsSoundParaRow, history_of}
-use Rattle.desk_parts.specs.FileRows.{AreTexts, EntryRows, FileRows, HasTexts, Named, Unnamed, entries_in, format_of, spelled, table_of}
+use Rattle.desk_parts.specs.FileRows.{AreTexts, EntryRows, FileRows, HasUtf8Texts, Named, Unnamed, entries_in, format_of, spelled, table_of}
 use Rattle.desk_model.specs.Limits.{most_marks, most_paragraphs, most_version}
 use Rattle.desk_model.specs.Name.{IsTableName, is_name_character}
 use Rattle.desk_model.specs.Print.{corrected_print, print_of}
@@ -113,8 +113,8 @@ module _ (rows : FileRows) (texts : AreTexts rows) (its : HasItsTables rows) (no
   abbrev pub tables : List (List ℕ × List ℕ)
   tables = map table_for tabs
 
-  tab-text : (t : Tab) → Contains tabs t → HasTexts file.Tab t
-  tab-text t c = All-contains (HasTexts file.Tab) rows.tabs t texts.tabs (Contains-permutation tabs rows.tabs t (IsPermutation-sym rows.tabs tabs (tabs-moved rows.tabs no-tab)) c)
+  tab-text : (t : Tab) → Contains tabs t → HasUtf8Texts file.Tab t
+  tab-text t c = All-contains (HasUtf8Texts file.Tab) rows.tabs t texts.tabs (Contains-permutation tabs rows.tabs t (IsPermutation-sym rows.tabs tabs (tabs-moved rows.tabs no-tab)) c)
 
   sound-tables : All IsSoundTable tables
   sound-tables =
@@ -427,8 +427,8 @@ module _ (rows : FileRows) (texts : AreTexts rows) (its : HasItsTables rows) (no
         let h = history_for para c in
         let own = group of_para id_of entries para in
         let test = λ (e : NamedCorr). int_eq e.entry.para para.id in
-        let in_utf8 = All-contains (HasTexts file.Para) rows.paras para texts.paras c in
-        let entry_texts = All-permutation (HasTexts file.NamedCorr) own h.sorted h.its_own (All-filter test (HasTexts file.NamedCorr) entries texts.entries) in
+        let in_utf8 = All-contains (HasUtf8Texts file.Para) rows.paras para texts.paras c in
+        let entry_texts = All-permutation (HasUtf8Texts file.NamedCorr) own h.sorted h.its_own (All-filter test (HasUtf8Texts file.NamedCorr) entries texts.entries) in
         record {
           clean = record { characters = characters-of para.original in_utf8.1; unbarred = s.original.1 };
           history = sound-history (chars para.original) h.sorted s.original.0 entry_texts h.each;
@@ -464,7 +464,7 @@ module _ (rows : FileRows) (texts : AreTexts rows) (its : HasItsTables rows) (no
           within = le_from (number m.stop) (length (print_of p.0))
               (subst (λ (z : ℤ). z ≤ℤ pos (length (print_of p.0))) (sym stop)
               (subst (λ (print : List ℕ). m.stop ≤ℤ pos (length print)) (sym p.3) s.span.stop));
-          clean = record { characters = characters-of m.note (All-contains (HasTexts file.Mark) rows.marks m texts.marks c); unbarred = s.note };
+          clean = record { characters = characters-of m.note (All-contains (HasUtf8Texts file.Mark) rows.marks m texts.marks c); unbarred = s.note };
           short = s.short;
         }
 

@@ -14,7 +14,7 @@ use Rattle.louis_translate.proofs.Tilings.{one_tiling}
 use Rattle.desk_parts.specs.declared.file_table.FileTable.TheVariants.{Corr as CorrTable, NamedCorr as NamedCorrTable}
 use Rattle.desk_model.specs.Book.{Entry, Corrects, Undoes, Paragraph, Book}
 use Rattle.desk_parts.specs.declared.file_table.FileTable.TheVariants as file
-use Rattle.desk_parts.specs.FileRows.{FileRows, HasTexts, Named, Unnamed, spelled, table_of}
+use Rattle.desk_parts.specs.FileRows.{FileRows, HasUtf8Texts, Named, Unnamed, spelled, table_of}
 use Rattle.desk_model.specs.Name.{IsTableName, is_name_character}
 use Rattle.desk_model.specs.Print.{print_of}
 use Rattle.desk_parts.specs.Rows.{Corr, Tab, Para, NamedCorr, Mark as MarkRow, ParaCells}
@@ -145,11 +145,11 @@ without_name-back (e ∷ es) all none =
     let rest = without_name-back es (All-tail EntryCharacters e es all) (All-tail HasNoName e es none) in
     λ i. record { entry = record e.entry { body = spelled-encoded e.entry.body texts.0 i }; who = name i } ∷ rest i
 
-without_name-texts : (es : List NamedCorr) → All EntryCharacters es → All (HasTexts file.NamedCorr) (map without_name (map encoded_corr es))
-without_name-texts [] all = All-nil (HasTexts file.NamedCorr)
+without_name-texts : (es : List NamedCorr) → All EntryCharacters es → All (HasUtf8Texts file.NamedCorr) (map without_name (map encoded_corr es))
+without_name-texts [] all = All-nil (HasUtf8Texts file.NamedCorr)
 without_name-texts (e ∷ es) all =
     let texts = All-head EntryCharacters e es all in
-    All-cons (HasTexts file.NamedCorr) (without_name (encoded_corr e)) (map without_name (map encoded_corr es)) (encoded-text e.entry.body texts.0, ([], (refl, refl)))
+    All-cons (HasUtf8Texts file.NamedCorr) (without_name (encoded_corr e)) (map without_name (map encoded_corr es)) (encoded-text e.entry.body texts.0, ([], (refl, refl)))
     (without_name-texts es (All-tail EntryCharacters e es all))
 
 module _ (book : Book) (sound : IsSound book) where
@@ -231,12 +231,12 @@ module _ (book : Book) (sound : IsSound book) where
   rows-show = record {
     sound = sound;
     texts = record {
-      tabs = All-map (HasTexts file.Tab) encoded_tab (map tab_of book.tables) (All-weaker TabCharacters (λ t. HasTexts file.Tab (encoded_tab t)) (λ t all. encoded-text t.name all) (map tab_of book.tables) tab_characters);
-      paras = All-map (HasTexts file.Para) encoded_para (paras_of book.paragraphs)
-          (All-weaker ParaCharacters (λ p. HasTexts file.Para (encoded_para p)) (λ p all. (encoded-text p.tab all.0, encoded-text p.original all.1, encoded-text p.print all.2)) (paras_of book.paragraphs) para_characters);
-      entries = All-map (HasTexts file.NamedCorr) encoded_entry (flat_map entry_rows_of book.paragraphs)
-          (All-weaker EntryCharacters (λ e. HasTexts file.NamedCorr (encoded_entry e)) (λ e all. (encoded-text e.entry.body all.0, encoded-text e.who all.1)) (flat_map entry_rows_of book.paragraphs) entry_characters);
-      marks = All-map (HasTexts file.Mark) encoded_mark (map mark_row_of book.marks) (All-weaker MarkCharacters (λ m. HasTexts file.Mark (encoded_mark m)) (λ m all. encoded-text m.note all) (map mark_row_of book.marks) mark_characters);
+      tabs = All-map (HasUtf8Texts file.Tab) encoded_tab (map tab_of book.tables) (All-weaker TabCharacters (λ t. HasUtf8Texts file.Tab (encoded_tab t)) (λ t all. encoded-text t.name all) (map tab_of book.tables) tab_characters);
+      paras = All-map (HasUtf8Texts file.Para) encoded_para (paras_of book.paragraphs)
+          (All-weaker ParaCharacters (λ p. HasUtf8Texts file.Para (encoded_para p)) (λ p all. (encoded-text p.tab all.0, encoded-text p.original all.1, encoded-text p.print all.2)) (paras_of book.paragraphs) para_characters);
+      entries = All-map (HasUtf8Texts file.NamedCorr) encoded_entry (flat_map entry_rows_of book.paragraphs)
+          (All-weaker EntryCharacters (λ e. HasUtf8Texts file.NamedCorr (encoded_entry e)) (λ e all. (encoded-text e.entry.body all.0, encoded-text e.who all.1)) (flat_map entry_rows_of book.paragraphs) entry_characters);
+      marks = All-map (HasUtf8Texts file.Mark) encoded_mark (map mark_row_of book.marks) (All-weaker MarkCharacters (λ m. HasUtf8Texts file.Mark (encoded_mark m)) (λ m all. encoded-text m.note all) (map mark_row_of book.marks) mark_characters);
     };
     row = refl;
     tables = IsPermutation-same _ (map tab_of book.tables) (map-back TabCharacters (spelled file.Tab) encoded_tab (λ t all. λ i. record t { name = spelled-encoded t.name all i }) (map tab_of book.tables) tab_characters);

@@ -17,7 +17,7 @@ use Rattle.desk_model.specs.declared.new_tables.NewTables.TheVariants.{Braille, 
 use Rattle.desk_parts.specs.declared.file_table.FileTable.TheVariants as tables
 use Rattle.desk_parts.specs.declared.rows.BookRow.{BookRow}
 use Rattle.desk_model.specs.Book.{Book, Paragraph, empty_book}
-use Rattle.desk_parts.specs.FileRows.{EntryRows, FileRows, HasTexts, Named, entries_in, format_of, table_of}
+use Rattle.desk_parts.specs.FileRows.{EntryRows, FileRows, HasUtf8Texts, Named, entries_in, format_of, table_of}
 use Rattle.desk_model.specs.FilledRows.{AreEntriesOf, Fills, entry_puts, in_second_format, new_rows, second_format_puts, with_caches, with_empty, with_new_entries, with_new_tables}
 use Rattle.desk_parts.specs.Puts.{HasItsTable, HasTheirTables, PutRow, RowPuts, put_by_key, put_rows, with_put, with_puts}
 use Rattle.desk_parts.specs.Rows.{ParaCells, NamedCorr}
@@ -37,7 +37,7 @@ use Rattle.desk_model.proofs.Books.SoundSteps.{IsSound-empty}
 pub new-shown : Shows new_rows empty_book
 new-shown = record {
   sound = IsSound-empty;
-  texts = record { tabs = All-nil (HasTexts tables.Tab); paras = All-nil (HasTexts tables.Para); entries = All-nil (HasTexts tables.NamedCorr); marks = All-nil (HasTexts tables.Mark) };
+  texts = record { tabs = All-nil (HasUtf8Texts tables.Tab); paras = All-nil (HasUtf8Texts tables.Para); entries = All-nil (HasUtf8Texts tables.NamedCorr); marks = All-nil (HasUtf8Texts tables.Mark) };
   row = refl;
   tables = IsPermutation-refl [];
   paragraphs = IsPermutation-refl [];

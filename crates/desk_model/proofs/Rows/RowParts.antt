@@ -11,7 +11,7 @@ use Rattle.std.proofs.lemmas.Str.{chars-nil, scalars-chars}
 use Rattle.desk_model.specs.Book.{Entry, Corrects, Undoes, Mark}
 use Rattle.desk_model.specs.Damage.{IsFlag, IsSoundCorrection, IsSoundEntryRow, IsSoundMarkRow, IsSoundUndo, entry_of, history_of}
 use Rattle.desk_parts.specs.declared.file_table.FileTable.TheVariants as tables
-use Rattle.desk_parts.specs.FileRows.{HasTexts, spelled}
+use Rattle.desk_parts.specs.FileRows.{HasUtf8Texts, spelled}
 use Rattle.desk_model.specs.Limits.{most_entries, most_print}
 use Rattle.desk_model.specs.Print.{corrected_print}
 use Rattle.desk_parts.specs.Rows.{Mark as MarkRow, NamedCorr, Para}
@@ -108,7 +108,7 @@ module _ (row : NamedCorr) where
         who = who i;
       })
 
-  sound-entry : (original : List ℕ) (before : List Entry) → HasTexts tables.NamedCorr row → IsSoundCorrection (corrected_print original before) row ⊎ IsSoundUndo before row
+  sound-entry : (original : List ℕ) (before : List Entry) → HasUtf8Texts tables.NamedCorr row → IsSoundCorrection (corrected_print original before) row ⊎ IsSoundUndo before row
       → IsSoundEntry original before (entry_of row)
   sound-entry original before texts (inl c) =
       subst (IsSoundEntry original before) (sym (entry-corrects c.kind)) (
@@ -142,7 +142,7 @@ at-map f [] i y at = absurd (cc)
 at-map f (x ∷ xs) zero y at = (x, refl, cc)
 at-map f (x ∷ xs) (suc i) y at = at-map f xs i y at
 
-module _ (original : List ℕ) (sorted : List NamedCorr) (small : length original ≤ most_print) (texts : All (HasTexts tables.NamedCorr) sorted)
+module _ (original : List ℕ) (sorted : List NamedCorr) (small : length original ≤ most_print) (texts : All (HasUtf8Texts tables.NamedCorr) sorted)
     (each : (i : ℕ) (row : NamedCorr) → slice_get sorted i ≡ Some row → IsSoundEntryRow original sorted i row) where
   short-so_far : (i : ℕ) → i ≤ length sorted → length (corrected_print original (take i (history_of sorted))) ≤ most_print
   short-so_far zero within = small
@@ -162,6 +162,6 @@ module _ (original : List ℕ) (sorted : List NamedCorr) (small : length origina
             let row = at-map entry_of sorted i entry at in
             subst (IsSoundEntry original (take i (history_of sorted))) row.2
             (subst (λ before. IsSoundEntry original before (entry_of row.0)) (sym (take-map entry_of i sorted))
-            (sound-entry row.0 original (history_of (take i sorted)) (All-contains (HasTexts tables.NamedCorr) sorted row.0 texts (Contains-there sorted i row.0 row.1)) (each i row.0 row.1).fits));
+            (sound-entry row.0 original (history_of (take i sorted)) (All-contains (HasUtf8Texts tables.NamedCorr) sorted row.0 texts (Contains-there sorted i row.0 row.1)) (each i row.0 row.1).fits));
         short = λ i within. short-so_far i (omega (arith, long, within));
       }

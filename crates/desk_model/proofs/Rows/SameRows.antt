@@ -6,7 +6,7 @@ use Rattle.std.specs.Option.{ForSome}
 use Rattle.std.proofs.lemmas.List.Sorted.{All-permutation, IsPermutation-map, IsPermutation-sym, IsPermutation-trans}
 use Rattle.desk_model.specs.Book.{Book, Paragraph}
 use Rattle.desk_parts.specs.declared.file_table.FileTable.TheVariants as file
-use Rattle.desk_parts.specs.FileRows.{AreTexts, EntryRows, FileRows, HasTexts, Named, Unnamed, entries_in, format_of, spelled, table_of}
+use Rattle.desk_parts.specs.FileRows.{AreTexts, EntryRows, FileRows, HasUtf8Texts, Named, Unnamed, entries_in, format_of, spelled, table_of}
 use Rattle.desk_model.specs.FilledRows.{AreEntriesOf}
 use Rattle.desk_parts.specs.Rows.{ParaCells, Corr, NamedCorr}
 use Rattle.desk_model.specs.SameRows.{AreSameCaches, AreSameEntries, AreSameRows}
@@ -67,7 +67,7 @@ spelled-moved spelled xs ys zs moved =
 
 pub AreEntriesOf-moved : (book : Book) (entries all : List NamedCorr) → IsPermutation entries all → AreEntriesOf book entries → AreEntriesOf book all
 AreEntriesOf-moved book entries all moved are = (
-  All-permutation (HasTexts file.NamedCorr) entries all moved are.0,
+  All-permutation (HasUtf8Texts file.NamedCorr) entries all moved are.0,
   spelled-moved (spelled file.NamedCorr) entries all (flat_map entry_rows_of book.paragraphs) moved are.1,
 )
 
@@ -90,10 +90,10 @@ module _ (a b : FileRows) (same : AreSameRows a b) where
 
   texts-moved : AreTexts a → AreTexts b
   texts-moved texts = record {
-    tabs = All-permutation (HasTexts file.Tab) a.tabs b.tabs same.tabs texts.tabs;
-    paras = All-permutation (HasTexts file.Para) a.paras b.paras same.paras texts.paras;
-    entries = All-permutation (HasTexts file.NamedCorr) (entries_in a.entries) (entries_in b.entries) entries-same texts.entries;
-    marks = All-permutation (HasTexts file.Mark) a.marks b.marks same.marks texts.marks;
+    tabs = All-permutation (HasUtf8Texts file.Tab) a.tabs b.tabs same.tabs texts.tabs;
+    paras = All-permutation (HasUtf8Texts file.Para) a.paras b.paras same.paras texts.paras;
+    entries = All-permutation (HasUtf8Texts file.NamedCorr) (entries_in a.entries) (entries_in b.entries) entries-same texts.entries;
+    marks = All-permutation (HasUtf8Texts file.Mark) a.marks b.marks same.marks texts.marks;
   }
 
   pub shown : (book : Book) → Shows a book → Shows b book

@@ -9,7 +9,7 @@ use Rattle.desk_rows.specs.Contents.{Contents}
 use Rattle.desk_rows.specs.Puts.{put_into, puts_into}
 use Rattle.desk_rows.specs.Rows.{set_at}
 use Rattle.desk_parts.specs.Rows.{RowOf}
-use Rattle.desk_parts.specs.FileRows.{HasTexts}
+use Rattle.desk_parts.specs.FileRows.{HasUtf8Texts}
 use Rattle.desk_rows.specs.Whole.{AreUtf8, IsUtf8Put}
 use Rattle.desk_rows.proofs.RowPuts.Changing.{each_set}
 use Rattle.desk_rows.proofs.RowPuts.PutTables.{set_by_key}
@@ -23,18 +23,18 @@ all_set {X} P has_key set stays xs all = all-map P _ xs (all_weaker P _ (λ x is
 
 -- ---- each table
 
-all_put : (t : FileTable) (x : RowOf t) (xs : List (RowOf t)) → HasTexts t x → AllByRecursion (HasTexts t) xs → AllByRecursion (HasTexts t) (put_to t x xs)
+all_put : (t : FileTable) (x : RowOf t) (xs : List (RowOf t)) → HasUtf8Texts t x → AllByRecursion (HasUtf8Texts t) xs → AllByRecursion (HasUtf8Texts t) (put_to t x xs)
 all_put tables.Corr x xs is all = (is, all)
 all_put tables.NamedCorr x xs is all = (is, all)
-all_put t x xs is all = (is, all-filter (HasTexts t) _ xs all)
+all_put t x xs is all = (is, all-filter (HasUtf8Texts t) _ xs all)
 
 -- ---- all tables
 
 -- the rows of one table change, and those of others stay
-changed : (t : FileTable) (f : List (RowOf t) → List (RowOf t)) (c : Contents) → (AllByRecursion (HasTexts t) (c.rows t) → AllByRecursion (HasTexts t) (f (c.rows t))) → AreUtf8 c → AreUtf8 (record c { rows = set_at t f c.rows })
-changed t f c stays all v = each_set (λ v. AllByRecursion (HasTexts v)) t f c.rows (stays (all t)) v (λ other. all v)
+changed : (t : FileTable) (f : List (RowOf t) → List (RowOf t)) (c : Contents) → (AllByRecursion (HasUtf8Texts t) (c.rows t) → AllByRecursion (HasUtf8Texts t) (f (c.rows t))) → AreUtf8 c → AreUtf8 (record c { rows = set_at t f c.rows })
+changed t f c stays all v = each_set (λ v. AllByRecursion (HasUtf8Texts v)) t f c.rows (stays (all t)) v (λ other. all v)
 
-columns_stay : (t : FileTable) (key : KeyOf t) (columns : ColumnsOf t) → IsUtf8Put (SetColumns t key columns) → (x : RowOf t) → HasTexts t x → HasTexts t (with_columns t columns x)
+columns_stay : (t : FileTable) (key : KeyOf t) (columns : ColumnsOf t) → IsUtf8Put (SetColumns t key columns) → (x : RowOf t) → HasUtf8Texts t x → HasUtf8Texts t (with_columns t columns x)
 columns_stay tables.Book key (Version version) is b was = was
 columns_stay tables.Para key (Place place) is p was = was
 columns_stay tables.Para key (Flags style volume struck) is p was = was
@@ -47,7 +47,7 @@ columns_stay t key none is x was = absurd none
 one_put : (it : RowPut) (c : Contents) → IsUtf8Put it → AreUtf8 c → AreUtf8 (put_into c it)
 one_put (PutRow t row) c is all = changed t (put_to t row) c (all_put t row (c.rows t) is) all
 one_put (SetColumns t key columns) c is all =
-    changed t (set_by_key (has_key t key) (with_columns t columns)) c (all_set (HasTexts t) (has_key t key) (with_columns t columns) (columns_stay t key columns is) (c.rows t)) all
+    changed t (set_by_key (has_key t key) (with_columns t columns)) c (all_set (HasUtf8Texts t) (has_key t key) (with_columns t columns) (columns_stay t key columns is) (c.rows t)) all
 
 pub texts_stay : (puts : List RowPut) (c : Contents) → AllByRecursion IsUtf8Put puts → AreUtf8 c → AreUtf8 (puts_into puts c)
 texts_stay [] c are all = all

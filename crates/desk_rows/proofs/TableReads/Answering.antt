@@ -10,7 +10,7 @@ use Rattle.sqlite_value.specs.Order.{Row, column}
 use Rattle.desk_parts.specs.declared.file_table.FileTable.{FileTable}
 use Rattle.desk_parts.specs.declared.file_table.FileTable.TheVariants as tables
 use Rattle.desk_parts.specs.Rows.{StoredTab}
-use Rattle.desk_parts.specs.FileRows.{HasTexts}
+use Rattle.desk_parts.specs.FileRows.{HasUtf8Texts}
 use Rattle.std.specs.declared.alloc.AllocError.{AllocError}
 use Rattle.sqlite_schema.specs.declared.schema.Schema.{Schema}
 use Rattle.sqlite_catalog.specs.Listing.{IsSound}
@@ -139,7 +139,7 @@ module _ {V X : Type 0} (items : V → List X) (t : FileTable) (view : X → Sho
   pub answers : (rows : List Row) → Shown (description_of t).read [] old new rows → (r : Result V DatabaseFault) → IfOk r (λ xs. map (given t) rows ≡ map (λ x. shown_columns t (view x)) (items xs))
       → (AllByRecursion (HasKinds (query_of t).kinds) rows → IfErr r (λ fault. fault ≡ NoMemory)) → IfErr r (λ fault. fault ≢ Lost)
       → IfErr r (λ fault. fault ≡ NoMemory → BeginWith (query_of t).kinds rows)
-      → IfOk r (λ xs. AllByRecursion (λ x. HasTexts t (own t (view x))) (items xs)) → AnswersRows r items t view AnyRows old new
+      → IfOk r (λ xs. AllByRecursion (λ x. HasUtf8Texts t (own t (view x))) (items xs)) → AnswersRows r items t view AnyRows old new
   answers rows seen r reads kinds not_lost begins utf8 =
       let read = λ (tree : ℕ) (has : HasTable (table_of t tree) old).
       IfOk-weaker r _ _ (λ xs made. gives_rows t view old new tree has (items xs) (rows, seen, made)) reads in record {
@@ -211,7 +211,7 @@ module _ {V X : Type 0} (items : V → List X) (t : FileTable) (view : X → Sho
 -- ---- braille tables, for the first of which something is allocated
 
 pub tabs_begin : (rows : List Row) (xs : List StoredTab) → map (given tables.Tab) rows ≡ map (shown_columns tables.Tab) xs → xs ≢ []
-    → AllByRecursion (λ x. HasTexts tables.Tab (own tables.Tab x)) xs → BeginWith (query_of tables.Tab).kinds rows
+    → AllByRecursion (λ x. HasUtf8Texts tables.Tab (own tables.Tab x)) xs → BeginWith (query_of tables.Tab).kinds rows
 unfolding head_or
 tabs_begin rows [] same some utf8 = absurd (some refl)
 tabs_begin [] (x ∷ xs) same some utf8 = absurd (cc)

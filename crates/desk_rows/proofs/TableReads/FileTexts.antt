@@ -15,14 +15,14 @@ use Rattle.desk_rows.specs.Rows.{columns_of}
 use Rattle.desk_parts.specs.declared.file_table.FileTable.{FileTable}
 use Rattle.desk_parts.specs.declared.file_table.FileTable.TheVariants as tables
 use Rattle.desk_parts.specs.Rows.{RowOf}
-use Rattle.desk_parts.specs.FileRows.{HasTexts}
+use Rattle.desk_parts.specs.FileRows.{HasUtf8Texts}
 use Rattle.desk_rows.specs.States.{IsFile}
 use Rattle.desk_rows.specs.Whole.{AreUtf8}
 
 -- ---- each table
 
 -- the texts among a row's columns
-columns_utf8 : (t : FileTable) (x : RowOf t) → HasTexts t x → AllByRecursion IsUtf8Text (columns_of t x)
+columns_utf8 : (t : FileTable) (x : RowOf t) → HasUtf8Texts t x → AllByRecursion IsUtf8Text (columns_of t x)
 columns_utf8 tables.Book x is = search rules
 columns_utf8 t x is = search rules
 
@@ -44,9 +44,9 @@ module _ (l : Layout) (c : Contents) (db : Trees) (is : IsFile l c db) where
   rowids t there shows = (is.ids t there (is_changed t shows)).integers
 
   -- those of one table, if its texts are UTF-8
-  pub readable_table : (t : FileTable) → l.has t ≡ true → AllByRecursion (HasTexts t) (c.rows t) → AreReadable t (db (l.tree t))
+  pub readable_table : (t : FileTable) → l.has t ≡ true → AllByRecursion (HasUtf8Texts t) (c.rows t) → AreReadable t (db (l.tree t))
   readable_table t there utf8 =
-      let texts = in_rows (columns_of t) (columns_at (description_of t).own) (HasTexts t) (columns_utf8 t) (c.rows t) (db (l.tree t)) utf8 (is.tables t there) in
+      let texts = in_rows (columns_of t) (columns_at (description_of t).own) (HasUtf8Texts t) (columns_utf8 t) (c.rows t) (db (l.tree t)) utf8 (is.tables t there) in
       let own = kept l.schema (table_of t (l.tree t)) (is.declared t there) db is.sound in
       let all = all_both (IsKept (table_of t (l.tree t))) (λ row. AllByRecursion IsUtf8Text (columns_at (description_of t).own row)) (λ row. AllByRecursion IsUtf8Text (drop 1 row)) (row_utf8 t (l.tree t)) (db (l.tree t)) own texts in
       record { ids = rowids t there; texts = λ has. all }

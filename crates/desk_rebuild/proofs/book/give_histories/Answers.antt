@@ -3,7 +3,7 @@ use Rattle.std.specs.List.{All}
 use Rattle.std.specs.Prelude.{IfErr, OnOk}
 use Rattle.desk_model.specs.Damage.{IsDamagedEntries}
 use Rattle.desk_parts.specs.declared.file_table.FileTable.TheVariants as tables
-use Rattle.desk_parts.specs.FileRows.{HasTexts, entries_in}
+use Rattle.desk_parts.specs.FileRows.{HasUtf8Texts, entries_in}
 use Rattle.desk_rebuild.specs.Faults.{TellsDamageOf}
 use Rattle.desk_rebuild.specs.Rows.{HasHistory, IsWhole, TellsDamage, without_history}
 use Rattle.desk_parts.specs.Parts.{entry_rows}
@@ -14,8 +14,8 @@ use Rattle.desk_rebuild.proofs.book.give_histories.Goals as goal
 pub returns-clause-texts : goal.returns-clause-texts
 returns-clause-texts c =
     of-table-rows c.table-table.result c.read_entries.result c.of_table.result c.of_table.ensures
-    (λ _. All (HasTexts tables.NamedCorr) (entries_in (entry_rows c.args.entries)))
-    (subst (λ (rows : List NamedCorr). OnOk c.read_entries.result (All (HasTexts tables.NamedCorr) rows)) c.in_ok-rows.ensures c.read_entries.ensures.texts)
+    (λ _. All (HasUtf8Texts tables.NamedCorr) (entries_in (entry_rows c.args.entries)))
+    (subst (λ (rows : List NamedCorr). OnOk c.read_entries.result (All (HasUtf8Texts tables.NamedCorr) rows)) c.in_ok-rows.ensures c.read_entries.ensures.texts)
 
 pub returns-clause-whole : goal.returns-clause-whole
 returns-clause-whole c = λ paras of.

@@ -6,7 +6,7 @@ use Rattle.std.specs.Str.{chars}
 use Rattle.desk_model.specs.Damage.{IsFlag}
 use Rattle.desk_rebuild.specs.Marks.{HasId, IsKeptOf, IsMarkOn, IsNoteText, IsSpan}
 use Rattle.desk_parts.specs.declared.file_table.FileTable.TheVariants as tables
-use Rattle.desk_parts.specs.FileRows.{HasTexts}
+use Rattle.desk_parts.specs.FileRows.{HasUtf8Texts}
 use Rattle.desk_parts.specs.Rows.{Mark}
 use Rattle.desk_model.specs.Shows.{flag_number}
 use Rattle.desk_model.proofs.Damage.SoundRows.{IsFlag-flag}
@@ -16,7 +16,7 @@ pub returns-in_err-paragraph : goal.returns-in_err-paragraph
 returns-in_err-paragraph c =
     let fits : SFits w64 c.row.inside.para = search rules in
     let para : to_z w64 (of_z w64 c.row.inside.para) ≡ c.args.row.para = to_z-of_z w64 c.row.inside.para fits ∙ ap (λ (r : Mark). r.para) c.row.view_is in
-    subst (λ r. MatchOption r (¬ IsMarkOn c.args.items.now c.args.row) (λ mark. IsMarkOn c.args.items.now c.args.row × HasTexts tables.Mark c.args.row × IsKeptOf c.args.row mark)) (sym c.from_residual.ensures)
+    subst (λ r. MatchOption r (¬ IsMarkOn c.args.items.now c.args.row) (λ mark. IsMarkOn c.args.items.now c.args.row × HasUtf8Texts tables.Mark c.args.row × IsKeptOf c.args.row mark)) (sym c.from_residual.ensures)
     (λ (s : IsMarkOn c.args.items.now c.args.row). c.in_err-paragraph.ensures s.kept (subst (λ z. HasId c.args.items.now z s.kept) (sym para) s.named))
 
 -- a number of a row is a flag's where the flag was read from it

@@ -10,7 +10,7 @@ use Rattle.desk_command.specs.declared.style.Style.TheVariants.{Body, Heading}
 use Rattle.desk_model.specs.Damage.{IsFlag, IsPrintText}
 use Rattle.desk_rebuild.specs.Paras.{AreDefinedBy, IsKeptOf, IsParaOn}
 use Rattle.desk_parts.specs.declared.file_table.FileTable.TheVariants as tables
-use Rattle.desk_parts.specs.FileRows.{HasTexts}
+use Rattle.desk_parts.specs.FileRows.{HasUtf8Texts}
 use Rattle.desk_parts.specs.Rows.{Para}
 use Rattle.desk_model.specs.Shows.{flag_number, style_number}
 use Rattle.desk_rebuild.proofs.paras.paragraph_of.Goals as goal
@@ -68,7 +68,7 @@ returns c =
     let style : style_number kept.style ≡ row.style = c.in-Some-Some-Some.ensures ∙ to_z-of_z w64 c.row.inside.style fits_style in
     let volume : flag_number kept.begins_volume ≡ row.volume = c.in-Some-Some-Some.ensures' ∙ to_z-of_z w64 c.row.inside.volume fits_volume in
     let struck : flag_number kept.struck ≡ row.struck = c.in-Some-Some-Some.ensures'' ∙ to_z-of_z w64 c.row.inside.struck fits_struck in
-    subst (λ (r : Para). IsParaOn c.args.tables.now r × HasTexts tables.Para r × IsKeptOf r kept) c.row.view_is (
+    subst (λ (r : Para). IsParaOn c.args.tables.now r × HasUtf8Texts tables.Para r × IsKeptOf r kept) c.row.view_is (
       record {
         original = original;
         print = print;

@@ -8,7 +8,7 @@ use Rattle.desk_rebuild.specs.Paras.{AreKeptOf, IsFree, IsKeptOf, IsParaOn, para
 use Rattle.desk_rebuild.specs.OrderedRows.{IsNext}
 use Rattle.desk_model.specs.Limits.{most_paragraphs}
 use Rattle.desk_parts.specs.declared.file_table.FileTable.TheVariants as tables
-use Rattle.desk_parts.specs.FileRows.{HasTexts}
+use Rattle.desk_parts.specs.FileRows.{HasUtf8Texts}
 use Rattle.desk_parts.specs.Rows.{Para}
 use Rattle.desk_rebuild.proofs.OrderedRows.{first-unsound, row-at}
 use Rattle.desk_rebuild.proofs.ParaRows.{free-place, kept-more}
@@ -48,7 +48,7 @@ returns-in_default-2-clause-damaged c =
     let here = row-at rule c.args.rows.items c.loop-row.yielded (into_iter_items c.next.new.self) c.in-Some.row
     (sym (ap (λ (rest : List Para). c.loop-row.yielded ++ rest) c.in-Some.ensures.steps.0) ∙ c.loop-row.invariant.3) in
     first-unsound rule c.args.rows.items (length c.loop-row.yielded) c.in-Some.row (to_z w64 (of_z w64 c.row.inside.id)) c.loop-row.invariant.2.kept.sound here (sym id)
-    (λ s. subst (λ found. MatchOption found (¬ IsParaOn c.args.tables.now c.in-Some.row) (λ (kept : KeptParagraph). IsParaOn c.args.tables.now c.in-Some.row × HasTexts tables.Para c.in-Some.row × IsKeptOf c.in-Some.row kept))
+    (λ s. subst (λ found. MatchOption found (¬ IsParaOn c.args.tables.now c.in-Some.row) (λ (kept : KeptParagraph). IsParaOn c.args.tables.now c.in-Some.row × HasUtf8Texts tables.Para c.in-Some.row × IsKeptOf c.in-Some.row kept))
     c.in_default-2.is c.in_ok-paragraph.ensures s.sound.para)
 
 pub index_mut-requires : goal.index_mut-requires
@@ -78,7 +78,7 @@ loop-row-preserved c =
     let next : IsNext most_paragraphs (length c.loop-row.yielded) c.in-Some.row.id =
     subst (λ n. IsNext most_paragraphs n c.in-Some.row.id) count
     (subst (λ z. IsNext most_paragraphs c.len-in-loop-row.result z) id (c.is_next.ensures.0 c.if-not-is_next.false)) in
-    let judged = subst (λ found. MatchOption found (¬ IsParaOn c.args.tables.now c.in-Some.row) (λ (kept : KeptParagraph). IsParaOn c.args.tables.now c.in-Some.row × HasTexts tables.Para c.in-Some.row × IsKeptOf c.in-Some.row kept))
+    let judged = subst (λ found. MatchOption found (¬ IsParaOn c.args.tables.now c.in-Some.row) (λ (kept : KeptParagraph). IsParaOn c.args.tables.now c.in-Some.row × HasUtf8Texts tables.Para c.in-Some.row × IsKeptOf c.in-Some.row kept))
     c.in-Some-2.is c.in_ok-paragraph.ensures in
     let pushed : c.push.new.self.items ≡ c.loop-row.items.items ++ c.in-Some-2.paragraph ∷ [] = search rules in
     let number : nat_abs (to_z w64 (of_z w64 c.row.inside.id)) ≡ length c.loop-row.yielded + 1 = ap nat_abs (id ∙ next.1) in (

@@ -6,7 +6,7 @@ use Rattle.std.specs.Str.{chars}
 use Rattle.std.specs.Cmp.Lexicographic.{pointwise}
 use Rattle.std.proofs.lemmas.Result.{err_from_is_err_and}
 use Rattle.desk_parts.specs.declared.file_table.FileTable.TheVariants as tables
-use Rattle.desk_parts.specs.FileRows.{HasTexts}
+use Rattle.desk_parts.specs.FileRows.{HasUtf8Texts}
 use Rattle.desk_rebuild.specs.Tabs.{AreRead, MayCome, TellsNoMeaning, TellsUnsoundTab}
 use Rattle.desk_memory.specs.Kept.{with_table}
 use Rattle.desk_rebuild.proofs.ReadTabs.{count, may-come, more-read, number-after, untold}
@@ -14,7 +14,7 @@ use Rattle.desk_rebuild.proofs.tabs.add.Goals as goal
 
 pub returns-then-not-may_come-clause-told : goal.returns-then-not-may_come-clause-told
 returns-then-not-may_come-clause-told c = λ done rest read.
-    let text : HasTexts tables.Tab c.args.row = search rules in
+    let text : HasUtf8Texts tables.Tab c.args.row = search rules in
     let many = c.len.ensures ∙ count done rest c.args.row c.args.tables.now text read in
     let name : chars c.args.row.name ≡ chars c.as_str.result.now = search rules in (
       number-after c.len.result (omega (arith, c.requires.few, c.len.ensures)) ∙ ap (λ n. pos (n + 1)) many,
@@ -23,7 +23,7 @@ returns-then-not-may_come-clause-told c = λ done rest read.
 
 pub returns-in_err-table-clause-told : goal.returns-in_err-table-clause-told
 returns-in_err-table-clause-told c = λ done rest read.
-    let text : HasTexts tables.Tab c.args.row = search rules in
+    let text : HasUtf8Texts tables.Tab c.args.row = search rules in
     let many = c.len.ensures ∙ count done rest c.args.row c.args.tables.now text read in
     let body : c.deref.result.now ≡ c.args.row.body = search rules in
     let exit = err_from_is_err_and c.from_residual.result c.from_residual.ensures.1 in
@@ -41,7 +41,7 @@ insert-requires c =
 
 pub returns-clause-read : goal.returns-clause-read
 returns-clause-read c = λ done rest read.
-    let text : HasTexts tables.Tab c.args.row = search rules in
+    let text : HasUtf8Texts tables.Tab c.args.row = search rules in
     let name : chars c.as_str.result.now ≡ chars c.args.row.name = search rules in
     let body : c.deref.result.now ≡ c.args.row.body = search rules in
     let may = subst (MayCome c.args.tables.now) name (c.may_come.ensures.0 c.if-not-may_come.false) in

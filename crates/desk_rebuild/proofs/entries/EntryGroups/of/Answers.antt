@@ -9,7 +9,7 @@ use Rattle.std.proofs.lemmas.Str.{IsUtf8-string_bytes}
 use Rattle.std.specs.List.{All}
 use Rattle.std.specs.Prelude.{IsUtf8, String, string_bytes}
 use Rattle.desk_parts.specs.declared.file_table.FileTable.TheVariants as tables
-use Rattle.desk_parts.specs.FileRows.{HasTexts}
+use Rattle.desk_parts.specs.FileRows.{HasUtf8Texts}
 use Rattle.desk_parts.specs.declared.rows.NamedCorrRow.TheInside.{Inside}
 use Rattle.desk_model.specs.Damage.{IsWithin}
 use Rattle.desk_rebuild.specs.Entries.{IsFirstStray}
@@ -19,7 +19,7 @@ use Rattle.desk_model.proofs.Lists.RowNumbers.{pos_le}
 use Rattle.desk_rebuild.proofs.entries.EntryGroups.of.Goals as goal
 
 -- a string is UTF-8, and so are the texts of a row
-texts : {Z : Type 0} (row : NamedCorr) (body who : String Z) → string_bytes body ≡ row.entry.body → string_bytes who ≡ row.who → HasTexts tables.NamedCorr row
+texts : {Z : Type 0} (row : NamedCorr) (body who : String Z) → string_bytes body ≡ row.entry.body → string_bytes who ≡ row.who → HasUtf8Texts tables.NamedCorr row
 texts row body who same other = (subst IsUtf8 same (IsUtf8-string_bytes body), subst IsUtf8 other (IsUtf8-string_bytes who))
 
 pub loop-row-preserved-in-Continue-branch-2 : goal.loop-row-preserved-in-Continue-branch-2
@@ -34,7 +34,7 @@ loop-row-preserved-in-Continue-branch-2 c =
       grouped-set (λ group. group.items) c.args.count c.loop-row.yielded c.loop-row.groups.items c.in-Some-index_of.index c.index_mut.result.now c.push.new.self c.in-Some.row is named at c.in_ok-push-in-Some-index_of.ensures.items,
       stray-within c.args.count c.loop-row.yielded c.in-Some.row c.loop-row.stray
           (subst (IsWithin 1 c.args.count) (sym named) (pos_le 1 (c.in-Some-index_of.index + 1) (omega arith), pos_le (c.in-Some-index_of.index + 1) c.args.count (omega (arith, there.1)))) c.loop-row.invariant.1,
-      All-push (HasTexts tables.NamedCorr) c.loop-row.yielded c.in-Some.row c.loop-row.invariant.2 (texts c.in-Some.row c.row-inside.inside.0.0.body c.row.inside.who
+      All-push (HasUtf8Texts tables.NamedCorr) c.loop-row.yielded c.in-Some.row c.loop-row.invariant.2 (texts c.in-Some.row c.row-inside.inside.0.0.body c.row.inside.who
           (ap (λ (x : Inside). x.entry.body) c.row-inside.view_is ∙ ap (λ (r : NamedCorr). r.entry.body) c.row.view_is) (ap (λ (r : NamedCorr). r.who) c.row.view_is)),
     )
 
@@ -49,7 +49,7 @@ loop-row-preserved c =
       grouped-stray c.args.count c.loop-row.yielded _ c.in-Some.row c.loop-row.invariant.0 nowhere,
       subst (λ (z : ℤ). IsFirstStray c.args.count (c.loop-row.yielded ++ c.in-Some.row ∷ []) (Some z)) (sym told)
           (stray-more c.args.count c.loop-row.yielded c.in-Some.row c.loop-row.stray c.smaller.result nowhere c.loop-row.invariant.1 one least c.smaller.ensures.before),
-      All-push (HasTexts tables.NamedCorr) c.loop-row.yielded c.in-Some.row c.loop-row.invariant.2 (texts c.in-Some.row c.row-inside.inside.0.0.body c.row.inside.who
+      All-push (HasUtf8Texts tables.NamedCorr) c.loop-row.yielded c.in-Some.row c.loop-row.invariant.2 (texts c.in-Some.row c.row-inside.inside.0.0.body c.row.inside.who
           (ap (λ (x : Inside). x.entry.body) c.row-inside.view_is ∙ ap (λ (r : NamedCorr). r.entry.body) c.row.view_is) (ap (λ (r : NamedCorr). r.who) c.row.view_is)),
     )
 
@@ -58,4 +58,4 @@ returns-clause-texts c =
     let rows = c.args.rows.items in
     let given = c.into_iter-row-iterator.ensures.into_iter_gives in
     let end = YieldsList-end (YieldsList-from_vec {s = c.into_iter-row-iterator.result} rows given.0 (given.1 ∙ c.args.rows.ok.0)) c.loop-row.yielded c.loop-row.row-iterator c.loop-row.yielded_by c.next.result c.next.new.self c.in-None.is c.next.ensures.steps in
-    subst (All (HasTexts tables.NamedCorr)) (sym (map-id c.loop-row.yielded) ∙ end.0) c.loop-row.invariant.2
+    subst (All (HasUtf8Texts tables.NamedCorr)) (sym (map-id c.loop-row.yielded) ∙ end.0) c.loop-row.invariant.2
