@@ -17,7 +17,7 @@ moved_span start removed added span =
       touched = true;
     })
 
--- the mark after so many characters from a place on gave way to others: with what becomes of the span that it covers
+-- the mark after so many characters from a place on gave way to others
 abbrev pub mark_moved_by : (start removed added : ℕ) → Mark → Mark
 mark_moved_by start removed added mark =
     let span = moved_span start removed added (record { start = mark.start; end = mark.end; touched = mark.touched }) in

@@ -45,7 +45,7 @@ is_after id Front = false
 is_after id End = false
 is_after id (Para other) = other == id
 
--- the paragraphs with the one with this id taken out from among the others and put elsewhere; after itself it stays
+-- the paragraphs with the one with this id taken out and put elsewhere; after itself it stays
 abbrev pub with_move : ℕ → Anchor → Book → List Paragraph
 with_move id anchor book =
     let others = filter (λ paragraph. not (paragraph.id == id)) book.paragraphs in

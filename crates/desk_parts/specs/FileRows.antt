@@ -32,7 +32,7 @@ abbrev pub table_of : EntryRows → FileTable
 table_of (Unnamed corrs) = tables.Corr
 table_of (Named corrs) = tables.NamedCorr
 
--- the entries, of which one of the first format is that of a proofreader without a name
+-- The entries; one of the first format is that of a proofreader without a name.
 abbrev pub entries_in : EntryRows → List NamedCorr
 entries_in (Unnamed corrs) = map (λ corr. record { entry = corr; who = [] }) corrs
 entries_in (Named corrs) = corrs

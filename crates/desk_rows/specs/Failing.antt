@@ -29,7 +29,7 @@ pub record Putting (S : Type 0) : Type 1 where
   pub stops : Held S → State → Error → Type 0
   pub puts : Held S → Held S → Type 0
 
--- What an iterator gives, each item by its statement: one stops it that isn't put after those before it.
+-- What an iterator gives, each item by its statement; the first that isn't put stops it.
 abbrev pub of_items : {S I : Type 0} → Ghosts S → (I → Option Put → I → Type 0) → I → Putting S
 of_items {S} {I} g gives it = record {
   stops = λ old new e. (lent : List Put) × (next : Put) × (rest : I) × YieldsThen gives it lent (Some next) rest

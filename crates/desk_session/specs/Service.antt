@@ -94,7 +94,7 @@ IsHonest Output read ends = ends.WritesFail
 IsHonest Lost read ends = Unit {0}
 
 -- All replies are flushed, unless a write or a flush failed. If a command was lost, the writer has taken the whole reply to each
--- request, also the one that reports it, and all are flushed, or it can fail.
+-- request, including the one that reports the loss, and all are flushed, or the writer can fail.
 abbrev pub EndsFlushed : Ended → List Turn → SessionEnds → Type 0
 EndsFlushed Done turns ends = (turns ≡ []) ⊎ IsFlushed ends.written ends.flushed
 EndsFlushed Input turns ends = (turns ≡ []) ⊎ IsFlushed ends.written ends.flushed

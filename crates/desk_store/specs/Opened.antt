@@ -85,7 +85,7 @@ TellsOfNone make g old new NoMemory = make ≡ true
 
 -- ---- the tables that a book's file lacks
 
--- what a file lacks of a table for entries with names and one for the cells of the paragraphs, if it lacks any, by its rows
+-- which of two tables, one for entries with names and one for the cells of the paragraphs, a file with these rows lacks, if any
 abbrev pub lacking : EntryRows → Option (List ParaCells) → Option NewTables
 lacking (Unnamed entries) None = Some EntriesAndBraille
 lacking (Unnamed entries) (Some cells) = Some Entries
@@ -98,7 +98,7 @@ which_new EntriesAndBraille = tables.Cache ∷ tables.NamedCorr ∷ []
 which_new Entries = tables.NamedCorr ∷ []
 which_new Braille = tables.Cache ∷ []
 
--- those that a layout lacks, in the same order, and the layout with them
+-- of these two, those that a layout lacks, in the same order, and the layout with them
 abbrev pub missing_tables : Layout → List FileTable
 missing_tables l = filter (λ t. not (l.has t)) (tables.Cache ∷ tables.NamedCorr ∷ [])
 
@@ -179,7 +179,7 @@ pub record StopsFilling {S : Type 0} (g : Ghosts S) (tables : NewTables) (book :
   pub error : Error
   pub fails : FailsToChange g (which_new tables) (of_items g LendsFirst puts) (with_transaction old) new error
   pub why : DatabaseFault
-  pub is_why : IsToldAs error why
+  pub is_caused : IsToldAs error why
   pub is_told : told ≡ filled_as why
   pub as_before : ShowsAsBefore (state g old) new
 
@@ -205,8 +205,8 @@ pub record AnswersBook (make : Bool) (old new : State) (result : Result Book Ope
   pub found : IfOk result (λ book. ShowsIn old book ⊎ IsMadeNew make book old new)
   pub shown : (book : Book) → RowsShowIn old book → FindsBook (λ found. found ≡ book) result
 
--- What is reported: exactly this if the tables that are there, or those that are read in a file of a format, are declared as those of a new
--- file, and of any file that has none of them.
+-- What is reported: exactly this if the tables of a book that are there, or those that are read in a file of a format, are declared as
+-- those of a new file, and of any file that has none of a book's tables.
 pub record Reports {S : Type 0} (g : Ghosts S) (make : Bool) (old : Held S) (new : State) (fault : OpenFault)
     : Type 0 where
   pub declared : (l : Layout) (c : Contents) → (¬ HasNone l.schema) → IsExact l ⊎ IsOfEither l

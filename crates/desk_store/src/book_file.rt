@@ -196,7 +196,8 @@ pub(crate) fn read_parts<S: Alter>(
     // What is refused shows no book, in any file.
     ensures unrefused { HasCleanDisk (state S.Store conn.new) → (book : Book)
         → RowsShowIn (state S.Store conn.old) book → IfErr result (λ fault. ¬ IsRefusal fault) }
-    // If the tables that are there are declared as those of a new file, this is reported.
+    // If the tables that are there, or those that are read in a file of a format, are declared as those of a new file, this is
+    // reported.
     ensures told { HasCleanDisk (state S.Store conn.new) → (l : Layout) (c : Contents)
         → IsExact l ⊎ IsOfEither l → ShowsContents l c (state S.Store conn.old)
         → IfErr result (TellsOf l c) }

@@ -67,8 +67,9 @@ pub fn left_at_any_exit<S: Alter>(conn: &Connection<S>)
         → LeavesOneOf (book ∷ next ∷ []) (state S.Store conn.now) }
 {}
 
-/// A file whose tables are declared as those of a new one shows a book exactly if its row of `book` is sound, its tables can be read and
-/// there is no damage. Nothing for which a file is refused is then reported of it; and of any other file at most one such thing.
+/// A file whose tables, or those of them that are read in a file of a format, are declared as those of a new one shows a book exactly if
+/// its row of `book` is sound, its tables can be read and there is no damage. Nothing for which a file is refused is then reported of it;
+/// and of any other file at most one such thing.
 pub fn files_that_show_a_book()
     ensures book { (l : Layout) (c : Contents) → IsExact l ⊎ IsOfEither l
         → (HasBook l c ↔ IsUndamaged l c) }

@@ -42,7 +42,7 @@ returns-in-Err-clause-stops g c clean = record {
   fails = subst (λ (tables : List FileTable). FailsToChange g.S.Store tables (of_items g.S.Store LendsFirst c.filling.result) (with_transaction c.args.conn.now) (state g.S.Store c.write_with_tables.new.conn) c.in-Err.error)
       c.file_tables.ensures (c.in-Err.ensures.commits clean).fails;
   why = c.stopped_by.ensures.told.0;
-  is_why = c.stopped_by.ensures.told.1;
+  is_caused = c.stopped_by.ensures.told.1;
   is_told = c.stopped_by.ensures.told.2;
   as_before = (c.in-Err.ensures.commits clean).as_before;
 }
