@@ -11,7 +11,6 @@ use Rattle.sqlite.specs.declared.error.Error.{Error}
 use Rattle.sqlite.specs.Effect.{Database}
 use Rattle.sqlite.specs.Held.{Held, state}
 use Rattle.sqlite.specs.State.{State, KeepsCommit, ExecutesInside, store_error}
-use Rattle.desk_parts.specs.declared.file_table.FileTable.{FileTable}
 use Rattle.desk_parts.specs.declared.file_table.FileTable.TheVariants as tables
 use Rattle.desk_parts.specs.declared.put.Put.{Put}
 use Rattle.desk_parts.specs.Puts.{RowPut, PutRow, SetColumns, Flags, Place, Print, Resolved, Span, Table, Version, change_of, put_of, table_put}

@@ -1,5 +1,5 @@
 -- When a file shows a book, and that at most one refusal is reported of any other.
-use Rattle.std.proofs.Common.{◌≡◌, ◌⊎◌, ◌∙◌, ℤ, pos, ◌≤ℤ◌, List, [], ◌∷◌, map, inl, inr, arith, refl, sym, subst, ap, ap₂, true≢false}
+use Rattle.std.proofs.Common.{◌≡◌, ◌⊎◌, ◌∙◌, ℤ, pos, ◌≤ℤ◌, List, [], ◌∷◌, inl, inr, arith, refl, sym, subst, ap, ap₂, true≢false}
 use Rattle.std.specs.List.{AllByRecursion}
 use Rattle.std.proofs.lemmas.Int.{ints}
 use Rattle.std.proofs.lemmas.List.Elements.{All-from_recursion}

@@ -1,5 +1,5 @@
 -- A book that stands in a file is never refused there.
-use Rattle.std.proofs.Common.{◌≡◌, pos, Bool, List, [], ◌∷◌, map, inl, inr, arith, refl, sym, subst, ap, ◌∙◌, true≢false}
+use Rattle.std.proofs.Common.{◌≡◌, pos, Bool, List, [], ◌∷◌, inl, inr, arith, refl, sym, subst, ap, ◌∙◌, true≢false}
 use Rattle.std.specs.Prelude.{◌≤ℤ◌, if◌then◌else◌, Result, Ok, Err}
 use Rattle.std.specs.List.{AllByRecursion}
 use Rattle.std.proofs.lemmas.Int.{ints}

@@ -1,5 +1,5 @@
 -- Histories, marks, refusals and their order, worked by the definitions alone: they say what these rows say, and not only what the code does.
-use Rattle.std.proofs.Common.{◌≡◌, ℕ, ◌≤◌, Bool, true, false, List, [], ◌∷◌, ◌++◌, Ok, length, map, refl, sym, ap, subst, ◌∙◌, arith, lit<, lit≤}
+use Rattle.std.proofs.Common.{◌≡◌, ℕ, ◌≤◌, Bool, true, false, List, [], ◌∷◌, ◌++◌, Ok, map, refl, sym, subst, arith, lit<, lit≤}
 use Rattle.std.specs.Prelude.{Some, None}
 use Rattle.std.specs.Str.{IsUtf8, chars}
 use Rattle.std.proofs.lemmas.List.Elements.{All-cons, All-nil}
@@ -24,7 +24,7 @@ use Rattle.desk_command.specs.declared.refusal.Refusal.{Refusal}
 use Rattle.desk_command.specs.declared.refusal.Refusal.TheVariants.{Moved, BadName, BadReader, BadText, NoParagraph, NoTable, NoMark, Struck, NotStruck, Resolved, BadSpan, NothingToUndo, TooLong, Full, BadTable, Undefined, Untranslatable, NoMemory}
 use Rattle.desk_command.specs.declared.command.Command.TheVariants.{Correct, Undo, Strike, Restore}
 use Rattle.desk_command.specs.declared.style.Style.TheVariants.{Body}
-use Rattle.desk_model.specs.Book.{Book, Paragraph, Replacement, Entry, Corrects, Undoes, Mark, new_mark, paragraph_of}
+use Rattle.desk_model.specs.Book.{Book, Paragraph, Replacement, Entry, Corrects, Undoes, Mark, new_mark}
 use Rattle.desk_model.specs.Print.{corrected_print, newest, stack}
 use Rattle.desk_model.specs.Marks.{mark_moved, mark_moved_back}
 use Rattle.desk_model.specs.Judging.{Passes}
@@ -37,7 +37,7 @@ use Rattle.desk_model.specs.Step.{Makes}
 use Rattle.desk_model.specs.NormalForm.{IsUnbarred, is_barred}
 use Rattle.desk_model.proofs.Commands.Expecting.{moved}
 use Rattle.desk_model.proofs.Commands.Judging.{IsRefused-passes, Passes-past}
-use Rattle.desk_model.proofs.Commands.Turns.{passes_to, past_text, same_some, to_turn, past_fit, past_lengths, past_one, past_there, past_version, not_longer}
+use Rattle.desk_model.proofs.Commands.Turns.{passes_to, past_text, to_turn, past_fit, past_lengths, past_one, past_there, past_version, not_longer}
 
 -- `The cat`
 abbrev the_cat : List ℕ
