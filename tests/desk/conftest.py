@@ -23,6 +23,15 @@ signal.signal(signal.SIGINT, signal.default_int_handler)
 SAMPLE = Path(__file__).resolve().parents[2] / "sample"
 
 
+@pytest.fixture(scope="session", autouse=True)
+def state_home(tmp_path_factory: pytest.TempPathFactory) -> Iterator[Path]:
+    """The folder in which the tests keep what isn't in a book yet, each book by its own path."""
+    home = tmp_path_factory.mktemp("state")
+    with pytest.MonkeyPatch.context() as patched:
+        patched.setenv("XDG_STATE_HOME", str(home))
+        yield home
+
+
 @pytest.fixture(scope="session")
 def program() -> str:
     """The path of the program that is tried."""

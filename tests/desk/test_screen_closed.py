@@ -6,6 +6,7 @@ from pathlib import Path
 
 import pytest
 
+from scribe.drafts import Drafts
 from stand_in import KEPT, READ, WAIT
 from terminal import Open, Terminal, once_free, standing_in
 
@@ -49,8 +50,7 @@ def test_print_that_is_edited_is_offered_again(moon: Path, at: Open, way: str) -
     again.wait("Oh, The Tides")
     again.keys("enter")
     again.wait("kept: correction 1 of paragraph 2")
-    with_draft = moon.with_name("moon.braildesk-unsent")
-    assert not with_draft.exists()
+    assert Drafts(moon).waiting() is None
 
 
 @pytest.mark.parametrize("way", WAYS)
@@ -144,4 +144,5 @@ def test_a_question_about_a_text_stays_where_it_isnt_answered(
     again.wait("The session ended.")
     again.keys("q")
     assert again.ended() == 3
-    assert "Oh, The moon" in moon.with_name("moon.braildesk-unsent").read_text()
+    waits = Drafts(moon).waiting()
+    assert waits and waits.text == "Oh, The moon is far away."

@@ -11,9 +11,9 @@ import pytest
 import braildesk
 from braildesk import Kind, Session, requests
 from scribe.cells import braille_patterns
+from scribe.draft import Aim, Draft
+from scribe.drafts import Drafts
 from scribe.screen.desk import Desk
-from scribe.screen.draft import Draft, path_beside, save
-from scribe.screen.field import Purpose
 from scribe.screen.preview import Tables
 from scribe.screen.state import Preview, Size
 from sitting import Sat, Sit
@@ -348,18 +348,18 @@ def test_a_killed_session_says_what_was_kept_and_keeps_what_was_typed(
     again.press("y", "enter")
     assert again.lines[0].endswith("kept: paragraph 4")
     assert [each.id for each in again.state.book] == [1, 2, 4, 3]
-    assert not again.desk.draft_path.exists()
+    assert again.desk.drafts.waiting() is None
 
 
 def test_a_text_that_waits_can_be_left_out(moon: Path, sit: Sit) -> None:
-    save(path_beside(moon), Draft(Purpose.EDIT, 2, "en", "The Tides", "The Tide"))
+    Drafts(moon).save(Draft(Aim.EDIT, 2, "en", "The Tides", "The Tide"))
     sat = sit(moon)
     assert sat.lines[-2:] == [
         "A text of paragraph 2 was typed and not sent: “The Tide”. Shall it be typed",
         "further? y is yes, n is no.",
     ]
     sat.press("q", "n")
-    assert sat.state.typed is None and not sat.desk.draft_path.exists()
+    assert sat.state.typed is None and sat.desk.drafts.waiting() is None
     assert sat.lines[8] == "The Tides"
 
 

@@ -11,6 +11,7 @@ from pathlib import Path
 import pytest
 
 from braildesk import Mark, Session
+from scribe.drafts import Drafts
 from stand_in import ANSWERED, HALF, KEPT, KILL_PROGRAM, KILL_SCRIBE, READ
 from terminal import WAIT_SECONDS, Open, Terminal, once_free, standing_in
 
@@ -119,9 +120,9 @@ def test_what_was_typed_two_seconds_before_scribe_is_killed_is_offered_again(
     terminal.wait("? shows all keys.")
     terminal.keys("enter", "Oh, ")
     terminal.wait("Oh, The moon is far away.")
-    kept = moon.with_name("moon.braildesk-unsent")
+    drafts = Drafts(moon)
     end = time.monotonic() + WAIT_SECONDS
-    while not (kept.exists() and "Oh, The moon" in kept.read_text()):
+    while not ((waits := drafts.waiting()) and waits.text.startswith("Oh, The moon")):
         assert time.monotonic() < end
         time.sleep(0.01)
     terminal.send_signal(signal.SIGKILL)

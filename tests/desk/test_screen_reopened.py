@@ -37,7 +37,7 @@ def test_enter_opens_the_book_again_with_what_was_typed(moon: Path, sit: Sit) ->
     ]
     sat.press("y", "enter")
     assert sat.state.kept == "kept: correction 1 of paragraph 2"
-    assert not sat.desk.draft_path.exists()
+    assert sat.desk.drafts.waiting() is None
 
 
 @pytest.mark.parametrize("far, version", [(READ, 7), (HALF, 7), (KEPT, 8)])
@@ -85,7 +85,7 @@ def test_a_command_that_was_under_way_is_found_in_the_book_or_offered(
     assert (sat.state.version, sat.state.is_lost) == (version, False)
     if far == KEPT:
         assert sat.state.message == f"What was typed last is in the book, {where}"
-        assert sat.state.question is None and not sat.desk.draft_path.exists()
+        assert sat.state.question is None and sat.desk.drafts.waiting() is None
         return
     assert sat.state.question and sat.state.question.sentence.startswith(offered)
     sat.press("y", "enter")
@@ -138,20 +138,19 @@ def test_a_session_that_fails_or_answers_nonsense_is_left_in_words(
     assert sat.state.kept == "kept: correction 2 of paragraph 1"
 
 
-def test_what_was_typed_is_offered_where_it_could_not_be_kept_beside_the_book(
-    moon: Path, sit: Sit
+def test_what_was_typed_is_offered_where_it_could_not_be_kept_in_a_file(
+    moon: Path, sit: Sit, monkeypatch: pytest.MonkeyPatch
 ) -> None:
+    monkeypatch.setenv("XDG_STATE_HOME", str(moon))
     sat = sit(moon)
-    sat.desk.draft_path.mkdir()
     sat.press("down", "enter")
     sat.write("Oh, ")
     killed(sat)
     assert sat.state.pages and sat.state.pages.lines[1:] == (
         "This was typed, and was not reported as kept:",
         "Oh, The Tides",
-        "What is typed can't be kept beside the book: Is a directory.",
+        f"What is typed can't be kept in {moon}/braildesk: Not a directory.",
     )
-    assert [each.name for each in moon.parent.glob(".moon*")] == []
     sat.press("enter", "y", "enter")
     assert sat.state.kept == "kept: correction 1 of paragraph 2"
 

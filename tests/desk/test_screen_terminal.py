@@ -6,6 +6,7 @@ import signal
 from pathlib import Path
 
 from braildesk import Session
+from scribe.drafts import Drafts
 from terminal import Open
 
 #: What sets a colour of letters or of what is behind them.
@@ -62,7 +63,8 @@ def test_a_killed_session_leaves_what_the_screen_said_was_kept(
     assert terminal.ended() == 3
     with Session(moon) as session:
         assert session.seen == 8 and session.list()[1].struck
-    assert "It rose." in moon.with_name("moon.braildesk-unsent").read_text()
+    waits = Drafts(moon).waiting()
+    assert waits and waits.text == "It rose."
 
 
 def test_a_terminal_that_is_closed_leaves_the_text_which_is_offered_again(
@@ -74,7 +76,8 @@ def test_a_terminal_that_is_closed_leaves_the_text_which_is_offered_again(
     terminal.wait("Oh, The moon is far away.")
     terminal.hang_up()
     terminal.left()
-    assert "Oh, The moon" in moon.with_name("moon.braildesk-unsent").read_text()
+    waits = Drafts(moon).waiting()
+    assert waits and waits.text == "Oh, The moon is far away."
     again = at(moon, LC_ALL="C", TERM="linux")
     again.wait("further? y is yes, n is no.")
     again.keys("y")

@@ -47,7 +47,7 @@ def test_escape_at_a_prompt_leaves_the_book_as_it_was(
     sat.press("c-right", key, "q", "x", "escape")
     assert sat.state.message == "Given up. Nothing was sent."
     assert (sat.state.version, sat.state.typed, sat.state.is_over) == (7, None, False)
-    assert not sat.desk.draft_path.exists()
+    assert sat.desk.drafts.waiting() is None
     check(sat)
     check_book(sat)
 

@@ -4,7 +4,7 @@
 for: a state, and a command or an errand that goes with it. `desk` sends those to the session with
 the book and gives the state after them. `terminal` alone knows the terminal, and `encoding` what
 characters it has. `field` is a text that is being typed, `rows` parts a text into lines, `preview`
-translates what isn't in the book yet, and `draft` keeps it beside the book.
+translates what isn't in the book yet, and `draft` says what of it has to be kept.
 
 Of what is drawn, `body` has the print and the braille of a paragraph, `signs` those signs in them
 that say what is marked, `pager` what is looked at in place of the book, and `lines` what all of

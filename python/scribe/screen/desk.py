@@ -9,14 +9,16 @@ from braildesk import DeskError, Lost, Refused, Session, check, requests, tables
 from braildesk.requests import Command, Request
 
 from scribe.cells import NotCells, braille_patterns
+from scribe.draft import Aim, Draft
+from scribe.drafts import Drafts, NotKept
 from scribe.excerpt import opening
 from scribe.occurrences import Occurrence
 from scribe.paragraph import mark_line, quoted
 from scribe.queries import shown
 from scribe.readings import Reading, answers
-from scribe.screen import draft, keys, pagelook, pager, search
+from scribe.screen import keys, pagelook, pager, search
 from scribe.screen.aside import done_aside
-from scribe.screen.draft import Draft
+from scribe.screen.draft import draft_of, field_of
 from scribe.screen.errands import (
     Errand,
     ExportTo,
@@ -62,10 +64,11 @@ class Desk:
 
     def __init__(self, path: Path) -> None:
         self.path = path
-        self.draft_path = draft.path_beside(path)
+        self.drafts = Drafts(path)
         self.tables = Tables()
         self._session: Session
-        self._saved = draft.read(self.draft_path)
+        self._saved: Draft | None = None
+        self._notices = self._take_up()
         self._was_changed = self._open()
 
     @property
@@ -130,19 +133,18 @@ class Desk:
         return state
 
     def save_draft(self, state: State) -> State:
-        """Keeps what is typed beside the book, and takes it away once nothing waits there."""
-        typed = draft.draft_of(state)
+        """Keeps what is typed until the book has it, and takes it away once nothing waits."""
+        typed = draft_of(state)
         waits = state.question is not None and state.question.draft is not None
         if waits or typed == self._saved:
             return state
         try:
             if typed is None:
-                self.draft_path.unlink(missing_ok=True)
+                self.drafts.clear()
             else:
-                draft.save(self.draft_path, typed)
-        except OSError as error:
-            why = f"What is typed can't be kept beside the book: {error.strerror}."
-            return state.saying(why)
+                self.drafts.save(typed)
+        except NotKept as fault:
+            return state.saying(fault.sentence)
         self._saved = typed
         return state
 
@@ -191,8 +193,22 @@ class Desk:
             state = replace(state, place=place, lit=light)
         return state
 
+    def _take_up(self) -> tuple[str, ...]:
+        """Reads what waits from before, and says what of it can't be read."""
+        notices = []
+        try:
+            self.drafts.take_in()
+        except NotKept as fault:
+            notices.append(fault.sentence)
+        try:
+            self._saved = self.drafts.waiting()
+        except NotKept as fault:
+            notices.append(fault.sentence)
+        return tuple(notices)
+
     def _greeting(self) -> str:
-        return "" if self._saved else "? shows all keys."
+        found = " ".join(self._notices)
+        return found or ("" if self._saved else "? shows all keys.")
 
     def _openings(self, numbers: list[int]) -> dict[int, Opening]:
         asked: list[Request[Any]] = []
@@ -259,16 +275,16 @@ class Desk:
         if places:
             state = state.at(places[0])
             now = self._session.print(state.book[places[0]].id)
-            if not saved.purpose.is_new and now != saved.before:
+            if not saved.aim.is_new and now != saved.before:
                 changed = " The print there has been changed since."
         sentence = (
             f"{saved.what} was typed and not sent: {quoted(saved.joined)}.{changed} Shall it be"
             " typed further?"
         )
-        field = saved.field
-        if saved.purpose is Purpose.NOTE and places:
+        field = field_of(saved)
+        if saved.aim is Aim.NOTE and places:
             state = self._on_cells(state, saved)
-        elif not places and not saved.purpose.is_new:
+        elif not places and not saved.aim.is_new:
             field = Field(Purpose.AFTER, saved.text, len(saved.text))
         state = replace(state, table=saved.table or state.table)
         return replace(state, question=Question(sentence, draft=field))
@@ -282,14 +298,14 @@ class Desk:
         if saved.version is None or state.version <= saved.version or not numbers:
             return ""
         text = composed(saved.first_line)
-        if saved.purpose.is_new:
+        if saved.aim.is_new:
             newest = max(numbers)
             is_there = composed(self._session.print(newest)) == text
             return f"as paragraph {newest}" if is_there else ""
         number = saved.paragraph
         if number is None or number not in numbers:
             return ""
-        if saved.purpose is Purpose.EDIT:
+        if saved.aim is Aim.EDIT:
             is_there = composed(self._session.print(number)) == text
             return f"in paragraph {number}" if is_there else ""
         marks = self._session.marks(number)
@@ -342,7 +358,7 @@ class Desk:
 
     def _opened_anew(self, state: State, said: str) -> State:
         """The book as it is now, in another session, with what was typed offered again."""
-        waits = draft.draft_of(state) or self._saved
+        waits = draft_of(state) or self._saved
         try:
             self._session.close()
             self._open()
@@ -369,10 +385,10 @@ class Desk:
                 "This was typed, and was not reported as kept:",
                 visible(state.typed.text),
             ]
-        if self._saved is not None and self._saved == draft.draft_of(state):
+        if self._saved is not None and self._saved == draft_of(state):
             lines.append(
-                f"It is saved in {self.draft_path}, and is offered when the book is opened"
-                " again."
+                "It is kept, and is offered when the book is opened again. Until then it is in"
+                f" {self.drafts.place}."
             )
         elif state.message:
             lines.append(state.message)
@@ -381,7 +397,7 @@ class Desk:
 
     def _sent(self, state: State, command: Command[Any]) -> State:
         """Sends a command; only what its `ok` says is said to be kept."""
-        # what is sent is kept beside the book until the book has it
+        # what is sent is kept until the book has it
         state = self.save_draft(state)
         before, typed = state.reading, state.typed
         try:

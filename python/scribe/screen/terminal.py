@@ -33,7 +33,7 @@ _KEYS = (
     "up down left right home end pageup pagedown c-home c-end c-left c-right escape delete"
 ).split()
 _OTHERS = {"c-m": "enter", "c-i": "tab", "c-h": "backspace"}
-# how often what is typed is kept beside the book
+# how often what is typed is kept
 _SAVE_SECONDS = 1.0
 # how long Escape waits for a key that would make it Alt
 _ESCAPE_SECONDS = 0.1
@@ -201,7 +201,7 @@ class Screen:
         self._app.invalidate()
 
     async def _keep(self) -> None:
-        """Keeps what is typed beside the book, again and again."""
+        """Keeps what is typed, again and again."""
         while True:
             await asyncio.sleep(_SAVE_SECONDS)
             if self.state.typed:
@@ -223,7 +223,7 @@ class Screen:
         self._leave()
 
     def _leave(self) -> None:
-        """What ends scribe from outside: what is typed is kept beside the book."""
+        """What ends scribe from outside: what is typed is kept."""
         self.state = self._desk.save_draft(self.state)
         # a terminal that is closed and a shell that ends may both send a signal
         if not self.state.is_over:

@@ -1,0 +1,191 @@
+"""What a person typed for a book and the book doesn't have yet, kept in a folder of their own.
+
+The folder is `braildesk` under `XDG_STATE_HOME`, else under `~/.local/state`, and not beside the
+book: a book may come from anybody and lie where others write. Files there are named by the book's
+path; they say that path, and the device and the inode of the book's file.
+"""
+
+import hashlib
+import json
+import os
+import pwd
+from collections.abc import Callable
+from pathlib import Path
+from typing import TypeVar
+
+from scribe.draft import Draft, draft_in
+from scribe.own_folder import MOST_BYTES, OwnFolder, Unfit, bytes_of, opened
+from scribe.record import NotSuch, Record
+from scribe.status import Stop
+
+#: How many texts that were given up are kept for a book.
+MOST_GIVEN_UP = 10
+_WAITING, _GIVEN_UP = "unsent", "given-up"
+_Kept = TypeVar("_Kept")
+
+
+class NotKept(Stop):
+    """Something can't be kept, or what was kept can't be read; the sentence says what and why."""
+
+
+class Drafts:
+    """The texts of one book that wait, and those that were given up."""
+
+    def __init__(self, book: Path) -> None:
+        self.book = Path(os.path.realpath(book))
+        self._key = hashlib.sha256(os.fsencode(self.book)).hexdigest()[:32]
+        self._folder = OwnFolder(_state_home() / "braildesk")
+
+    @property
+    def place(self) -> Path:
+        """The file of the text that waits."""
+        return self._folder.path / self._name(_WAITING)
+
+    @property
+    def _where(self) -> str:
+        path = self._folder.path
+        return f" in {path}" if path.is_absolute() else ""
+
+    def waiting(self) -> Draft | None:
+        """The text that waits, none where there is none."""
+        return self._read(_WAITING, draft_in)
+
+    def save(self, draft: Draft) -> None:
+        """Has a text wait, in place of the one that did."""
+        self._write(_WAITING, draft.values())
+
+    def clear(self) -> None:
+        """Takes away the text that waits: the book has it, or nobody wants it."""
+        self._remove(_WAITING)
+
+    def give_up(self, draft: Draft) -> None:
+        """Has a text wait no more, and keeps it as the newest of the last ten given up."""
+        self._add_given_up(draft)
+        self._remove(_WAITING)
+
+    def given_up(self) -> tuple[Draft, ...]:
+        """The texts that were given up, the newest first."""
+        return self._read(_GIVEN_UP, _drafts_in) or ()
+
+    def take_in(self) -> None:
+        """Moves in what an older scribe left beside the book.
+
+        It is read if it is a regular file of one's own, with one name and of a moderate size, and
+        is a draft; else it stays where it is, which `NotKept` says.
+        """
+        self._clear_left()
+        beside = self.book.name + "-unsent"
+        try:
+            with opened(self.book.parent) as folder:
+                found = draft_in(Record.of(bytes_of(folder, beside)))
+                if not os.access(".", os.W_OK, dir_fd=folder):
+                    raise Unfit("its folder can't be written")
+                if self.waiting() is None:
+                    self.save(found)
+                else:
+                    self._add_given_up(found)
+                os.unlink(beside, dir_fd=folder)
+        except FileNotFoundError:
+            return
+        except NotSuch as cause:
+            raise self._left(beside, "it is no such text") from cause
+        except OSError as cause:
+            raise self._left(beside, cause.strerror) from cause
+
+    def _add_given_up(self, draft: Draft) -> None:
+        others = [each for each in self.given_up() if each.text != draft.text]
+        values = [each.values() for each in (draft, *others)][:MOST_GIVEN_UP]
+        while len(values) > 1 and len(json.dumps(values)) > MOST_BYTES // 2:
+            values.pop()
+        self._write(_GIVEN_UP, {"texts": values})
+
+    def _left(self, name: str, why: str) -> NotKept:
+        path = self.book.with_name(name)
+        return NotKept(
+            f"{path} isn't taken as a text that waits: {why}. It was left as it is."
+        )
+
+    def _clear_left(self) -> None:
+        try:
+            self._folder.clear_left()
+        except OSError:
+            # what matters is said where something is read or kept
+            pass
+
+    def _name(self, what: str) -> str:
+        return f"{self._key}.{what}"
+
+    def _read(self, what: str, taken: Callable[[Record], _Kept]) -> _Kept | None:
+        """What was kept, none where nothing was.
+
+        What isn't such a thing is set aside, so that nothing is written over it.
+        """
+        path = self._folder.path / self._name(what)
+        try:
+            data = self._folder.read(path.name)
+            return None if data is None else taken(Record.of(data))
+        except NotSuch as cause:
+            raise NotKept(
+                f"{path} can't be read as what scribe kept there for the book."
+                f" {self._set_aside(path)} The book is as it was."
+            ) from cause
+        except OSError as cause:
+            raise NotKept(f"{path} can't be read: {cause.strerror}.") from cause
+
+    def _set_aside(self, path: Path) -> str:
+        aside = path.name + ".unreadable"
+        try:
+            self._folder.rename(path.name, aside)
+        except OSError as cause:
+            return f"It can't be set aside: {cause.strerror}."
+        return f"It is kept as {aside}."
+
+    def _write(self, what: str, values: dict[str, object]) -> None:
+        of_book = {"book": str(self.book), "file": _identity(self.book)}
+        whole: dict[str, object] = {**of_book, **values}
+        data = json.dumps(whole, ensure_ascii=True, indent=1) + "\n"
+        try:
+            self._folder.write(self._name(what), data.encode())
+        except OSError as cause:
+            raise NotKept(
+                f"What is typed can't be kept{self._where}: {cause.strerror}."
+            ) from cause
+
+    def _remove(self, what: str) -> None:
+        try:
+            self._folder.remove(self._name(what))
+        except OSError as cause:
+            raise NotKept(
+                f"What was typed can't be taken out of {self._folder.path}:"
+                f" {cause.strerror}."
+            ) from cause
+
+
+def _drafts_in(kept: Record) -> tuple[Draft, ...]:
+    return tuple(map(draft_in, kept.records("texts")))
+
+
+def _identity(book: Path) -> list[int] | None:
+    """The device and the inode of a book's file, none where it isn't there."""
+    try:
+        found = book.stat()
+    except OSError:
+        return None
+    return [found.st_dev, found.st_ino]
+
+
+def _state_home() -> Path:
+    """Where programs keep the state of their work for this user."""
+    named = Path(os.environ.get("XDG_STATE_HOME", ""))
+    return named if named.is_absolute() else _home() / ".local" / "state"
+
+
+def _home() -> Path:
+    """The home folder of this user; a path that isn't absolute where none is known."""
+    named = os.environ.get("HOME", "")
+    if named:
+        return Path(named)
+    try:
+        return Path(pwd.getpwuid(os.geteuid()).pw_dir)
+    except KeyError:
+        return Path()

@@ -1,0 +1,414 @@
+"""Texts that wait for a book: where they are kept, and what is never read as one or written over."""
+
+import json
+import os
+import shutil
+import stat
+import subprocess
+import sys
+import tempfile
+from collections.abc import Callable, Iterator
+from pathlib import Path
+
+import pytest
+from hypothesis import given
+from hypothesis import strategies as st
+
+from scribe.draft import Aim, Draft, draft_in
+from scribe.drafts import Drafts, NotKept
+from scribe.occurrences import Occurrence
+from scribe.own_folder import MOST_BYTES
+from scribe.record import NotSuch, Record
+from sitting import Sit
+
+NOTE = Draft(Aim.NOTE, 3, "en", "The Tides", "which?\nwhy?", Occurrence(2, 4), 9)
+FORGED = {
+    "purpose": "EDIT",
+    "paragraph": 2,
+    "table": "en",
+    "before": "The Tides",
+    "text": "The Tide",
+    "cells": None,
+    "version": 7,
+}
+NOBODY = 65_534
+
+
+@pytest.fixture
+def store(tmp_path: Path, monkeypatch: pytest.MonkeyPatch) -> Path:
+    """The folder of the drafts of this test, which isn't made yet."""
+    monkeypatch.setenv("XDG_STATE_HOME", str(tmp_path / "home" / "state"))
+    return tmp_path / "home" / "state" / "braildesk"
+
+
+@pytest.fixture
+def beside(moon: Path, store: Path) -> Path:
+    """Where an older scribe kept the text that waits for the book `moon`."""
+    return moon.with_name("moon.braildesk-unsent")
+
+
+@pytest.fixture
+def shared(moon_once: Path, store: Path) -> Iterator[Path]:
+    """A book in a folder in which everybody may write, and that isn't sticky."""
+    if os.geteuid() != 0:
+        pytest.skip("only root can be two users")
+    with tempfile.TemporaryDirectory() as folder:
+        os.chmod(folder, 0o777)
+        yield Path(shutil.copyfile(moon_once, Path(folder, "moon.braildesk")))
+
+
+def as_nobody(folder: Path, program: str) -> None:
+    """Runs a program of Python in a folder as another user."""
+    subprocess.run(
+        [sys.executable, "-I", "-c", f"import json, os\n{program}"],
+        cwd=folder,
+        check=True,
+        user=NOBODY,
+        group=NOBODY,
+        extra_groups=[],
+    )
+
+
+def modes(*paths: Path) -> list[str]:
+    return [oct(stat.S_IMODE(path.stat().st_mode)) for path in paths]
+
+
+def test_a_draft_is_kept_in_a_file_that_nobody_else_reads(
+    moon: Path, store: Path
+) -> None:
+    mask = os.umask(0o002)
+    try:
+        Drafts(moon).save(NOTE)
+    finally:
+        os.umask(mask)
+    assert modes(store.parent, store, Drafts(moon).place) == ["0o700", "0o700", "0o600"]
+    assert [each.name for each in store.iterdir()] == [Drafts(moon).place.name]
+    assert not moon.with_name("moon.braildesk-unsent").exists()
+
+
+def test_a_folder_that_others_could_read_is_closed_to_them(
+    moon: Path, store: Path
+) -> None:
+    store.mkdir(parents=True)
+    store.chmod(0o777)
+    Drafts(moon).save(NOTE)
+    assert modes(store) == ["0o700"]
+
+
+def test_a_draft_is_read_back_as_it_was_and_by_each_way_to_the_book(
+    moon: Path, store: Path, monkeypatch: pytest.MonkeyPatch
+) -> None:
+    drafts = Drafts(moon)
+    assert drafts.waiting() is None
+    drafts.save(NOTE)
+    assert drafts.waiting() == NOTE
+    link = moon.with_name("link")
+    link.symlink_to(moon)
+    monkeypatch.chdir(moon.parent)
+    for path in (link, Path("moon.braildesk"), Path("../", moon.parent.name, link)):
+        assert Drafts(path).waiting() == NOTE
+    assert Drafts(moon.with_name("other")).waiting() is None
+    drafts.clear()
+    drafts.clear()
+    assert drafts.waiting() is None
+
+
+def test_the_last_ten_texts_that_were_given_up_are_kept(
+    moon: Path, store: Path
+) -> None:
+    drafts = Drafts(moon)
+    for number in range(12):
+        drafts.save(Draft(Aim.AFTER, 1, "en", "", f"Text {number}."))
+        drafts.give_up(Draft(Aim.AFTER, 1, "en", "", f"Text {number}."))
+        assert drafts.waiting() is None
+    texts = [each.text for each in Drafts(moon).given_up()]
+    assert texts == [f"Text {number}." for number in range(11, 1, -1)]
+
+
+def test_a_text_that_is_given_up_twice_is_kept_once_as_the_newest(
+    moon: Path, store: Path
+) -> None:
+    drafts = Drafts(moon)
+    for text in ("One.", "Two.", "One."):
+        drafts.give_up(Draft(Aim.AFTER, 1, "en", "", text))
+    assert [each.text for each in drafts.given_up()] == ["One.", "Two."]
+
+
+def test_long_texts_that_were_given_up_make_room_for_the_newest(
+    moon: Path, store: Path
+) -> None:
+    drafts = Drafts(moon)
+    for letter in "abc":
+        drafts.give_up(Draft(Aim.AFTER, 1, "en", "", letter * 900_000))
+    assert [each.text[0] for each in drafts.given_up()] == ["c", "b"]
+
+
+def test_a_text_that_is_too_long_is_not_kept_and_the_one_before_it_stays(
+    moon: Path, store: Path
+) -> None:
+    drafts = Drafts(moon)
+    drafts.save(NOTE)
+    with pytest.raises(NotKept) as told:
+        drafts.save(Draft(Aim.AFTER, 1, "en", "", "a" * MOST_BYTES))
+    assert told.value.sentence == (
+        f"What is typed can't be kept in {store}: it has more than 4,194,304 bytes."
+    )
+    assert drafts.waiting() == NOTE
+
+
+def test_bytes_that_are_no_text_are_kept_as_characters_that_say_so(
+    moon: Path, store: Path
+) -> None:
+    Drafts(moon).save(Draft(Aim.AFTER, 1, "en", "", "a\udc80b"))
+    waits = Drafts(moon).waiting()
+    assert waits and waits.text == "a\N{REPLACEMENT CHARACTER}b"
+
+
+def test_what_a_killed_writer_left_is_taken_away_once_it_is_old(
+    moon: Path, store: Path
+) -> None:
+    Drafts(moon).save(NOTE)
+    old, new = store / ".x.unsent.00", store / ".y.unsent.00"
+    old.touch()
+    os.utime(old, (0, 0))
+    new.touch()
+    Drafts(moon).take_in()
+    assert not old.exists() and new.exists() and Drafts(moon).waiting() == NOTE
+
+
+def test_what_an_older_scribe_left_beside_the_book_is_moved_in(
+    moon: Path, beside: Path, sit: Sit
+) -> None:
+    beside.write_text(json.dumps(FORGED))
+    sat = sit(moon)
+    assert " ".join(sat.lines[-2:]) == (
+        "A text of paragraph 2 was typed and not sent: “The Tide”. Shall it be typed"
+        " further? y is yes, n is no."
+    )
+    assert not beside.exists()
+    assert Drafts(moon).waiting() == Draft(
+        Aim.EDIT, 2, "en", "The Tides", "The Tide", None, 7
+    )
+
+
+def test_a_text_beside_the_book_does_not_take_the_place_of_the_one_that_waits(
+    moon: Path, beside: Path
+) -> None:
+    Drafts(moon).save(NOTE)
+    beside.write_text(json.dumps(FORGED))
+    Drafts(moon).take_in()
+    assert Drafts(moon).waiting() == NOTE
+    assert [each.text for each in Drafts(moon).given_up()] == ["The Tide"]
+
+
+def forged(**more: object) -> str:
+    return json.dumps(FORGED | more)
+
+
+def _link(path: Path) -> None:
+    path.with_name("real").write_text(forged())
+    path.symlink_to("real")
+
+
+def _second_name(path: Path) -> None:
+    path.write_text(forged())
+    os.link(path, path.with_name("real"))
+
+
+def _sparse(path: Path) -> None:
+    with open(path, "wb") as file:
+        file.truncate(10 * 2**30)
+
+
+def _written(text: str) -> Callable[[Path], object]:
+    return lambda path: path.write_text(text)
+
+
+ATTACKS: dict[str, tuple[Callable[[Path], object], str]] = {
+    "a link": (_link, "it is a link"),
+    "a link to nothing": (lambda path: path.symlink_to("none"), "it is a link"),
+    "a second name": (_second_name, "it has another name too"),
+    "a FIFO": (os.mkfifo, "it is no regular file"),
+    "a folder": (Path.mkdir, "it is no regular file"),
+    "10 GB": (_sparse, "it has more than 4,194,304 bytes"),
+    "deep JSON": (_written("[" * 100_000), "it is no such text"),
+    "an export": (_written(forged(purpose="FOLDER")), "it is no such text"),
+    "a search": (_written(forged(purpose="WORDS")), "it is no such text"),
+    "no purpose": (_written(forged(purpose=1)), "it is no such text"),
+    "no text": (_written(forged(text=None)), "it is no such text"),
+    "half a character": (_written(forged(text="\ud800")), "it is no such text"),
+    "a path as the table": (_written(forged(table="/" * 40)), "it is no such text"),
+    "true as a number": (_written(forged(paragraph=True)), "it is no such text"),
+    "a list": (_written("[]"), "it is no such text"),
+    "not UTF-8": (lambda path: path.write_bytes(b"\xff"), "it is no such text"),
+}
+
+
+@pytest.mark.parametrize("what", ATTACKS)
+def test_what_lies_beside_the_book_and_is_no_text_of_ones_own_stays_as_it_is(
+    moon: Path, beside: Path, store: Path, sit: Sit, what: str
+) -> None:
+    put, why = ATTACKS[what]
+    put(beside)
+    before = beside.lstat()
+    sat = sit(moon)
+    assert sat.state.message == (
+        f"{beside} isn't taken as a text that waits: {why}. It was left as it is."
+    )
+    sat.press("enter", "O")
+    sat.state = sat.desk.save_draft(sat.state)
+    waits = sat.desk.drafts.waiting()
+    assert waits and waits.text == "OThe moon is far away."
+    after = beside.lstat()
+    assert (after.st_ino, after.st_size, after.st_mtime_ns) == (
+        before.st_ino,
+        before.st_size,
+        before.st_mtime_ns,
+    )
+
+
+def test_a_link_from_a_tar_leads_no_text_into_another_file(
+    moon: Path, beside: Path, sit: Sit
+) -> None:
+    aliases = moon.parent / ".bash_aliases"
+    aliases.write_text("alias ll='ls -l'\n")
+    beside.symlink_to(aliases)
+    sat = sit(moon)
+    sat.press("enter", "O")
+    sat.state = sat.desk.save_draft(sat.state)
+    sat.press("enter")
+    assert sat.state.kept == "kept: correction 2 of paragraph 1"
+    assert aliases.read_text() == "alias ll='ls -l'\n" and beside.is_symlink()
+
+
+def test_a_link_that_another_user_makes_leads_no_text_into_ones_own_file(
+    shared: Path, sit: Sit, tmp_path: Path
+) -> None:
+    mine = tmp_path / ".bash_aliases"
+    mine.write_text("alias ll='ls -l'\n")
+    sat = sit(shared)
+    sat.press("enter", "O")
+    as_nobody(shared.parent, f"os.symlink({str(mine)!r}, 'moon.braildesk-unsent')")
+    sat.state = sat.desk.save_draft(sat.state)
+    sat.press("enter")
+    assert sat.state.kept == "kept: correction 2 of paragraph 1"
+    assert mine.read_text() == "alias ll='ls -l'\n"
+
+
+@pytest.mark.parametrize(
+    "program, why",
+    [
+        (
+            f"open(name, 'w').write({json.dumps(FORGED)!r})",
+            "it belongs to another user",
+        ),
+        ("os.mkfifo(name, 0o666)", "it is no regular file"),
+    ],
+    ids=["a draft", "a FIFO"],
+)
+def test_nobody_is_offered_what_another_user_left_beside_the_book(
+    shared: Path, sit: Sit, program: str, why: str
+) -> None:
+    as_nobody(shared.parent, f"name = 'moon.braildesk-unsent'\n{program}")
+    sat = sit(shared)
+    beside = shared.with_name("moon.braildesk-unsent")
+    assert sat.state.question is None
+    assert sat.state.message == (
+        f"{beside} isn't taken as a text that waits: {why}. It was left as it is."
+    )
+    assert beside.lstat().st_uid == NOBODY
+
+
+def test_a_folder_of_another_user_is_not_used(
+    moon: Path, store: Path, shared: Path, monkeypatch: pytest.MonkeyPatch
+) -> None:
+    monkeypatch.setenv("XDG_STATE_HOME", str(shared.parent))
+    as_nobody(shared.parent, "os.mkdir('braildesk', 0o777)")
+    with pytest.raises(NotKept) as told:
+        Drafts(moon).save(NOTE)
+    assert told.value.sentence == (
+        f"What is typed can't be kept in {shared.parent}/braildesk: it belongs to another"
+        " user."
+    )
+
+
+def test_a_draft_that_is_unreadable_is_set_aside_and_the_book_is_opened(
+    moon: Path, store: Path, sit: Sit
+) -> None:
+    Drafts(moon).save(NOTE)
+    place = Drafts(moon).place
+    place.write_text(forged(purpose="FOLDER"))
+    sat = sit(moon)
+    assert sat.state.question is None
+    assert sat.state.message == (
+        f"{place} can't be read as what scribe kept there for the book. It is kept as"
+        f" {place.name}.unreadable. The book is as it was."
+    )
+    sat.press("s")
+    assert sat.state.kept == "kept: paragraph 1 struck"
+    assert (store / f"{place.name}.unreadable").read_text() == forged(purpose="FOLDER")
+
+
+def test_the_desk_goes_on_where_no_home_is_known(
+    moon: Path, sit: Sit, monkeypatch: pytest.MonkeyPatch
+) -> None:
+    def unknown(number: int) -> None:
+        raise KeyError(number)
+
+    monkeypatch.delenv("XDG_STATE_HOME")
+    monkeypatch.delenv("HOME")
+    monkeypatch.setattr("pwd.getpwuid", unknown)
+    sat = sit(moon)
+    sat.press("enter", "O")
+    sat.state = sat.desk.save_draft(sat.state)
+    assert sat.state.message == "What is typed can't be kept: no home folder is known."
+    sat.press("enter")
+    assert sat.state.kept == "kept: correction 2 of paragraph 1"
+
+
+def test_the_store_lies_in_the_home_folder_where_nothing_else_is_said(
+    moon: Path, tmp_path: Path, monkeypatch: pytest.MonkeyPatch
+) -> None:
+    monkeypatch.setenv("HOME", str(tmp_path))
+    for value in ("", "relative"):
+        monkeypatch.setenv("XDG_STATE_HOME", value)
+        assert Drafts(moon).place.parent == tmp_path / ".local" / "state" / "braildesk"
+
+
+ANY = st.recursive(
+    st.none()
+    | st.booleans()
+    | st.integers()
+    | st.floats()
+    | st.text()
+    | st.sampled_from(["EDIT", "NOTE", "FOLDER", "en", "\ud800", "a\nb"]),
+    lambda inner: st.lists(inner, max_size=3)
+    | st.dictionaries(st.text(), inner, max_size=3),
+    max_leaves=6,
+)
+
+
+@given(st.dictionaries(st.sampled_from(list(FORGED)), ANY))
+def test_only_values_of_the_right_types_are_read_as_a_draft(
+    changed: dict[str, object]
+) -> None:
+    data = json.dumps(FORGED | changed).encode()
+    try:
+        found = draft_in(Record.of(data))
+    except NotSuch:
+        return
+    assert isinstance(found.aim, Aim)
+    assert found.paragraph is None or type(found.paragraph) is int
+    assert found.version is None or type(found.version) is int
+    for text in (found.before, found.text, found.table or ""):
+        text.encode()
+    assert found.cells is None or 0 <= found.cells.start < found.cells.stop
+    assert draft_in(Record.of(json.dumps(found.values()).encode())) == found
+
+
+@given(st.binary(max_size=200) | ANY.map(lambda value: json.dumps(value).encode()))
+def test_any_bytes_are_read_as_a_draft_or_refused(data: bytes) -> None:
+    try:
+        draft_in(Record.of(data))
+    except NotSuch:
+        pass
