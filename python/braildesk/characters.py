@@ -1,22 +1,22 @@
-"""Characters as sentences show them."""
+"""Characters as sentences and screens show them."""
 
 import unicodedata
+from collections.abc import Callable
 
 #: How many characters at most a sentence shows on either side of the one that it speaks of.
 _AROUND = 20
 
-#: Names of control characters, to which Unicode gives none.
-_CONTROLS = {
-    "\0": "NULL",
-    "\t": "TAB",
-    "\n": "LINE FEED",
-    "\v": "LINE TABULATION",
-    "\f": "FORM FEED",
-    "\r": "CARRIAGE RETURN",
-    "\x1b": "ESCAPE",
-    "\x7f": "DELETE",
-    "\x85": "NEXT LINE",
-}
+#: Names of the control characters up to U+001F, to which Unicode gives none.
+_C0_NAMES = (
+    "NULL, START OF HEADING, START OF TEXT, END OF TEXT, END OF TRANSMISSION, ENQUIRY, "
+    "ACKNOWLEDGE, ALERT, BACKSPACE, TAB, LINE FEED, VERTICAL TAB, FORM FEED, CARRIAGE RETURN, "
+    "SHIFT OUT, SHIFT IN, DATA LINK ESCAPE, DEVICE CONTROL ONE, DEVICE CONTROL TWO, "
+    "DEVICE CONTROL THREE, DEVICE CONTROL FOUR, NEGATIVE ACKNOWLEDGE, SYNCHRONOUS IDLE, "
+    "END OF TRANSMISSION BLOCK, CANCEL, END OF MEDIUM, SUBSTITUTE, ESCAPE, "
+    "INFORMATION SEPARATOR FOUR, INFORMATION SEPARATOR THREE, INFORMATION SEPARATOR TWO, "
+    "INFORMATION SEPARATOR ONE"
+).split(", ")
+_OTHER_NAMES = {"\x7f": "DELETE", "\x85": "NEXT LINE"}
 #: What characters of other categories without a name are.
 _NAMELESS = {
     "Cc": "a control character",
@@ -24,6 +24,9 @@ _NAMELESS = {
     "Co": "a private character",
     "Cn": "no character of Unicode that is known here",
 }
+#: What a terminal acts on or shows nothing of: control and format characters, halves of
+#: characters, and what parts lines and paragraphs.
+_UNSEEN = frozenset({"Cc", "Cf", "Cs", "Zl", "Zp"})
 
 
 def is_visible(character: str) -> bool:
@@ -31,15 +34,26 @@ def is_visible(character: str) -> bool:
     return character == " " or unicodedata.category(character)[0] not in "CZ"
 
 
+def is_shown(character: str) -> bool:
+    """Whether it stands for itself on a screen: a tab, a blank of any width, all that is seen."""
+    return character == "\t" or unicodedata.category(character) not in _UNSEEN
+
+
 def code_point(character: str) -> str:
     """Its code point, as in ``U+2026``."""
     return f"U+{ord(character):04X}"
 
 
+def own_name(character: str) -> str:
+    """The name that it has, or nothing."""
+    if ord(character) < len(_C0_NAMES):
+        return _C0_NAMES[ord(character)]
+    return unicodedata.name(character, "") or _OTHER_NAMES.get(character, "")
+
+
 def name(character: str) -> str:
-    """Its name by Unicode, or what it is."""
-    found = unicodedata.name(character, "") or _CONTROLS.get(character, "")
-    return found or _NAMELESS.get(
+    """The name that it has, or what it is."""
+    return own_name(character) or _NAMELESS.get(
         unicodedata.category(character), "a nameless character"
     )
 
@@ -52,9 +66,15 @@ def named(character: str) -> str:
     return f"“{character}” ({known})"
 
 
-def visible(text: str) -> str:
-    """A text in which what can't be seen stands as its code point, as in ``<U+000A>``."""
-    return "".join(c if is_visible(c) else f"<{code_point(c)}>" for c in text)
+def visible(text: str, stays: Callable[[str], bool] = is_shown) -> str:
+    """A text in which what can't be seen stands as its code point, as in ``<U+001B>``.
+
+    All that is shown or said goes through here, whatever it was taken from: a print, a note, a
+    file's name, a table. What stays as it is depends on where it is shown.
+    """
+    if text.isprintable():
+        return text
+    return "".join(each if stays(each) else f"<{code_point(each)}>" for each in text)
 
 
 def around(text: str, place: int) -> str:
@@ -64,9 +84,10 @@ def around(text: str, place: int) -> str:
         start = text.index(" ", start - 1) + 1
     if " " in text[place + 1 : stop + 1] and stop < len(text):
         stop = text.rindex(" ", place + 1, stop + 1)
-    return f"“{visible(text[start:stop])}”"
+    return f"“{visible(text[start:stop], is_visible)}”"
 
 
 def shortened(text: str, most: int = 60) -> str:
     """The front of a text, in quotation marks."""
-    return f"“{visible(text[:most])}{'…' if len(text) > most else ''}”"
+    rest = "…" if len(text) > most else ""
+    return f"“{visible(text[:most], is_visible)}{rest}”"

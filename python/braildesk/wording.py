@@ -7,7 +7,7 @@ from typing import Any
 
 from braildesk import limits, requests
 from braildesk.asked import Asked, BookFile, Line, NewBook, Pages, TableFile
-from braildesk.characters import around, code_point, named, shortened, visible
+from braildesk.characters import around, code_point, named, shortened
 from braildesk.requests import Request
 from braildesk.sentences import CAUSES, LIMITS, PARTS, SENTENCES, UNOPENED, Why
 

@@ -37,7 +37,7 @@ def chosen(
         f"{quoted(sought)} stands {times} {where}. {wanted}. Nothing was changed."
     )
     places = (place_line(text, place, n, width) for n, place in enumerate(found, 1))
-    raise Stop("\n".join([sentence, *places]))
+    raise Stop(sentence, more=places)
 
 
 def place_line(text: str, place: Occurrence, nth: int, width: int) -> str:

@@ -46,13 +46,13 @@ def run_words(words: Sequence[str], console: Console) -> Status:
         console.flush()
         return status
     except TextAsked as asked:
-        console.show(asked.text.rstrip("\n"))
+        console.show(*asked.text.rstrip("\n").split("\n"))
         return Status.DONE
     except WordsRefused as refused:
-        console.say(refused.sentence, refused.usage)
+        console.say(refused.sentence, *refused.usage.split("\n"))
         return Status.WORDS_REFUSED
     except Stop as stop:
-        console.say(stop.sentence)
+        console.say(*stop.lines)
         return stop.status
     except (Failed, NoProgram) as failed:
         console.say(failed.sentence)

@@ -9,6 +9,8 @@ from typing import BinaryIO, TextIO
 
 from braildesk import Failed
 
+from scribe.visible import visible
+
 PROGRESS_SECONDS = 2.0
 
 
@@ -33,7 +35,8 @@ class Console:
     """Standard input and output, and standard error.
 
     What a person asked for is shown on the output, sentences are said on the errors. Both are
-    UTF-8 whatever the locale says, as a book is.
+    UTF-8 whatever the locale says, as a book is. What would move the cursor or end a line, as a
+    name of a file may have it, is written out here, so that no sentence can forget it.
     """
 
     input: BinaryIO
@@ -59,7 +62,7 @@ class Console:
     def show(self, *lines: str) -> None:
         """Writes lines that a person asked for."""
         try:
-            self.output.writelines(line + "\n" for line in lines)
+            self.output.writelines(visible(line) + "\n" for line in lines)
         except OSError as cause:
             raise OutputFailed(cause) from cause
 
@@ -73,7 +76,7 @@ class Console:
     def say(self, *sentences: str) -> None:
         """Writes sentences, after all that was shown before them."""
         self.flush()
-        self.errors.writelines(sentence + "\n" for sentence in sentences)
+        self.errors.writelines(visible(sentence) + "\n" for sentence in sentences)
         self.errors.flush()
 
     def progress(self, what: str) -> Callable[[int, int], None]:

@@ -2,7 +2,7 @@
 
 from itertools import groupby
 
-from braildesk.characters import visible
+from braildesk.characters import is_visible, visible
 from braildesk.profile import Definition, Piece, Reading, Rule, Sign, braille
 
 
@@ -38,8 +38,8 @@ def _piece(piece: Piece, reading: Reading) -> str:
 
 def _head(pieces: list[Piece]) -> str:
     text = "".join(piece.text for piece in pieces)
-    return f"“{visible(text)}” {braille(pieces)}"
+    return f"“{visible(text, is_visible)}” {braille(pieces)}"
 
 
 def _line(entry: Rule | Definition | Sign, reading: Reading) -> str:
-    return f"line {entry.line:,}, {visible(reading.written(entry.line))}"
+    return f"line {entry.line:,}, {visible(reading.written(entry.line), is_visible)}"

@@ -1,6 +1,7 @@
 """How a command ends."""
 
 import enum
+from collections.abc import Iterable
 
 
 class Status(enum.IntEnum):
@@ -13,9 +14,15 @@ class Status(enum.IntEnum):
 
 
 class Stop(Exception):
-    """A command can't go on: the sentence that is said, and the status with which it ends."""
+    """A command can't go on: the sentence that is said, and the status with which it ends.
 
-    def __init__(self, sentence: str, status: Status = Status.REFUSED) -> None:
-        super().__init__(sentence)
-        self.sentence = sentence
+    What comes after the sentence stands on lines of its own.
+    """
+
+    def __init__(
+        self, sentence: str, status: Status = Status.REFUSED, more: Iterable[str] = ()
+    ) -> None:
+        self.lines = (sentence, *more)
+        self.sentence = "\n".join(self.lines)
         self.status = status
+        super().__init__(self.sentence)

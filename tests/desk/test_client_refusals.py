@@ -643,7 +643,7 @@ def test_each_field_of_a_sentence_can_be_filled() -> None:
         (" ", "U+0020 SPACE"),
         ("\u00a0", "U+00A0 NO-BREAK SPACE"),
         ("\t", "U+0009 TAB"),
-        ("\x01", "U+0001 a control character"),
+        ("\x01", "U+0001 START OF HEADING"),
         ("\u0301", "U+0301 COMBINING ACUTE ACCENT"),
         ("\u200d", "U+200D ZERO WIDTH JOINER"),
         ("\ue000", "U+E000 a private character"),

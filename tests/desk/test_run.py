@@ -195,7 +195,7 @@ def test_the_form_of_a_request_is_shown_where_it_is_missed(moon: Path) -> None:
     [
         ("\x1b", "U+001B ESCAPE, a control character"),
         ("\x7f", "U+007F DELETE, a control character"),
-        ("\x85", "U+0085, a control character"),
+        ("\x85", "U+0085 NEXT LINE, a control character"),
     ],
 )
 def test_a_control_character_is_refused_and_nothing_is_sent(

@@ -1,8 +1,15 @@
 """Characters that nobody sees: refused in what is typed, made visible in what is shown."""
 
+import os
+from io import BytesIO, StringIO
+from pathlib import Path
+
 import pytest
 
+from braildesk.bring.draft import comment_lines
+from scribe.console import Console
 from scribe.visible import control_refused, visible
+from tool import scribe
 
 
 @pytest.mark.parametrize(
@@ -18,6 +25,61 @@ from scribe.visible import control_refused, visible
 )
 def test_what_cannot_be_seen_is_written_out(text: str, wanted: str) -> None:
     assert visible(text) == wanted
+
+
+def test_a_console_writes_out_what_would_move_the_cursor_or_end_a_line() -> None:
+    shown, said = StringIO(), StringIO()
+    console = Console(BytesIO(), shown, said)
+    console.show("the book \x1b]0;mine\x07", "a\tb\u00a0c")
+    console.say("moon\nAll was exported.", "\udcff \x9b2J \u202e")
+    assert shown.getvalue() == "the book <U+001B>]0;mine<U+0007>\na\tb\u00a0c\n"
+    assert said.getvalue() == (
+        "moon<U+000A>All was exported.\n<U+DCFF> <U+009B>2J <U+202E>\n"
+    )
+
+
+def test_a_path_with_a_line_feed_forges_no_line(moon: Path) -> None:
+    folder = "pages\nAll was exported."
+    ran = scribe("export", moon, folder, folder=moon.parent)
+    assert ran.status == 0
+    assert len(ran.shown.splitlines()) == 1
+    assert ran.shown.startswith("pages<U+000A>All was exported./moon-1.brf: volume 1")
+
+
+def test_no_command_sends_a_name_with_escapes_to_the_terminal(moon: Path) -> None:
+    name = "\x1b]0;mine\x07\x1b[2J.txt"
+    book = Path(os.fsencode(moon.parent).decode(), "\x1b[2J.braildesk")
+    moon.rename(book)
+    commands: tuple[tuple[str | Path, ...], ...] = (
+        ("show", book),
+        ("show", name),
+        ("import", book, name),
+        ("table", book, "en", name),
+        ("check-table", name),
+        ("try", name),
+        ("copy", book, "copy\x1b[2J"),
+        ("export", book, "out\x1b[2J"),
+        ("bring", name),
+        ("new", "new\x1b[2J"),
+        (name,),
+        ("edit", book, name),
+    )
+    for words in commands:
+        ran = scribe(*words, folder=book.parent)
+        assert "\x1b" not in ran.shown + ran.said, words
+
+
+def test_a_title_and_a_licence_of_a_table_are_comments_without_escapes(
+    tmp_path: Path,
+) -> None:
+    assert comment_lines("The licence is \x1b[2JGPL.") == [
+        "# The licence is <U+001B>[2JGPL."
+    ]
+    head = "#-display-name: mooon \x1b[2J\nspace \\s 0\nletter a 1\n"
+    (tmp_path / "mooon.utb").write_text(head, encoding="utf-8")
+    ran = scribe("bring", "moon", folder=tmp_path, LOUIS_TABLEPATH=str(tmp_path))
+    assert ran.status == 2
+    assert "  mooon.utb                mooon <U+001B>[2J\n" in ran.said
 
 
 @pytest.mark.parametrize("code", [*range(9), *range(10, 32), *range(127, 160)])

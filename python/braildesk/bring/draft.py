@@ -7,6 +7,7 @@ from collections.abc import Sequence
 from dataclasses import dataclass, field
 from typing import Final
 
+from braildesk.characters import visible
 from braildesk.bring.operands import (
     MOST_CELLS,
     Cells,
@@ -146,7 +147,7 @@ class Draft:
 def comment_lines(sentence: str) -> list[str]:
     """A sentence as comment lines of a table."""
     return textwrap.wrap(
-        sentence,
+        visible(sentence),
         width=COMMENT_WIDTH,
         initial_indent="# ",
         subsequent_indent="#   ",

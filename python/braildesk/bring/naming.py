@@ -29,7 +29,10 @@ def named_table(name: str) -> Path:
         found = _called(name, _installed())
     if len(found) == 1:
         return found[0].path
-    raise NoTable(_which(name, found) if found else _none(name))
+    if found:
+        sentence = f"{len(found)} tables are called {name}. Name one of these:"
+        raise NoTable(sentence, *map(_line, found))
+    raise _none(name)
 
 
 def of_language(word: str, tables: Sequence[Shipped]) -> list[Shipped]:
@@ -65,19 +68,14 @@ def _language_name(table: Shipped) -> str:
     return table.index.split(",")[0]
 
 
-def _which(name: str, found: Sequence[Shipped]) -> str:
-    lines = [f"{len(found)} tables are called {name}. Name one of these:"]
-    return "\n".join([*lines, *(_line(table) for table in found)])
-
-
-def _none(name: str) -> str:
+def _none(name: str) -> NoTable:
     folders = ", ".join(str(folder) for folder in search_path())
     sentence = f"There is no table {name}, neither as a file nor in {folders}."
     near = _near(name, _installed())
     if near:
         sentence += " Tables with a name like it:"
     listed = "`scribe bring --list` shows all that are installed."
-    return "\n".join([sentence, *(_line(table) for table in near), listed])
+    return NoTable(sentence, *map(_line, near), listed)
 
 
 def _near(name: str, tables: Sequence[Shipped]) -> list[Shipped]:

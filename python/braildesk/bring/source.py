@@ -30,7 +30,12 @@ _DISPLAY_ENDINGS: Final = (".dis",)
 
 
 class NoTable(Exception):
-    """A table that is not there or cannot be read."""
+    """A table that is not there or cannot be read: a sentence, and lines that go with it."""
+
+    def __init__(self, sentence: str, *more: str) -> None:
+        super().__init__("\n".join([sentence, *more]))
+        self.sentence = sentence
+        self.more = more
 
 
 @dataclass(frozen=True)

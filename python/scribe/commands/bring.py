@@ -91,7 +91,9 @@ def run(arguments: Namespace, console: Console) -> Status:
     try:
         table = named_table(arguments.table)
         brought = bring(table, Options(arguments.words, arguments.learn))
-    except (NoTable, NoLiblouis, NoWords) as found:
+    except NoTable as found:
+        raise Stop(found.sentence, more=found.more) from found
+    except (NoLiblouis, NoWords) as found:
         raise Stop(str(found)) from found
     console.say(*said_of(brought))
     if not brought.is_good and not arguments.anyway:
@@ -143,7 +145,7 @@ def _why_not(brought: Brought) -> str:
 
 def _written(brought: Brought, file: Path | None, console: Console) -> Status:
     if file is None:
-        console.show(brought.text.removesuffix("\n"))
+        console.show(*brought.text.removesuffix("\n").split("\n"))
         return Status.DONE
     try:
         write_whole(file, brought.text.encode())

@@ -122,7 +122,7 @@ def judge(path: Path, rest: Sequence[Passage], table: Table, there: int) -> None
             f" too many: a book has at most {limits.PARAGRAPHS:,}."
         )
     if sentences:
-        raise Stop("\n".join([*sentences, "Nothing was typed."]))
+        raise Stop(sentences[0], more=[*sentences[1:], "Nothing was typed."])
 
 
 def going_on(

@@ -87,8 +87,10 @@ def _talk(conversation: Conversation) -> None:
             _answer(conversation, line)
         except GivenUp:
             conversation.show("Given up. Nothing was sent.")
-        except (Stop, Refused) as refused:
-            conversation.say(*refused.sentence.split("\n"))
+        except Stop as stop:
+            conversation.say(*stop.lines)
+        except Refused as refused:
+            conversation.say(refused.sentence)
         except Ended:
             return
         except Lost:

@@ -52,8 +52,10 @@ def done_aside(
             export.run(_export_words(path, errand), console)
         else:
             import_text.run(_import_words(path, errand), console)
-    except (Stop, DeskError) as ended:
-        said.write(ended.sentence + "\n")
+    except Stop as stop:
+        console.say(*stop.lines)
+    except DeskError as failed:
+        console.say(failed.sentence)
     what = "Export." if isinstance(errand, ExportTo) else "Import."
     lines = shown.getvalue().splitlines()
     kept = lines[-1].rstrip(".") if lines and isinstance(errand, ImportFrom) else ""
