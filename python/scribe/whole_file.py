@@ -1,46 +1,85 @@
 """Files that are written whole or not at all."""
 
+import errno
 import os
 import secrets
-import shutil
+import stat
 from pathlib import Path
 
+ANYONE = 0o666
+_OF_THE_SYSTEM = ("/dev/", "/proc/")
 
-def write_whole(path: Path, data: bytes) -> None:
-    """Gives a file these bytes, in place of what it had.
 
-    They are written beside it, in a file of its folder whose name begins with a full stop, and are
-    on the disk when that file gets the name. Where anything fails, the older file stays as it was.
-    Where the path is a link, the file that it leads to gets the bytes, and the link stays. What is
-    no file, as a pipe or a terminal, is written to as it is.
+class MayNotLast(OSError):
+    """A file has its new bytes, and whether its name outlasts a loss of power isn't known."""
+
+
+class NoPlaceForAFile(OSError):
+    """What stands at a path, or what a link there leads to, isn't replaced by a file."""
+
+
+def write_whole(path: Path, data: bytes, mode: int = ANYONE) -> None:
+    """Gives a name these bytes, in place of the file that it named.
+
+    They are written beside it, in a file whose name begins with a full stop, and are on the disk
+    when that file gets the name. Where anything fails before that, what had the name is as it was;
+    `MayNotLast` comes after it. The name alone is replaced: a link there is gone and the file that
+    it led to stays as it was, and a pipe of that name isn't opened. A file of one's own keeps its
+    permissions to read and write. Any other gets what the mode and the umask allow.
     """
-    path = path.resolve()
-    if path.exists() and not path.is_file():
-        path.write_bytes(data)
-        return
-    beside = path.with_name(f".{path.name}.{secrets.token_hex(4)}")
+    path = path if path.name else path.resolve()
+    folder = os.open(path.parent, os.O_RDONLY | os.O_DIRECTORY | os.O_CLOEXEC)
     try:
-        _write(beside, data)
-        if path.exists():
-            shutil.copymode(path, beside)
-        os.replace(beside, path)
-    except BaseException:
-        beside.unlink(missing_ok=True)
-        raise
-    _sync(path.parent)
+        kept = _kept_permissions(path.name, folder)
+        beside = f".scribe-{secrets.token_hex(8)}"
+        try:
+            _write(beside, folder, data, mode & ANYONE, kept)
+            os.replace(beside, path.name, src_dir_fd=folder, dst_dir_fd=folder)
+        except BaseException:
+            _remove(beside, folder)
+            raise
+        try:
+            os.fsync(folder)
+        except OSError as error:
+            raise MayNotLast(error.errno, error.strerror) from error
+    finally:
+        os.close(folder)
 
 
-def _write(path: Path, data: bytes) -> None:
-    with open(path, "xb") as file:
+def _kept_permissions(name: str, folder: int) -> int | None:
+    """The permissions of a file of one's own that is to be replaced, else none."""
+    try:
+        older = os.stat(name, dir_fd=folder, follow_symlinks=False)
+    except FileNotFoundError:
+        return None
+    if stat.S_ISDIR(older.st_mode):
+        raise IsADirectoryError(errno.EISDIR, os.strerror(errno.EISDIR))
+    if _is_device(name, folder, older.st_mode):
+        raise NoPlaceForAFile(errno.EINVAL, "a device, a terminal or a pipe is there")
+    is_own = stat.S_ISREG(older.st_mode) and older.st_uid == os.geteuid()
+    return older.st_mode & ANYONE if is_own else None
+
+
+def _is_device(name: str, folder: int, mode: int) -> bool:
+    """Whether a name is that of a device, or of a link to one or to an open file, as /dev/stdout is."""
+    if not stat.S_ISLNK(mode):
+        return stat.S_ISCHR(mode) or stat.S_ISBLK(mode)
+    return os.readlink(name, dir_fd=folder).startswith(_OF_THE_SYSTEM)
+
+
+def _write(name: str, folder: int, data: bytes, mode: int, kept: int | None) -> None:
+    flags = os.O_WRONLY | os.O_CREAT | os.O_EXCL | os.O_NOFOLLOW | os.O_CLOEXEC
+    created = mode if kept is None else 0o600
+    with open(os.open(name, flags, created, dir_fd=folder), "wb") as file:
         file.write(data)
         file.flush()
+        if kept is not None:
+            os.fchmod(file.fileno(), kept)
         os.fsync(file.fileno())
 
 
-def _sync(folder: Path) -> None:
-    """Has the folder's own entries on the disk."""
-    descriptor = os.open(folder, os.O_RDONLY | os.O_DIRECTORY)
+def _remove(name: str, folder: int) -> None:
     try:
-        os.fsync(descriptor)
-    finally:
-        os.close(descriptor)
+        os.unlink(name, dir_fd=folder)
+    except FileNotFoundError:
+        pass

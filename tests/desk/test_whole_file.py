@@ -1,45 +1,113 @@
-"""Files that are written whole or not at all."""
+"""Files that are written whole or not at all, also where somebody else may write in the folder."""
 
+import errno
 import os
-import threading
+import stat
 from pathlib import Path
 
 import pytest
 
-from scribe.whole_file import write_whole
+from scribe.whole_file import MayNotLast, NoPlaceForAFile, write_whole
+from strangers import NEEDS_ROOT, STRANGER, as_stranger, lead_to
 
 
-def test_a_file_gets_other_bytes_and_keeps_its_permissions(tmp_path: Path) -> None:
+def mode(file: Path) -> int:
+    """The permissions of what stands at a path, with those that run or set an owner."""
+    return stat.S_IMODE(file.lstat().st_mode)
+
+
+def test_a_file_of_ones_own_gets_other_bytes_and_keeps_its_permissions(
+    tmp_path: Path,
+) -> None:
     file = tmp_path / "pages.brf"
     file.write_bytes(b"older and longer")
     file.chmod(0o640)
     write_whole(file, b"newer")
     assert file.read_bytes() == b"newer"
-    assert file.stat().st_mode & 0o777 == 0o640
+    assert mode(file) == 0o640
     assert os.listdir(tmp_path) == ["pages.brf"]
 
 
-def test_a_link_stays_and_its_file_gets_the_bytes(tmp_path: Path) -> None:
-    (tmp_path / "store").mkdir()
-    file = tmp_path / "store" / "german.utb"
+def test_no_file_that_is_written_can_be_run_or_takes_its_owners_rights(
+    tmp_path: Path,
+) -> None:
+    file = tmp_path / "pages.brf"
     file.write_bytes(b"older")
-    link = tmp_path / "german.utb"
-    link.symlink_to(file)
+    file.chmod(0o4777)
+    write_whole(file, b"newer")
+    assert mode(file) == 0o666
+
+
+@NEEDS_ROOT
+def test_a_file_of_another_person_gives_nothing_to_the_one_that_replaces_it(
+    tmp_path: Path,
+) -> None:
+    file = tmp_path / "pages.brf"
+    file.write_bytes(b"theirs")
+    os.chown(file, STRANGER, STRANGER)
+    file.chmod(0o4777)
+    before = os.umask(0o027)
+    try:
+        write_whole(file, b"newer")
+    finally:
+        os.umask(before)
+    assert (mode(file), file.stat().st_uid) == (0o640, os.geteuid())
+
+
+@pytest.mark.parametrize(
+    "book, umask, wanted",
+    [(0o600, 0o022, 0o600), (0o664, 0o002, 0o664), (0o644, 0o077, 0o600)],
+)
+def test_a_new_file_has_what_both_the_book_and_the_umask_allow(
+    book: int, umask: int, wanted: int, tmp_path: Path
+) -> None:
+    before = os.umask(umask)
+    try:
+        write_whole(tmp_path / "pages.brf", b"new", book)
+    finally:
+        os.umask(before)
+    assert mode(tmp_path / "pages.brf") == wanted
+
+
+@pytest.mark.parametrize("target", ["there.txt", "missing.txt", "."])
+def test_a_link_is_replaced_and_what_it_led_to_stays(
+    target: str, tmp_path: Path
+) -> None:
+    (tmp_path / "there.txt").write_bytes(b"mine")
+    link = tmp_path / "pages.brf"
+    link.symlink_to(target)
     write_whole(link, b"newer")
-    assert link.is_symlink()
-    assert file.read_bytes() == b"newer"
+    assert not link.is_symlink() and link.read_bytes() == b"newer"
+    assert sorted(os.listdir(tmp_path)) == ["pages.brf", "there.txt"]
+    assert (tmp_path / "there.txt").read_bytes() == b"mine"
 
 
-def test_what_is_no_file_is_written_to_and_stays(tmp_path: Path) -> None:
-    pipe = tmp_path / "pipe"
+def test_a_pipe_of_that_name_is_replaced_and_never_opened(tmp_path: Path) -> None:
+    pipe = tmp_path / "pages.brf"
     os.mkfifo(pipe)
-    read: list[bytes] = []
-    reader = threading.Thread(target=lambda: read.append(pipe.read_bytes()))
-    reader.start()
-    write_whole(pipe, b"a table")
-    reader.join(timeout=60)
-    assert read == [b"a table"]
-    assert pipe.is_fifo()
+    write_whole(pipe, b"newer")
+    assert stat.S_ISREG(pipe.lstat().st_mode) and pipe.read_bytes() == b"newer"
+
+
+@pytest.mark.parametrize("target", ["/dev/null", "/proc/self/fd/1", "/dev/stdout"])
+def test_a_link_of_the_system_to_a_device_or_an_open_file_is_not_replaced(
+    target: str, tmp_path: Path
+) -> None:
+    link = tmp_path / "out"
+    link.symlink_to(target)
+    with pytest.raises(NoPlaceForAFile):
+        write_whole(link, b"newer")
+    assert os.readlink(link) == target
+    assert os.listdir(tmp_path) == ["out"]
+
+
+@NEEDS_ROOT
+def test_a_device_is_not_replaced(tmp_path: Path) -> None:
+    device = tmp_path / "null"
+    os.mknod(device, stat.S_IFCHR | 0o666, os.makedev(1, 3))
+    with pytest.raises(NoPlaceForAFile):
+        write_whole(device, b"newer")
+    assert stat.S_ISCHR(device.lstat().st_mode)
 
 
 def test_a_file_that_cannot_be_replaced_stays_as_it_was(
@@ -49,13 +117,45 @@ def test_a_file_that_cannot_be_replaced_stays_as_it_was(
     file.write_bytes(b"older")
 
     def refuse(*_: object) -> None:
-        raise OSError("no space left")
+        raise OSError(errno.ENOSPC, "no space left")
 
     monkeypatch.setattr(os, "fsync", refuse)
     with pytest.raises(OSError, match="no space left"):
         write_whole(file, b"newer")
     assert file.read_bytes() == b"older"
     assert os.listdir(tmp_path) == ["pages.brf"]
+
+
+def test_a_folder_that_cannot_be_synced_has_the_new_file_and_that_is_said(
+    tmp_path: Path, monkeypatch: pytest.MonkeyPatch
+) -> None:
+    file = tmp_path / "pages.brf"
+    file.write_bytes(b"older")
+    sync = os.fsync
+
+    def refuse_folders(descriptor: int) -> None:
+        if stat.S_ISDIR(os.fstat(descriptor).st_mode):
+            raise OSError(errno.EIO, "input/output error")
+        sync(descriptor)
+
+    monkeypatch.setattr(os, "fsync", refuse_folders)
+    with pytest.raises(MayNotLast, match="input/output error"):
+        write_whole(file, b"newer")
+    assert file.read_bytes() == b"newer"
+
+
+@NEEDS_ROOT
+def test_in_a_folder_that_cannot_be_read_nothing_is_replaced(tmp_path: Path) -> None:
+    lead_to(tmp_path)
+    folder = tmp_path / "drop"
+    folder.mkdir()
+    (folder / "pages.brf").write_bytes(b"older")
+    folder.chmod(0o333)
+    assert as_stranger(lambda: write_whole(folder / "pages.brf", b"newer")) == (
+        "PermissionError"
+    )
+    assert (folder / "pages.brf").read_bytes() == b"older"
+    assert os.listdir(folder) == ["pages.brf"]
 
 
 def test_a_folder_is_no_file(tmp_path: Path) -> None:

@@ -1,0 +1,46 @@
+"""Another person at the same machine, whom only root can play."""
+
+import os
+from collections.abc import Callable
+from pathlib import Path
+
+import pytest
+
+# the numbers of nobody and nogroup, as on Debian
+STRANGER = 65_534
+NEEDS_ROOT = pytest.mark.skipif(
+    os.geteuid() != 0, reason="only root can act as two persons"
+)
+
+
+def become_stranger() -> None:
+    """Has this process be the stranger's, for good."""
+    os.setgroups([])
+    os.setgid(STRANGER)
+    os.setuid(STRANGER)
+
+
+def as_stranger(act: Callable[[], object]) -> str:
+    """The name of the exception that an act of the stranger ends by, or nothing."""
+    reader, writer = os.pipe()
+    child = os.fork()
+    if child == 0:
+        try:
+            become_stranger()
+            act()
+        except BaseException as error:
+            os.write(writer, type(error).__name__.encode())
+        finally:
+            os._exit(0)
+    os.close(writer)
+    with open(reader, "rb") as said:
+        name = said.read().decode()
+    os.waitpid(child, 0)
+    return name
+
+
+def lead_to(folder: Path) -> None:
+    """Lets anybody come to a folder of a test, through those that only root may enter."""
+    for each in (folder, *folder.parents):
+        if each != Path("/") and each.stat().st_uid == os.geteuid():
+            each.chmod(each.stat().st_mode | 0o711)
