@@ -2,12 +2,18 @@
 
 import os
 import resource
+import stat
+from argparse import Namespace
+from io import BytesIO, StringIO
 from pathlib import Path
 
 import pytest
 
 import braildesk
-from braildesk import Session
+from braildesk import Failed, Session
+from scribe.commands import export
+from scribe.console import Console
+from scribe.status import Status, Stop
 from tool import Ran, scribe
 
 MOON = b"""\
@@ -105,8 +111,7 @@ def test_a_full_disk_leaves_the_older_file_and_nothing_beside_it(moon: Path) -> 
     )
     assert (ran.status, ran.shown) == (3, "")
     assert ran.said == (
-        "Volume 1 could not be written: File too large. out/moon-1.brf is as it was."
-        " Volumes that are shown above are whole.\n"
+        "Volume 1 could not be written: File too large. out/moon-1.brf is as it was.\n"
     )
     assert files(out) == ["moon-1.brf"]
     assert (out / "moon-1.brf").read_bytes() == b"older"
@@ -121,6 +126,117 @@ def test_a_new_file_has_the_permissions_of_any_new_file(moon: Path) -> None:
         before=lambda: os.umask(0o027),
     )
     assert (moon.parent / "out" / "moon-1.brf").stat().st_mode & 0o777 == 0o640
+
+
+def of_volumes(moon: Path) -> None:
+    """Gives the book three volumes."""
+    with Session(moon) as session:
+        session.volume(2, True)
+        session.volume(3, True)
+
+
+def exported(moon: Path) -> tuple[list[str], list[str]]:
+    """What an export to the folder out shows and says."""
+    shown, said = StringIO(), StringIO()
+    words = Namespace(file=moon, folder=moon.with_name("out"), width=24, lines=5)
+    assert export.run(words, Console(BytesIO(), shown, said)) is Status.DONE
+    return shown.getvalue().splitlines(), said.getvalue().splitlines()
+
+
+def changed_after(
+    volume: int, times: int, moon: Path, monkeypatch: pytest.MonkeyPatch
+) -> None:
+    """Has another session type a paragraph each time that a volume was read, so many times."""
+    left = [times]
+
+    def read(path: Path, number: int, width: int, lines: int) -> bytes:
+        pages = braildesk.export(path, number, width, lines)
+        if number == volume and left[0]:
+            left[0] -= 1
+            with Session(moon) as session:
+                session.type("end", "en", "x")
+        return pages
+
+    monkeypatch.setattr(export, "export", read)
+
+
+def test_all_volumes_are_of_one_version_where_another_session_changes_the_book(
+    moon: Path, monkeypatch: pytest.MonkeyPatch
+) -> None:
+    of_volumes(moon)
+    changed_after(1, 1, moon, monkeypatch)
+    shown, said = exported(moon)
+    assert [line.partition(":")[0] for line in shown] == [
+        str(moon.with_name("out") / f"moon-{volume}.brf") for volume in (1, 2, 3)
+    ]
+    assert said == []
+    assert b"X" in (moon.with_name("out") / "moon-3.brf").read_bytes()
+
+
+def test_nothing_is_written_while_the_book_never_stays_at_one_version(
+    moon: Path, monkeypatch: pytest.MonkeyPatch
+) -> None:
+    of_volumes(moon)
+    changed_after(2, 9, moon, monkeypatch)
+    with pytest.raises(Stop) as stopped:
+        exported(moon)
+    assert stopped.value.status is Status.FAILED
+    assert stopped.value.sentence == (
+        "Another program changes the book: it is at version 12 by now. Nothing was exported,"
+        f" and the files in {moon.with_name('out')} are as they were. Export it again once"
+        " nobody works on it."
+    )
+    assert not moon.with_name("out").exists()
+
+
+def test_where_a_volume_fails_it_is_said_which_files_are_new_and_which_older(
+    moon: Path, monkeypatch: pytest.MonkeyPatch
+) -> None:
+    of_volumes(moon)
+    out = moon.with_name("out")
+    out.mkdir()
+    (out / "moon-2.brf").mkdir()
+    with pytest.raises(Failed) as failed:
+        exported(moon)
+    assert failed.value.sentence == (
+        f"Volume 2 could not be written: Is a directory. {out}/moon-2.brf is as it was. New"
+        " now: volume 1. Not written: volume 3."
+    )
+    assert files(out) == ["moon-1.brf", "moon-2.brf"]
+
+
+def test_a_link_in_a_shared_folder_leads_an_export_nowhere(moon: Path) -> None:
+    out = moon.with_name("out")
+    out.mkdir()
+    (moon.parent / "profile").write_bytes(b"mine")
+    (out / "moon-1.brf").symlink_to("../profile")
+    ran = scribe("export", moon, "out", *SIZES, folder=moon.parent)
+    assert ran.status == 0
+    assert (moon.parent / "profile").read_bytes() == b"mine"
+    assert not (out / "moon-1.brf").is_symlink()
+
+
+def test_an_export_opens_no_pipe_of_a_volumes_name(moon: Path) -> None:
+    out = moon.with_name("out")
+    out.mkdir()
+    os.mkfifo(out / "moon-1.brf")
+    assert scribe("export", moon, "out", *SIZES, folder=moon.parent).status == 0
+    assert stat.S_ISREG((out / "moon-1.brf").lstat().st_mode)
+
+
+@pytest.mark.parametrize(
+    "book, umask, wanted", [(0o600, 0o022, 0o600), (0o660, 0o002, 0o660)]
+)
+def test_an_exported_volume_is_for_those_whom_the_book_is_for(
+    book: int, umask: int, wanted: int, moon: Path
+) -> None:
+    moon.chmod(book)
+    ran = scribe(
+        "export", moon, "out", folder=moon.parent, before=lambda: os.umask(umask)
+    )
+    assert ran.status == 0
+    found = moon.with_name("out") / "moon-1.brf"
+    assert stat.S_IMODE(found.stat().st_mode) == wanted
 
 
 def test_a_copy_opens_as_the_same_book(moon: Path) -> None:

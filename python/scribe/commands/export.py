@@ -1,7 +1,9 @@
 """`scribe export`: all volumes of a book as pages for an embosser."""
 
+import os
 import re
 from argparse import ArgumentParser, Namespace
+from collections.abc import Iterator, Sequence
 from dataclasses import dataclass
 from pathlib import Path
 
@@ -12,15 +14,18 @@ from scribe.layout import Sheet
 from scribe.page_size import add_page_size, sheet_of
 from scribe.parser import Subparsers, add_file, command_parser
 from scribe.status import Status, Stop
-from scribe.whole_file import write_whole
+from scribe.whole_file import MayNotLast, write_whole
 
 NO_SUCH_VOLUME = 96
 CELL_NOT_FOR_EMBOSSER = 95
+# how often the volumes are read until all are of one version
+TRIES = 3
 MORE = """\
 The volumes of moon.braildesk are FOLDER/moon-1.brf, moon-2.brf, and so on, in Braille
-Ready Format. The folder is made where it isn't there. A volume is written beside an
-older file and takes its name only when it is whole. A volume that is refused leaves the
-older file, and so does a full disk."""
+Ready Format. The folder is made where it isn't there. Nothing is written until all
+volumes were read from one version of the book. A volume is written beside an older file
+and takes its name only when it is whole. A volume that is refused leaves the older file,
+and so does a full disk. New files may be read and written by those by whom the book may."""
 
 
 def add_parser(subparsers: Subparsers) -> ArgumentParser:
@@ -43,19 +48,21 @@ def add_parser(subparsers: Subparsers) -> ArgumentParser:
 def run(arguments: Namespace, console: Console) -> Status:
     """Writes each volume, and says what became of it."""
     job = Job(arguments.file, arguments.folder, sheet_of(arguments))
-    version = check(job.book)
+    volumes = volumes_of_one_version(job)
     _make_folder(job.folder)
-    status = Status.DONE
-    volume = 1
-    while (pages := _pages(job, volume, console)) is not None:
+    written: list[int] = []
+    for volume, pages in enumerate(volumes, 1):
         if isinstance(pages, Refused):
-            status = Status.REFUSED
-        else:
-            _write(job, volume, pages)
-            console.show(f"{job.file(volume)}: volume {volume}, {described(pages)}.")
-        volume += 1
-    console.say(*_ending(job, volume - 1, version))
-    return status
+            left = (
+                "is as it was" if os.path.lexists(job.file(volume)) else "was not made"
+            )
+            console.say(f"Volume {volume}: {pages.sentence} {job.file(volume)} {left}.")
+            continue
+        _write(job, volume, pages, written, len(volumes))
+        written.append(volume)
+        console.show(f"{job.file(volume)}: volume {volume}, {described(pages)}.")
+    console.say(*_ending(job, len(volumes)))
+    return Status.DONE if len(written) == len(volumes) else Status.REFUSED
 
 
 @dataclass(frozen=True)
@@ -93,18 +100,35 @@ def described(pages: bytes) -> str:
     return f"{count:,} {'page' if count == 1 else 'pages'}, {cells:,} cells with dots"
 
 
-def _pages(job: Job, volume: int, console: Console) -> bytes | Refused | None:
-    """The pages of a volume, or why it is refused, or None where the book has no such volume."""
-    try:
-        return export(job.book, volume, job.sheet.width, job.sheet.lines)
-    except Refused as refused:
-        if refused.code == NO_SUCH_VOLUME:
-            return None
-        if refused.code != CELL_NOT_FOR_EMBOSSER:
-            raise
-        left = "is as it was" if job.file(volume).exists() else "was not made"
-        console.say(f"Volume {volume}: {refused.sentence} {job.file(volume)} {left}.")
-        return refused
+def volumes_of_one_version(job: Job) -> list[bytes | Refused]:
+    """The pages of each volume, or why it is refused, all read while the book was at one version."""
+    version = check(job.book)
+    for _ in range(TRIES):
+        volumes = list(_volumes(job))
+        before, version = version, check(job.book)
+        if before == version:
+            return volumes
+    raise Stop(
+        f"Another program changes the book: it is at version {version:,} by now. Nothing was"
+        f" exported, and the files in {job.folder} are as they were. Export it again once"
+        " nobody works on it.",
+        Status.FAILED,
+    )
+
+
+def _volumes(job: Job) -> Iterator[bytes | Refused]:
+    """The pages of each volume, or why it is refused."""
+    volume = 1
+    while True:
+        try:
+            yield export(job.book, volume, job.sheet.width, job.sheet.lines)
+        except Refused as refused:
+            if refused.code == NO_SUCH_VOLUME:
+                return
+            if refused.code != CELL_NOT_FOR_EMBOSSER:
+                raise
+            yield refused
+        volume += 1
 
 
 def _make_folder(folder: Path) -> None:
@@ -118,31 +142,45 @@ def _make_folder(folder: Path) -> None:
         ) from error
 
 
-def _write(job: Job, volume: int, pages: bytes) -> None:
+def _write(
+    job: Job, volume: int, pages: bytes, written: Sequence[int], count: int
+) -> None:
+    """Writes a volume after some others of so many in all."""
     file = job.file(volume)
-    older = file.exists()
+    older = os.path.lexists(file)
     try:
-        write_whole(file, pages)
+        write_whole(file, pages, job.book.stat().st_mode)
+    except MayNotLast as error:
+        others = _others([*written, volume], range(volume + 1, count + 1))
+        raise Failed(
+            f"{file} is written, but the folder could not be brought to the disk:"
+            f" {error.strerror}. After a loss of power the older file may be there.{others}"
+        ) from error
     except OSError as error:
         left = "is as it was" if older else "was not made"
+        others = _others(written, range(volume + 1, count + 1))
         raise Failed(
-            f"Volume {volume} could not be written: {error.strerror}. {file} {left}. Volumes"
-            " that are shown above are whole."
+            f"Volume {volume} could not be written: {error.strerror}. {file} {left}.{others}"
         ) from error
 
 
-def _ending(job: Job, volumes: int, version: int) -> list[str]:
+def _others(written: Sequence[int], later: Sequence[int]) -> str:
+    """What became of the other volumes, where there are any."""
+    new = f" New now: {_numbers(written)}." if written else ""
+    return new + (f" Not written: {_numbers(later)}." if later else "")
+
+
+def _numbers(volumes: Sequence[int]) -> str:
+    listed = ", ".join(map(str, volumes))
+    return f"volume {listed}" if len(volumes) == 1 else f"volumes {listed}"
+
+
+def _ending(job: Job, volumes: int) -> list[str]:
     """What is said after all volumes were written."""
     sentences = []
     if volumes == 0:
         sentences.append(
             "The book has no volume: each paragraph is struck, or there is none."
-        )
-    now = check(job.book)
-    if now != version:
-        sentences.append(
-            f"The book was changed while it was exported, from version {version:,} to"
-            f" {now:,}. Export it again, so that all volumes are of one version."
         )
     try:
         later = [str(path) for path in job.later_files(volumes)]
