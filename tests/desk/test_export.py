@@ -34,12 +34,21 @@ def test_all_volumes_are_written_and_described(moon: Path) -> None:
     scribe("volume", moon, "2", "on", folder=moon.parent)
     assert scribe("export", moon, "out", *SIZES, folder=moon.parent) == Ran(
         0,
-        "out/moon-1.brf: volume 1, 1 page, 20 cells with dots.\n"
-        "out/moon-2.brf: volume 2, 1 page, 36 cells with dots.\n",
+        "out/moon-1.brf: volume 1, 1 page, 18 cells with dots.\n"
+        "out/moon-2.brf: volume 2, 1 page, 34 cells with dots.\n",
         "",
     )
     assert files(moon.parent / "out") == ["moon-1.brf", "moon-2.brf"]
     assert (moon.parent / "out" / "moon-1.brf").read_bytes() == MOON
+
+
+def test_cells_are_counted_without_the_numbers_of_pages(moon: Path) -> None:
+    with Session(moon) as session:
+        for _ in range(12):
+            session.type("end", "en", "a")
+    ran = scribe("export", moon, "out", *SIZES, folder=moon.parent)
+    # 20 + 9 - 2 + 27 of the paragraphs that were there, and 12
+    assert ran.shown == "out/moon-1.brf: volume 1, 5 pages, 64 cells with dots.\n"
 
 
 def test_a_volume_that_is_refused_leaves_the_older_file(moon: Path) -> None:
@@ -53,7 +62,7 @@ def test_a_volume_that_is_refused_leaves_the_older_file(moon: Path) -> None:
     ran = scribe("export", moon, "out", *SIZES, folder=moon.parent)
     assert ran == Ran(
         2,
-        "out/moon-2.brf: volume 2, 1 page, 36 cells with dots.\n",
+        "out/moon-2.brf: volume 2, 1 page, 34 cells with dots.\n",
         "Volume 1: Cell 1 of paragraph 4 has dot 7 or 8, which pages for embossers can't"
         " have. Nothing was exported. Correct the table of that paragraph."
         " out/moon-1.brf is as it was.\n",

@@ -279,7 +279,7 @@ def test_an_export_and_an_import_are_done_and_the_book_is_open_again(
     sat.press("enter")
     sat.state = sat.desk.away(sat.state, heard.append)
     file = moon.parent / "pages" / "moon-1.brf"
-    assert heard == [f"{file}: volume 1, 1 page, 54 cells with dots."]
+    assert heard == [f"{file}: volume 1, 1 page, 52 cells with dots."]
     assert file.read_bytes().startswith(b"  ,THE MOON IS FAR AWAY4\r\n")
     text = moon.parent / "more.txt"
     text.write_text("The sun\n\nThe stars…\n")

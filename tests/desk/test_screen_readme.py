@@ -32,7 +32,7 @@ def test_the_book_of_the_readme_is_made_at_the_screen_alone(
     terminal.keys("w", *["backspace"] * 5, "30 5", "enter")
     terminal.wait("Pages of 5 lines of 30 cells")
     terminal.keys("x", "pages", "enter")
-    exported = "pages/moon-1.brf: volume 1, 1 page, 20 cells with dots."
+    exported = "pages/moon-1.brf: volume 1, 1 page, 18 cells with dots."
     assert exported in terminal.wait("Export. Lines 1 to 1 of 1.")
     terminal.keys("q", "q")
     assert terminal.ended() == 0

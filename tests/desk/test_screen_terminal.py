@@ -40,7 +40,7 @@ def test_the_book_is_opened_corrected_marked_undone_and_exported(
     terminal.wait("kept: undo in paragraph 1")
     terminal.keys("x", "pages", "enter")
     lines = terminal.wait("Export. Lines 1 to 1 of 1.")
-    assert lines[2] == "pages/moon-1.brf: volume 1, 1 page, 54 cells with dots."
+    assert lines[2] == "pages/moon-1.brf: volume 1, 1 page, 52 cells with dots."
     assert not COLOURS.search(terminal.written)
     terminal.keys("q", "q")
     assert terminal.ended() == 0

@@ -94,10 +94,20 @@ class Job:
 
 
 def described(pages: bytes) -> str:
-    """How much a volume is: its pages, and its cells that have dots."""
-    count = pages.count(b"\f")
-    cells = len(pages) - sum(pages.count(byte) for byte in (b" ", b"\r", b"\n", b"\f"))
+    """How much a volume is: its pages, and its cells that have dots but for the pages' numbers."""
+    numbered = pages.split(b"\f")[:-1]
+    cells = sum(_cells_with_dots(line) for page in numbered for line in _texts(page))
+    count = len(numbered)
     return f"{count:,} {'page' if count == 1 else 'pages'}, {cells:,} cells with dots"
+
+
+def _texts(page: bytes) -> list[bytes]:
+    """The lines of a page without the last one, which has its number."""
+    return page.removesuffix(b"\r\n").split(b"\r\n")[:-1]
+
+
+def _cells_with_dots(line: bytes) -> int:
+    return len(line) - line.count(b" ")
 
 
 def volumes_of_one_version(job: Job) -> list[bytes | Refused]:
