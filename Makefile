@@ -64,7 +64,7 @@ test:
 trials:
 	RT='$(RT)' EVERY=23 tests/trials/trials.sh
 # scripts tests/FOLDER/NAME.sh over the built program, which run side by side
-SCRIPTS := paths prove tutorial client rows ueb stops memory kill desk instructions package
+SCRIPTS := paths prove tutorial client rows limits ueb stops memory kill desk instructions package
 runs: $(SCRIPTS:%=run-%)
 run-tutorial run-client: run-%:
 	tests/program/$*.sh $(PROGRAM)
