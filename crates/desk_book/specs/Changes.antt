@@ -14,7 +14,7 @@ use Rattle.desk_command.specs.declared.command.Command.TheVariants.{TypeIn}
 use Rattle.desk_memory.specs.declared.paragraphs.Paragraph.{Paragraph as KeptParagraph}
 use Rattle.desk_model.specs.Book.{Book, Paragraph, text_of, paragraph_of}
 use Rattle.desk_book.specs.ChangePuts.{effect_puts, version_put}
-use Rattle.desk_model.specs.Loans.{GetsTable, Reorders}
+use Rattle.desk_model.specs.Loans.{GetsEntry, GetsFlags, GetsResolved, GetsTable, Reorders}
 use Rattle.desk_memory.specs.Histories.{HaveTaken, TookFrom, entry_kept}
 use Rattle.desk_memory.specs.Kept.{mark_kept, new_cells, paragraph_kept}
 use Rattle.desk_model.specs.Limits.{most_entries, most_marks, most_paragraphs, most_print}
@@ -113,14 +113,15 @@ Does book command next (ReplaceTable name table cells) =
     × AreRenewed book name table.rules cells.items × (length cells.items ≤ length book.paragraphs)
 Does book command next (AddParagraph paragraph room order_room place) =
     AddsParagraph book next command paragraph room order_room place
-Does book command next (ChangePrint id change) = ChangesPrint book next id change
+Does book command next (ChangePrint id change) = GetsEntry command id × ChangesPrint book next id change
 Does book command next (AddMark mark room index_room) =
     (next ≡ next_with_marks book (book.marks ++ mark_kept (next_mark book, mark) ∷ [])) × Suffices (length book.marks) room
     × (length book.marks < most_marks) × Suffices (length (marks_on mark.paragraph book.marks)) index_room
-Does book command next (ResolveMark id) = next ≡ next_with_marks book (with_resolved id book.marks)
+Does book command next (ResolveMark id) = GetsResolved command id × (next ≡ next_with_marks book (with_resolved id book.marks))
 Does book command next (SetFlags id style begins struck) =
-    next ≡ next_with_paragraphs book
-    (with_change id (λ p. record p { style = style; begins_volume = begins; struck = struck }) book.paragraphs)
+    GetsFlags command id
+    × (next ≡ next_with_paragraphs book
+    (with_change id (λ p. record p { style = style; begins_volume = begins; struck = struck }) book.paragraphs))
 Does book command next (ChangeTable id table cells) =
     GivesTable book command next id table × AreCellsByTable book id table cells
 Does book command next (Reorder order) =

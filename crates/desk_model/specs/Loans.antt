@@ -1,11 +1,11 @@
 -- Which rows a change may lend: those of what its command changes, and no others.
-use Rattle.std.specs.Prelude.{◌≡◌, ◌⊎◌, ℕ, ℤ, ◌+◌, true, IsSome, List, Some, encode_utf8_all, pos, min, length, option_map, unwrap_or}
+use Rattle.std.specs.Prelude.{◌≡◌, ◌⊎◌, ℕ, ℤ, ◌+◌, true, IsSome, List, [], ◌∷◌, ◌++◌, Some, encode_utf8_all, pos, min, length, map, option_map, slice_get, unwrap_or}
 use Rattle.std.specs.List.{All, Contains}
 use Rattle.desk_command.specs.declared.command.Command.{Command}
-use Rattle.desk_model.specs.Book.{Book, Entry, Mark, Paragraph, paragraph_of}
+use Rattle.desk_model.specs.Book.{Book, Mark, Paragraph, paragraph_of}
 use Rattle.desk_parts.specs.Puts.{Flags, Place, Print, PutRow, Resolved, RowPut, SetColumns, Span, Table, Version, with_puts}
 use Rattle.desk_model.specs.Named.{Retabled, named_by}
-use Rattle.desk_model.specs.Step.{next_id, next_mark, next_with_entry, next_with_marks, next_with_paragraphs, with_change, with_resolved}
+use Rattle.desk_model.specs.Step.{next_id}
 use Rattle.desk_parts.specs.declared.file_table.FileTable.TheVariants as tables
 use Rattle.desk_parts.specs.FileRows.{FileRows, table_of}
 use Rattle.desk_parts.specs.Rows.{NamedCorr}
@@ -23,18 +23,21 @@ next_entry_number book id = unwrap_or (option_map (λ paragraph. length paragrap
 abbrev pub Comes : Book → Command → ℕ → Type 0
 Comes book command id = (id ≡ next_id book) × ((named_by command).adds_paragraph ≡ true)
 
--- the history of the paragraph with this id gets an entry, and its marks move
-abbrev pub GetsEntry : (book next : Book) → ℕ → Type 0
-GetsEntry book next id = (entry : Entry) × (move : (Mark → Mark)) × (next ≡ next_with_entry book id entry move)
+-- the mark comes: the next book has it after those of this one
+abbrev pub GetsMark : (book next : Book) → Mark → Type 0
+GetsMark book next mark = next.marks ≡ book.marks ++ mark ∷ []
 
--- the next book has the next version, and differs otherwise in the paragraph with this id alone
-abbrev pub GetsFlags : (book next : Book) → ℕ → Type 0
-GetsFlags book next id =
-    (change : (Paragraph → Paragraph)) × (next ≡ next_with_paragraphs book (with_change id change book.paragraphs))
+-- the history of the paragraph with this id gets an entry, and its marks move
+abbrev pub GetsEntry : Command → ℕ → Type 0
+GetsEntry command id = (named_by command).history_grown ≡ Some id
+
+-- the style or a flag of the paragraph with this id is set
+abbrev pub GetsFlags : Command → ℕ → Type 0
+GetsFlags command id = (named_by command).flags_set ≡ Some id
 
 -- the mark with this id becomes resolved
-abbrev pub GetsResolved : (book next : Book) → ℕ → Type 0
-GetsResolved book next id = next ≡ next_with_marks book (with_resolved id book.marks)
+abbrev pub GetsResolved : Command → ℕ → Type 0
+GetsResolved command id = (named_by command).mark_named ≡ Some id
 
 -- the paragraph with this id gets the table with this name
 abbrev pub GetsTable : Command → ℕ → List ℕ → Type 0
@@ -48,14 +51,22 @@ UsesReplaced book command id =
 
 -- the paragraph with this id gets other braille: it comes, its print changes, it gets another table, or its table another
 -- text
-abbrev pub GetsCells : (book next : Book) → Command → ℕ → Type 0
-GetsCells book next command id =
-    Comes book command id ⊎ (GetsEntry book next id
+abbrev pub GetsCells : Book → Command → ℕ → Type 0
+GetsCells book command id =
+    Comes book command id ⊎ (GetsEntry command id
     ⊎ (((table : List ℕ) × GetsTable command id table) ⊎ UsesReplaced book command id))
 
 -- paragraphs stand at other places: one comes, or is moved
 abbrev pub Reorders : Command → Type 0
 Reorders command = IsSome (named_by command).place_given
+
+-- the paragraph with this id stands at this index of the book
+abbrev pub StandsAt : Book → (id index : ℕ) → Type 0
+StandsAt book id index = slice_get (map (λ paragraph. paragraph.id) book.paragraphs) index ≡ Some id
+
+-- it comes to this index, at which another paragraph of the book stands, or none
+abbrev pub ComesTo : (book next : Book) → (id index : ℕ) → Type 0
+ComesTo book next id index = StandsAt next id index × ¬ StandsAt book id index
 
 -- The command, which makes the next book of this one, changes what this is put for. No whole row of `book` or `corr` is lent,
 -- and columns are set in rows of `book`, `para` and `mark` alone.
@@ -66,24 +77,25 @@ IsLent book next command (PutRow tables.Tab row) =
     × (row.name ≡ encode_utf8_all name) × (row.body ≡ text)
 IsLent book next command (PutRow tables.Para row) = (id : ℕ) × (row.id ≡ row_number id) × Comes book command id
 IsLent book next command (PutRow tables.Corr row) = ⊥
-IsLent book next command (PutRow tables.Mark row) = row.id ≡ row_number (next_mark book)
-IsLent book next command (PutRow tables.Cache row) =
-    (id : ℕ) × (row.para ≡ row_number id) × GetsCells book next command id
+IsLent book next command (PutRow tables.Mark row) = (mark : Mark) × (row.id ≡ row_number mark.id) × GetsMark book next mark
+IsLent book next command (PutRow tables.Cache row) = (id : ℕ) × (row.para ≡ row_number id) × GetsCells book command id
 IsLent book next command (PutRow tables.NamedCorr row) =
-    (id : ℕ) × (row.entry.para ≡ row_number id) × (row.entry.seq ≡ row_number (next_entry_number book id)) × GetsEntry book next id
+    (id : ℕ) × (row.entry.para ≡ row_number id) × (row.entry.seq ≡ row_number (next_entry_number book id)) × GetsEntry command id
 IsLent book next command (SetColumns tables.Book id (Version version)) =
     (id ≡ pos 1) × (version ≡ row_number next.version)
-IsLent book next command (SetColumns tables.Para id (Place place)) = Reorders command
+IsLent book next command (SetColumns tables.Para id (Place place)) =
+    (named : ℕ) × (index : ℕ) × (id ≡ row_number named) × (place ≡ row_number (index + 1)) × Reorders command
+    × ComesTo book next named index
 IsLent book next command (SetColumns tables.Para id (Flags style volume struck)) =
-    (named : ℕ) × (id ≡ row_number named) × GetsFlags book next named
+    (named : ℕ) × (id ≡ row_number named) × GetsFlags command named
 IsLent book next command (SetColumns tables.Para id (Table tab)) =
     (named : ℕ) × (table : List ℕ) × (id ≡ row_number named) × (tab ≡ encode_utf8_all table) × GetsTable command named table
 IsLent book next command (SetColumns tables.Para id (Print print)) =
-    (named : ℕ) × (id ≡ row_number named) × GetsEntry book next named
+    (named : ℕ) × (id ≡ row_number named) × GetsEntry command named
 IsLent book next command (SetColumns tables.Mark id (Span start stop touched)) =
-    (mark : Mark) × Contains book.marks mark × (id ≡ row_number mark.id) × GetsEntry book next mark.paragraph
+    (mark : Mark) × Contains book.marks mark × (id ≡ row_number mark.id) × GetsEntry command mark.paragraph
 IsLent book next command (SetColumns tables.Mark id (Resolved resolved)) =
-    (named : ℕ) × (id ≡ row_number named) × GetsResolved book next named
+    (named : ℕ) × (id ≡ row_number named) × GetsResolved command named
 IsLent book next command (SetColumns t key none) = absurd none
 
 -- all that is lent is

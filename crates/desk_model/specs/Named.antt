@@ -42,6 +42,8 @@ pub record Named : Type 0 where
   pub mark_named : Option ℕ
   -- the paragraph whose history gets an entry
   pub history_grown : Option ℕ
+  -- the paragraph whose style, or one of whose flags, it sets
+  pub flags_set : Option ℕ
   -- whether it makes a new paragraph
   pub adds_paragraph : Bool
   -- the paragraphs that it speaks of
@@ -73,6 +75,7 @@ nothing_named = record {
   place_given = None;
   mark_named = None;
   history_grown = None;
+  flags_set = None;
   adds_paragraph = false;
   paragraphs_named = [];
   table_named = None;
@@ -143,10 +146,10 @@ named_by (Mark id cell count note) = record nothing_named {
   turn_after_asking = Some 200;
 }
 named_by (Resolve id) = record nothing_named { mark_named = Some id }
-named_by (Strike id) = record nothing_named { paragraphs_named = id ∷ []; live_paragraph = Some id }
-named_by (Restore id) = record nothing_named { paragraphs_named = id ∷ []; struck_paragraph = Some id }
-named_by (Style id style) = record nothing_named { paragraphs_named = id ∷ [] }
-named_by (Volume id begins) = record nothing_named { paragraphs_named = id ∷ [] }
+named_by (Strike id) = record nothing_named { flags_set = Some id; paragraphs_named = id ∷ []; live_paragraph = Some id }
+named_by (Restore id) = record nothing_named { flags_set = Some id; paragraphs_named = id ∷ []; struck_paragraph = Some id }
+named_by (Style id style) = record nothing_named { flags_set = Some id; paragraphs_named = id ∷ [] }
+named_by (Volume id begins) = record nothing_named { flags_set = Some id; paragraphs_named = id ∷ [] }
 named_by (Retable id table) = record nothing_named {
   paragraphs_named = id ∷ [];
   table_named = Some table;

@@ -107,6 +107,6 @@ module _ (book : Book) (id start count : ℕ) (text who : List ℕ) where
                 λ i. next_with_entry book id (Corrects r who) (mark_moved_by (starts i) (removes i) (adds i)) in (
                   accepts_entry book command id p shown.found kept shown.kept_is print shown.translated.text meaning shown.translated.found shown.translated.means refl replaced refl made
                       (not_longer most_print (Some (normal_form text)) (normal_form text) refl short) no_note spanned refl refl refl refl shorts is.few is.left defined,
-                  (next_with_entry book id (Corrects r who) (mark_moved_by new.start new.removed new.added), moves, subst (Does book command _) (sym is.effect_is) change),
+                  (next_with_entry book id (Corrects r who) (mark_moved_by new.start new.removed new.added), moves, subst (Does book command (next_with_entry book id (Corrects r who) (mark_moved_by new.start new.removed new.added))) (sym is.effect_is) (refl, change)),
                   (written.0, written.1, tt),
                 )

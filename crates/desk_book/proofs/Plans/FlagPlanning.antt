@@ -9,6 +9,7 @@ use Rattle.desk_model.specs.Book.{Book, Paragraph}
 use Rattle.desk_model.specs.Judging.{Passes}
 use Rattle.desk_memory.specs.Kept.{paragraph_kept}
 use Rattle.desk_model.specs.Limits.{most_version}
+use Rattle.desk_model.specs.Loans.{GetsFlags}
 use Rattle.desk_model.specs.Named.{HasCharacters}
 use Rattle.desk_book.specs.Plans.{IsKeptFor, IsPlanned}
 use Rattle.desk_model.specs.Step.{Makes, next_with_paragraphs, with_change}
@@ -17,7 +18,7 @@ use Rattle.desk_model.proofs.Commands.Judging.{skips}
 use Rattle.desk_model.proofs.Commands.Turns.{accepted_after, past_version}
 
 module _ (book : Book) (command : Command) (id : ℕ) (kept : KeptParagraph) (k : IsKeptFor book id kept) (change : Paragraph → Paragraph)
-    (makes : Makes book command (next_with_paragraphs book (with_change id change book.paragraphs))) (written : HasCharacters command) where
+    (makes : Makes book command (next_with_paragraphs book (with_change id change book.paragraphs))) (written : HasCharacters command) (sets : GetsFlags command id) where
   -- where a version is left, and no refusal holds that is checked before
   pub flags_planned : (n : ℕ) → Passes book None command n → skips command n 160 ≡ true → skips command 170 200 ≡ true → book.version < most_version
       → (effect : Effect) (style : Style) (begins struck : Bool) → effect ≡ SetFlags id style begins struck
@@ -25,6 +26,6 @@ module _ (book : Book) (command : Command) (id : ℕ) (kept : KeptParagraph) (k 
   flags_planned n passes to_version to_end left effect style begins struck is same =
       subst (IsPlanned book command) (sym is) (
         accepted_after book command 170 (past_version book command n passes to_version left) to_end,
-        (next_with_paragraphs book (with_change id change book.paragraphs), makes, ap (next_with_paragraphs book) (with_change-same id (paragraph_kept (id, kept)) change _ _ k.alone same)),
+        (next_with_paragraphs book (with_change id change book.paragraphs), makes, (sets, ap (next_with_paragraphs book) (with_change-same id (paragraph_kept (id, kept)) change _ _ k.alone same))),
         written,
       )

@@ -132,6 +132,6 @@ module _ (book : Book) (id : ℕ) where
             λ i. next_with_entry book id (Undoes number) (mark_moved_by (starts i) (removes i) (adds i)) in (
               accepts_entry book command id p shown.found kept shown.kept_is print shown.translated.text meaning shown.translated.found shown.translated.means refl print_undone refl made no_text no_note passed refl refl refl refl
                   shorts is.few is.left defined,
-              (next_with_entry book id (Undoes number) (mark_moved_by new.start new.removed new.added), (number, r, record { paragraph = p; found = shown.found; newest_is = newest_is }, moves), subst (Does book command _) (sym is.effect_is) change),
+              (next_with_entry book id (Undoes number) (mark_moved_by new.start new.removed new.added), (number, r, record { paragraph = p; found = shown.found; newest_is = newest_is }, moves), subst (Does book command (next_with_entry book id (Undoes number) (mark_moved_by new.start new.removed new.added))) (sym is.effect_is) (refl, change)),
               (tt, tt, tt),
             )

@@ -1,9 +1,14 @@
 -- What a change lends is put for what its command changes.
-use Rattle.std.proofs.Common.{◌≡◌, ℕ, ◌+◌, ◌≤◌, Bool, true, false, cond, List, [], ◌∷◌, length, map, drop, Option, Some, None, Contains, refl, sym, ap, subst, ◌∙◌, arith, inl, inr, get_or}
-use Rattle.std.specs.List.{All, enumerate_from, filter, flat_map}
-use Rattle.std.specs.Prelude.{◌==◌, is_some}
-use Rattle.std.proofs.lemmas.Bool.{cases_Bool, eqb-true}
+use Rattle.std.proofs.Common.{◌≡◌, ℕ, suc, ◌+◌, ◌-◌, ◌<◌, ◌≤◌, Bool, true, false, cond, List, [], ◌∷◌, length, map, drop, Option, Some, None, Contains, refl, sym, ap, subst, ◌∙◌, arith, inl, inr, get_or}
+use Rattle.std.specs.List.{All, enumerate_from, filter, flat_map, insert, IsDistinct}
+use Rattle.std.specs.Option.{option_map_or}
+use Rattle.std.specs.Prelude.{◌==◌, is_some, nat_eq, slice_get}
+use Rattle.std.proofs.lemmas.Bool.{cases_Bool, eq-eqb, eqb-true}
+use Rattle.std.proofs.lemmas.List.{get_or-drop, get_or_default, length-drop, length-map}
+use Rattle.std.proofs.lemmas.List.Edits.{get_or-insert_above, length-insert}
 use Rattle.std.proofs.lemmas.List.Elements.{All-append, All-cons, All-map, All-nil}
+use Rattle.std.proofs.lemmas.List.FromFn.{get_or-enumerate_from, length-enumerate_from}
+use Rattle.std.proofs.lemmas.Option.{slice_get_read}
 use Rattle.louis_table.specs.Meaning.{Meaning}
 use Rattle.louis_table.specs.Table.{Means}
 use Rattle.desk_book.specs.declared.change.Effect.{Effect}
@@ -12,24 +17,21 @@ use Rattle.desk_memory.specs.declared.history.KeptEntry.{KeptEntry}
 use Rattle.desk_memory.specs.declared.history.KeptEntry.TheVariants.{Corrects, Undoes}
 use Rattle.desk_command.specs.declared.command.Command.{Command}
 use Rattle.desk_parts.specs.Puts.{RowPut}
-use Rattle.desk_model.specs.Book.{Book, Mark}
+use Rattle.desk_model.specs.Book.{Book, Mark, Paragraph}
 use Rattle.desk_book.specs.ChangePuts.{cache_put, cells_from, cells_put, effect_puts, elsewhere_from, elsewhere_put, entry_row, further_from, further_put, place_put, print_put, span_put, stays_in, tab_put, version_put}
-use Rattle.desk_model.specs.Loans.{AreLent, Comes, GetsEntry, IsLent, Reorders, next_entry_number, row_number}
+use Rattle.desk_model.specs.Loans.{AreLent, Comes, GetsEntry, IsLent, Reorders, StandsAt, next_entry_number, row_number}
 use Rattle.desk_book.specs.Changes.{Carries, Change, Does, change_puts, puts-change_by, has-effect}
-use Rattle.desk_memory.specs.Histories.{entry_kept}
-use Rattle.desk_model.specs.Marks.{mark_moved_by}
+use Rattle.desk_memory.specs.Kept.{mark_kept}
 use Rattle.desk_model.specs.ParagraphMarks.{marks_on}
 use Rattle.desk_model.specs.Named.{named_by}
 use Rattle.desk_model.specs.Sound.{IsSound}
-use Rattle.desk_model.specs.Step.{next_id}
+use Rattle.desk_model.specs.Step.{next_id, next_mark}
 use Rattle.desk_model.proofs.Lists.Members.{Contains-behind, Contains-here}
 use Rattle.desk_book.proofs.RowPuts.PutReplacement.{RenewsFrom, renews-all, renews-here, renews-next}
 use Rattle.desk_book.proofs.Kept.Settled.{Does-carried}
-use Rattle.desk_model.proofs.Books.SoundBooks.{paragraph_of-some}
-
-All-flat : {X Y : Type 0} (P : Y → Type 0) (f : X → List Y) → ((x : X) → All P (f x)) → (xs : List X) → All P (flat_map f xs)
-All-flat P f each [] = All-nil P
-All-flat P f each (x ∷ xs) = All-append P (f x) (flat_map f xs) (each x) (All-flat P f each xs)
+use Rattle.desk_book.proofs.RowPuts.PutOrder.{index-at}
+use Rattle.desk_model.proofs.Books.ParagraphLists.{ids_of}
+use Rattle.desk_model.proofs.Books.SoundBooks.{paragraph_of-some, paragraphs-apart}
 
 entry-row : (id n : ℕ) (kept : KeptEntry) → ((entry_row id n kept).entry.para ≡ row_number id) × ((entry_row id n kept).entry.seq ≡ row_number n)
 entry-row id n (Corrects c) = (refl, refl)
@@ -42,32 +44,73 @@ module _ (book next : Book) (command : Command) where
   -- ---- places
 
   module _ (order : Reorders command) where
-    further-lent : (index : ℕ) (ids : List ℕ) → All P (further_from index ids)
-    further-lent index ids = All-map P further_put (drop index (enumerate_from 1 ids)) (λ k d within. each (get_or (drop index (enumerate_from 1 ids)) k d))
+    -- those of an order into which an id is put, from that place on
+    further-lent : (place new : ℕ) (ids : List ℕ) → ids ≡ ids_of book.paragraphs → IsDistinct nat_eq ids → place ≤ length ids → insert ids place new ≡ ids_of next.paragraphs
+        → All P (further_from place ids)
+    further-lent place new ids old apart within is = All-map P further_put (drop place (enumerate_from 1 ids)) each
       where
-        each : (x : ℕ × ℕ) → P (further_put x)
-        each (place, id) = order
+        at : (j id : ℕ) → place ≤ j → j < length ids → id ≡ get_or ids j id → P (further_put (1 + j, id))
+        at j id from lt here =
+            let next-here : get_or (insert ids place new) (j + 1) id ≡ get_or ids j id = get_or-insert_above ids place new id j from within in
+            let long : length (insert ids place new) ≡ length ids + 1 = length-insert ids place new within in
+            let there : slice_get (insert ids place new) (j + 1) ≡ Some id =
+            slice_get_read (insert ids place new) (length (insert ids place new)) (j + 1) id refl (omega arith) (here ∙ sym next-here) in
+            let was : slice_get ids j ≡ Some id = slice_get_read ids (length ids) j id refl lt here in
+            let index = index-at ids j id apart was in
+            let next-index : 1 + j ≡ j + 1 = omega arith in (
+              id,
+              j + 1,
+              refl,
+              ap (λ (n : ℕ). row_number (n + 1)) next-index,
+              order,
+              (
+                ap (λ (o : List ℕ). slice_get o (j + 1)) (sym is) ∙ there,
+                λ stood. let other = index-at ids (j + 1) id apart (ap (λ (o : List ℕ). slice_get o (j + 1)) old ∙ stood) in omega arith,
+              ),
+            )
 
-    place-lent : (stays : Bool) (id place : ℕ) → All P (cond stays [] (place_put id place ∷ []))
-    place-lent true id place = All-nil P
-    place-lent false id place = All-cons P (place_put id place) [] order (All-nil P)
+        each : All (λ x. P (further_put x)) (drop place (enumerate_from 1 ids))
+        each k d lt =
+            let short : place + k < length ids = omega (arith, length-drop place (enumerate_from 1 ids), length-enumerate_from 1 ids, lt) in
+            let read : get_or (drop place (enumerate_from 1 ids)) k d ≡ (1 + (place + k), get_or ids (place + k) d.1) =
+            get_or-drop place (enumerate_from 1 ids) k d ∙ get_or-enumerate_from 1 ids (place + k) d short in
+            subst (λ (x : ℕ × ℕ). P (further_put x)) (sym read)
+            (at (place + k) (get_or ids (place + k) d.1) (omega arith) short (get_or_default ids (place + k) d.1 (get_or ids (place + k) d.1) short))
 
-    elsewhere-lent : (old ids : List ℕ) → All P (elsewhere_from 0 old ids)
-    elsewhere-lent old ids = All-flat P (elsewhere_put old) each (enumerate_from 1 ids)
+    place-lent : (old : List ℕ) → old ≡ ids_of book.paragraphs → (n id : ℕ) (stays : Bool) → stays_in old (n + 1, id) ≡ stays → StandsAt next id n
+        → All P (cond stays [] (place_put id (n + 1) ∷ []))
+    place-lent old is n id true stays at = All-nil P
+    place-lent old is n id false moved at =
+        All-cons P (place_put id (n + 1)) [] (id, n, refl, refl, order, (at, left)) (All-nil P)
       where
-        each : (x : ℕ × ℕ) → All P (elsewhere_put old x)
-        each (place, id) = place-lent (stays_in old (place, id)) id place
+        left : ¬ StandsAt book id n
+        left stood =
+            let here : n + 1 - 1 ≡ n = omega arith in
+            let found : slice_get old (n + 1 - 1) ≡ Some id = ap (slice_get old) here ∙ (ap (λ (o : List ℕ). slice_get o n) is ∙ stood) in
+            let same : stays_in old (n + 1, id) ≡ true = ap (λ (o : Option ℕ). option_map_or (λ other. other == id) o false) found ∙ eq-eqb id id refl in
+            let both : true ≡ false = sym same ∙ moved in cc
+
+    -- those of an order that stand elsewhere than in the old one
+    elsewhere-lent : (old : List ℕ) → old ≡ ids_of book.paragraphs → (n : ℕ) (ids : List ℕ) → ((k id : ℕ) → slice_get ids k ≡ Some id → StandsAt next id (n + k))
+        → All P (flat_map (elsewhere_put old) (enumerate_from (n + 1) ids))
+    elsewhere-lent old is n [] at = All-nil P
+    elsewhere-lent old is n (id ∷ ids) at =
+        let here : n + 0 ≡ n = omega arith in
+        All-append P (elsewhere_put old (n + 1, id)) (flat_map (elsewhere_put old) (enumerate_from (n + 1 + 1) ids))
+        (place-lent old is n id (stays_in old (n + 1, id)) refl (subst (StandsAt next id) here (at 0 id refl)))
+        (elsewhere-lent old is (n + 1) ids
+        (λ k other e. let further : n + suc k ≡ n + 1 + k = omega arith in subst (StandsAt next other) further (at (suc k) other e)))
 
   -- ---- marks
 
-  spans-lent : (id start removed added : ℕ) → GetsEntry book next id → (marks : List Mark) → ((mark : Mark) → Contains marks mark → Contains book.marks mark)
+  spans-lent : (id start removed added : ℕ) → GetsEntry command id → (marks : List Mark) → ((mark : Mark) → Contains marks mark → Contains book.marks mark)
       → All P (map (span_put start removed added) (filter (λ mark. mark.paragraph == id) marks))
   spans-lent id start removed added grows [] among = All-nil P
   spans-lent id start removed added grows (mark ∷ marks) among =
       let rest = spans-lent id start removed added grows marks (λ other c. among other (Contains-behind mark other marks c)) in
       elim (cases_Bool (mark.paragraph == id)) [
         | inl on ↦ rw on (All-cons P (span_put start removed added mark) (map (span_put start removed added) (filter (λ other. other.paragraph == id) marks))
-            (mark, among mark (Contains-here mark marks), refl, subst (GetsEntry book next) (sym (eqb-true mark.paragraph id on)) grows) rest)
+            (mark, among mark (Contains-here mark marks), refl, subst (GetsEntry command) (sym (eqb-true mark.paragraph id on)) grows) rest)
         | inr off ↦ rw off rest
       ]
 
@@ -98,25 +141,29 @@ module _ (book next : Book) (command : Command) where
       let adds : (named_by command).adds_paragraph ≡ true = ap (λ (c : Command). (named_by c).adds_paragraph) does.command_is in
       let comes : Comes book command (next_id book) = (refl, adds) in
       let reorders : Reorders command = ap (λ (c : Command). is_some (named_by c).place_given) does.command_is in
-      let ids : List ℕ = map (λ other. other.id) book.paragraphs in
+      let ids : List ℕ = ids_of book.paragraphs in
+      let count : length ids ≡ length book.paragraphs = length-map book.paragraphs (λ (other : Paragraph). other.id) in
+      let within = does.within in
+      let places = further-lent reorders place (next_id book) ids refl (paragraphs-apart book sound) (omega arith) does.order in
       All-cons P _ (cache_put (next_id book) kept.cells ∷ further_from place ids) (next_id book, refl, comes)
-      (All-cons P (cache_put (next_id book) kept.cells) (further_from place ids) (next_id book, refl, inl comes) (further-lent reorders place ids))
+      (All-cons P (cache_put (next_id book) kept.cells) (further_from place ids) (next_id book, refl, inl comes) places)
   effect-lent sound (effect.ChangePrint id change) does =
-      let grows : GetsEntry book next id = (entry_kept change.entry, mark_moved_by change.start change.removed change.added, does.next_is) in
+      let grows : GetsEntry command id = does.0 in
       let row = entry-row id (next_entry_number book id) change.entry in
       let spans : List RowPut = map (span_put change.start change.removed change.added) (marks_on id book.marks) in
       All-cons P _ (print_put id change.print ∷ cache_put id change.cells ∷ spans) (id, row.0, row.1, grows)
       (All-cons P (print_put id change.print) (cache_put id change.cells ∷ spans) (id, refl, grows)
       (All-cons P (cache_put id change.cells) spans (id, refl, inr (inl grows))
       (spans-lent id change.start change.removed change.added grows book.marks (λ mark c. c))))
-  effect-lent sound (effect.AddMark mark room index_room) does = All-cons P _ [] refl (All-nil P)
-  effect-lent sound (effect.ResolveMark id) does = All-cons P _ [] (id, refl, does) (All-nil P)
-  effect-lent sound (effect.SetFlags id style begins struck) does = All-cons P _ [] (id, refl, (_, does)) (All-nil P)
+  effect-lent sound (effect.AddMark mark room index_room) does =
+      All-cons P _ [] (mark_kept (next_mark book, mark), refl, ap (λ (b : Book). b.marks) does.0) (All-nil P)
+  effect-lent sound (effect.ResolveMark id) does = All-cons P _ [] (id, refl, does.0) (All-nil P)
+  effect-lent sound (effect.SetFlags id style begins struck) does = All-cons P _ [] (id, refl, does.0) (All-nil P)
   effect-lent sound (effect.ChangeTable id table cells) does =
       All-cons P _ (cache_put id cells ∷ []) (id, table, refl, refl, does.0.0)
       (All-cons P (cache_put id cells) [] (id, refl, inr (inr (inl (table, does.0.0)))) (All-nil P))
   effect-lent sound (effect.Reorder order) does =
-      elsewhere-lent does.0.0 (map (λ other. other.id) book.paragraphs) order
+      elsewhere-lent does.0.0 (ids_of book.paragraphs) refl 0 order (λ k id at. ap (λ (o : List ℕ). slice_get o (0 + k)) (sym does.1) ∙ (let from : 0 + k ≡ k = omega arith in ap (slice_get order) from ∙ at))
 
   pub puts-lent : IsSound book → (version : ℕ) → version ≡ next.version → (e : Effect) → Does book command next e
       → AreLent book next command (version_put version ∷ effect_puts book e)

@@ -73,9 +73,9 @@ module _ (book next : Book) (command : Command) (sound : IsSound book) (accepted
       subst (Leads (effect.AddParagraph kept room order_room place)) (sym is)
       (paragraph-lead book ps kept place given.typed_is.source given.typed_is.meaning sound given.within fresh (given.typed_is.print ∙ sym original) given.typed_is.found given.typed_is.means given.typed_is.cells moved order (subst IsSound is after))
   leads (effect.ChangePrint id change) does =
-      let is = does.next_is in
+      let is = does.1.next_is in
       let given : ChangesPrint book (next_with_entry book id (entry_kept change.entry) (mark_moved_by change.start change.removed change.added)) id change =
-      subst (λ (b : Book). ChangesPrint book b id change) is does in
+      subst (λ (b : Book). ChangesPrint book b id change) is does.1 in
       let number : length given.paragraph.history + 1 ≡ unwrap_or (option_map (λ (q : Paragraph). length q.history + 1) (paragraph_of book id)) 1 =
       ap (λ (o : Option Paragraph). unwrap_or (option_map (λ (q : Paragraph). length q.history + 1) o) 1) (sym given.there) in
       subst (Leads (effect.ChangePrint id change)) (sym is)
@@ -85,9 +85,9 @@ module _ (book next : Book) (command : Command) (sound : IsSound book) (accepted
   leads (effect.AddMark mark room index_room) does =
       subst (Leads (effect.AddMark mark room index_room)) (sym does.0) (mark-lead book mark sound (subst IsSound does.0 after))
   leads (effect.ResolveMark id) does =
-      subst (Leads (effect.ResolveMark id)) (sym does) (resolved-lead book id sound (subst IsSound does after))
+      subst (Leads (effect.ResolveMark id)) (sym does.1) (resolved-lead book id sound (subst IsSound does.1 after))
   leads (effect.SetFlags id style begins struck) does =
-      subst (Leads (effect.SetFlags id style begins struck)) (sym does) (flags-lead book id style begins struck sound (subst IsSound does after))
+      subst (Leads (effect.SetFlags id style begins struck)) (sym does.1) (flags-lead book id style begins struck sound (subst IsSound does.1 after))
   leads (effect.ChangeTable id table cells) does =
       let is = does.0.1 in
       subst (Leads (effect.ChangeTable id table cells)) (sym is) (retabled-lead book id table cells sound does.1 (subst IsSound is after))

@@ -10,5 +10,5 @@ pub returns-clause-planned : goal.returns-clause-planned
 returns-clause-planned c =
     let kept = c.in_ok-paragraph.ensures.found in
     let named = to_turn c.args.self.now (Restore c.args.id) 40 70 refl (past_named c.args.self.now (Restore c.args.id) c.args.id _ kept refl refl) in
-    flags_planned c.args.self.now (Restore c.args.id) c.args.id _ kept (λ (p : Paragraph). record p { struck = false }) refl (tt, tt, tt)
+    flags_planned c.args.self.now (Restore c.args.id) c.args.id _ kept (λ (p : Paragraph). record p { struck = false }) refl (tt, tt, tt) refl
     80 (past_live c.args.self.now (Restore c.args.id) c.args.id _ kept named refl c.if-not-paragraph.false) refl refl c.in_ok-check_version.ensures.left _ _ _ _ c.with_struck.ensures refl
