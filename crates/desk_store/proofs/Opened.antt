@@ -1,17 +1,13 @@
 -- What stays of a file that is read, and which tables it has by its format.
 use Rattle.std.proofs.Common.{◌≡◌, Bool, true, List, map, map-id, refl, sym, subst, ap, ◌∙◌, IsPermutation}
-use Rattle.sqlite_trees.specs.declared.store.Store.{Ghosts}
 use Rattle.sqlite.specs.Effect.{Database}
-use Rattle.sqlite.specs.Held.{Held, state}
 use Rattle.sqlite.specs.State.{IsUnchanged, State}
 use Rattle.desk_parts.specs.declared.file_table.FileTable.{FileTable}
 use Rattle.desk_rows.specs.Contents.{Contents}
 use Rattle.desk_rows.specs.Layout.{Layout}
 use Rattle.desk_rows.specs.States.{IsFile, ShowsContents}
 use Rattle.desk_rows.specs.Tables.{is_there}
-use Rattle.desk_rows.specs.declared.fault.DatabaseFault.{DatabaseFault}
 use Rattle.desk_store.specs.Formats.{Format, IsOfFormat, IsPresent, Presence, named, needed, presence, unnamed}
-use Rattle.desk_store.specs.Opened.{StopsReading}
 use Rattle.desk_store.specs.Opening.{Stays}
 
 -- ---- a connection that stays as it was
@@ -24,15 +20,6 @@ same_state s = record { now = refl; committed = refl; is_open = refl }
 
 pub stays_then : (a b c : State) → Stays a b → Stays b c → Stays a c
 stays_then a b c p q = record { now = q.now ∙ p.now; committed = q.committed ∙ p.committed; is_open = q.is_open ∙ p.is_open }
-
--- what stops a read stops it too of a connection that was as this one
-pub stops_after : {S : Type 0} (g : Ghosts S) (old mid : Held S) (new : State) (why : DatabaseFault) → Stays (state g old) (state g mid) → StopsReading g mid new why → StopsReading g old new why
-stops_after g old mid new why stays stops = record {
-  table = stops.table;
-  before = stops.before;
-  stays = stays_then (state g old) (state g mid) (state g stops.before) stays stops.stays;
-  fails = stops.fails;
-}
 
 pub shows_still : (old new : State) → Stays old new → (l : Layout) (c : Contents) → ShowsContents l c old → ShowsContents l c new
 shows_still old new same l c was = record {

@@ -31,10 +31,11 @@ use Rattle.desk_rows.specs.Making.{IsNew, new_layout, new_tables, with_tables}
 use Rattle.desk_store.specs.Filling.{HoldsEitherWith, HoldsWith, which_lacked}
 use Rattle.desk_store.specs.Opened.{HasGained, HoldsEither, HoldsEmpty, HoldsNone, IsMadeNew, MayBring, OpensBook, Stands, TellsOf, TellsOfNone, lacking, missing_tables}
 use Rattle.desk_store.specs.Reading.{ReadsFile}
-use Rattle.desk_store.specs.Opening.{IsOpenedAs, IsRefusal, rebuilt_as}
+use Rattle.desk_store.specs.Opening.{IsOpenedAs, IsRefusal, opened_as, rebuilt_as}
 use Rattle.desk_rows.specs.States.{IsFile, ShowsContents}
 use Rattle.desk_rows.specs.Tables.{is_there}
 use Rattle.desk_rows.specs.Turns.{with_transaction}
+use Rattle.desk_rows.specs.declared.fault.DatabaseFault.{DatabaseFault}
 use Rattle.desk_rows.specs.declared.fault.DatabaseFault.TheVariants as fault
 use Rattle.desk_store.specs.declared.fault.OpenFault.{OpenFault}
 use Rattle.desk_store.specs.declared.fault.OpenFault.TheVariants.{NotABook, Lost, NoMemory}
@@ -206,20 +207,17 @@ module _ {S : Type 0} (g : Ghosts S) (make : Bool) (old : Held S) (none : HasNon
   abbrev Failed : State → OpenFault → Type 0
   Failed new told = (e : Error) × FailsToChange g new_tables (of_first_row g) (with_transaction old) new e × IsOpenedAs e told
 
-  tells_failed : (new : State) (told : OpenFault) → make ≡ true → Failed new told → TellsOfNone make g old new told
-  tells_failed new told wanted (e, fails, (fault.NoMemory, cause, is)) = subst (TellsOfNone make g old new) (sym is) wanted
-  tells_failed new told wanted (e, fails, (fault.Lost, cause, is)) = subst (TellsOfNone make g old new) (sym is) (wanted, (e, fails, cause))
-  tells_failed new told wanted (e, fails, (fault.Refused, cause, is)) = subst (TellsOfNone make g old new) (sym is) (inr (inr (e, fails, cause)))
-
   pub tells_new : (new : State) (told : OpenFault) → make ≡ true → (is_there bare.now.schema tables.Cache ≡ true → told ≡ NotABook)
       → (is_there bare.now.schema tables.Cache ≡ false → Failed new told) → TellsOfNone make g old new told
   tells_new new told wanted beside failed = elim (cases_Bool (is_there bare.now.schema tables.Cache)) [
-    | inl there ↦ subst (TellsOfNone make g old new) (sym (beside there)) (inr (inl there))
-    | inr free ↦ tells_failed new told wanted (failed free)
+    | inl there ↦ inl (beside there, inr there)
+    | inr free ↦ let it = failed free in inr (it.0, it.2.0, wanted, free, it.1, it.2.1, it.2.2)
   ]
 
+  refused_only : (why : DatabaseFault) (told : OpenFault) → told ≡ opened_as why → IsRefusal told → told ≡ NotABook
+  refused_only fault.Refused told is refusal = is
+  refused_only why told is refusal = absurd (subst IsRefusal is refusal)
+
   pub only_no_book : (new : State) (told : OpenFault) → TellsOfNone make g old new told → IsRefusal told → told ≡ NotABook
-  only_no_book new NotABook it refusal = refl
-  only_no_book new Lost it refusal = absurd refusal
-  only_no_book new NoMemory it refusal = absurd refusal
-  only_no_book new told it refusal = absurd it
+  only_no_book new told (inl it) refusal = it.0
+  only_no_book new told (inr it) refusal = refused_only it.1 told it.6 refusal

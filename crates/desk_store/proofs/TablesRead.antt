@@ -1,9 +1,10 @@
 -- What reads of a file's tables, one after another, say of it.
-use Rattle.std.proofs.Common.{arith, ◌≡◌, Bool, true, false, List, map, Ok, Err, Some, None, refl, sym, subst, ap, ◌∙◌, IsPermutation}
+use Rattle.std.proofs.Common.{arith, ◌≡◌, Bool, true, false, List, map, Ok, Err, Some, None, inl, inr, refl, sym, subst, ap, ◌∙◌, IsPermutation}
 use Rattle.std.proofs.lemmas.List.Sorted.{IsPermutation-sym}
 use Rattle.sqlite_trees.proofs.ListLemmas.{all-map, all-permutation}
 use Rattle.sqlite_trees.specs.declared.store.Store.{Ghosts}
 use Rattle.sqlite_schema.specs.declared.schema.Schema.{Schema}
+use Rattle.sqlite.specs.Effect.{Database}
 use Rattle.sqlite.specs.Held.{Held, state}
 use Rattle.sqlite.specs.State.{HasCleanDisk, State, Survives}
 use Rattle.sqlite.proofs.StateLemmas.{survives_then}
@@ -12,6 +13,7 @@ use Rattle.desk_parts.specs.declared.file_table.FileTable.{FileTable}
 use Rattle.desk_parts.specs.declared.file_table.FileTable.TheVariants as tables
 use Rattle.desk_parts.specs.FileRows.{FileRows, HasUtf8Texts, Named, Unnamed}
 use Rattle.desk_parts.specs.Rows.{Corr, NamedCorr, ParaCells, StoredTab}
+use Rattle.desk_parts.specs.declared.rows.BookRow.{BookRow}
 use Rattle.desk_model.specs.SameRows.{AreSameRows}
 use Rattle.desk_rows.specs.Contents.{Contents}
 use Rattle.desk_rows.specs.Descriptions.{description_of}
@@ -29,10 +31,11 @@ use Rattle.desk_rows.proofs.TableReads.WholeReads.{reads_only}
 use Rattle.desk_store.specs.BookFile.{rows_of}
 use Rattle.desk_store.specs.Formats.{Format, IsOfFormat, IsPresent, Presence, named, needed, optional, presence, unnamed}
 use Rattle.desk_store.specs.Found.{AreCellsIn, AreEntriesIn, AreOtherRows, AreRowsIn, AreToldApart, IsReadAs}
-use Rattle.desk_store.specs.Opening.{CanBeRead, Stays}
+use Rattle.desk_store.specs.Opened.{StopsReading}
+use Rattle.desk_store.specs.Opening.{CanBeRead, IsBookRow, Stays, format_in}
 use Rattle.desk_store.specs.Reading.{AreFileCells, AreFileEntries, AreRest, AreTableRows, FailsToRead, IsReadFrom, ReadsCells, ReadsEntries, ReadsTable, ShowsReadable}
 use Rattle.desk_store.proofs.AnyFile.{all_readable, can_all_still, gives_before, readable_still, shown_before}
-use Rattle.desk_store.proofs.Opened.{as_it_was, as_listed, has_in_both, in_both, same_state, shows_still, stays_then, stops_after}
+use Rattle.desk_store.proofs.Opened.{as_it_was, as_listed, has_in_both, in_both, same_state, shows_still, stays_then}
 
 -- ---- a table that is read in a file of a format
 
@@ -99,7 +102,44 @@ table_fails g f t old {new} {why} read answers =
           answers.answered it.has unlimited
           (λ rows seen. it.kinds rows (shown_before (query_of t).text (reads_only t) s s (same_state s) new rows seen))
           (λ rows gives. it.apart rows (gives_before s s (same_state s) t new rows gives)) is;
-      stops = record { table = t; before = old; stays = same_state s; fails = answers.told };
+      table = t;
+      is_read = read;
+      before = old;
+      stays = same_state s;
+      fails = answers.told;
+    }
+
+-- a table that is read after others is one to be read at first, too
+read_still : (a b : State) → Stays a b → (f : Format) (t : FileTable) → IsReadAs (presence f t) (is_there b.now.schema t)
+    → IsReadAs (presence f t) (is_there a.now.schema t)
+read_still a b stays f t = subst (λ (d : Database). IsReadAs (presence f t) (is_there d.schema t)) stays.now
+
+-- ---- why a file isn't opened
+
+-- `book` isn't read
+pub book_stops : {S : Type 0} (g : Ghosts S) {V : Type 0} {items : V → List BookRow} (old : Held S) {new : State} {why : DatabaseFault}
+    → AnswersRows (Err why) items tables.Book (λ x. x) (AreToldApart tables.Book) (state g old) new → StopsReading g old new why
+book_stops g old answers = record {
+  table = tables.Book;
+  is_read = inl refl;
+  before = old;
+  stays = same_state (state g old);
+  fails = answers.told;
+}
+
+-- another table of the format that its row names isn't read
+pub rest_stops : {S : Type 0} (g : Ghosts S) (old mid : Held S) {new : State} {why : DatabaseFault} {f : Format} (rows : List BookRow) (row : BookRow)
+    → Stays (state g old) (state g mid) → AreRowsIn (state g old) tables.Book rows → IsBookRow rows row → f ≡ format_in row.format
+    → FailsToRead g f mid new why → StopsReading g old new why
+rest_stops g old mid {f} rows row stays are is same fails =
+    let t = fails.table in
+    let here = read_still (state g old) (state g mid) stays f t fails.is_read in
+    record {
+      table = t;
+      is_read = inr (rows, row, are, is, subst (λ (x : Format). IsReadAs (presence x t) (is_there (state g old).now.schema t)) same here);
+      before = fails.before;
+      stays = stays_then (state g old) (state g mid) (state g fails.before) stays fails.stays;
+      fails = fails.fails;
     }
 
 -- ---- the entries, and the cells
@@ -186,7 +226,11 @@ module _ {f : Format} {P : State → Type 0} {A : Layout → Contents → Type 0
             let none = fails.refused is in
             (stays_then a b new stays none.0, λ can. none.1 (readable_still a b stays f limit can));
         answered = λ is unlimited can. fails.answered is (limit ∙ unlimited) (can_all_still a b stays f can);
-        stops = stops_after g old mid new why stays fails.stops;
+        table = fails.table;
+        is_read = read_still a b stays f fails.table fails.is_read;
+        before = fails.before;
+        stays = stays_then a b (state g fails.before) stays fails.stays;
+        fails = fails.fails;
       }
 
 -- ---- all tables but `book`

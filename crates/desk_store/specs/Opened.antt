@@ -28,8 +28,8 @@ use Rattle.desk_rows.specs.Contents.{Contents}
 use Rattle.desk_rows.specs.TableQuery.{FailsAs, query_of}
 use Rattle.desk_rows.specs.Failing.{FailsToChange, of_first_row, of_items}
 use Rattle.desk_rows.specs.Fault.{IsToldAs}
-use Rattle.desk_store.specs.Formats.{IsExact, IsOfEither, IsOfFormat}
-use Rattle.desk_store.specs.Found.{AreFileRows, AreToldApart, HasNone, RowsShowIn, ShowsIn}
+use Rattle.desk_store.specs.Formats.{IsExact, IsOfEither, IsOfFormat, presence}
+use Rattle.desk_store.specs.Found.{AreFileRows, AreRowsIn, AreToldApart, HasNone, IsReadAs, RowsShowIn, ShowsIn}
 use Rattle.desk_rows.specs.Layout.{Layout}
 use Rattle.desk_rows.specs.Making.{IsMade, IsNew, new_layout, new_tables, with_tables}
 use Rattle.desk_store.specs.Opening.{CanAllBeRead, IsBookRow, IsNewer, IsRefusal, Stays, format_in, opened_as}
@@ -69,19 +69,13 @@ TellsOf l c NoMemory = ⊤
 
 -- ---- what is reported of any file without the tables of a book
 
--- a statement that makes the tables of a new file, or the commit, failed with an error that is reported so
-abbrev pub FailsToMake : {S : Type 0} → Ghosts S → Held S → State → DatabaseFault → Type 0
-FailsToMake g old new fault =
-    (e : Error) × FailsToChange g new_tables (of_first_row g) (with_transaction old) new e × IsToldAs e fault
-
--- It holds no book: none is to be made, `cache` is there, or the database refuses to make the tables.
+-- It holds no book, if none is to be made or `cache` is there. Otherwise a statement that makes the tables of a new file failed, or the
+-- commit did, with an error that is reported so.
 abbrev pub TellsOfNone : {S : Type 0} → (make : Bool) → Ghosts S → Held S → State → OpenFault → Type 0
-TellsOfNone make g old new NotABook =
-    (make ≡ false) ⊎ ((is_there (state g old).now.schema tables.Cache ≡ true) ⊎ FailsToMake g old new fault.Refused)
-TellsOfNone make g old new (Damaged table id) = ⊥
-TellsOfNone make g old new NewerFormat = ⊥
-TellsOfNone make g old new Lost = (make ≡ true) × FailsToMake g old new fault.Lost
-TellsOfNone make g old new NoMemory = make ≡ true
+TellsOfNone make g old new told =
+    ((told ≡ NotABook) × ((make ≡ false) ⊎ (is_there (state g old).now.schema tables.Cache ≡ true)))
+    ⊎ ((e : Error) × (why : DatabaseFault) × (make ≡ true) × (is_there (state g old).now.schema tables.Cache ≡ false)
+    × FailsToChange g new_tables (of_first_row g) (with_transaction old) new e × IsToldAs e why × (told ≡ opened_as why))
 
 -- ---- the tables that a book's file lacks
 
@@ -157,9 +151,12 @@ pub record IsMadeNew (make : Bool) (book : Book) (old new : State) : Type 0 wher
 
 -- ---- why it isn't opened, where it isn't refused
 
--- The statement that reads a table failed so, or there was no memory for the rows that it showed. The connection was as at first.
+-- The statement that reads a table failed so, or there was no memory for the rows that it showed. The table is `book`, or the format that
+-- the row of `book` names has it. The connection was as at first.
 pub record StopsReading {S : Type 0} (g : Ghosts S) (old : Held S) (new : State) (why : DatabaseFault) : Type 0 where
   pub table : FileTable
+  pub is_read : (table ≡ tables.Book) ⊎ ((rows : List BookRow) × (row : BookRow) × AreRowsIn (state g old) tables.Book rows
+      × IsBookRow rows row × IsReadAs (presence (format_in row.format) table) (is_there (state g old).now.schema table))
   pub before : Held S
   pub stays : Stays (state g old) (state g before)
   pub fails : FailsAs (query_of table) (shown_columns table) (AreToldApart table) (state g before) new why

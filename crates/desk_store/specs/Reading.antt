@@ -14,14 +14,15 @@ use Rattle.desk_parts.specs.Parts.{rows_in}
 use Rattle.desk_parts.specs.Rows.{ParaCells}
 use Rattle.desk_rows.specs.Contents.{Contents}
 use Rattle.desk_rows.specs.Layout.{Layout}
-use Rattle.desk_rows.specs.Rows.{ShownOf, own}
+use Rattle.desk_rows.specs.Rows.{ShownOf, own, shown_columns}
 use Rattle.desk_rows.specs.States.{ShowsContents}
+use Rattle.desk_rows.specs.TableQuery.{FailsAs, query_of}
+use Rattle.desk_rows.specs.Tables.{is_there}
 use Rattle.desk_rows.specs.declared.fault.DatabaseFault.{DatabaseFault}
 use Rattle.desk_rows.specs.declared.fault.DatabaseFault.TheVariants as fault
 use Rattle.desk_store.specs.BookFile.{rows_of}
-use Rattle.desk_store.specs.Formats.{Format, IsOfFormat, named, unnamed}
-use Rattle.desk_store.specs.Found.{AreCellsIn, AreEntriesIn, AreFileRows, AreOtherRows, AreRowsIn, CanAllAnswer}
-use Rattle.desk_store.specs.Opened.{StopsReading}
+use Rattle.desk_store.specs.Formats.{Format, IsOfFormat, named, presence, unnamed}
+use Rattle.desk_store.specs.Found.{AreCellsIn, AreEntriesIn, AreFileRows, AreOtherRows, AreRowsIn, AreToldApart, CanAllAnswer, IsReadAs}
 use Rattle.desk_store.specs.Opening.{CanAllBeRead, IsBookRow, Stays, format_in}
 
 -- ---- what is read, and why nothing is
@@ -40,13 +41,18 @@ ShowsReadable format s =
     (l : Layout) × (c : Contents) × IsOfFormat format l × ShowsContents l c s
     × CanAllBeRead format l c × (s.step_limit ≡ None)
 
--- Nothing is read, since a statement failed or an allocation did. If the steps have no limit, a file that can be read isn't refused, nor is
--- one of whatever declaration whose statements have answers that can be read. After a refusal the connection is as it was.
+-- Nothing is read, since the statement that reads a table of the format failed, or an allocation for its rows did. If the steps have no
+-- limit, a file that can be read isn't refused, nor is one of whatever declaration whose statements have answers that can be read. After a
+-- refusal the connection is as it was.
 pub record FailsToRead {S : Type 0} (g : Ghosts S) (format : Format) (old : Held S) (new : State)
     (why : DatabaseFault) : Type 0 where
   pub refused : why ≡ fault.Refused → Stays (state g old) new × ¬ ShowsReadable format (state g old)
   pub answered : why ≡ fault.Refused → (state g old).step_limit ≡ None → ¬ CanAllAnswer format (state g old)
-  pub stops : StopsReading g old new why
+  pub table : FileTable
+  pub is_read : IsReadAs (presence format table) (is_there (state g old).now.schema table)
+  pub before : Held S
+  pub stays : Stays (state g old) (state g before)
+  pub fails : FailsAs (query_of table) (shown_columns table) (AreToldApart table) (state g before) new why
 
 -- ---- the tables
 

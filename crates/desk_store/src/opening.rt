@@ -103,7 +103,7 @@ fn open_new<S: Alter>(alloc: Global, conn: &mut Connection<S>) -> Result<Book, O
         → Survives (state S.Store conn.old) (state S.Store conn.new) (λ _. ⊥)) }
 {
     let Ok(book) = Book::new(alloc) else {
-        return Err(OpenFault::NoMemory);
+        unreachable!()
     };
     make_book(conn)?;
     Ok(book)

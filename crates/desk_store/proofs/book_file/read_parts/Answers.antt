@@ -10,8 +10,8 @@ use Rattle.desk_store.specs.Opening.{CanAllBeRead}
 use Rattle.desk_store.specs.Reading.{ShowsReadable}
 use Rattle.desk_store.proofs.AnyFile.{can_all_still, readable_still}
 use Rattle.desk_store.proofs.JudgedTables.{file_rows, has_books, has_its_tables, judged, kept_by_row, lacks_readable, lacks_tables, of_the_row, read_told, read_whole, refusal_is, row_is_sound, row_refuses, row_told, tables_there}
-use Rattle.desk_store.proofs.Opened.{as_it_was, as_listed, shows_still, stays_then, stops_after}
-use Rattle.desk_store.proofs.TablesRead.{read_in_both, reads_table, table_fails}
+use Rattle.desk_store.proofs.Opened.{as_it_was, as_listed, shows_still, stays_then}
+use Rattle.desk_store.proofs.TablesRead.{book_stops, read_in_both, reads_table, rest_stops, table_fails}
 use Rattle.desk_store.proofs.Exits.{told_is}
 use Rattle.desk_store.proofs.book_file.read_parts.Goals as goal
 
@@ -25,8 +25,8 @@ returns-in_err-books-clause-unrefused g c clean book shows =
 
 pub returns-in_err-books-clause-stops : goal.returns-in_err-books-clause-stops
 returns-in_err-books-clause-stops g c clean =
-    let fails = table_fails g.S.Store named tables.Book c.args.conn.now tt (c.in_err-books.ensures.answers clean) in
-    rw (told_is _ c.from_residual.ensures.1) (λ none. reading _ fails.stops refl)
+    let stops = book_stops g.S.Store c.args.conn.now (c.in_err-books.ensures.answers clean) in
+    rw (told_is _ c.from_residual.ensures.1) (λ none. reading _ stops refl)
 
 -- ---- its row is refused
 
@@ -93,9 +93,9 @@ returns-in_err-parts-clause-refused g c clean =
 pub returns-in_err-parts-clause-stops : goal.returns-in_err-parts-clause-stops
 returns-in_err-parts-clause-stops g c clean =
     let answers = c.in_ok-books.ensures.answers (omega (arith, clean, c.read_rest.ensures.survives.clean)) in
-    let stops = (c.in_err-parts.ensures.fails clean).stops in
-    rw (told_is _ c.from_residual-in_err-parts.ensures.1)
-    (λ none. reading _ (stops_after g.S.Store c.args.conn.now c.read_rows.new.conn _ _ (as_it_was _ _ answers.unchanged) stops) refl)
+    let it = judged c.has_table.ensures c.if-not-has_table.false answers c.deref.ensures.value c.in_ok-book.ensures.book in
+    let stops = rest_stops g.S.Store c.args.conn.now c.read_rows.new.conn _ _ it.so_far it.are it.is c.format_of-format.ensures (c.in_err-parts.ensures.fails clean) in
+    rw (told_is _ c.from_residual-in_err-parts.ensures.1) (λ none. reading _ stops refl)
 
 -- ---- all of it is read
 
