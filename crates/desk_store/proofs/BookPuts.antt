@@ -31,11 +31,13 @@ module _ {S : Type 0} (g : Ghosts S) (puts : List RowPut) (old : Held S) where
   pub left_put : (db : Trees) → (putting_items g LendsFirst puts).Left old db → IsFileWith puts (state g old) db × IsLeftBy g (map statement puts) old db
   left_put db = lent puts (λ xs. IsFileWith xs (state g old) db) (λ xs. IsLeftBy g (map statement xs) old db)
 
-  pub shown_made : (tables : List FileTable) (new : State) → (making_tables g tables LendsFirst puts).Shown old new → WritesWithTables tables puts (state g old) new
-  shown_made tables new shown = (lent puts (λ xs. WritesWithTables tables xs (state g old) new) (λ xs. AreRun g (map creation tables ++ map statement xs) old new) shown).0
+  pub shown_made : (tables : List FileTable) (new : State) → (making_tables g tables LendsFirst puts).Shown old new
+      → WritesWithTables tables puts (state g old) new × AreRun g (map creation tables ++ map statement puts) old new
+  shown_made tables new = lent puts (λ xs. WritesWithTables tables xs (state g old) new) (λ xs. AreRun g (map creation tables ++ map statement xs) old new)
 
-  pub left_made : (tables : List FileTable) (db : Trees) → (making_tables g tables LendsFirst puts).Left old db → IsFileWithTables tables puts (state g old) db
-  left_made tables db left = (lent puts (λ xs. IsFileWithTables tables xs (state g old) db) (λ xs. IsLeftBy g (map creation tables ++ map statement xs) old db) left).0
+  pub left_made : (tables : List FileTable) (db : Trees) → (making_tables g tables LendsFirst puts).Left old db
+      → IsFileWithTables tables puts (state g old) db × IsLeftBy g (map creation tables ++ map statement puts) old db
+  left_made tables db = lent puts (λ xs. IsFileWithTables tables xs (state g old) db) (λ xs. IsLeftBy g (map creation tables ++ map statement xs) old db)
 
 -- what is changed in either case is what there is in it, changed
 either_changed : {X : Type 0} (change : X → X) (x y : X) (b : Bool) → (if b then change x else change y) ≡ change (if b then x else y)

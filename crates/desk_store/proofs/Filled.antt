@@ -1,9 +1,11 @@
 -- The tables that a book's file lacked, filled with what the book has for them.
-use Rattle.std.proofs.Common.{◌≡◌, true, List, [], ◌∷◌, ◌++◌, refl, sym, subst, ap, ◌∙◌, true≢false}
+use Rattle.std.proofs.Common.{◌≡◌, true, List, [], ◌∷◌, ◌++◌, Some, refl, sym, subst, ap, ◌∙◌, true≢false}
 use Rattle.std.specs.List.{AllByRecursion}
 use Rattle.sqlite_schema.specs.declared.schema.Schema.{Schema}
 use Rattle.sqlite_trees.specs.Tree.{Trees}
+use Rattle.sqlite_trees.specs.declared.store.Store.{Ghosts}
 use Rattle.sqlite_catalog.specs.Change.{KeepsRows}
+use Rattle.sqlite.specs.Held.{Held, state}
 use Rattle.sqlite.specs.State.{State, Survives}
 use Rattle.sqlite.proofs.StateLemmas.{survives_weaker}
 use Rattle.sql_tables.specs.Making.{KeepsAside}
@@ -12,23 +14,24 @@ use Rattle.desk_parts.specs.declared.file_table.FileTable.{FileTable}
 use Rattle.desk_parts.specs.declared.file_table.FileTable.TheVariants as tables
 use Rattle.desk_parts.specs.FileRows.{FileRows}
 use Rattle.desk_model.specs.FilledRows.{Fills, entry_puts, with_empty}
-use Rattle.desk_parts.specs.Puts.{RowPut, PutRow, SetColumns, put_rows, table_put, with_puts}
+use Rattle.desk_parts.specs.Puts.{LendsFirst, RowPut, PutRow, SetColumns, put_rows, table_put, with_puts}
 use Rattle.desk_parts.specs.Rows.{RowOf}
 use Rattle.desk_model.specs.Shows.{Shows as RowsShow}
 use Rattle.desk_model.specs.declared.new_tables.NewTables.{NewTables}
 use Rattle.desk_model.specs.declared.new_tables.NewTables.TheVariants.{Braille, Entries, EntriesAndBraille}
 use Rattle.desk_model.proofs.Callers.{filled-shown}
 use Rattle.desk_store.specs.BookFile.{rows_of}
+use Rattle.desk_rows.specs.Commits.{making_tables}
 use Rattle.desk_rows.specs.Contents.{Contents}
 use Rattle.desk_store.specs.Formats.{Format, IsOfFormat}
 use Rattle.desk_rows.specs.Layout.{Layout}
 use Rattle.desk_rows.specs.Making.{Differ, IsFileWithTables, IsGrown, is_among, new_layout, new_tables, with_none, with_tables}
-use Rattle.desk_store.specs.Filling.{HoldsWith}
+use Rattle.desk_store.specs.Filling.{FillsLacked, HoldsWith}
 use Rattle.desk_store.specs.Opened.{HasGained, Stands, which_new}
 use Rattle.desk_rows.specs.Puts.{HasThem, put_into, puts_into}
 use Rattle.desk_rows.specs.States.{IsFile, ShowsContents}
 use Rattle.desk_rows.specs.Tables.{AreWritten}
-use Rattle.desk_store.proofs.BookPuts.{all_put}
+use Rattle.desk_store.proofs.BookPuts.{all_put, left_made}
 use Rattle.desk_store.proofs.Opened.{has_in_both}
 
 -- ---- the tables of what is put
@@ -116,6 +119,15 @@ module _ (t : NewTables) (l : Layout) (book : Book) (puts : List RowPut) (fills 
         ),
         subst (λ (rows : FileRows). RowsShow rows book) (sym same) (filled-shown t (rows_of l c) book puts stands.1.2 fills),
       )
+
+-- ---- what ran, in any file
+
+pub left_filled : {S : Type 0} (g : Ghosts S) (t : NewTables) (book : Book) (puts : List RowPut) → Fills t book puts → (ts : List FileTable) → ts ≡ which_new t
+    → (old : Held S) (new : State) → Survives (state g old) new ((making_tables g ts LendsFirst puts).Left old)
+    → Survives (state g old) new (λ db. (last : Held S) × FillsLacked g (Some t) book old last × (db ≡ (state g last).now.trees))
+left_filled g t book puts fills ts are old new =
+    survives_weaker (state g old) new _ _
+    (λ clean db left. let run = (left_made g puts old ts db left).1 in (run.0, (ts, puts, (are, fills), run.1), run.2))
 
 -- ---- what is written, and what a crash leaves
 

@@ -1,6 +1,7 @@
 -- What opening reports and leaves at each of its exits.
-use Rattle.std.proofs.Common.{◌≡◌, ◌⊎◌, Bool, true, false, IsTrue, List, Option, Ok, Err, arith, refl, sym, ap, ◌∙◌, subst, inl, inr, true≢false}
+use Rattle.std.proofs.Common.{◌≡◌, ◌⊎◌, Bool, true, false, IsTrue, List, [], Option, Ok, Err, arith, refl, sym, ap, ◌∙◌, subst, inl, inr, true≢false}
 use Rattle.std.proofs.lemmas.Bool.{cases_Bool, or_parts}
+use Rattle.std.specs.Prelude.{MatchOption}
 use Rattle.sqlite_schema.specs.declared.schema.Schema.{Schema}
 use Rattle.sqlite_trees.specs.Tree.{Trees}
 use Rattle.sqlite_trees.specs.declared.store.Store.{Ghosts}
@@ -14,6 +15,7 @@ use Rattle.desk_model.specs.Book.{Book, empty_book}
 use Rattle.desk_parts.specs.declared.file_table.FileTable.{FileTable}
 use Rattle.desk_parts.specs.declared.file_table.FileTable.TheVariants as tables
 use Rattle.desk_parts.specs.FileRows.{FileRows}
+use Rattle.desk_model.specs.FilledRows.{Fills}
 use Rattle.desk_model.specs.Rebuilding.{IsFaultOf}
 use Rattle.desk_model.specs.Shows.{Shows as RowsShow}
 use Rattle.desk_model.specs.declared.new_tables.NewTables.{NewTables}
@@ -28,8 +30,8 @@ use Rattle.desk_store.specs.Formats.{IsExact, IsOfEither}
 use Rattle.desk_store.specs.Found.{HasNone, RowsShowIn}
 use Rattle.desk_rows.specs.Layout.{Layout}
 use Rattle.desk_rows.specs.Making.{IsNew, new_layout, new_tables, with_tables}
-use Rattle.desk_store.specs.Filling.{HoldsEitherWith, HoldsWith, which_lacked}
-use Rattle.desk_store.specs.Opened.{HasGained, HoldsEither, HoldsEmpty, HoldsNone, IsMadeNew, MayBring, OpensBook, Stands, TellsOf, TellsOfNone, lacking, missing_tables}
+use Rattle.desk_store.specs.Filling.{FillsLacked, HoldsEitherWith, HoldsWith, which_lacked}
+use Rattle.desk_store.specs.Opened.{Completes, HasGained, HoldsEither, HoldsEmpty, HoldsNone, IsMadeNew, MayBring, OpensBook, Stands, TellsOf, TellsOfNone, lacking, missing_tables, which_new}
 use Rattle.desk_store.specs.Reading.{ReadsFile}
 use Rattle.desk_store.specs.Opening.{IsOpenedAs, IsRefusal, opened_as, rebuilt_as}
 use Rattle.desk_rows.specs.States.{IsFile, ShowsContents}
@@ -84,6 +86,7 @@ module _ {S : Type 0} (g : Ghosts S) (make : Bool) (old : Held S) (there : ¬ Ha
     answers = record { found = tt; shown = λ book shows. (tt, unrefused book shows) };
     reports = record { declared = λ l c some. told l c; bare = λ none. absurd (there none) };
     stands = record { is_open = tt; opened = λ l c of shows. tt; made = λ none. tt; refused = before };
+    ran = λ some. tt;
   }
 
   -- ---- once the rows are read
@@ -130,8 +133,9 @@ module _ {S : Type 0} (g : Ghosts S) (make : Bool) (old : Held S) (there : ¬ Ha
 
       pub opens : (new : State) → ((l : Layout) (stands : Stands l book mid) → HasGained (which_lacked some) l stands.1.0 book mid.now.trees (λ after d. ShowsContents after d new))
           → ((l : Layout) → Stands l book mid → Leaves (HoldsEitherWith (which_lacked some) l book) mid → LeavesBook (with_tables (which_lacked some) l) book new)
-          → ((db : Trees) → mid.may_leave db → s.may_leave db) → IsTrue new.is_open → OpensBook g make old new (Ok book)
-      opens new filled leaves left is_open = record {
+          → ((db : Trees) → mid.may_leave db → s.may_leave db) → IsTrue new.is_open
+          → (last : Held S) × Completes g old book last × (new.now ≡ (state g last).now) → OpensBook g make old new (Ok book)
+      opens new filled leaves left is_open ran = record {
         answers = record { found = inl (rows, read.found, shows_it); shown = λ other shows. (one_book rows book other shows_it (shows.each rows read.found), tt) };
         reports = tt;
         stands = record {
@@ -152,6 +156,7 @@ module _ {S : Type 0} (g : Ghosts S) (make : Bool) (old : Held S) (there : ¬ Ha
           made = λ none. absurd (there none);
           refused = tt;
         };
+        ran = λ some. ran;
       }
 
   -- if the tables that it lacks are made, a crash leaves nothing new but all of it
@@ -161,6 +166,31 @@ module _ {S : Type 0} (g : Ghosts S) (make : Bool) (old : Held S) (there : ¬ Ha
   fills {mid} {new} is shows_it read reads writes =
       survives_then s mid new _ _ _ (λ clean db none. absurd none)
       (λ clean db holds. brings (read (omega (arith, clean, writes.clean))) shows_it is db holds) reads writes
+
+-- ---- what ran, in any file
+
+module _ {S : Type 0} (g : Ghosts S) (old : Held S) where
+  pub completes : {mid : Held S} {rows : FileRows} {book : Book} {some : Option NewTables} → ReadsFile (state g old) (state g mid) rows → RowsShow rows book
+      → some ≡ lacking rows.entries rows.caches → (last : Held S) → FillsLacked g some book mid last → Completes g old book last
+  completes {mid} {rows} {book} read shown is last (made, puts, lacks, ran) = record {
+    rows = rows;
+    are = read.found;
+    shown = shown;
+    made = made;
+    puts = puts;
+    lacks = subst (λ (lacked : Option NewTables). MatchOption lacked ((made ≡ []) × (puts ≡ [])) (λ tables. (made ≡ which_new tables) × Fills tables book puts)) is lacks;
+    before = mid;
+    stays = read.stays;
+    ran = ran;
+  }
+
+  pub leaves_completed : {mid : Held S} {new : State} {rows : FileRows} {book : Book} {some : Option NewTables} → some ≡ lacking rows.entries rows.caches → RowsShow rows book
+      → (HasCleanDisk (state g mid) → ReadsFile (state g old) (state g mid) rows) → Survives (state g old) (state g mid) (λ _. ⊥)
+      → Survives (state g mid) new (λ db. (last : Held S) × FillsLacked g some book mid last × (db ≡ (state g last).now.trees))
+      → Survives (state g old) new (λ db. (shown : Book) × (last : Held S) × Completes g old shown last × (db ≡ (state g last).now.trees))
+  leaves_completed {mid} {new} {rows} {book} is shown read reads writes =
+      survives_then (state g old) (state g mid) new _ _ _ (λ clean db none. absurd none)
+      (λ clean db left. (book, left.0, completes (read (omega (arith, clean, writes.clean))) shown is left.0 left.1, left.2)) reads writes
 
 -- ---- where none is there
 
@@ -182,6 +212,7 @@ module _ {S : Type 0} (g : Ghosts S) (make : Bool) (old : Held S) (none : HasNon
     answers = record { found = tt; shown = λ book shows. absurd (no_books shows.are.book) };
     reports = record { declared = λ l c some those shows. absurd (no_exact l c some shows); bare = λ still. told };
     stands = record { is_open = tt; opened = λ l c of shows. tt; made = λ still. tt; refused = before };
+    ran = λ some. tt;
   }
 
   pub makes : (new : State) (book : Book) → make ≡ true → book ≡ empty_book → IsNew bare.now.schema bare.now.trees (λ c. ShowsContents (new_layout bare.now.schema) c new) → IsSettled new
@@ -200,6 +231,7 @@ module _ {S : Type 0} (g : Ghosts S) (make : Bool) (old : Held S) (none : HasNon
         answers = record { found = inr it; shown = λ other shows. absurd (no_books shows.are.book) };
         reports = tt;
         stands = record { is_open = is_open; opened = λ l c of shows. absurd (no_file l c of shows); made = λ still. it; refused = tt };
+        ran = λ some. absurd (some none);
       }
 
   -- ---- what is reported if making the tables failed

@@ -1,13 +1,19 @@
 -- How tables that a book's file lacks are made and filled. Only private functions and proofs need these words.
-use Rattle.std.specs.Prelude.{◌⊎◌, List, [], Option, option_map, unwrap_or}
+use Rattle.std.specs.Prelude.{◌≡◌, ◌⊎◌, List, [], ◌++◌, map, MatchOption, Option, option_map, unwrap_or}
 use Rattle.sqlite_trees.specs.Tree.{Trees}
+use Rattle.sqlite_trees.specs.declared.store.Store.{Ghosts}
+use Rattle.sqlite.specs.Held.{Held}
 use Rattle.sqlite.specs.State.{State}
 use Rattle.desk_model.specs.Book.{Book}
+use Rattle.desk_model.specs.FilledRows.{Fills}
 use Rattle.desk_model.specs.declared.new_tables.NewTables.{NewTables}
 use Rattle.desk_parts.specs.declared.file_table.FileTable.{FileTable}
+use Rattle.desk_parts.specs.Puts.{RowPut}
 use Rattle.desk_rows.specs.Layout.{Layout}
-use Rattle.desk_rows.specs.Making.{with_tables}
+use Rattle.desk_rows.specs.Making.{creation, with_tables}
+use Rattle.desk_rows.specs.Puts.{statement}
 use Rattle.desk_rows.specs.States.{IsFile}
+use Rattle.desk_rows.specs.Turns.{RunInTurn, with_transaction}
 use Rattle.desk_store.specs.Books.{HoldsBook}
 use Rattle.desk_store.specs.Opened.{HasGained, Stands, which_new}
 
@@ -20,6 +26,13 @@ abbrev pub HoldsWith : List FileTable → Book → State → Trees → Type 0
 HoldsWith tables book s db =
     (l : Layout) (stands : Stands l book s)
     → HasGained tables l stands.1.0 book s.now.trees (λ after d. IsFile after d db)
+
+-- the statements that make what is lacked, if anything is, and fill it with what the book has for it, ran in turn
+abbrev pub FillsLacked : {S : Type 0} → Ghosts S → Option NewTables → Book → (old last : Held S) → Type 0
+FillsLacked g lacked book old last =
+    (made : List FileTable) × (puts : List RowPut)
+    × MatchOption lacked ((made ≡ []) × (puts ≡ [])) (λ tables. (made ≡ which_new tables) × Fills tables book puts)
+    × RunInTurn g (map creation made ++ map statement puts) (with_transaction old) last
 
 -- the book in the file as it was, or with these tables
 abbrev pub HoldsEitherWith : List FileTable → Layout → Book → Trees → Type 0

@@ -1,5 +1,5 @@
 -- What opening a book's file reports, what it writes, and what the connection shows then.
-use Rattle.std.specs.Prelude.{not, ◌≡◌, ◌⊎◌, ℤ, Bool, true, false, IsTrue, List, [], ◌∷◌, filter, Option, Some, None, IfErr, IfOk, OnOk, Result, Err, ⊤}
+use Rattle.std.specs.Prelude.{not, ◌≡◌, ◌⊎◌, ℤ, Bool, true, false, IsTrue, List, [], ◌∷◌, ◌++◌, filter, map, Option, Some, None, MatchOption, IfErr, IfOk, OnOk, Result, Err, ⊤}
 use Rattle.sqlite_catalog.specs.Change.{KeepsRows}
 use Rattle.sqlite_catalog.specs.Listing.{IsSound}
 use Rattle.sqlite_schema.specs.declared.schema.Schema.{Schema}
@@ -31,12 +31,13 @@ use Rattle.desk_rows.specs.Fault.{IsToldAs}
 use Rattle.desk_store.specs.Formats.{IsExact, IsOfEither, IsOfFormat, presence}
 use Rattle.desk_store.specs.Found.{AreFileRows, AreRowsIn, AreToldApart, HasNone, IsReadAs, RowsShowIn, ShowsIn}
 use Rattle.desk_rows.specs.Layout.{Layout}
-use Rattle.desk_rows.specs.Making.{IsMade, IsNew, new_layout, new_tables, with_tables}
+use Rattle.desk_rows.specs.Making.{IsMade, IsNew, creation, new_layout, new_tables, with_tables}
+use Rattle.desk_rows.specs.Puts.{statement}
 use Rattle.desk_store.specs.Opening.{CanAllBeRead, IsBookRow, IsNewer, IsRefusal, Stays, format_in, opened_as}
 use Rattle.desk_rows.specs.Rows.{shown_columns}
 use Rattle.desk_rows.specs.States.{IsFile, ShowsContents}
 use Rattle.desk_rows.specs.Tables.{is_there}
-use Rattle.desk_rows.specs.Turns.{with_transaction}
+use Rattle.desk_rows.specs.Turns.{RunInTurn, with_transaction}
 use Rattle.desk_rows.specs.declared.fault.DatabaseFault.{DatabaseFault}
 use Rattle.desk_rows.specs.declared.fault.DatabaseFault.TheVariants as fault
 use Rattle.desk_store.specs.declared.fault.OpenFault.{OpenFault}
@@ -100,6 +101,21 @@ abbrev pub with_missing_tables : Layout → Layout
 with_missing_tables l = with_tables (missing_tables l) l
 
 -- ---- what stands in a file, and what it is after opening
+
+-- In any file, however its tables are declared: the rows that the statements give show the book, and of what the file lacks the
+-- statements that make it and fill it with what the book has for it ran in turn, none if it lacks nothing. The connection was as at
+-- first.
+pub record Completes {S : Type 0} (g : Ghosts S) (old : Held S) (book : Book) (last : Held S) : Type 0 where
+  pub rows : FileRows
+  pub are : AreFileRows (state g old) rows
+  pub shown : RowsShow rows book
+  pub made : List FileTable
+  pub puts : List RowPut
+  pub lacks : MatchOption (lacking rows.entries rows.caches) ((made ≡ []) × (puts ≡ []))
+      (λ tables. (made ≡ which_new tables) × Fills tables book puts)
+  pub before : Held S
+  pub stays : Stays (state g old) (state g before)
+  pub ran : RunInTurn g (map creation made ++ map statement puts) (with_transaction before) last
 
 -- the connection shows the book in a file of either format
 abbrev pub Stands : Layout → Book → State → Type 0
@@ -218,19 +234,24 @@ pub record LeavesStanding (make : Bool) (old new : State) (result : Result Book 
   pub made : HasNone old.now.schema → IfOk result (λ book. IsMadeNew make book old new)
   pub refused : IfErr result (λ fault. IsRefusal fault → ShowsAsBefore old new)
 
--- What opening answers and reports, and what then stands in the file.
+-- What opening answers and reports, and what then stands in the file: if a table of a book was there, what the statements made of it that
+-- complete the file, and nothing else.
 pub record OpensBook {S : Type 0} (g : Ghosts S) (make : Bool) (old : Held S) (new : State)
     (result : Result Book OpenFault) : Type 0 where
   pub answers : AnswersBook make (state g old) new result
   pub reports : IfErr result (Reports g make old new)
   pub stands : LeavesStanding make (state g old) new result
+  pub ran : (¬ HasNone (state g old).now.schema)
+      → IfOk result (λ book. (last : Held S) × Completes g old book last × (new.now ≡ (state g last).now))
 
 -- No book is opened, this is reported, and what a crash leaves is what opening may bring; after a refusal nothing new. If a table of a book
--- was there, and the file isn't refused, it has a cause.
+-- was there, that is what the statements which complete the file left, and if the file isn't refused, it has a cause.
 pub record IsRefusedWith {S : Type 0} (g : Ghosts S) (make : Bool) (old : Held S) (new : State)
     (fault : OpenFault) : Type 0 where
   pub opens : HasCleanDisk new → OpensBook g make old new (Err fault)
   pub crash : Survives (state g old) new (MayBring make (state g old))
+  pub left : (¬ HasNone (state g old).now.schema) → Survives (state g old) new
+      (λ db. (book : Book) × (last : Held S) × Completes g old book last × (db ≡ (state g last).now.trees))
   pub refused : HasCleanDisk new → IsRefusal fault → Survives (state g old) new (λ _. ⊥)
   pub stopped : HasCleanDisk new → (¬ HasNone (state g old).now.schema) → (¬ IsRefusal fault)
       → StopsOpening g old new fault

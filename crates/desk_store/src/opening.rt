@@ -7,8 +7,8 @@ ghost use Rattle.desk_store.specs.Books.{LeavesBook, shown_by};
 ghost use Rattle.desk_store.specs.Found.{HasNone};
 ghost use Rattle.desk_rows.specs.Layout.{Layout};
 ghost use Rattle.desk_rows.specs.Making.{with_tables};
-ghost use Rattle.desk_store.specs.Filling.{HoldsEitherWith, HoldsWith, which_lacked};
-ghost use Rattle.desk_store.specs.Opened.{HasGained, HoldsEither, HoldsEmpty, HoldsNone, IsRefusedWith, MayBring, OpensBook, Stands, StopsFilling, StopsOpening};
+ghost use Rattle.desk_store.specs.Filling.{FillsLacked, HoldsEitherWith, HoldsWith, which_lacked};
+ghost use Rattle.desk_store.specs.Opened.{Completes, HasGained, HoldsEither, HoldsEmpty, HoldsNone, IsRefusedWith, MayBring, OpensBook, Stands, StopsFilling, StopsOpening};
 ghost use Rattle.desk_store.specs.Opening.{IsRefusal};
 ghost use Rattle.desk_rows.specs.States.{ShowsContents};
 ghost use Rattle.sql_tables.specs.States.{Leaves};
@@ -57,6 +57,13 @@ fn complete<S: Alter>(
     // Of a crash at any exit: nothing new is left but all of it.
     ensures crash { Survives (state S.Store conn.old) (state S.Store conn.new)
         (HoldsWith (which_lacked lacked) book.now (state S.Store conn.old)) }
+    // In any file just the statements that make and fill what it lacks ran, in turn.
+    ensures ran { HasCleanDisk (state S.Store conn.new) → OnOk result ((last : Held S)
+        × FillsLacked S.Store lacked book.now conn.old last
+        × ((state S.Store conn.new).now ≡ (state S.Store last).now)) }
+    ensures left { Survives (state S.Store conn.old) (state S.Store conn.new) (λ db. (last : Held S)
+        × FillsLacked S.Store lacked book.now conn.old last
+        × (db ≡ (state S.Store last).now.trees)) }
     ensures told { IfErr result (λ fault. ¬ IsRefusal fault) }
     ensures stops { HasCleanDisk (state S.Store conn.new) → IfErr result (λ fault. (tables : NewTables)
         × (lacked ≡ Some tables)
@@ -78,6 +85,9 @@ fn open_book<S: Alter>(alloc: Global, conn: &mut Connection<S>) -> Result<Book, 
         → OpensBook S.Store make conn.old (state S.Store conn.new) result }
     ensures crash { (make : Bool) → Survives (state S.Store conn.old) (state S.Store conn.new)
         (MayBring make (state S.Store conn.old)) }
+    ensures left { Survives (state S.Store conn.old) (state S.Store conn.new) (λ db. (book : BookOf)
+        × (last : Held S) × Completes S.Store conn.old book last
+        × (db ≡ (state S.Store last).now.trees)) }
     ensures refused { HasCleanDisk (state S.Store conn.new) → IfErr result (λ fault. IsRefusal fault
         → Survives (state S.Store conn.old) (state S.Store conn.new) (λ _. ⊥)) }
     ensures stopped { HasCleanDisk (state S.Store conn.new) → IfErr result (λ fault.
@@ -133,6 +143,12 @@ impl<S: Alter> Store<S> {
         // Of a crash at any exit: nothing new is left but the book in a file with the tables of a new one.
         ensures crash { Survives (state S.Store connection.old) (state S.Store connection.new)
             (MayBring make (state S.Store connection.old)) }
+        // If a table of a book was there, in any file: nothing new is left but what the statements made of it that complete the
+        // file of the book which its rows showed.
+        ensures left { (¬ HasNone (state S.Store connection.old).now.schema)
+            → Survives (state S.Store connection.old) (state S.Store connection.new)
+            (λ db. (book : BookOf) × (last : Held S) × Completes S.Store connection.old book last
+            × (db ≡ (state S.Store last).now.trees)) }
         ensures either { HasCleanDisk (state S.Store connection.new) → (l : Layout) (book : BookOf)
             → Stands l book (state S.Store connection.old)
             → Leaves (HoldsEither l book) (state S.Store connection.old)
@@ -178,6 +194,10 @@ impl<S: Alter + Drop> Store<S> {
             → OpensBook S.Store make connection (shown_by S.Store it.0) (Ok it.1)) }
         ensures crash { IfOk result (λ it. Survives (state S.Store connection)
             (shown_by S.Store it.0) (MayBring make (state S.Store connection))) }
+        ensures left { IfOk result (λ it. (¬ HasNone (state S.Store connection).now.schema)
+            → Survives (state S.Store connection) (shown_by S.Store it.0)
+            (λ db. (book : BookOf) × (last : Held S) × Completes S.Store connection book last
+            × (db ≡ (state S.Store last).now.trees))) }
         ensures kept { IfOk result (λ it. it.0.lost ≡ false) }
         // There is a connection of which this holds, the one that was dropped.
         ensures told { IfErr result (λ fault. (last : Held S)

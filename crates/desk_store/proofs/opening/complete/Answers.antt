@@ -1,6 +1,8 @@
+use Rattle.std.proofs.Common.{[], refl}
 use Rattle.std.proofs.lemmas.Result.{IfErr-weaker}
 use Rattle.sqlite.specs.Held.{state}
 use Rattle.desk_store.specs.Opened.{which_new}
+use Rattle.desk_rows.specs.Turns.{with_transaction}
 use Rattle.desk_rows.proofs.Transactions.Both.{on_ok_both}
 use Rattle.desk_store.proofs.GainedTables.{gains_none, leaves_gained, left_whole}
 use Rattle.desk_store.proofs.opening.complete.Goals as goal
@@ -27,3 +29,12 @@ returns-in-None-clause-leaves g c clean l stands left =
 pub returns-in-Some-clause-stops : goal.returns-in-Some-clause-stops
 returns-in-Some-clause-stops g c clean =
     IfErr-weaker c.fill.result _ _ (λ fault stops. (c.in-Some.tables, c.in-Some.is, stops)) (c.fill.ensures.stops clean)
+
+pub returns-in-Some-clause-ran : goal.returns-in-Some-clause-ran
+returns-in-Some-clause-ran g c = rw c.in-Some.is c.fill.ensures.ran
+
+pub returns-in-Some-clause-left : goal.returns-in-Some-clause-left
+returns-in-Some-clause-left g c = rw c.in-Some.is c.fill.ensures.left
+
+pub returns-in-None-clause-ran : goal.returns-in-None-clause-ran
+returns-in-None-clause-ran g c clean = rw c.in-None.is (with_transaction c.args.conn.now, ([], [], (refl, refl), refl), refl)

@@ -4,7 +4,7 @@ use Rattle.sqlite.specs.Held.{state}
 use Rattle.sqlite.specs.State.{HasCleanDisk}
 use Rattle.desk_parts.specs.Parts.{rows_in}
 use Rattle.desk_store.specs.Opened.{filling, rebuilding}
-use Rattle.desk_store.proofs.Openings.{fills, opens, refuses, refuses_damaged, tells_no_refusal}
+use Rattle.desk_store.proofs.Openings.{completes, fills, leaves_completed, opens, refuses, refuses_damaged, tells_no_refusal}
 use Rattle.desk_model.specs.declared.fault.PartsFault.{PartsFault}
 use Rattle.desk_model.specs.declared.fault.PartsFault.TheVariants as rebuilt
 use Rattle.desk_store.specs.Opening.{IsRefusal, rebuilt_as}
@@ -69,12 +69,32 @@ returns-clause-opens g c clean make =
     opens g.S.Store make c.args.conn.now c.requires.there read c.in_ok-book.ensures.shown c.lacked_by-lacked.ensures
     (state g.S.Store c.complete.new.conn) (done.filled clean) (done.leaves clean)
     (λ db here. elim (c.read_parts.ensures.survives.crash early db here) [ inl before ↦ before | inr none ↦ absurd none ])
-    (done.open clean read.is_open)
+    (done.open clean read.is_open) (let ran = done.ran clean in (ran.0, completes g.S.Store c.args.conn.now read c.in_ok-book.ensures.shown c.lacked_by-lacked.ensures ran.0 ran.1, ran.2))
 
 pub returns-clause-crash : goal.returns-clause-crash
 returns-clause-crash g c make =
     fills g.S.Store make c.args.conn.now c.requires.there c.lacked_by-lacked.ensures c.in_ok-book.ensures.shown
     c.in_ok-parts.ensures.read c.read_parts.ensures.survives c.complete.ensures.crash
+
+-- ---- what a crash leaves, in any file
+
+pub returns-in_err-parts-clause-left : goal.returns-in_err-parts-clause-left
+returns-in_err-parts-clause-left g c =
+    survives_weaker (state g.S.Store c.args.conn.now) (state g.S.Store c.read_parts.new.conn) _ _ (λ clean db none. absurd none) c.read_parts.ensures.survives
+
+pub returns-in_err-book-clause-left : goal.returns-in_err-book-clause-left
+returns-in_err-book-clause-left g c =
+    survives_weaker (state g.S.Store c.args.conn.now) (state g.S.Store c.read_parts.new.conn) _ _ (λ clean db none. absurd none) c.read_parts.ensures.survives
+
+pub returns-in_err-complete-clause-left : goal.returns-in_err-complete-clause-left
+returns-in_err-complete-clause-left g c =
+    leaves_completed g.S.Store c.args.conn.now c.lacked_by-lacked.ensures c.in_ok-book.ensures.shown
+    c.in_ok-parts.ensures.read c.read_parts.ensures.survives c.complete.ensures.left
+
+pub returns-clause-left : goal.returns-clause-left
+returns-clause-left g c =
+    leaves_completed g.S.Store c.args.conn.now c.lacked_by-lacked.ensures c.in_ok-book.ensures.shown
+    c.in_ok-parts.ensures.read c.read_parts.ensures.survives c.complete.ensures.left
 
 -- ---- why it isn't opened, where it isn't refused
 

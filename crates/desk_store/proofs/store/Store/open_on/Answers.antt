@@ -22,3 +22,9 @@ returns-then-has_any-clause-stopped g c clean there = c.open_book.ensures.stoppe
 
 pub returns-then-make-clause-stopped : goal.returns-then-make-clause-stopped
 returns-then-make-clause-stopped g c clean there = absurd (there (sym c.has_any.ensures ∙ c.if-has_any.false))
+
+pub returns-then-has_any-clause-left : goal.returns-then-has_any-clause-left
+returns-then-has_any-clause-left g c there = c.open_book.ensures.left
+
+pub returns-then-make-clause-left : goal.returns-then-make-clause-left
+returns-then-make-clause-left g c there = absurd (there (sym c.has_any.ensures ∙ c.if-has_any.false))
