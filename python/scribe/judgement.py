@@ -78,12 +78,23 @@ def _of_characters(
     """A fault for each of some characters, where it stands first, with how often it stands."""
     left = set(unfit)
     for passage in passages:
-        for character in left.intersection(passage.text):
-            position = passage.position(passage.text.index(character))
+        if left.isdisjoint(passage.text):
+            continue
+        places = _first_places(passage.text, left)
+        for character, position in zip(places, passage.positions(places.values())):
             count = counts[character]
             often = "once" if count == 1 else f"{count:,} times"
             yield Fault(position, f"{what(character)}. It stands in the text {often}.")
-        left.difference_update(passage.text)
+        left.difference_update(places)
+
+
+def _first_places(text: str, sought: Collection[str]) -> dict[str, int]:
+    """Where each of some characters that a text has stands first, from left to right."""
+    found: dict[str, int] = {}
+    for place, character in enumerate(text):
+        if character in sought:
+            found.setdefault(character, place)
+    return found
 
 
 def _barred(character: str) -> str:

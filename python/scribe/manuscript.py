@@ -6,7 +6,7 @@ columns are counted from 1, columns in characters.
 """
 
 from bisect import bisect_right
-from collections.abc import Iterator
+from collections.abc import Iterable, Iterator, Sequence
 from dataclasses import dataclass
 from functools import cached_property
 from itertools import groupby
@@ -74,18 +74,29 @@ class Passage:
 
     def position(self, place: int) -> Position:
         """Where in the file a place of the print comes from, by the front of its sequence."""
-        before = there = 0
-        for sequence in sequences(self._joined):
-            there += len(composed(sequence))
-            if there > place:
-                break
-            before += len(sequence)
-        return self._position(before)
+        (position,) = self.positions([place])
+        return position
 
-    def _position(self, place: int) -> Position:
+    def positions(self, places: Iterable[int]) -> Iterator[Position]:
+        """Where in the file places of the print come from, in their ascending order."""
+        parts = iter(sequences(self._joined))
+        fronts = self._fronts()
+        before = there = size = 0
+        for place in places:
+            while there <= place and (sequence := next(parts, None)) is not None:
+                before, size = before + size, len(sequence)
+                there += len(composed(sequence))
+            # beyond the end of the print is the place after its last character
+            yield self._position(before if there > place else before + size, fronts)
+
+    def _fronts(self) -> list[int]:
+        """Where each line begins in the lines joined."""
         fronts = [0]
         for line in self.lines[:-1]:
             fronts.append(fronts[-1] + len(line.text) + 1)
+        return fronts
+
+    def _position(self, place: int, fronts: Sequence[int]) -> Position:
         number = bisect_right(fronts, place) - 1
         front = self.lines[number].position
         return Position(front.line, front.column + place - fronts[number])

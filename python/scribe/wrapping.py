@@ -8,7 +8,9 @@ from scribe.sequences import sequences
 
 # the most that a tab takes
 TAB_COLUMNS = 8
-_WORD = re.compile(rf"([ \t{EMPTY_CELL}]*)([^ \t{EMPTY_CELL}]+)")
+_BLANKS = f" \t{EMPTY_CELL}"
+# a text that ends in blanks would be looked through from each of them to its end
+_WORD = re.compile(f"([{_BLANKS}]*)([^{_BLANKS}]+)")
 _UNSEEN = ("Mn", "Me")
 _JOINING_JAMO = range(0x1160, 0x1200)
 
@@ -28,7 +30,7 @@ def wrap(text: str, width: int, indent: str = "") -> list[str]:
     is one empty line.
     """
     lines = [""]
-    for blanks, word in _WORD.findall(text):
+    for blanks, word in _WORD.findall(text.rstrip(_BLANKS)):
         longer: str = lines[-1] + blanks + word
         if columns(longer) <= width:
             lines[-1] = longer

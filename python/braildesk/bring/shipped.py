@@ -16,7 +16,7 @@ MEASURED: Final = Path(__file__).with_name("measured.tsv")
 
 _ENDINGS: Final = (".tbl", ".utb", ".ctb")
 _INCLUDE: Final = re.compile(r"^include\s+(\S+\.[uc]tb)", re.MULTILINE)
-_ENTRY: Final = re.compile(r"#[-+]([a-z-]+):\s*(.*?)\s*$")
+_NAME: Final = re.compile("[a-z-]+")
 
 
 @dataclass(frozen=True)
@@ -51,11 +51,19 @@ def head_of(path: Path) -> dict[str, str]:
     """The entries at the head of a table, as `language` or `display-name`."""
     found: dict[str, str] = {}
     for line in path.read_text(encoding="utf-8", errors="replace").splitlines():
-        if entry := _ENTRY.match(line):
-            found.setdefault(entry[1], entry[2])
+        if entry := _entry_of(line):
+            found.setdefault(*entry)
         elif line.strip() and not line.startswith("#"):
             break
     return found
+
+
+def _entry_of(line: str) -> tuple[str, str] | None:
+    """The name and the value of an entry, as of `#-language: de`."""
+    name, colon, value = line[2:].partition(":")
+    if line[:2] in ("#-", "#+") and colon and _NAME.fullmatch(name):
+        return name, value.strip()
+    return None
 
 
 def shipped_table(path: Path) -> Shipped:

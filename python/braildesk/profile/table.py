@@ -84,6 +84,14 @@ class Table:
         return tuple(cell for part in parts for cell in part)
 
     @cached_property
+    def uppers(self) -> Mapping[str, str]:
+        """The capitals of each small letter of a pair."""
+        found: dict[str, str] = {}
+        for upper, lower in self.lower.items():
+            found[lower] = found.get(lower, "") + upper
+        return found
+
+    @cached_property
     def by_first(self) -> Mapping[str, tuple[Rule, ...]]:
         """The rules by their first characters, the longest first, and of those the earliest."""
         found: dict[str, list[Rule]] = {}

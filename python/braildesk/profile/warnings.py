@@ -134,7 +134,7 @@ def _capitals(table: Table) -> Iterator[Warning]:
         small = character.lower()
         if small == character or table.is_capital(character):
             continue
-        if character in table.lower.values():
+        if character in table.uppers:
             yield Warning(
                 definition.line,
                 f"uplow takes the capital first: by this line {named(character)} is the small"
@@ -187,8 +187,7 @@ def _sign_inside(table: Table, characters: str) -> Sign | None:
 
 def _variants(table: Table, character: str) -> str:
     """The characters of a print that a folded one stands for: itself, and its capital."""
-    uppers = (upper for upper, lower in table.lower.items() if lower == character)
-    return character + "".join(uppers)
+    return character + table.uppers.get(character, "")
 
 
 def _is_numeric(

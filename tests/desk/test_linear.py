@@ -1,0 +1,87 @@
+"""What takes time that grows with a file, and not with its square: steps are counted."""
+
+import time
+from collections.abc import ItemsView, ValuesView
+from dataclasses import replace
+from pathlib import Path
+
+from braildesk import Table
+from braildesk.bring.shipped import head_of
+from braildesk.profile import read, warnings
+from scribe.judgement import faults
+from scribe.manuscript import Position, passages
+from scribe.sequences import belongs
+from scribe.wrapping import wrap
+
+# far more than the least that is wanted takes on a slow machine, and far less than its square
+SECONDS = 5
+
+
+def test_each_character_that_a_table_lacks_is_found_in_one_walk_along_its_line() -> (
+    None
+):
+    lacking = "".join(chr(0x4E00 + n) for n in range(2_000))
+    before = belongs.cache_info()
+    found = faults(passages(lacking.encode(), False), Table("en", b"letter a 1\n"))
+    after = belongs.cache_info()
+    assert [fault.position.column for fault in found] == list(range(1, 2_001))
+    steps = after.hits + after.misses - before.hits - before.misses
+    assert steps < 4 * len(lacking)
+
+
+def test_places_are_found_in_combining_sequences_over_lines() -> None:
+    (passage,) = passages("e\u0301a\nbe\u0301\n".encode(), False)
+    assert passage.text == "\u00e9a b\u00e9"
+    assert list(passage.positions([0, 1, 2, 3, 4, 5])) == [
+        Position(1, 1),
+        Position(1, 3),
+        Position(1, 4),
+        Position(2, 1),
+        Position(2, 2),
+        Position(2, 4),
+    ]
+
+
+class Counted(dict[str, str]):
+    """A mapping that counts how often all of it is gone through."""
+
+    walks = 0
+
+    def values(self) -> "ValuesView[str]":  # type: ignore[override]
+        self.walks += 1
+        return super().values()
+
+    def items(self) -> "ItemsView[str, str]":  # type: ignore[override]
+        self.walks += 1
+        return super().items()
+
+
+def test_the_pairs_of_a_table_are_gone_through_once_for_all_its_warnings() -> None:
+    capitals = [chr(0x0391 + n) for n in range(10)]
+    lines = [f"uplow {upper}{upper.lower()} 1" for upper in capitals]
+    lines += [f"letter {chr(0x0410 + n)} 1" for n in range(20)]
+    lines += [f"always {upper.lower()}{capitals[0].lower()} 1" for upper in capitals]
+    reading = read("\n".join(lines).encode())
+    assert not reading.faults
+    lower = Counted(reading.table.lower)
+    assert warnings(replace(reading.table, lower=lower), True) == []
+    assert lower.walks <= 1
+
+
+def test_a_head_of_blanks_takes_no_more_time_than_one_of_letters(
+    tmp_path: Path,
+) -> None:
+    table = tmp_path / "blanks.utb"
+    blanks = " " * 300_000
+    table.write_text(f"#-license: x{blanks}y\n", encoding="utf-8")
+    began = time.process_time()
+    assert head_of(table) == {"license": f"x{blanks}y"}
+    assert time.process_time() - began < SECONDS
+
+
+def test_lines_of_blanks_are_wrapped_in_one_walk() -> None:
+    blanks = " " * 100_000
+    began = time.process_time()
+    assert wrap(f"the moon{blanks}", 40) == ["the moon"]
+    assert wrap(blanks, 40) == [""]
+    assert time.process_time() - began < SECONDS
