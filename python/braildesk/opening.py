@@ -23,6 +23,15 @@ def word(path: str | PathLike[str]) -> str | None:
     return None if b"\0" in encoded else text
 
 
+def is_file_or_free(path: str) -> bool:
+    """Whether a path has a file, a folder or nothing: the program would wait for a pipe there."""
+    try:
+        mode = os.stat(path).st_mode
+    except (OSError, ValueError):
+        return True
+    return stat.S_ISREG(mode) or stat.S_ISDIR(mode)
+
+
 def why(asked: AskedOfFile) -> Why:
     """Why the file can't be opened."""
     try:
@@ -46,7 +55,7 @@ def _why_not_regular(path: str) -> Why | None:
     mode = os.stat(path).st_mode
     if stat.S_ISDIR(mode):
         return Why.FOLDER
-    return None if stat.S_ISREG(mode) else Why.UNKNOWN
+    return None if stat.S_ISREG(mode) else Why.NO_FILE
 
 
 def _why_regular(asked: AskedOfFile) -> Why:

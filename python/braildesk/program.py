@@ -10,6 +10,7 @@ from pathlib import Path
 
 from braildesk import limits, opening
 from braildesk.asked import AskedOfFile, BookFile, Line, NewBook, Pages, TableFile
+from braildesk.named_files import read_file
 from braildesk.refusals import (
     DeskError,
     Failed,
@@ -155,6 +156,8 @@ def _word(asked: AskedOfFile) -> str:
     word = opening.word(asked.path)
     if word is None:
         raise cannot_open(asked, Why.NO_PATH)
+    if not opening.is_file_or_free(word):
+        raise cannot_open(asked, Why.NO_FILE)
     return word
 
 
@@ -164,7 +167,7 @@ def _is_within(number: int, limit: tuple[int, int]) -> bool:
 
 def _text_at(path: str) -> bytes:
     try:
-        return Path(path).read_bytes()
+        return read_file(path, limits.TABLE_BYTES)
     except OSError:
         return b""
 

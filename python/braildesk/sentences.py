@@ -15,6 +15,7 @@ class Why(StrEnum):
     MISSING = "not there"
     NO_FOLDER = "no folder"
     FOLDER = "a folder"
+    NO_FILE = "no file"
     DENIED = "not permitted"
     NO_DATABASE = "no database"
     IN_USE = "in use"
@@ -127,6 +128,8 @@ UNOPENED = MappingProxyType(
         Why.NO_FOLDER: "There is no folder in which {path} could be made. Check that the path is"
         " right.",
         Why.FOLDER: "{path} is a folder and no file. Give the path of a file in it.",
+        Why.NO_FILE: "{path} is a pipe, a socket or a device, and no file. It was not opened. Give"
+        " the path of a file.",
         Why.DENIED: "You aren't permitted to open {path}. Nothing was changed. Ask who owns it"
         " for leave to read and write it and to write in its folder.",
         Why.NO_DATABASE: "{path} is no book, since it isn't even a database. Nothing was changed."

@@ -7,11 +7,13 @@ from collections.abc import Callable
 from dataclasses import dataclass
 from typing import BinaryIO, TextIO
 
-from braildesk import Failed
+from braildesk import Failed, limits
 
 from scribe.visible import visible
 
 PROGRESS_SECONDS = 2.0
+# a line that a request may have, CR LF and one byte more
+_LINE = limits.LINE_BYTES + 3
 
 
 class NoInput(Failed):
@@ -19,6 +21,15 @@ class NoInput(Failed):
 
     def __init__(self, cause: OSError) -> None:
         super().__init__(f"Standard input could not be read: {cause.strerror}.")
+
+
+class EndlessLine(Failed):
+    """A line of standard input has no end, as where it is a device."""
+
+    def __init__(self) -> None:
+        super().__init__(
+            f"A line of standard input has over {limits.TEXT_BYTES:,} bytes. No more is read."
+        )
 
 
 class OutputFailed(Exception):
@@ -53,9 +64,20 @@ class Console:
             raise OutputFailed(cause) from cause
 
     def read_line(self) -> bytes:
-        """The next line of the input with its ending; nothing at the end."""
+        """The next line of the input with its ending; nothing at the end.
+
+        Of a line that is too long for a request, just the front is given, which is too long too.
+        """
         try:
-            return self.input.readline()
+            line = self.input.readline(_LINE)
+            taken = len(line)
+            rest = line
+            while len(rest) == _LINE and not rest.endswith(b"\n"):
+                if taken > limits.TEXT_BYTES:
+                    raise EndlessLine
+                rest = self.input.readline(_LINE)
+                taken += len(rest)
+            return line
         except OSError as cause:
             raise NoInput(cause) from cause
 

@@ -221,7 +221,7 @@ def read_head(line: bytes) -> Request[Any] | TableHead:
     """The request that a head line asks for, its ending aside; NotARequest where it is none."""
     if len(line) > limits.LINE_BYTES:
         raise NotARequest(
-            f"This line has {len(line):,} bytes, and a request may have {limits.LINE_BYTES:,}."
+            f"This line has over {limits.LINE_BYTES:,} bytes, and no request has so many."
         )
     try:
         text = line.decode()

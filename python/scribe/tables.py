@@ -3,6 +3,7 @@
 from pathlib import Path
 
 from braildesk import limits, requests
+from braildesk.named_files import read_file
 
 from scribe.shelf import FOLDER, table_file, table_names
 from scribe.status import Stop
@@ -30,14 +31,8 @@ def table_request(name: str, path: Path | None) -> requests.Table | requests.Sup
 def read_text(path: Path) -> bytes:
     """The text of a table, as it stands in its file."""
     try:
-        with path.open("rb") as file:
-            text = file.read(limits.TABLE_BYTES + 1)
+        return read_file(path, limits.TABLE_BYTES)
     except OSError as error:
         raise Stop(
             f"The table {path} can't be read: {error.strerror}. Nothing was changed."
         ) from error
-    if len(text) > limits.TABLE_BYTES:
-        raise Stop(
-            f"The table {path} has over {limits.TABLE_BYTES:,} bytes. Nothing was changed."
-        )
-    return text

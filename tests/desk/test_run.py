@@ -258,7 +258,7 @@ def test_a_line_of_more_bytes_than_a_request_may_have_is_not_cut(moon: Path) -> 
     assert ran == Ran(
         2,
         "no 1\n",
-        "Line 1: This line has 65,537 bytes, and a request may have 65,536. Nothing was"
+        "Line 1: This line has over 65,536 bytes, and no request has so many. Nothing was"
         " changed.\n",
     )
 

@@ -9,7 +9,9 @@ from dataclasses import dataclass
 from pathlib import Path
 from typing import Final
 
+from braildesk import limits
 from braildesk.bring.source import INSTALLED
+from braildesk.named_files import read_file
 
 MEASURED: Final = Path(__file__).with_name("measured.tsv")
 """What `tests/tables/bring_all.sh` found, a row a table."""
@@ -50,12 +52,20 @@ class Measured:
 def head_of(path: Path) -> dict[str, str]:
     """The entries at the head of a table, as `language` or `display-name`."""
     found: dict[str, str] = {}
-    for line in path.read_text(encoding="utf-8", errors="replace").splitlines():
+    for line in _text_of(path).splitlines():
         if entry := _entry_of(line):
             found.setdefault(*entry)
         elif line.strip() and not line.startswith("#"):
             break
     return found
+
+
+def _text_of(path: Path) -> str:
+    """The text of a table, or nothing where it can't be read."""
+    try:
+        return read_file(path, limits.TEXT_BYTES).decode(errors="replace")
+    except OSError:
+        return ""
 
 
 def _entry_of(line: str) -> tuple[str, str] | None:
@@ -85,8 +95,7 @@ def _heads_of_included(folder: Path) -> dict[str, dict[str, str]]:
     """By the first table that each table with the ending .tbl includes, the head of the latter."""
     heads = {}
     for path in sorted(folder.glob("*.tbl")):
-        text = path.read_text(encoding="utf-8", errors="replace")
-        if included := _INCLUDE.search(text):
+        if included := _INCLUDE.search(_text_of(path)):
             heads[included[1]] = head_of(path)
     return heads
 

@@ -8,6 +8,9 @@ from dataclasses import dataclass
 from pathlib import Path
 from typing import Final
 
+from braildesk import limits
+from braildesk.named_files import read_file
+
 INSTALLED: Final = Path("/usr/share/liblouis/tables")
 """Where distributions put the tables of liblouis."""
 
@@ -157,7 +160,7 @@ def _line_of(
 
 def _text_of(path: Path) -> str:
     try:
-        raw = path.read_bytes()
+        raw = read_file(path, limits.TEXT_BYTES)
     except OSError as error:
         raise NoTable(f"The table {path} cannot be read: {error.strerror}.") from error
     if raw.startswith((b"\xfe\xff", b"\xff\xfe")):

@@ -7,9 +7,11 @@ from collections.abc import Mapping, Sequence
 from pathlib import Path
 from typing import Final
 
+from braildesk import limits
 from braildesk.bring.alphabet import script_of
 from braildesk.bring.draft import Draft
 from braildesk.bring.subject import Subject
+from braildesk.named_files import read_file
 
 LISTS: Final = Path("/usr/share/dict")
 SPELLING: Final = Path("/usr/share/hunspell")
@@ -47,7 +49,7 @@ _LIST_NAMES: Final[Mapping[str, tuple[str, ...]]] = {
 
 def words_in(path: Path) -> list[str]:
     """The words of a file: the first of each line, without what a spelling list adds to it."""
-    raw = path.read_bytes()
+    raw = read_file(path, limits.TEXT_BYTES)
     try:
         text = raw.decode("utf-8-sig")
     except UnicodeDecodeError:

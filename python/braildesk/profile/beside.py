@@ -10,6 +10,7 @@ from braildesk import limits, opening
 from braildesk import program as programs
 from braildesk.asked import Line, TableFile
 from braildesk.characters import shortened
+from braildesk.named_files import TooLarge, read_file
 from braildesk.profile.reading import Reading, read
 from braildesk.profile.tiling import Piece, braille, pieces, undefined_place
 from braildesk.program import StrPath
@@ -146,10 +147,8 @@ def text_at(path: StrPath) -> bytes:
     """The text of a table in a file."""
     asked = TableFile(fspath(path))
     try:
-        with open(path, "rb") as file:
-            text = file.read(limits.TABLE_BYTES + 1)
+        return read_file(path, limits.TABLE_BYTES)
+    except TooLarge as error:
+        raise cannot_open(asked, Why.TOO_LARGE) from error
     except (OSError, ValueError) as error:
         raise cannot_open(asked, opening.why(asked)) from error
-    if len(text) > limits.TABLE_BYTES:
-        raise cannot_open(asked, Why.TOO_LARGE)
-    return text

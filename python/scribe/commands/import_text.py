@@ -6,6 +6,7 @@ from collections.abc import Iterator, Sequence
 from pathlib import Path
 
 from braildesk import Session, Table, limits, tables
+from braildesk.named_files import read_file
 
 from scribe.console import Console
 from scribe.intake import (
@@ -96,7 +97,7 @@ def prepared(arguments: Namespace) -> Intake:
 def read(path: Path, by_lines: bool) -> tuple[Passage, ...]:
     """The paragraphs of a text file."""
     try:
-        found = passages(path.read_bytes(), by_lines)
+        found = passages(read_file(path, limits.TEXT_BYTES), by_lines)
     except OSError as cause:
         raise Stop(
             f"{path} can't be read: {cause.strerror}. Nothing was typed."

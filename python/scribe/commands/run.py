@@ -72,10 +72,14 @@ class RequestLines:
 
     def block(self, count: int) -> tuple[bytes, int]:
         """The bytes of so many lines after a head line, and how many lines were there."""
-        lines: list[bytes] = []
-        while len(lines) < count and (line := self._next()) is not None:
-            lines.append(line)
-        return b"".join(lines), len(lines)
+        lines = bytearray()
+        there = 0
+        while there < count and (line := self._next()) is not None:
+            there += 1
+            # a text that no table can have isn't kept, but read to its end
+            if len(lines) <= limits.TABLE_BYTES:
+                lines += line
+        return bytes(lines), there
 
     def _next(self) -> bytes | None:
         line = self.console.read_line()
@@ -105,6 +109,8 @@ def _whole(head: TableHead, lines: RequestLines) -> Request[Any]:
         raise NotARequest(
             f"The input ends after {count:,} of the {head.lines:,} lines of this table."
         )
+    if len(text) > limits.TABLE_BYTES:
+        raise NotARequest(f"This table has over {limits.TABLE_BYTES:,} bytes.")
     for number, line in enumerate(text.split(b"\n"), 1):
         if len(line.removesuffix(b"\r")) > limits.LINE_BYTES:
             raise NotARequest(

@@ -1,0 +1,179 @@
+"""What stands at a path that a person names, and is no file, or more than a machine holds."""
+
+import os
+import signal
+import socket
+import stat
+import subprocess
+import sys
+from pathlib import Path
+
+import pytest
+
+from braildesk.named_files import NoFile, TooLarge, open_file, read_file
+from strangers import NEEDS_ROOT
+from tool import Ran, environment, scribe
+
+PIPE = "it is a pipe and no file"
+
+
+def in_time() -> None:
+    """Has a process end where it would wait for ever."""
+    signal.alarm(50)
+
+
+@pytest.fixture
+def pipe(tmp_path: Path) -> Path:
+    """A pipe to which nobody writes."""
+    os.mkfifo(tmp_path / "pipe")
+    return tmp_path / "pipe"
+
+
+def test_a_file_is_read_up_to_its_most_bytes(tmp_path: Path) -> None:
+    file = tmp_path / "text"
+    file.write_bytes(b"moon")
+    assert read_file(file, 4) == b"moon"
+    with pytest.raises(TooLarge, match="it has more than 3 bytes"):
+        read_file(file, 3)
+
+
+def test_a_file_with_holes_is_refused_by_its_size(tmp_path: Path) -> None:
+    file = tmp_path / "text"
+    with file.open("wb") as made:
+        made.truncate(1 << 40)
+    with pytest.raises(TooLarge):
+        read_file(file, 1 << 27)
+
+
+def test_a_pipe_is_refused_and_not_waited_for(pipe: Path) -> None:
+    with pytest.raises(NoFile, match=PIPE):
+        read_file(pipe, 9)
+
+
+@pytest.mark.parametrize("path", ["/dev/zero", "/dev/full"])
+def test_a_device_is_refused(path: str) -> None:
+    with pytest.raises(NoFile, match="it is a device and no file"):
+        open_file(path)
+
+
+def test_a_socket_is_refused(tmp_path: Path) -> None:
+    with socket.socket(socket.AF_UNIX) as made:
+        made.bind(str(tmp_path / "s"))
+        with pytest.raises(NoFile, match="it is a socket and no file"):
+            open_file(tmp_path / "s")
+
+
+def test_a_link_to_what_is_handed_over_is_no_way_to_it(tmp_path: Path) -> None:
+    link = tmp_path / "text"
+    reader, writer = os.pipe()
+    link.symlink_to(f"/proc/self/fd/{reader}")
+    with pytest.raises(NoFile, match=PIPE):
+        read_file(link, 9)
+    os.write(writer, b"moon")
+    os.close(writer)
+    assert read_file(f"/dev/fd/{reader}", 4) == b"moon"
+    os.close(reader)
+
+
+@pytest.mark.parametrize(
+    "words, said",
+    [
+        (
+            ("import", "moon.braildesk", "pipe"),
+            f"pipe can't be read: {PIPE}. Nothing was typed.\n",
+        ),
+        (
+            ("table", "moon.braildesk", "en", "pipe"),
+            f"The table pipe can't be read: {PIPE}. Nothing was changed.\n",
+        ),
+        (
+            ("check-table", "pipe"),
+            "“pipe” is a pipe, a socket or a device, and no file. It was not opened. Give the"
+            " path of a file.\n",
+        ),
+        (
+            ("try", "pipe"),
+            "“pipe” is a pipe, a socket or a device, and no file. It was not opened. Give the"
+            " path of a file.\n",
+        ),
+    ],
+)
+def test_each_command_says_that_a_text_is_no_file(
+    words: tuple[str, ...], said: str, moon: Path
+) -> None:
+    os.mkfifo(moon.with_name("pipe"))
+    ran = scribe(*words, folder=moon.parent, before=in_time)
+    assert ran == Ran(2, "", said)
+
+
+@pytest.mark.parametrize(
+    "words",
+    [
+        ("new", "BOOK"),
+        ("show", "BOOK"),
+        ("run", "BOOK"),
+        ("import", "BOOK", "moon.txt"),
+        ("table", "BOOK", "en"),
+        ("undo", "BOOK", "1"),
+        ("pages", "BOOK"),
+        ("export", "BOOK", "out"),
+        ("copy", "BOOK", "copy.braildesk"),
+        ("copy", "moon.braildesk", "BOOK"),
+    ],
+)
+def test_no_command_waits_for_a_book_that_is_a_pipe(
+    words: tuple[str, ...], moon: Path
+) -> None:
+    moon.with_name("moon.txt").write_text("The moon\n", encoding="utf-8")
+    os.mkfifo(moon.with_name("pipe"))
+    named = ["pipe" if word == "BOOK" else word for word in words]
+    ran = scribe(*named, folder=moon.parent, before=in_time)
+    assert ran.status == 2
+    assert ran.said.startswith("“pipe” is ")
+    assert sorted(path.name for path in moon.parent.glob("pipe*")) == ["pipe"]
+
+
+@NEEDS_ROOT
+def test_a_book_that_is_a_device_is_refused_and_stays_a_device(moon: Path) -> None:
+    device = moon.with_name("null")
+    os.mknod(device, stat.S_IFCHR | 0o666, os.makedev(1, 3))
+    for command in ("new", "show"):
+        ran = scribe(command, "null", folder=moon.parent, before=in_time)
+        assert ran.said.startswith(
+            "“null” is a pipe, a socket or a device, and no file."
+        )
+    assert stat.S_ISCHR(device.lstat().st_mode)
+
+
+def test_what_the_shell_hands_over_is_imported(book: Path) -> None:
+    for words in (
+        'scribe import book.braildesk <(printf "The moon\\n")',
+        'printf "The tides\\n" | scribe import book.braildesk /dev/stdin',
+    ):
+        done = subprocess.run(
+            ["bash", "-c", words.replace("scribe", f"{sys.executable} -m scribe")],
+            cwd=book.parent,
+            env=environment(),
+            capture_output=True,
+            timeout=50,
+            check=True,
+        )
+        assert done.stdout.startswith(b"1 paragraph typed, number ")
+    shown = scribe("show", book, "--print", folder=book.parent).shown
+    assert "The moon\n" in shown and "The tides\n" in shown
+
+
+def test_requests_from_a_device_without_an_end_are_given_up(moon: Path) -> None:
+    with open("/dev/zero", "rb") as endless:
+        done = subprocess.run(
+            [sys.executable, "-m", "scribe", "run", str(moon)],
+            cwd=moon.parent,
+            env=environment(),
+            stdin=endless,
+            capture_output=True,
+            timeout=50,
+        )
+    assert (done.returncode, done.stdout) == (3, b"")
+    assert done.stderr.decode() == (
+        "A line of standard input has over 134,217,728 bytes. No more is read.\n"
+    )
