@@ -8,6 +8,7 @@ import pytest
 from braildesk.bring.beyond import needs_beyond
 from braildesk.bring.making import make
 from braildesk.bring.oracle import Liblouis
+from braildesk.bring.source import read_source
 from braildesk.bring.subject import read_subject
 from braildesk.bring.trial import Trial
 
@@ -73,7 +74,7 @@ def needs(folder: Path, text: str, lines: Sequence[str]) -> dict[str, str]:
     table = folder / "table.utb"
     table.write_text(CHARACTERS + text)
     with Liblouis(table) as liblouis:
-        subject = read_subject(table, liblouis)
+        subject = read_subject(read_source(table), liblouis)
         trial = Trial(folder)
         draft = make(subject, trial).draft
         theirs = liblouis.ask(lines)
@@ -97,7 +98,7 @@ def test_a_line_that_differs_for_another_reason_needs_nothing(tmp_path: Path) ->
     table = tmp_path / "table.utb"
     table.write_text(CHARACTERS + "numericmodechars (\n")
     with Liblouis(table) as liblouis:
-        subject = read_subject(table, liblouis)
+        subject = read_subject(read_source(table), liblouis)
         trial = Trial(tmp_path)
         draft = make(subject, trial).draft
         draft.cells["z"] = (1,)

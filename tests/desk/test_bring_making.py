@@ -47,7 +47,10 @@ def made(folder: Path, text: str) -> Made:
     """What a table's text is made into."""
     (folder / "table.utb").write_text(text)
     with Liblouis(folder / "table.utb") as liblouis, TemporaryDirectory() as scratch:
-        return make(read_subject(folder / "table.utb", liblouis), Trial(Path(scratch)))
+        return make(
+            read_subject(read_source(folder / "table.utb"), liblouis),
+            Trial(Path(scratch)),
+        )
 
 
 def lines_of(folder: Path, text: str) -> list[str]:
@@ -313,7 +316,7 @@ def test_a_reduced_table_lacks_the_lines_of_the_opcodes(tmp_path: Path) -> None:
 
 def compared(folder: Path, draft: Draft, lines: Sequence[str]) -> tuple[float, str]:
     with Liblouis(folder / "table.utb") as liblouis:
-        subject = read_subject(folder / "table.utb", liblouis)
+        subject = read_subject(read_source(folder / "table.utb"), liblouis)
         samples = [Sample(line, "words") for line in lines]
         result = compare(subject, draft, Trial(folder), samples, folder)
     return result.share, what_differs(result)
@@ -331,7 +334,7 @@ def test_guessed_rules_are_marked_and_set_words_right(tmp_path: Path) -> None:
     draft = made(tmp_path, text).draft
     words = ["xqa", "xqaz", "axqa", "axqaz", "zxqa", "xqaa", "qqxqa"]
     with Liblouis(tmp_path / "table.utb") as liblouis:
-        subject = read_subject(tmp_path / "table.utb", liblouis)
+        subject = read_subject(read_source(tmp_path / "table.utb"), liblouis)
         assert learn(subject, draft, Trial(tmp_path), words) > 0
     guessed = [line for line in draft.text().splitlines() if " xq " in line]
     assert guessed

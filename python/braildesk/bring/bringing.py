@@ -16,6 +16,7 @@ from braildesk.bring.making import Made, make
 from braildesk.bring.oracle import Liblouis
 from braildesk.bring.shapes import ASKED, UNSEEN, Material, Shape, lines_of
 from braildesk.bring.shipped import shipped_table
+from braildesk.bring.source import read_source
 from braildesk.bring.subject import Subject, read_subject
 from braildesk.bring.trial import Trial
 from braildesk.bring.words import (
@@ -67,8 +68,10 @@ class Brought:
 
 def bring(table: Path, options: Options = Options()) -> Brought:
     """Brings a table over."""
+    # read here first, where a table that includes itself is seen before liblouis would loop on it
+    source = read_source(table)
     with Liblouis(table) as liblouis, TemporaryDirectory() as name:
-        subject = read_subject(table, liblouis)
+        subject = read_subject(source, liblouis)
         return _Job(subject, options, Path(name)).run()
 
 

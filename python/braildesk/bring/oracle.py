@@ -7,6 +7,7 @@ process reads all the tables that are asked about, since it takes longer to star
 from __future__ import annotations
 
 import json
+import os
 import select
 import subprocess
 import sys
@@ -51,7 +52,7 @@ class Liblouis:
         self.lost: Final[list[str]] = []
         try:
             self.version: Final = self._process.read(table)
-        except NoLiblouis:
+        except BaseException:
             if process is None:
                 self.close()
             raise
@@ -138,7 +139,8 @@ class _Process:
             answer = self._answer(FIRST_SECONDS)
         except _Silent as silent:
             raise NoLiblouis(
-                f"liblouis gives no answer for {table}: it may loop or break off on this table."
+                f"liblouis gives no answer for {table}: it breaks off on this table, or takes more"
+                " time or memory than any of its own tables."
             ) from silent
         if "fault" in answer:
             raise NoLiblouis(str(answer["fault"]))
@@ -158,7 +160,7 @@ class _Process:
     def _send(self, question: dict[str, object]) -> None:
         if self._running is None:
             self._running = subprocess.Popen(
-                [sys.executable, str(_WORKER)],
+                [sys.executable, "-I", str(_WORKER), str(os.getpid())],
                 stdin=subprocess.PIPE,
                 stdout=subprocess.PIPE,
                 stderr=subprocess.DEVNULL,

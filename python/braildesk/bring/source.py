@@ -17,6 +17,12 @@ INSTALLED: Final = Path("/usr/share/liblouis/tables")
 DEEPEST: Final = 20
 """Includes within includes, beyond which a table includes itself."""
 
+MOST_FILES: Final = 100
+"""The files of a table with all that it includes, each as often as it is included; liblouis reads no more."""
+
+MOST_LINES: Final = 1_000_000
+"""The lines of a table with all that it includes; the longest of liblouis has 46,000."""
+
 _PREFIXES: Final = {
     "noback": 0,
     "nofor": 0,
@@ -118,7 +124,16 @@ class _Reading:
         if path in above or len(above) > DEEPEST:
             raise NoTable(f"The table {path.name} includes itself.")
         self.files.append(path.name)
+        if len(self.files) > MOST_FILES:
+            raise NoTable(
+                f"With all that it includes the table is more than {MOST_FILES} files, the last of"
+                f" them {path.name}. liblouis reads no more."
+            )
         for line in _lines_of(path):
+            if len(self.lines) >= MOST_LINES:
+                raise NoTable(
+                    f"With all that it includes the table has more than {MOST_LINES:,} lines."
+                )
             if line.opcode != "include":
                 self.lines.append(line)
             elif line.operands and line.is_for_print:

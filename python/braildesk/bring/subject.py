@@ -3,8 +3,6 @@
 from __future__ import annotations
 
 from dataclasses import dataclass
-from pathlib import Path
-
 from braildesk.bring.alphabet import Alphabet, make_alphabet
 from braildesk.bring.operands import (
     BadOperand,
@@ -13,7 +11,7 @@ from braildesk.bring.operands import (
     without_virtual_dots,
 )
 from braildesk.bring.oracle import Liblouis
-from braildesk.bring.source import Source, read_source
+from braildesk.bring.source import Source
 from braildesk.bring.table import Table, read_table
 
 
@@ -50,8 +48,7 @@ def _read(dots: str) -> Cells | None:
         return None
 
 
-def read_subject(path: Path, liblouis: Liblouis) -> Subject:
+def read_subject(source: Source, liblouis: Liblouis) -> Subject:
     """Reads a table that liblouis has open."""
-    source = read_source(path)
     table = read_table(source)
-    return Subject(source, table, make_alphabet(table, path.name), liblouis)
+    return Subject(source, table, make_alphabet(table, source.path.name), liblouis)

@@ -3,12 +3,18 @@
 Each line of standard input is a question in JSON: a table alone is read, and answered by the version
 of liblouis or by what is wrong; with texts, each text is answered by a line of its own. Where liblouis
 breaks off or loops, the answers that were written show at which text, if it was asked carefully.
+
+Tables may come from anybody. So this process has no more time and memory than any good table takes,
+and it ends with the one that started it, whose number is its word, however that ends.
 """
 
 from __future__ import annotations
 
+import ctypes
 import json
+import math
 import os
+import resource
 import signal
 import sys
 import time
@@ -18,11 +24,23 @@ from typing import Any, Final
 SECONDS: Final = 0.25
 """The time of the processor that a text may take. The system ends the process after that."""
 
+READING_SECONDS: Final = 3
+"""The time of the processor in which a table is read; the largest of liblouis takes a quarter of one."""
+
+MEMORY: Final = 1 << 30
+"""The addresses that this process may have; after reading the largest table it has 22 million."""
+
 PAUSE: Final = 0.1
 """How long answers may be kept back, in seconds, where they needn't be written one by one."""
 
+_PR_SET_PDEATHSIG: Final = 1
+
 
 def main() -> None:
+    if not ends_with(int(sys.argv[1])):
+        return
+    resource.setrlimit(resource.RLIMIT_AS, (MEMORY, MEMORY))
+    resource.setrlimit(resource.RLIMIT_CORE, (0, 0))
     answers = os.fdopen(os.dup(1), "w", encoding="utf-8")
     os.dup2(2, 1)
     try:
@@ -31,6 +49,7 @@ def main() -> None:
         louis = None
     for line in sys.stdin:
         question = json.loads(line)
+        allow_time(question)
         written = time.monotonic()
         for answer in answered(louis, question):
             answers.write(json.dumps(answer) + "\n")
@@ -38,6 +57,24 @@ def main() -> None:
                 answers.flush()
                 written = time.monotonic()
         answers.flush()
+
+
+def ends_with(starter: int) -> bool:
+    """Has the system end this process with the one that started it, unless that has ended already."""
+    if sys.platform == "linux":
+        ctypes.CDLL(None).prctl(_PR_SET_PDEATHSIG, signal.SIGKILL, 0, 0, 0)
+    return os.getppid() == starter
+
+
+def allow_time(question: dict[str, Any]) -> None:
+    """Has the system end this process where it takes longer for a question than it may."""
+    texts = len(question.get("cells", question.get("pieces", ())))
+    used = resource.getrusage(resource.RUSAGE_SELF)
+    seconds = used.ru_utime + used.ru_stime + READING_SECONDS + SECONDS * texts
+    _, most = resource.getrlimit(resource.RLIMIT_CPU)
+    wanted = math.ceil(seconds)
+    if most == resource.RLIM_INFINITY or wanted < most:
+        resource.setrlimit(resource.RLIMIT_CPU, (wanted, most))
 
 
 def answered(louis: Any, question: dict[str, Any]) -> Iterator[object]:

@@ -1,0 +1,136 @@
+"""Tables of strangers: none takes more time and memory than the best of liblouis's own."""
+
+import os
+import signal
+import subprocess
+import sys
+import time
+from pathlib import Path
+
+import pytest
+
+from braildesk.bring import oracle
+from braildesk.bring.oracle import Liblouis, NoLiblouis
+from braildesk.bring.source import MOST_LINES, NoTable, read_source
+from tool import environment, scribe
+
+# far less than a table of this kind takes that nothing stops
+SECONDS = 40
+BRINGS = """
+import sys
+from pathlib import Path
+from braildesk.bring.oracle import Liblouis
+Liblouis(Path(sys.argv[1]))
+"""
+
+
+def doubling(folder: Path, ending: str, levels: int = 30) -> Path:
+    """A table of a few small files, each of which includes the next one twice."""
+    for level in range(levels):
+        text = f"include level{level + 1}{ending}\n" * 2
+        (folder / f"level{level}{ending}").write_text(text, encoding="utf-8")
+    (folder / f"level{levels}{ending}").write_text("letter a 1\n", encoding="utf-8")
+    table = folder / "doubling.utb"
+    table.write_text(f"include level0{ending}\nletter b 12\n", encoding="utf-8")
+    return table
+
+
+def children(process: int) -> list[int]:
+    """The processes that a process started and that are still there."""
+    try:
+        listed = Path(f"/proc/{process}/task/{process}/children").read_text()
+    except FileNotFoundError:
+        return []
+    return list(map(int, listed.split()))
+
+
+def is_running(process: int) -> bool:
+    try:
+        state = Path(f"/proc/{process}/stat").read_text().rpartition(") ")[2][0]
+    except FileNotFoundError:
+        return False
+    return state not in "ZX"
+
+
+def test_a_table_that_includes_ever_more_files_is_refused(tmp_path: Path) -> None:
+    with pytest.raises(NoTable, match="With all that it includes the table is more"):
+        read_source(doubling(tmp_path, ".uti", levels=15))
+
+
+def test_a_table_of_too_many_lines_is_refused(tmp_path: Path) -> None:
+    (tmp_path / "many.uti").write_text("letter a 1\n" * 20_000, encoding="utf-8")
+    table = tmp_path / "many.utb"
+    table.write_text("include many.uti\n" * 60, encoding="utf-8")
+    with pytest.raises(NoTable, match=f"more than {MOST_LINES:,} lines"):
+        read_source(table)
+
+
+def test_bring_ends_with_a_sentence_where_liblouis_alone_would_loop(
+    tmp_path: Path,
+) -> None:
+    # files for screens aren't read here, since they have no braille, but are by liblouis
+    table = doubling(tmp_path, ".dis")
+    began = time.monotonic()
+    ran = scribe("bring", "doubling.utb", "own.utb", folder=tmp_path)
+    assert time.monotonic() - began < SECONDS
+    assert (ran.status, ran.shown, ran.said) == (
+        2,
+        "",
+        f"liblouis gives no answer for {table.name}: it breaks off on this table, or takes more"
+        " time or memory than any of its own tables.\n",
+    )
+    assert not (tmp_path / "own.utb").exists()
+
+
+def test_what_asks_liblouis_ends_with_the_one_that_started_it(tmp_path: Path) -> None:
+    table = doubling(tmp_path, ".dis")
+    starter = subprocess.Popen(
+        [sys.executable, "-c", BRINGS, str(table)], env=environment()
+    )
+    end = time.monotonic() + SECONDS
+    while not (found := children(starter.pid)) and time.monotonic() < end:
+        time.sleep(0.05)
+    (worker,) = found
+    # once it reads the table, it doesn't look whether somebody still asks
+    while "louis" not in Path(f"/proc/{worker}/maps").read_text():
+        time.sleep(0.05)
+    starter.send_signal(signal.SIGKILL)
+    starter.wait()
+    while is_running(worker) and time.monotonic() < end:
+        time.sleep(0.05)
+    assert not is_running(worker)
+
+
+def test_a_worker_whose_starter_has_ended_asks_nothing() -> None:
+    worker = Path(oracle.__file__).with_name("worker.py")
+    done = subprocess.run(
+        [sys.executable, "-I", str(worker), "1"],
+        input=b'{"table": "none.utb"}\n',
+        capture_output=True,
+        timeout=SECONDS,
+    )
+    assert (done.returncode, done.stdout) == (0, b"")
+
+
+@pytest.mark.parametrize("cause", [KeyboardInterrupt, SystemExit, MemoryError])
+def test_no_process_is_left_where_the_reading_of_a_table_is_broken_off(
+    cause: type[BaseException], tmp_path: Path, monkeypatch: pytest.MonkeyPatch
+) -> None:
+    def breaks_off(stream: object, seconds: float) -> bytes:
+        raise cause
+
+    before = children(os.getpid())
+    monkeypatch.setattr(oracle._Process, "_line", breaks_off)
+    with pytest.raises(cause):
+        Liblouis(tmp_path / "any.utb")
+    assert children(os.getpid()) == before
+
+
+def test_what_asks_liblouis_takes_no_module_of_the_folder_it_is_started_in(
+    tmp_path: Path, monkeypatch: pytest.MonkeyPatch
+) -> None:
+    (tmp_path / "json.py").write_text("raise SystemExit\n", encoding="utf-8")
+    monkeypatch.chdir(tmp_path)
+    monkeypatch.setenv("PYTHONPATH", os.pathsep)
+    with pytest.raises(NoLiblouis, match="refuses the table"):
+        Liblouis(tmp_path / "none.utb")
