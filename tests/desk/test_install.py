@@ -91,6 +91,31 @@ def test_a_text_becomes_pages(prefix: Path, tmp_path: Path) -> None:
     assert page.startswith(b"  8,^/ELAN0 COSTS @L#E ,- OR @E#F444\r\n")
 
 
+@pytest.mark.parametrize("place", ["installed", "checkout"])
+def test_no_module_is_taken_from_the_folder_that_somebody_is_in(
+    place: str, prefix: Path, program: str, tmp_path: Path
+) -> None:
+    command = prefix / "bin" / "scribe" if place == "installed" else ROOT / "bin/scribe"
+    for module in ("argparse", "json", "readline", "scribe", "braildesk", "louis"):
+        strange = tmp_path / f"{module}.py"
+        strange.write_text("raise SystemExit('taken from here')\n", encoding="utf-8")
+    for path in (":", ".", str(tmp_path)):
+        ran = subprocess.run(
+            [command, "new", f"{len(path)}.braildesk"],
+            cwd=tmp_path,
+            env={
+                "PATH": os.environ["PATH"],
+                "PYTHONPATH": path,
+                "PYTHONSTARTUP": "json.py",
+                "BRAILDESK": program,
+            },
+            capture_output=True,
+            encoding="utf-8",
+        )
+        assert (ran.returncode, ran.stderr) == (0, "")
+    assert not (tmp_path / "__pycache__").exists()
+
+
 def test_uninstall_takes_all_of_it_away(program: str, tmp_path: Path) -> None:
     prefix, stage = Path("/usr"), tmp_path / "stage"
     make("install", program, prefix, stage)

@@ -25,6 +25,10 @@ use() { # FOLDER: a new book by what is installed there
         "$1/bin/scribe" show moon.braildesk
         cp "$1/share/doc/braildesk/examples/moon.braildesk" example.braildesk
         "$1/bin/scribe" show example.braildesk
+        mkdir strange
+        echo 'raise SystemExit("a module of the folder that somebody is in")' > strange/argparse.py
+        (cd strange && PYTHONPATH=: "$1/bin/scribe" --version) || exit 1
+        rm -r strange
     ) > "$scratch/shown" 2>&1 || { cat "$scratch/shown" >&2; fail "what is installed below $1 doesn't work"; }
     grep -q 'new book with the table ueb' "$scratch/shown" || fail "the table ueb is not found below $1"
     grep -q '⠠⠞⠓⠑⠀⠍⠕⠕⠝⠀⠊⠎⠀⠋⠁⠗⠀⠁⠺⠁⠽⠲' "$scratch/shown" || fail "the book made below $1 has other braille"
