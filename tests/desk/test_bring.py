@@ -191,11 +191,20 @@ def test_without_a_table_the_list_is_named(tmp_path: Path) -> None:
     assert refused(tmp_path).startswith("Which table is to be brought over?")
 
 
+def test_the_list_shows_the_share_of_all_lines_first(tmp_path: Path) -> None:
+    ran = scribe("bring", "--list", "Bulgarian", folder=tmp_path)
+    assert (
+        "bg       bg.utb                                   96.66%    100%  Bulgarian braille"
+        in ran.shown.splitlines()
+    )
+
+
 def test_the_installed_tables_are_listed_by_language(tmp_path: Path) -> None:
     ran = scribe("bring", "--list", folder=tmp_path)
     assert ran.status == 0
     head, *lines = ran.shown.splitlines()
-    assert head.split() == ["language", "table", "lines", "agree", "title"]
+    assert head.split() == ["language", "table", "all", "lines", "others", "title"]
     (spanish,) = [line for line in lines if " es-g1.ctb " in line]
     assert spanish.startswith("es ")
+    assert ran.said.startswith("all lines: of lines that were made up from the table's")
     assert [line[:8] for line in lines] == sorted(line[:8] for line in lines)

@@ -273,7 +273,8 @@ HEAD: Final = """\
 
 `scribe bring TABLE FILE` makes one text that braildesk can read from a table of liblouis, with all
 that it includes, and compares the program's cells with those of liblouis. `tests/tables/bring_all.sh` did
-this with the tables of liblouis 3.24.0, and wrote this file.
+this with the tables of liblouis 3.24.0, and wrote this file. `scribe bring --list` shows the shares
+*unseen* and *others* of it, as *all lines* and *others*.
 
 - **asked**: the share of lines that agree, of the shapes that `scribe bring` asks liblouis about to
   make the table: words, capitals and numbers, each with one mark.

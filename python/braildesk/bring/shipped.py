@@ -44,6 +44,7 @@ class Measured:
 
     asked: float
     unseen: float
+    """The share of all lines of shapes that were not used for the making."""
     others: float
     """The share on unseen lines, those aside that need what the profile leaves out for good."""
     differs: str

@@ -29,6 +29,11 @@ EXAMPLE = """\
 scribe bring --list
 scribe bring --list Spanish
 scribe bring es-g1.ctb spanish.utb"""
+LEGEND = (
+    "all lines: of lines that were made up from the table's letters, the share that agrees with"
+    " liblouis. others: the share without the lines that differ and need what a table of"
+    " braildesk can't have."
+)
 NOT_WRITTEN = (
     "Nothing was written, since fewer than 99 of 100 lines agree. With --anyway the text is"
     " written as it is."
@@ -81,7 +86,10 @@ def add_parser(subparsers: Subparsers) -> ArgumentParser:
 def run(arguments: Namespace, console: Console) -> Status:
     """Shows the tables, or brings one over."""
     if arguments.list:
-        console.show(*listed(arguments.table))
+        lines = listed(arguments.table)
+        console.show(*lines)
+        if len(lines) > 1:
+            console.say(LEGEND)
         return Status.DONE
     if arguments.table is None:
         raise Stop(
@@ -102,7 +110,7 @@ def run(arguments: Namespace, console: Console) -> Status:
 
 
 def listed(language: str | None = None) -> list[str]:
-    """The installed tables by language, each with the share that was measured, or those of one language."""
+    """The installed tables by language, each with the shares that were measured, or those of one language."""
     measured = measured_tables()
     tables = shipped_tables()
     if language is not None and tables:
@@ -115,13 +123,19 @@ def listed(language: str | None = None) -> list[str]:
     lines = []
     for table in tables:
         row = measured.get(table.name)
-        share = "not measured" if row is None else report.percent(row.others)
-        title = table.title or "-"
-        lines.append(f"{table.language:<8} {table.name:<34} {share:>12}  {title}")
+        shares = (
+            ("not measured", "")
+            if row is None
+            else (report.percent(row.unseen), report.percent(row.others))
+        )
+        lines.append(_row(table.language, table.name, *shares, table.title or "-"))
     if not lines:
         return ["No tables of liblouis are installed: apt-get install liblouis-data."]
-    head = f"{'language':<8} {'table':<34} {'lines agree':>12}  title"
-    return [head, *lines]
+    return [_row("language", "table", "all lines", "others", "title"), *lines]
+
+
+def _row(language: str, table: str, all_lines: str, others: str, title: str) -> str:
+    return f"{language:<8} {table:<34} {all_lines:>12} {others:>7}  {title}"
 
 
 def said_of(brought: Brought) -> list[str]:
