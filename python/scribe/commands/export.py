@@ -176,13 +176,15 @@ def _write(
 
 def _others(written: Sequence[int], later: Sequence[int]) -> str:
     """What became of the other volumes, where there are any."""
-    new = f" New now: {_numbers(written)}." if written else ""
-    return new + (f" Not written: {_numbers(later)}." if later else "")
+    new = f" {_numbered(written)} new." if written else ""
+    return new + (f" {_numbered(later)} as before." if later else "")
 
 
-def _numbers(volumes: Sequence[int]) -> str:
-    listed = ", ".join(map(str, volumes))
-    return f"volume {listed}" if len(volumes) == 1 else f"volumes {listed}"
+def _numbered(volumes: Sequence[int]) -> str:
+    *others, last = map(str, volumes)
+    if not others:
+        return f"Volume {last} is"
+    return f"Volumes {', '.join(others)} and {last} are"
 
 
 def _ending(job: Job, volumes: int) -> list[str]:
