@@ -148,6 +148,44 @@ def test_the_lines_say_characters_signs_and_rules(tmp_path: Path) -> None:
     assert [line.number for line in table.left] == [16, 17, 18]
 
 
+@pytest.mark.parametrize(
+    "line, kind, dots",
+    [
+        ("hyphen - 36", "punctuation", "36"),
+        ("noback always Æ 345", "letter", "345"),
+        ("math - 3-6", "punctuation", "3-6"),
+        ("sign - 3-6\nhyphen - 36", "punctuation", "3-6"),
+        ("hyphen - 36\nsign - 3-6", "punctuation", "3-6"),
+    ],
+)
+def test_a_character_that_only_a_rule_writes_is_one_of_the_table(
+    line: str, kind: str, dots: str, tmp_path: Path
+) -> None:
+    (tmp_path / "a.utb").write_text(f"lowercase a 1\n{line}\n", encoding="utf-8")
+    table = read_table(read_source(tmp_path / "a.utb"))
+    character = "Æ" if "Æ" in line else "-"
+    assert make_alphabet(table, "a.utb").kinds[character] == kind
+    assert table.dots[character] == dots
+
+
+def test_both_characters_of_a_group_are_read(tmp_path: Path) -> None:
+    (tmp_path / "a.utb").write_text("lowercase a 1\ngrouping row <> 126,345\n")
+    table = read_table(read_source(tmp_path / "a.utb"))
+    assert (table.dots["<"], table.dots[">"]) == ("126", "345")
+    kinds = make_alphabet(table, "a.utb").kinds
+    assert kinds["<"] == kinds[">"] == "punctuation"
+    assert table.left == ()
+
+
+def test_definitions_that_cannot_be_read_are_among_the_lines_that_are_left(
+    tmp_path: Path,
+) -> None:
+    lines = ("grouping row <", "base uppercase A", "attribute", "letter ab 1", "math x")
+    (tmp_path / "a.utb").write_text("".join(f"{line}\n" for line in lines))
+    left = read_table(read_source(tmp_path / "a.utb")).left
+    assert [line.number for line in left] == [1, 2, 3, 4, 5]
+
+
 def test_characters_have_the_classes_of_the_profile(tmp_path: Path) -> None:
     (tmp_path / "a.utb").write_text(TABLE)
     alphabet = make_alphabet(read_table(read_source(tmp_path / "a.utb")), "a.utb")

@@ -7,7 +7,7 @@ from collections.abc import Mapping
 from dataclasses import dataclass
 from typing import Final
 
-from braildesk.bring.table import Table
+from braildesk.bring.table import RULED, Table
 
 MANY: Final = 3_000
 """With so many characters, as Chinese and Korean have them, each is asked for in few places."""
@@ -123,6 +123,8 @@ def make_alphabet(table: Table, name: str) -> Alphabet:
 
 def _kind(character: str, table: Table, depth: int = 0) -> str:
     classes = table.classes[character]
+    if classes == {RULED}:
+        return _kind_by_itself(character)
     for names, kind in (
         (("space",), "space"),
         (("digit", "litdigit"), "digit"),
@@ -138,7 +140,7 @@ def _kind(character: str, table: Table, depth: int = 0) -> str:
 
 
 def _kind_by_itself(character: str) -> str:
-    """The class of a character of a table that calls all of them signs, as some of computer braille do."""
+    """The class of a character that no line gives one, as of tables that call all of them signs."""
     if character.isalpha():
         return "letter"
     return "space" if character == " " else "punctuation"

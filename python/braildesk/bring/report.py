@@ -14,6 +14,7 @@ from braildesk.bring.shipped import head_of, shipped_table
 from braildesk.bring.source import Line
 from braildesk.bring.subject import Subject
 from braildesk.bring.table import SILENT
+from braildesk.characters import named
 
 SHOWN: Final = 10
 """How many lines that differ are shown."""
@@ -21,7 +22,18 @@ SHOWN: Final = 10
 MOST_PLACES: Final = 60
 """How many places of an opcode a comment names."""
 
-_NO_BRAILLE: Final = (*SILENT, "class", "emphclass", "hyphenation")
+EVERYDAY: Final = (
+    "".join(map(chr, range(0x20, 0x7F)))
+    + "\u2018\u2019\u201a\u201c\u201d\u201e\u00ab\u00bb\u2039\u203a\u2013\u2014\u2026\u20ac\u00a0"
+)
+"""The characters that texts of any language may have: ASCII, quotation marks, dashes, the ellipsis, the euro."""
+
+_NO_BRAILLE: Final = (
+    *(opcode for opcode in SILENT if opcode not in ("base", "attribute")),
+    "class",
+    "emphclass",
+    "hyphenation",
+)
 
 
 def origin(subject: Subject) -> list[str]:
@@ -45,6 +57,13 @@ def losses(made: Made, subject: Subject) -> list[str]:
         sentences.append(
             f"{len(made.without_cells)} characters have no cells that the profile can write: "
             f"{_characters(made.without_cells)}."
+        )
+    lacking = [one for one in EVERYDAY if one not in made.draft.cells]
+    if lacking:
+        listed = ", ".join(map(named, lacking))
+        sentences.append(
+            "A text can't have these characters by this table, though texts often do:"
+            f" {listed if len(lacking) <= SHOWN else _characters(lacking)}."
         )
     for name, lines in _by_opcode(subject.table.left):
         sentences.append(_sentence(f"Not carried over: {name}", lines))

@@ -2,7 +2,7 @@
 
 from __future__ import annotations
 
-from collections.abc import Callable, Mapping
+from collections.abc import Callable, Mapping, Sequence
 from dataclasses import dataclass, field
 from typing import Final
 
@@ -22,6 +22,9 @@ DEFINITIONS: Final = (
     "grouping",
 )
 """The opcodes that give a character its class and its cells."""
+
+RULED: Final = "rule"
+"""The class of a character that no line defines, and a rule writes, as `hyphen -` does."""
 
 SIGNS: Final = ("numsign", "capsletter", "begcapsword", "nonumsign")
 """The opcodes of signs that have a counterpart."""
@@ -95,12 +98,16 @@ class _Reading:
     rules: list[Rule] = field(default_factory=list)
     asked: list[Line] = field(default_factory=list)
     left: list[Line] = field(default_factory=list)
+    ruled: dict[str, str] = field(default_factory=dict)
+    """The single characters that rules write, with the dots of the first such rule."""
 
     def take(self, line: Line) -> None:
         """Reads one line into what it says, or among the lines that are left."""
         opcode = line.opcode
         reader: Callable[[Line], bool] | None = None
-        if opcode in DEFINITIONS:
+        if opcode == "grouping":
+            reader = self.grouping
+        elif opcode in DEFINITIONS:
             reader = self.define
         elif opcode == "base":
             reader = self.base
@@ -110,6 +117,8 @@ class _Reading:
             reader = self.sign
         elif opcode in NUMBERS:
             self.asked.append(line)
+            if opcode == "hyphen":
+                self._read(self.hyphen, line)
             return
         elif opcode in KINDS and "after" not in line.name and "before" not in line.name:
             reader = self.rule
@@ -136,6 +145,30 @@ class _Reading:
         self.classes.setdefault(character, set()).add(line.opcode)
         return True
 
+    def grouping(self, line: Line) -> bool:
+        """Two characters with a name before them, and the dots of both with a comma between them."""
+        if len(line.operands) < 3:
+            return False
+        characters = read_characters(line.operands[1])
+        dots = line.operands[2].split(",")
+        if len(characters) != 2 or len(dots) != 2:
+            return False
+        for character, its_dots in zip(characters, dots):
+            self.dots.setdefault(character, its_dots)
+            self.classes.setdefault(character, set()).add(line.opcode)
+        return True
+
+    def hyphen(self, line: Line) -> bool:
+        """A character that goes between the digits of some numbers, and has cells elsewhere too."""
+        return self.written(read_characters(line.operands[0]), line.operands[1:])
+
+    def written(self, characters: str, dots: Sequence[str]) -> bool:
+        """Takes note of a single character that is written by a rule, if nothing defines it."""
+        if len(characters) != 1 or not dots:
+            return False
+        self.ruled.setdefault(characters, dots[0])
+        return True
+
     def base(self, line: Line) -> bool:
         if len(line.operands) < 3:
             return False
@@ -149,7 +182,9 @@ class _Reading:
         return True
 
     def attribute(self, line: Line) -> bool:
-        if len(line.operands) >= 2 and line.operands[0] in DEFINITIONS:
+        if len(line.operands) < 2:
+            return False
+        if line.operands[0] in DEFINITIONS:
             for character in read_characters(line.operands[1]):
                 self.classes.setdefault(character, set()).add(line.operands[0])
         return True
@@ -163,9 +198,10 @@ class _Reading:
     def rule(self, line: Line) -> bool:
         if len(line.operands) < 2:
             return False
-        self.rules.append(
-            Rule(line, read_characters(line.operands[0]), line.operands[1])
-        )
+        characters = read_characters(line.operands[0])
+        self.rules.append(Rule(line, characters, line.operands[1]))
+        if line.opcode == "always":
+            self.written(characters, line.operands[1:])
         return True
 
 
@@ -175,6 +211,10 @@ def read_table(source: Source) -> Table:
     for line in source.lines:
         if line.is_for_print:
             reading.take(line)
+    for character, dots in reading.ruled.items():
+        if character not in reading.classes:
+            reading.classes[character] = {RULED}
+            reading.dots[character] = dots
     return Table(
         {
             character: frozenset(classes)
