@@ -14,7 +14,7 @@ from braildesk.bring.source import NoTable
 from scribe.console import Console
 from scribe.parser import Subparsers, command_parser
 from scribe.status import Status, Stop
-from scribe.whole_file import write_whole
+from scribe.whole_file import MayNotLast, write_whole
 
 MORE = """\
 TABLE is a table that liblouis has, by its name, as de-g0.utb or de-g0, or its title, or a
@@ -163,6 +163,8 @@ def _written(brought: Brought, file: Path | None, console: Console) -> Status:
         return Status.DONE
     try:
         write_whole(file, brought.text.encode())
+    except MayNotLast as error:
+        raise Stop(error.sentence_about(file), Status.FAILED) from error
     except OSError as error:
         raise Stop(
             f"{file} could not be written: {error.strerror}.", Status.FAILED

@@ -162,10 +162,7 @@ def _write(
         write_whole(file, pages, job.book.stat().st_mode)
     except MayNotLast as error:
         others = _others([*written, volume], range(volume + 1, count + 1))
-        raise Failed(
-            f"{file} is written, but the folder could not be brought to the disk:"
-            f" {error.strerror}. After a loss of power the older file may be there.{others}"
-        ) from error
+        raise Failed(error.sentence_about(file) + others) from error
     except OSError as error:
         left = "is as it was" if older else "was not made"
         others = _others(written, range(volume + 1, count + 1))
