@@ -47,8 +47,8 @@ def test_cells_are_counted_without_the_numbers_of_pages(moon: Path) -> None:
         for _ in range(12):
             session.type("end", "en", "a")
     ran = scribe("export", moon, "out", *SIZES, folder=moon.parent)
-    # 20 + 9 - 2 + 27 of the paragraphs that were there, and 12
-    assert ran.shown == "out/moon-1.brf: volume 1, 5 pages, 64 cells with dots.\n"
+    # 18, 10 and 24 of the paragraphs that were there, on four lines, and 12 on as many
+    assert ran.shown == "out/moon-1.brf: volume 1, 4 pages, 64 cells with dots.\n"
 
 
 def test_a_volume_that_is_refused_leaves_the_older_file(moon: Path) -> None:
