@@ -136,6 +136,8 @@ def _held(book: BookFile) -> Iterator[BinaryIO]:
     """The file of a book, open and kept from being used by a session meanwhile."""
     if opening.word(book.path) is None:
         raise cannot_open(book, Why.NO_PATH)
+    if not opening.is_file_or_free(book.path):
+        raise cannot_open(book, Why.NO_FILE)
     try:
         file = open(book.path, "rb")
     except OSError:

@@ -9,9 +9,9 @@ from pathlib import Path
 
 import pytest
 
-from braildesk.bring import oracle
+from braildesk.bring import oracle, source
 from braildesk.bring.oracle import Liblouis, NoLiblouis
-from braildesk.bring.source import MOST_LINES, NoTable, read_source
+from braildesk.bring.source import NoTable, read_source
 from tool import environment, scribe
 
 # far less than a table of this kind takes that nothing stops
@@ -57,11 +57,14 @@ def test_a_table_that_includes_ever_more_files_is_refused(tmp_path: Path) -> Non
         read_source(doubling(tmp_path, ".uti", levels=15))
 
 
-def test_a_table_of_too_many_lines_is_refused(tmp_path: Path) -> None:
-    (tmp_path / "many.uti").write_text("letter a 1\n" * 20_000, encoding="utf-8")
+def test_a_table_of_too_many_lines_is_refused(
+    tmp_path: Path, monkeypatch: pytest.MonkeyPatch
+) -> None:
+    monkeypatch.setattr(source, "MOST_LINES", 99, raising=False)
+    (tmp_path / "many.uti").write_text("letter a 1\n" * 25, encoding="utf-8")
     table = tmp_path / "many.utb"
-    table.write_text("include many.uti\n" * 60, encoding="utf-8")
-    with pytest.raises(NoTable, match=f"more than {MOST_LINES:,} lines"):
+    table.write_text("include many.uti\n" * 4, encoding="utf-8")
+    with pytest.raises(NoTable, match="more than 99 lines"):
         read_source(table)
 
 
