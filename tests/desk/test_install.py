@@ -99,9 +99,9 @@ def test_no_module_is_taken_from_the_folder_that_somebody_is_in(
     for module in ("argparse", "json", "readline", "scribe", "braildesk", "louis"):
         strange = tmp_path / f"{module}.py"
         strange.write_text("raise SystemExit('taken from here')\n", encoding="utf-8")
-    for path in (":", ".", str(tmp_path)):
+    for count, path in enumerate((":", ".", str(tmp_path))):
         ran = subprocess.run(
-            [command, "new", f"{len(path)}.braildesk"],
+            [command, "new", f"{count}.braildesk"],
             cwd=tmp_path,
             env={
                 "PATH": os.environ["PATH"],
