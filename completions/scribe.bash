@@ -17,7 +17,7 @@ _scribe() {
             check-table) words='--display --width' ;;
             import) words='--lines --table --after --dry-run --from' ;;
             show) words='--paragraphs --print --braille --ascii --width' ;;
-            find) words='--braille --width' ;;
+            find) words='--braille --alike --width' ;;
             change) words='--nth --by --width' ;;
             mark) words='--nth --width' ;;
             undo | resolve | strike | restore | heading | body | volume | move | retable) words='--width' ;;

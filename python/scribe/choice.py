@@ -3,6 +3,7 @@
 import argparse
 
 from scribe.excerpt import excerpt
+from scribe.likeness import instead
 from scribe.occurrences import Occurrence, occurrences
 from scribe.paragraph import quoted
 from scribe.parser import number
@@ -26,6 +27,7 @@ def chosen(
     found = occurrences(text, sought)
     where = f"in paragraph {paragraph}"
     if not found:
+        where += instead(sought, text)
         raise Stop(f"{quoted(sought)} stands nowhere {where}. Nothing was changed.")
     if nth is None and len(found) == 1:
         return found[0]

@@ -9,13 +9,20 @@ from braildesk import requests
 
 from scribe.changes import at_version
 from scribe.commands.change import change_lines, make_change
-from scribe.commands.find import found, summary as found_summary, word_lines
+from scribe.commands.find import (
+    Tally,
+    found,
+    summary as found_summary,
+    tallied,
+    word_lines,
+)
 from scribe.commands.mark import wider
 from scribe.commands.marks import mark_lines, summary as marks_summary
 from scribe.conversation import Conversation, answer_request
 from scribe.excerpt import excerpt
+from scribe.likeness import alike, instead
 from scribe.occurrences import Occurrence, occurrences
-from scribe.paragraph import mark_line
+from scribe.paragraph import mark_line, quoted
 from scribe.parser import number
 from scribe.paths import typed_path
 from scribe.places import cells_of
@@ -75,11 +82,14 @@ def _mark_text(talk: Conversation, given: str) -> None:
 
 def _find_text(talk: Conversation, given: str) -> None:
     sought = talk.ask("Which words are looked for?", words, given)
-    count = paragraphs = 0
+    tally = Tally()
     for hit in found(talk.session, sought, False):
-        count, paragraphs = count + len(hit.places), paragraphs + 1
+        tally = tally.with_hit(hit, sought)
         talk.show(*word_lines(hit, talk.width))
-    talk.say(found_summary(sought, count, paragraphs))
+    others = [] if tally.count else list(found(talk.session, sought, False, alike))
+    talk.say(found_summary(sought, tally, tallied(others, sought), ":"))
+    for hit in others:
+        talk.show(*word_lines(hit, talk.width))
 
 
 def _all_marks(talk: Conversation, given: str) -> None:
@@ -125,7 +135,10 @@ def _words(talk: Conversation, paragraph: int, question: str) -> tuple[str, int]
 
     def standing(answer: str) -> str:
         if not occurrences(print_text, words(answer)):
-            raise ArgumentTypeError(f"these words don't stand in paragraph {paragraph}")
+            like = instead(words(answer), print_text)
+            raise ArgumentTypeError(
+                f"{quoted(answer)} stands nowhere in paragraph {paragraph}{like}"
+            )
         return answer
 
     sought = talk.ask(f"{question} Type them as they stand there.", standing)

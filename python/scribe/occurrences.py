@@ -1,5 +1,6 @@
 """Where words stand in a print, and the words around them."""
 
+from collections.abc import Callable
 from dataclasses import dataclass
 
 from scribe.sequences import composed, sequences
@@ -12,16 +13,30 @@ class Occurrence:
     start: int
     stop: int
 
+    def counted(self, what: str) -> str:
+        """Its characters or its cells, counted from 1, as in “characters 5 to 8”."""
+        if self.stop <= self.start:
+            return f"no {what}"
+        if self.stop == self.start + 1:
+            return f"{what} {self.stop}"
+        return f"{what}s {self.start + 1} to {self.stop}"
 
-def occurrences(text: str, sought: str) -> tuple[Occurrence, ...]:
-    """Where a text stands in another, both compared in normal form C, in the places of the other.
+
+#: What a text is compared as: that of a text is that of its sequences, one after the other.
+Form = Callable[[str], str]
+
+
+def occurrences(
+    text: str, sought: str, form: Form = composed
+) -> tuple[Occurrence, ...]:
+    """Where a text stands in another, both compared in a form, in the places of the other.
 
     Those that overlap are all given. None begins or ends within a combining sequence.
     """
-    wanted = composed(sought)
-    if not wanted or wanted not in composed(text):
+    wanted = form(sought)
+    if not wanted or wanted not in form(text):
         return ()
-    whole, stored = _places(text)
+    whole, stored = _places(text, form)
     found = []
     start = whole.find(wanted)
     while start >= 0:
@@ -32,13 +47,13 @@ def occurrences(text: str, sought: str) -> tuple[Occurrence, ...]:
     return tuple(found)
 
 
-def _places(text: str) -> tuple[str, dict[int, int]]:
-    """A text in normal form C, and for each of its seams the same place of the text as it is."""
+def _places(text: str, form: Form) -> tuple[str, dict[int, int]]:
+    """A text in a form, and for each of its seams the same place of the text as it is."""
     pieces = sequences(text)
-    normal = [composed(piece) for piece in pieces]
+    formed = [form(piece) for piece in pieces]
     places = {0: 0}
     here = there = 0
-    for piece, form in zip(pieces, normal):
-        here, there = here + len(piece), there + len(form)
+    for piece, its in zip(pieces, formed):
+        here, there = here + len(piece), there + len(its)
         places[there] = here
-    return "".join(normal), places
+    return "".join(formed), places

@@ -78,6 +78,17 @@ def test_words_that_stand_nowhere_are_refused(moon: Path) -> None:
     )
 
 
+def test_words_that_stand_there_otherwise_are_refused_with_those_that_do(
+    moon: Path,
+) -> None:
+    assert change(moon, "1", "TWO\u00a0men", "moon") == Ran(
+        2,
+        "",
+        "“TWO\u00a0men” stands nowhere in paragraph 1 as typed; with other capitals and another"
+        " kind of blank it is “Two men”. Nothing was changed.\n",
+    )
+
+
 def test_words_are_taken_out(moon: Path) -> None:
     assert change(moon, "1", ", on the mooon", "").shown == (
         "Paragraph 1: Two men stood on the mooon[].\n"

@@ -47,6 +47,30 @@ def test_words_that_stand_nowhere_are_said_to(moon: Path) -> None:
     assert find(moon, "sun") == Ran(0, "", "“sun” stands nowhere in the book.\n")
 
 
+def test_words_that_are_otherwise_in_the_book_are_said_to_be_and_shown(
+    moon: Path,
+) -> None:
+    assert find(moon, "MOON") == Ran(
+        0,
+        "",
+        "“MOON” stands nowhere in the book as typed. With other capitals it stands 4 times in 2"
+        " paragraphs; --alike shows where.\n",
+    )
+    assert find(moon, "moon,", "--alike") == Ran(
+        0,
+        "Paragraph 3, character 1: [Moon,] moon, moonlight\n"
+        "Paragraph 3, character 7: Moon, [moon,] moonlight\n",
+        "“moon,” stands 2 times in one paragraph, found with other capitals too.\n",
+    )
+    assert find(moon, "moon.", "--alike").said == (
+        "“moon.” stands once in one paragraph.\n"
+    )
+    assert find(moon, "Mond", "--alike").said == (
+        "“Mond” stands nowhere in the book.\n"
+    )
+    assert find(moon, "moon", "--alike", "--braille").status == 1
+
+
 def test_cells_are_found_and_the_print_that_they_stand_for(moon: Path) -> None:
     wanted = Ran(
         0,

@@ -9,11 +9,13 @@ from braildesk import Paragraph, Session
 from scribe.cells import NotCells, braille_patterns
 from scribe.console import Console
 from scribe.excerpt import excerpt
-from scribe.occurrences import Occurrence, occurrences
+from scribe.likeness import KINDS, alike, in_words, unlike
+from scribe.occurrences import Form, Occurrence, occurrences
 from scribe.paragraph import quoted
 from scribe.parser import Subparsers, WordsRefused, add_file, command_parser
 from scribe.places import words_of
 from scribe.readings import brailles, prints
+from scribe.sequences import composed
 from scribe.status import Status
 from scribe.texts import words
 from scribe.visible import named
@@ -22,10 +24,13 @@ from scribe.width import add_width
 MORE = """\
 Each place is shown by its paragraph, its first character, counted from 1, and the words
 around it. With --braille TEXT is cells, in Braille ASCII or as Unicode characters, and
-the print that they stand for is shown after them."""
+the print that they stand for is shown after them. With --alike, words are found too that
+have other capitals, or an apostrophe, quotation mark, dash or blank of another shape."""
 EXAMPLE = """\
 scribe find moon.braildesk moon
+scribe find moon.braildesk --alike 'the moon'
 scribe find moon.braildesk --braille ',THE MOON'"""
+_OFFER = "; --alike shows where."
 
 
 @dataclass(frozen=True)
@@ -42,6 +47,33 @@ class Hit:
         return f"Paragraph {self.paragraph.id}{struck}"
 
 
+@dataclass(frozen=True)
+class Tally:
+    """How many places were found, in how many paragraphs, and by what they differ from the words."""
+
+    count: int = 0
+    paragraphs: int = 0
+    kinds: tuple[str, ...] = ()
+
+    def with_hit(self, hit: Hit, sought: str) -> "Tally":
+        """With those of another paragraph."""
+        found = {hit.text[place.start : place.stop] for place in hit.places}
+        kinds = {kind for words in found for kind in unlike(sought, words)}
+        return Tally(
+            self.count + len(hit.places),
+            self.paragraphs + 1,
+            tuple(kind for kind in KINDS if kind in kinds | set(self.kinds)),
+        )
+
+    @property
+    def counted(self) -> str:
+        """How many there are, in words."""
+        times = "once" if self.count == 1 else f"{self.count:,} times"
+        if self.paragraphs == 1:
+            return f"{times} in one paragraph"
+        return f"{times} in {self.paragraphs:,} paragraphs"
+
+
 def add_parser(subparsers: Subparsers) -> ArgumentParser:
     parser = command_parser(
         subparsers, "find", "Finds words or cells in the book.", EXAMPLE, MORE
@@ -50,8 +82,14 @@ def add_parser(subparsers: Subparsers) -> ArgumentParser:
     parser.add_argument(
         "text", metavar="TEXT", type=words, help="the words, or cells, to look for"
     )
-    parser.add_argument(
+    which = parser.add_mutually_exclusive_group()
+    which.add_argument(
         "--braille", action="store_true", help="look for cells in the braille"
+    )
+    which.add_argument(
+        "--alike",
+        action="store_true",
+        help="whatever the capitals, and the shapes of a few signs",
     )
     add_width(parser)
     parser.set_defaults(usage=parser.format_usage().strip())
@@ -59,16 +97,20 @@ def add_parser(subparsers: Subparsers) -> ArgumentParser:
 
 
 def run(arguments: Namespace, console: Console) -> Status:
-    sought = cells(arguments) if arguments.braille else arguments.text
-    count = paragraphs = 0
+    in_braille = arguments.braille
+    sought = cells(arguments) if in_braille else arguments.text
+    form = alike if arguments.alike else composed
+    tally = others = Tally()
     with Session(arguments.file) as session:
-        for hit in found(session, sought, arguments.braille):
-            count, paragraphs = count + len(hit.places), paragraphs + 1
-            if arguments.braille:
+        for hit in found(session, sought, in_braille, form):
+            tally = tally.with_hit(hit, sought)
+            if in_braille:
                 console.show(*cell_lines(session, hit, arguments.width))
             else:
                 console.show(*word_lines(hit, arguments.width))
-    console.say(summary(arguments.text, count, paragraphs))
+        if not (tally.count or in_braille or arguments.alike):
+            others = tallied(found(session, sought, False, alike), sought)
+    console.say(summary(arguments.text, tally, others))
     return Status.DONE
 
 
@@ -84,21 +126,36 @@ def cells(arguments: Namespace) -> str:
         ) from fault
 
 
-def found(session: Session, sought: str, in_braille: bool) -> Iterable[Hit]:
+def found(
+    session: Session, sought: str, in_braille: bool, form: Form = composed
+) -> Iterable[Hit]:
     """The paragraphs in which something stands."""
     book = session.list()
     if not in_braille:
-        return hits(book, prints(session, book), sought)
+        return hits(book, prints(session, book), sought, form)
     # all of them, so that the session can be asked what each stands for
     return list(hits(book, brailles(session, book), sought))
 
 
-def hits(book: Sequence[Paragraph], texts: Iterable[str], sought: str) -> Iterator[Hit]:
+def hits(
+    book: Sequence[Paragraph],
+    texts: Iterable[str],
+    sought: str,
+    form: Form = composed,
+) -> Iterator[Hit]:
     """The paragraphs in whose texts something stands."""
     for paragraph, text in zip(book, texts):
-        found = occurrences(text, sought)
+        found = occurrences(text, sought, form)
         if found:
             yield Hit(paragraph, text, found)
+
+
+def tallied(found: Iterable[Hit], sought: str) -> Tally:
+    """How much was found."""
+    tally = Tally()
+    for hit in found:
+        tally = tally.with_hit(hit, sought)
+    return tally
 
 
 def word_lines(hit: Hit, width: int) -> Iterator[str]:
@@ -121,11 +178,14 @@ def cell_lines(session: Session, hit: Hit, width: int) -> Iterator[str]:
         yield head + excerpt(text, origin.start, origin.stop, width - len(head))
 
 
-def summary(text: str, count: int, paragraphs: int) -> str:
-    """What was found, in a sentence."""
-    if not count:
+def summary(text: str, tally: Tally, others: Tally, offer: str = _OFFER) -> str:
+    """What was found, in a sentence, or what else there is that is like it."""
+    if others.count:
+        return (
+            f"{quoted(text)} stands nowhere in the book as typed. With {in_words(others.kinds)} it"
+            f" stands {others.counted}{offer}"
+        )
+    if not tally.count:
         return f"{quoted(text)} stands nowhere in the book."
-    times = "once" if count == 1 else f"{count:,} times"
-    if paragraphs == 1:
-        return f"{quoted(text)} stands {times} in one paragraph."
-    return f"{quoted(text)} stands {times} in {paragraphs:,} paragraphs."
+    how = f", found with {in_words(tally.kinds)} too" if tally.kinds else ""
+    return f"{quoted(text)} stands {tally.counted}{how}."
