@@ -12,6 +12,7 @@ from scribe.changes import carried_out
 from scribe.console import Console
 from scribe.grammar import NotARequest, TableHead, read_head
 from scribe.queries import shown
+from scribe.replies import refusal_sentence
 from scribe.status import Stop
 from scribe.terminal import GivenUp, Lines
 from scribe.visible import control_refused
@@ -106,7 +107,7 @@ def answer_request(conversation: Conversation, request: Request[Any]) -> None:
         else:
             lines = shown(conversation.session, request)
     except Refused as refused:
-        conversation.say(refused.sentence)
+        conversation.say(refusal_sentence(refused, has_line=False))
         return
     conversation.show(*lines)
 

@@ -202,13 +202,13 @@ FORMS: tuple[Form, ...] = (
     _query(
         "where",
         "PARA PLACE",
-        "Shows the first cell made for a place of the print.",
+        "Shows the first cell made for a place of the print, both counted from 0.",
         requests.Where,
     ),
     _query(
         "whence",
         "PARA CELL",
-        "Shows the first place that a cell was made from.",
+        "Shows the first place that a cell was made from, both counted from 0.",
         requests.Whence,
     ),
     _query("list", "", "Shows the paragraphs in the order of the book.", requests.List),

@@ -47,6 +47,7 @@ def overview() -> list[str]:
         f"These ask for what they need, one thing at a time: {by_text}.",
         f"These requests change the book, and stand on one line: {commands}.",
         f"These requests show something: {queries}.",
+        "Requests count places and cells from 0. What is said in words counts from 1.",
         "help and a name says more of it. quit ends.",
     ]
 

@@ -5,6 +5,7 @@ from typing import Any
 from braildesk import Entry, Kind, Session, requests
 from braildesk.requests import Request
 
+from scribe.occurrences import Occurrence
 from scribe.paragraph import mark_line, title
 from scribe.visible import visible
 
@@ -21,10 +22,18 @@ def shown(session: Session, query: Request[Any]) -> list[str]:
             return [*map(_entry_line, entries)] or ["Nothing was corrected yet."]
         case requests.Marks():
             return _marks(session, query)
-        case requests.Where():
-            return [f"Cell {session.ask(query)}, counted from 0."]
-        case requests.Whence():
-            return [f"Place {session.ask(query)}, counted from 0."]
+        case requests.Where(place=place):
+            cell = session.ask(query)
+            return [
+                f"The first cell for character {place + 1} is cell {cell + 1} (in requests, place"
+                f" {place} and cell {cell})."
+            ]
+        case requests.Whence(cell=cell):
+            place = session.ask(query)
+            return [
+                f"The first character for cell {cell + 1} is character {place + 1} (in requests,"
+                f" cell {cell} and place {place})."
+            ]
         case requests.List():
             book = session.ask(query)
             lines = [
@@ -48,9 +57,12 @@ def _entry_line(entry: Entry) -> str:
     if entry.kind is Kind.UNDO:
         return f"{entry.seq}: correction {entry.undone} taken back"
     by = "" if entry.who is None else f", by {visible(entry.who)}"
-    gone = _characters(entry.count)
     come = f"“{visible(entry.text)}”" if entry.text else "nothing"
-    return f"{entry.seq}: {come} for {gone} from place {entry.start} on{by}"
+    gone = Occurrence(entry.start, entry.start + entry.count).counted("character")
+    if entry.count:
+        return f"{entry.seq}: {come} for {gone}{by}"
+    where = f"after character {entry.start}" if entry.start else "at the front"
+    return f"{entry.seq}: {come} put in {where}{by}"
 
 
 def _characters(count: int) -> str:

@@ -10,6 +10,10 @@ from braildesk.values import Corrected, Done, Kind, Marked, Typed
 
 from scribe.visible import visible
 
+# the refusals that speak of places that the request has, or that the line of the refusal has
+_COUNTS = frozenset({5})
+_COUNTS_OF_LINE = _COUNTS | {6, 7, 9}
+
 
 def reply_lines(request: Request[Any], answer: object, version: int) -> list[str]:
     """The lines by which a request is answered, with the version that was reported last.
@@ -31,6 +35,17 @@ def refusal_line(refused: Refused) -> str:
     """The line by which a request is refused."""
     numbers = (getattr(refused, name) for name in NUMBERS.get(refused.code, ()))
     return " ".join(["no", str(refused.code), *map(str, numbers)])
+
+
+def refusal_sentence(refused: Refused, has_line: bool) -> str:
+    """What is said of a request that is refused, and that requests count otherwise where they do.
+
+    A place of the refusal itself is seen only where its line is shown.
+    """
+    counts = _COUNTS_OF_LINE if has_line else _COUNTS
+    if refused.code not in counts:
+        return refused.sentence
+    return f"{refused.sentence} Requests count from 0, sentences from 1."
 
 
 def _shown(answer: object) -> Iterator[str]:

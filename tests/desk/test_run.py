@@ -173,6 +173,27 @@ def test_it_goes_on_where_that_is_asked_for(moon: Path) -> None:
     assert (ran.status, ran.shown) == (2, "ok 8\nno 11\nok 9\n")
 
 
+def test_sentences_that_count_otherwise_than_requests_say_so(moon: Path) -> None:
+    ran = scribe(
+        "run",
+        moon,
+        "--keep-going",
+        folder=moon.parent,
+        given="correct 1 90 2 x\nwhere 1 30\ntype end en aé\nundo 3\n",
+    )
+    assert ran.shown == "no 5\nno 5\nno 7 1\nno 10\n"
+    counts = "Requests count from 0, sentences from 1."
+    lines = ran.said.splitlines()
+    assert lines[:2] == [
+        "Line 1: Paragraph 1 doesn't have the characters 91 to 92: it has 21 characters."
+        f" Nothing was changed. {counts}",
+        "Line 2: Paragraph 1 doesn't have character 31: it has 21 characters."
+        f" {counts}",
+    ]
+    assert "character 2 of the text" in lines[2] and lines[2].endswith(counts)
+    assert counts not in lines[3]
+
+
 def test_a_line_that_is_no_request_is_explained(moon: Path) -> None:
     ran = scribe("run", moon, folder=moon.parent, given="version\nstryke 1\n")
     assert ran == Ran(

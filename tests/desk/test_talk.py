@@ -109,11 +109,18 @@ def test_each_answer_begins_with_what_changed(talk: Talk) -> None:
 def test_queries_are_answered_in_words(talk: Talk) -> None:
     assert talk.type("print 1") == ["The moon is far away."]
     assert talk.type("braille 2") == ["⠠⠞⠓⠑⠀⠠⠞⠊⠙⠑⠎"]
-    assert talk.type("where 1 4") == ["Cell 5, counted from 0."]
-    assert talk.type("whence 1 5") == ["Place 4, counted from 0."]
+    assert talk.type("where 1 4") == [
+        "The first cell for character 5 is cell 6",
+        "  (in requests, place 4 and cell 5).",
+    ]
+    assert talk.type("whence 1 5") == [
+        "The first character for cell 6 is",
+        "  character 5 (in requests, cell 5 and",
+        "  place 4).",
+    ]
     assert talk.type("marks 1") == ["Mark 1, open, on “moon”: spelled so?"]
     assert talk.type("marks 2") == ["Paragraph 2 has no marks."]
-    assert talk.type("history 1") == ["1: “moon” for 3 characters from place 4", "  on"]
+    assert talk.type("history 1") == ["1: “moon” for characters 5 to 7"]
     assert talk.type("history 2") == ["Nothing was corrected yet."]
     assert talk.type("version") == ["The book is at version 7."]
     assert talk.type("list") == [
@@ -143,6 +150,37 @@ def test_a_refusal_is_a_sentence_and_the_talk_goes_on(talk: Talk) -> None:
         "help says what can be typed.",
     ]
     assert talk.type("version") == ["The book is at version 7."]
+
+
+def test_words_count_from_1_and_say_that_requests_do_not(talk: Talk) -> None:
+    assert " ".join(talk.type("correct 1 30 2 x")) == (
+        "Paragraph 1 doesn't have the characters 31 to 32: it has 21 characters. Nothing was"
+        " changed. Requests count from 0, sentences from 1."
+    )
+    assert "Requests count places and cells from 0." in " ".join(talk.type("help"))
+    talk.type("correct 1 0 0 Oh, ")
+    talk.type("correct 1 7 1 ")
+    assert talk.type("history 1") == [
+        "1: “moon” for characters 5 to 7",
+        "2: “Oh, ” put in at the front",
+        "3: nothing for character 8",
+    ]
+
+
+def test_words_that_stand_otherwise_are_shown(talk: Talk) -> None:
+    assert talk.type("find-text MOON") == [
+        "“MOON” stands nowhere in the book as",
+        "typed. With other capitals it stands",
+        "once in one paragraph:",
+        "Paragraph 1, character 5: The [moon] is…",
+    ]
+    talk.type("change-text 1", ": ")
+    assert talk.type("FAR", ": ")[:3] == [
+        "“FAR” stands nowhere in paragraph 1 as",
+        "typed; with other capitals it is “far”.",
+        "Which words go? Type them as they stand",
+    ]
+    talk.type("")
 
 
 def test_help_names_each_thing_that_can_be_typed(talk: Talk) -> None:
@@ -175,7 +213,7 @@ def test_words_are_changed_without_counting(moon: Path) -> None:
         "Which words go? Type them as they stand",
         "  there. An empty line gives up.",
     ]
-    assert talk.type("the ocean", ": ")[0] == "These words don't stand in paragraph 3."
+    assert talk.type("the ocean", ": ")[0] == "“the ocean” stands nowhere in paragraph"
     assert talk.type("e", ": ") == [
         "1: Twic[e] a day the sea comes up.",
         "2: Twice a day th[e] sea comes up.",
@@ -193,8 +231,7 @@ def test_words_are_changed_without_counting(moon: Path) -> None:
     assert now.startswith("Paragraph 3: ") and "th[at] sea" in now
     assert before.startswith("Before: ") and "th[e] sea" in before
     assert talk.type("history 3") == [
-        "1: “at” for 1 character from place 14",
-        "  on, by anna",
+        "1: “at” for character 15, by anna",
     ]
     talk.close()
 

@@ -10,14 +10,16 @@ from braildesk.requests import Request
 from scribe.console import Console
 from scribe.grammar import NotARequest, TableHead, read_head
 from scribe.parser import Subparsers, add_file, command_parser
-from scribe.replies import refusal_line, reply_lines
+from scribe.replies import refusal_line, refusal_sentence, reply_lines
 from scribe.status import Status
 from scribe.visible import control_refused
 
 MORE = """\
 The requests are those of `braildesk session`; docs/FORMATS.md lists them. A reply
-that is shown is kept. A request with a control character in a text or a note isn't
-sent, and what is shown has them, and format characters, written out: <U+001B>."""
+that is shown is kept. Requests and replies count places and cells from 0, and the
+sentences after refusals count them from 1. A request with a control character in a
+text or a note isn't sent, and what is shown has them, and format characters, written
+out: <U+001B>."""
 
 
 def add_parser(subparsers: Subparsers) -> ArgumentParser:
@@ -124,7 +126,7 @@ def _asked(session: Session, request: Request[Any], console: Console) -> str | N
         answer = session.ask(request)
     except Refused as refused:
         console.show(refusal_line(refused))
-        return refused.sentence
+        return refusal_sentence(refused, has_line=True)
     console.show(*reply_lines(request, answer, session.seen))
     console.flush()
     return None

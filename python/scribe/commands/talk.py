@@ -23,6 +23,7 @@ MORE = """\
 Requests of a book are typed as docs/FORMATS.md has them and answered in words. Other
 commands, such as change-text, ask for what they need, one thing at a time. help lists
 all, quit ends. Each answer begins with what changed, and is kept when it is shown.
+Requests count places and cells from 0, and what is said in words counts from 1.
 Ctrl-C gives up the line that is typed."""
 EXAMPLE = "echo 'print 1' | scribe talk moon.braildesk"
 PROMPT = "> "
