@@ -64,7 +64,7 @@ def test_a_volume_that_is_refused_leaves_the_older_file(moon: Path) -> None:
         2,
         "out/moon-2.brf: volume 2, 1 page, 34 cells with dots.\n",
         "Volume 1: Cell 1 of paragraph 4 has dot 7 or 8, which pages for embossers can't"
-        " have. Nothing was exported. Correct the table of that paragraph."
+        " have. Correct the table of that paragraph."
         " out/moon-1.brf is as it was.\n",
     )
     assert (out / "moon-1.brf").read_bytes() == b"older"

@@ -197,3 +197,31 @@ def test_pages_of_20_000_paragraphs_are_found(big_book: Path) -> None:
     lines = pages(big_book).shown.split("\n")
     assert lines[0] == "Volume 1: 834 pages of 25 lines of 40 cells."
     assert lines[-2].startswith("Page 834, line 8, paragraph 20000: Paragraph number")
+
+
+def test_a_book_that_is_changed_meanwhile_is_said_to_be(
+    moon: Path, program: str
+) -> None:
+    other = moon.parent / "other"
+    other.write_text(
+        '#!/bin/sh\n[ "$1" = export ] || exec "$PROGRAM" "$@"\n'
+        'echo "style 1 heading" | "$PROGRAM" session "$BOOK" > changed\n'
+        'exec "$PROGRAM" "$@"\n'
+    )
+    other.chmod(other.stat().st_mode | stat.S_IXUSR)
+    with Session(moon) as session:
+        version = session.seen
+    ran = scribe(
+        "pages",
+        moon,
+        folder=moon.parent,
+        BRAILDESK=str(other),
+        PROGRAM=program,
+        BOOK=str(moon),
+    )
+    assert ran == Ran(
+        3,
+        "",
+        f"Another program changed the book meanwhile: it was at version {version} and is at"
+        f" {version + 1} now. Nothing is shown. Ask again.\n",
+    )

@@ -205,7 +205,7 @@ def test_a_cell_that_no_embosser_has_is_said(moon: Path, sit: Sit) -> None:
     file = moon.parent / "pages" / "moon-1.brf"
     assert after_errand(sit(moon), "x", file.parent) == [
         "Volume 1: Cell 1 of paragraph 4 has dot 7 or 8, which pages for embossers can't have."
-        f" Nothing was exported. Correct the table of that paragraph. {file} was not made."
+        f" Correct the table of that paragraph. {file} was not made."
     ]
 
 

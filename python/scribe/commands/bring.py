@@ -21,9 +21,9 @@ TABLE is a table that liblouis has, by its name, as de-g0.utb or de-g0, or its t
 file. Its characters and rules are read, with all that it includes, and liblouis is asked
 for the cells of each character in its places. The text is then compared with liblouis,
 through the program, on lines that were not used for making it. It is written to FILE, or
-to standard output, where at least 99 of 100 lines agree; lines that need what a table of
-braildesk can't have (passages of capitals, several passes, computer braille) are counted
-apart. What could not be carried over stands in comments at the top of the text. The text
+to standard output, if at least half of the lines agree, and 99 of 100 of those that don't
+need what a table of braildesk can't have (passages of capitals, several passes, computer
+braille). What could not be carried over stands in comments at the top of the text. The text
 is under the licence of the table that it was made from."""
 EXAMPLE = """\
 scribe bring --list

@@ -56,7 +56,9 @@ def run(arguments: Namespace, console: Console) -> Status:
             left = (
                 "is as it was" if os.path.lexists(job.file(volume)) else "was not made"
             )
-            console.say(f"Volume {volume}: {pages.sentence} {job.file(volume)} {left}.")
+            # the other volumes are exported all the same
+            why = pages.sentence.replace(" Nothing was exported.", "")
+            console.say(f"Volume {volume}: {why} {job.file(volume)} {left}.")
             continue
         _write(job, volume, pages, written, len(volumes))
         written.append(volume)

@@ -3,9 +3,11 @@
 from argparse import ArgumentParser, Namespace
 from collections.abc import Callable, Iterator, Sequence
 from itertools import groupby
+from pathlib import Path
 
-from braildesk import Session, export
+from braildesk import Refused, Session, check, export
 
+from scribe.commands.export import NO_SUCH_VOLUME
 from scribe.console import Console
 from scribe.excerpt import opening
 from scribe.layout import Row, Sheet
@@ -50,16 +52,38 @@ def run(arguments: Namespace, console: Console) -> Status:
     with Session(arguments.file) as session:
         volumes = laid_out(session, arguments.volume, sheet)
         lines = shown(session, volumes, arguments.page, arguments.paragraph)
+        version = session.seen
     for each in volumes:
-        pages = export(arguments.file, each.number, sheet.width, sheet.lines)
-        if pages != each.layout.brf():
-            raise Stop(
-                f"The pages of volume {each.number} were laid out otherwise than export"
-                " writes them, so nothing is shown. The book is as it was.",
-                Status.FAILED,
-            )
+        if not _is_exported(arguments.file, each):
+            raise Stop(_why_otherwise(arguments.file, each, version), Status.FAILED)
     console.show(*lines)
     return Status.DONE
+
+
+def _is_exported(book: Path, its: Volume) -> bool:
+    """Whether export writes the pages of a volume as they were laid out."""
+    sheet = its.layout.sheet
+    try:
+        return export(book, its.number, sheet.width, sheet.lines) == its.layout.brf()
+    except Refused as refused:
+        # another program may have struck all of it
+        if refused.code != NO_SUCH_VOLUME:
+            raise
+        return False
+
+
+def _why_otherwise(book: Path, its: Volume, version: int) -> str:
+    """Why the pages of a volume aren't those that were laid out from a version of the book."""
+    now = check(book)
+    if now != version:
+        return (
+            f"Another program changed the book meanwhile: it was at version {version:,} and is at"
+            f" {now:,} now. Nothing is shown. Ask again."
+        )
+    return (
+        f"The pages of volume {its.number} were laid out otherwise than export writes them, so"
+        " nothing is shown. The book is as it was."
+    )
 
 
 def laid_out(session: Session, wanted: int | None, sheet: Sheet) -> list[Volume]:
