@@ -36,7 +36,8 @@ def mark_line(mark: Mark, text: str, paragraph: int | None = None) -> str:
 def marked_words(mark: Mark, text: str) -> str:
     """The words that a mark stands on, or where it stands if they are gone."""
     if mark.start == mark.stop:
-        return f"on no words, at character {mark.start + 1}"
+        at_end = mark.start >= len(text)
+        return f"on no words, {'at the end' if at_end else f'at character {mark.start + 1}'}"
     return f"on {quoted(text[mark.start : mark.stop])}"
 
 

@@ -72,7 +72,7 @@ def test_a_command_that_waits_for_its_reply_is_kept(
         assert session.seen == 8 and session.print(1) == "Oh, The moon is far away."
     again = at(moon)
     lines = again.wait("? shows all keys.")
-    assert lines[0] == "moon.braildesk, version 8, table en, nothing sent yet"
+    assert lines[0] == "moon.braildesk, version 8, table en, nothing kept yet"
 
 
 def test_a_note_that_is_typed_is_offered_again_on_its_cells(

@@ -49,7 +49,7 @@ def closed(sat: Sat) -> Path:
 def test_the_book_is_shown_as_it_is_opened(reader: Sat) -> None:
     sat = reader
     assert sat.lines[:10] == [
-        "moon.braildesk, version 7, table en, nothing sent yet",
+        "moon.braildesk, version 7, table en, nothing kept yet",
         ">    1 body, 1 open mark: The moon is far away.",
         "     2 body: The Tides",
         "     3 body: Twice a day the sea comes up.",
@@ -80,13 +80,13 @@ def test_a_correction_is_kept_with_its_name_and_then_undone(
     assert sat.lines[8] == "The {Moon} is far away."
     assert "Mark 1, open, touched, on “Moon”: spelled so?" in sat.lines
     sat.press("u")
-    assert "version 9, table en, kept: undo in paragraph 1" in sat.lines[0]
+    assert "version 9, table en, last kept: undo in paragraph 1" in sat.lines[0]
     assert sat.lines[8] == "The {moon} is far away."
     sat.press("h")
     assert sat.lines[1:5] == [
-        "History of paragraph 1, places counted from 0. Lines 1 to 3 of 3.",
-        "1: “moon” for 3 characters from place 4 on",
-        "2: “M” for 1 character from place 4 on, by anna",
+        "History of paragraph 1. Lines 1 to 3 of 3.",
+        "1: “moon” for characters 5 to 7",
+        "2: “M” for character 5, by anna",
         "3: correction 2 taken back",
     ]
     with Session(closed(sat)) as session:
@@ -173,7 +173,7 @@ def test_each_key_for_a_paragraph_is_kept_and_shown(moon: Path, sit: Sit) -> Non
         sat.press(*keys.split())
         version += 1
         assert f"version {version}, " in sat.lines[0]
-        assert sat.lines[0].endswith(f", kept: paragraph 2 {kept}")
+        assert sat.lines[0].endswith(f", last kept: paragraph 2 {kept}")
         assert sat.lines[line] == f">    2 {listed}"
     assert "table plain" in sat.lines[0]
 
@@ -212,7 +212,9 @@ def test_words_and_cells_are_found_and_found_again(reader: Sat) -> None:
     assert spots == [(0, 13), (0, 16), (0, 18), (2, 6), (2, 9), (2, 18)]
     sat.press("*")
     assert (sat.state.chosen, sat.state.place) == (0, 13)
-    assert "Found again from the front of the book on." in sat.lines
+    assert (
+        "Not found up to the end of the book, so found from its front on." in sat.lines
+    )
     sat.press("tab", "/")
     sat.write("tides")
     sat.press("enter")
@@ -223,9 +225,72 @@ def test_words_and_cells_are_found_and_found_again(reader: Sat) -> None:
     assert "“z” stands nowhere in the print of the book." in sat.lines
 
 
+def test_words_that_stand_nowhere_else_are_said_to(reader: Sat) -> None:
+    sat = reader
+    sat.press("/", *"Tides", "enter")
+    assert (sat.state.chosen, sat.state.place, sat.state.message) == (1, 4, "")
+    sat.press("*")
+    assert (sat.state.chosen, sat.state.place) == (1, 4)
+    assert sat.lines[-2] == "“Tides” stands nowhere else in the book."
+    sat.press("/", *"moon", "enter")
+    assert (sat.state.chosen, sat.state.place) == (0, 4)
+    assert sat.lines[-2] == (
+        "Not found up to the end of the book, so found from its front on."
+    )
+
+
+def test_what_is_said_again_is_drawn_otherwise(reader: Sat) -> None:
+    sat = reader
+    nowhere = "“z” stands nowhere in the print of the book."
+    sat.press("/", "z", "enter")
+    assert sat.lines[-2] == nowhere
+    sat.press("*")
+    assert sat.lines[-2] == f"Again: {nowhere}"
+    sat.press("*")
+    assert sat.lines[-2] == f"3 times now: {nowhere}"
+    sat.press("left", "*")
+    assert sat.lines[-2] == nowhere
+    sat.press("%", "%")
+    assert sat.lines[-2] == "Again: That key does nothing here. ? shows all keys."
+
+
+@pytest.mark.parametrize(
+    "sought, how, place",
+    [
+        ("MOON", "other capitals", (0, 4)),
+        ("twice a day", "other capitals", (2, 0)),
+        ("Twice\u00a0a day", "another kind of blank", (2, 0)),
+        ("tides’", "other capitals and another apostrophe", (3, 4)),
+        ("sea-side", "another dash", (3, 11)),
+        ('"up"', "other quotation marks", (3, 20)),
+    ],
+)
+def test_words_that_are_otherwise_in_the_book_are_offered_and_gone_to(
+    moon: Path, sit: Sit, sought: str, how: str, place: tuple[int, int]
+) -> None:
+    with Session(moon) as session:
+        session.type("end", "plain", "The Tides' sea–side “up”")
+    sat = sit(moon)
+    sat.press("right", "/", *sought, "enter")
+    assert sat.state.message == (
+        f"“{sought}” stands nowhere as typed; with {how} it is in paragraph"
+        f" {place[0] + 1}: * goes there."
+    )
+    assert (sat.state.chosen, sat.state.place) == (0, 1)
+    sat.press("*")
+    assert (sat.state.chosen, sat.state.place) == place
+    assert sat.state.message == ""
+    sat.press("*")
+    assert sat.state.message == f"“{sought}” stands nowhere else in the book."
+    sat.press("/", *sought, "enter")
+    assert "stands nowhere as typed" in sat.state.message
+
+
 def test_the_page_is_that_of_the_export(reader: Sat, moon: Path) -> None:
     reader.press("down", "p")
-    assert reader.lines[1].startswith("Paragraph 2: volume 1, page 1, line 2, of 25")
+    assert reader.lines[1].startswith(
+        "Paragraph 2, character 1: volume 1, page 1, line 2, of 25"
+    )
     pages = braildesk.export(moon, 1).decode().split("\r\n")
     assert [line.strip() for line in pages[:3]] == [
         ",THE MOON IS FAR AWAY4",
@@ -240,13 +305,15 @@ def test_a_table_is_put_into_an_empty_book_and_the_first_paragraph_typed(
     empty_book: Path, sit: Sit
 ) -> None:
     sat = sit(empty_book)
-    assert sat.lines[1].startswith("The book has no paragraphs.")
+    assert sat.lines[1] == (
+        "The book has no table and no paragraphs. t puts a table into it."
+    )
     sat.press("o")
     assert "The book has no table yet. t chooses one." in sat.lines
     sat.press("t", "x", "y", "enter")
     assert "There is no table xy in" in " ".join(sat.lines)
     sat.press("t", "e", "n", "enter")
-    assert sat.lines[0] == "empty.braildesk, version 1, table en, kept: table en"
+    assert sat.lines[0] == "empty.braildesk, version 1, table en, last kept: table en"
     sat.press("o")
     sat.write("ab 5")
     sat.state = sat.desk.previewed(sat.state)
@@ -288,7 +355,7 @@ def test_an_export_and_an_import_are_done_and_the_book_is_open_again(
     sat.press("enter")
     sat.state = sat.desk.away(sat.state, heard.append)
     assert "line 3, column 10: “…” (U+2026" in " ".join(sat.lines).replace("  ", " ")
-    assert sat.lines[0] == "moon.braildesk, version 7, table en, nothing sent yet"
+    assert sat.lines[0] == "moon.braildesk, version 7, table en, nothing kept yet"
     text.write_text("The sun\n\nThe stars.\n")
     sat.press("escape", "i")
     sat.write(str(text))

@@ -46,7 +46,7 @@ STATE = State(
 )
 SIZES = {
     (80, 24): [
-        "moon.braildesk, version 7, table en, kept: mark 1",
+        "moon.braildesk, version 7, table en, last kept: mark 1",
         ">    1 body, 1 open mark: The moon is far away.",
         "     2 heading, volume, struck: The Tides",
         *[""] * 4,
@@ -59,7 +59,7 @@ SIZES = {
         "? keys  q ends  Enter edits  o new  u undo  Tab cells  m mark  n next mark  /…",
     ],
     (40, 12): [
-        "version 7, table en, kept: mark 1",
+        "version 7, table en, last kept: mark 1",
         ">    1 body, 1 open mark: The moon is…",
         "     2 heading, volume, struck: The…",
         "",
@@ -73,7 +73,7 @@ SIZES = {
         "? keys  q ends  Enter edits  o new  u…",
     ],
     (200, 60): [
-        "moon.braildesk, version 7, table en, kept: mark 1",
+        "moon.braildesk, version 7, table en, last kept: mark 1",
         ">    1 body, 1 open mark: The moon is far away.",
         "     2 heading, volume, struck: The Tides",
         *[""] * 16,
@@ -239,7 +239,11 @@ def test_several_marks_at_the_cursor_are_counted_and_a_long_note_is_wrapped() ->
         "2 marks here. Mark 2, open, on “o”: so?",
         "so? so? so? so? so? so? so? so? so? so?",
     ]
-    assert lines[-2].endswith("so…") and len(lines) - place == 8
+    assert (
+        lines[-3].endswith("so?…")
+        and lines[-2] == "Mark 1, open, on “moon”: spelled so?"
+    )
+    assert len(lines) - place == 8
 
 
 def test_a_character_that_can_not_be_seen_is_named_where_the_cursor_is() -> None:

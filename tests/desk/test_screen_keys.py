@@ -78,7 +78,7 @@ ASKED = {
     "p looks at the page": (STATE, "p", ShowPage()),
     "n goes to the next mark": (STATE, "n", ToMark(False)),
     "N goes to the mark before": (STATE, "N", ToMark(True)),
-    "* finds again": (replace(STATE, sought="moon"), "*", ToFound("moon")),
+    "* finds again": (replace(STATE, sought="moon"), "*", ToFound("moon", True)),
     "q ends": (STATE, "q", Quit()),
     "Enter keeps an edit as the smallest correction": (
         typed(Purpose.EDIT, "The moons is far away."),
@@ -136,7 +136,7 @@ ASKED = {
     "a text file is imported after the paragraph": (
         typed(Purpose.TEXT_FILE, "a.txt"),
         "enter",
-        ImportFrom(Path("a.txt"), 4),
+        ImportFrom(Path("a.txt"), 4, "en"),
     ),
     "yes types pasted lines as paragraphs": (
         replace(typed(Purpose.AFTER), question=Question("?", ("a", "b"))),
@@ -149,7 +149,7 @@ SAID = {
     "r without a mark": (
         replace(STATE, lit=Lit(Occurrence(0, 1), Occurrence(0, 2))),
         "r",
-        "There is no open mark here. n goes to the next one.",
+        "There is no open mark here. n looks for the next one.",
     ),
     "Enter on a struck paragraph": (
         AT_SECOND,
@@ -172,10 +172,15 @@ SAID = {
         "o",
         "The book has the tables en, own. t chooses one.",
     ),
+    "i with two tables": (
+        EMPTY,
+        "i",
+        "The book has the tables en, own. t chooses one.",
+    ),
     "u in an empty book": (
         EMPTY,
         "u",
-        "The book has no paragraphs. o types the first one.",
+        "The book has no paragraphs yet.",
     ),
     "Escape while typing": (
         typed(Purpose.EDIT, "x"),

@@ -35,7 +35,7 @@ BOOKS = (
     "12: 1 The moon is far away. <moon> <o>, 4 Soon., 2 The Tides struck,"
     " 3 Twice a day the sea comes up.",
 )
-SAID = ("nothing sent yet", *(said for _, said in WORK))
+SAID = ("nothing kept yet", *(said for _, said in WORK))
 NUMBERS = range(1, len(WORK) + 1)
 
 

@@ -69,7 +69,7 @@ def test_the_page_and_the_line_of_each_paragraph_are_those_of_an_export(
             pages = sat.state.pages
             assert pages is not None
             found = re.fullmatch(
-                rf"Paragraph {number}: volume (\d), page (\d+), line (\d+), of"
+                rf"Paragraph {number}, character 1: volume (\d), page (\d+), line (\d+), of"
                 rf" {sheet.lines} lines of {sheet.width} cells\.",
                 pages.title,
             )
@@ -84,6 +84,55 @@ def test_the_page_and_the_line_of_each_paragraph_are_those_of_an_export(
                 wrap(pages.lines[line - 1], size.columns)[0].strip()
             )
             sat.press("escape")
+
+
+@pytest.mark.parametrize("size", [Size(80, 24), Size(40, 12)])
+def test_the_page_is_that_of_the_words_of_the_cursor(
+    tides: Path, sit: Sit, size: Size
+) -> None:
+    sheet = Sheet(30, 10)
+    exported = braildesk.export(tides, 1, sheet.width, sheet.lines).decode()
+    words = "Twice a day the sea comes up. " * 40
+    sat = sit(tides, size=size)
+    sat.press("a")
+    sized(sat, sheet)
+    sat.press("g", "3", "enter")
+    for _ in range(14):
+        sat.press(*["c-right"] * 19)
+        place = sat.state.place
+        sat.press("p")
+        pages = sat.state.pages
+        assert pages is not None
+        found = re.fullmatch(
+            rf"Paragraph 3, character {place + 1}: volume 1, page (\d+), line (\d+), of"
+            r" 10 lines of 30 cells\.",
+            pages.title,
+        )
+        assert found is not None
+        page, line = map(int, found.groups())
+        lines = exported.split("\f")[page - 1].split("\r\n")
+        assert pages.lines == tuple(lines[:-1])
+        # the word of the cursor stands on that line, at the same word of the paragraph
+        before = len(words[:place].split())
+        whole = [
+            (number, at, word)
+            for number, each in enumerate(exported.split("\f")[:-1], 1)
+            for at, text in enumerate(each.split("\r\n")[:-2], 1)
+            for word in text.split()
+        ]
+        # the words of the heading and of the paragraph before stand there first
+        assert whole[2 + 21 + before] == (
+            page,
+            line,
+            ",TWICE A DAY THE SEA COMES UP4".split()[before % 7],
+        )
+        looked_at = seen(pages, size)
+        cursor = [*looked_at.head, *looked_at.lines][looked_at.cursor]
+        assert cursor.strip() == lines[line - 1].strip()[: size.columns]
+        sat.press("escape")
+    sat.press("end", "tab", "p")
+    assert sat.state.pages
+    assert sat.state.pages.title.startswith("Paragraph 3, cell ")
 
 
 def test_a_paragraph_without_a_page_says_why(tides: Path, sit: Sit) -> None:

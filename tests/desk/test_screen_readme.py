@@ -24,7 +24,7 @@ def test_the_book_of_the_readme_is_made_at_the_screen_alone(
     terminal.keys("c-right", "enter", "right", "o", "enter")
     terminal.wait("kept: correction 1 of paragraph 1")
     # from the f of “far” to the y of “away”
-    terminal.keys("c-right", "c-right", " ", "c-right", "right", "right", "right")
+    terminal.keys("c-right", "c-right", " ", "c-right", *["right"] * 5)
     terminal.wait("8 cells chosen, at ⠽ “y”")
     terminal.keys("m", "how far?", "enter")
     terminal.wait("kept: mark 1")

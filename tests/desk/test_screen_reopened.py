@@ -191,7 +191,7 @@ def test_a_change_by_another_program_meanwhile_is_said(moon: Path, sit: Sit) -> 
         " is."
     )
     sat.press("escape")
-    assert sat.lines[0] == "moon.braildesk, version 8, table en, nothing sent yet"
+    assert sat.lines[0] == "moon.braildesk, version 8, table en, nothing kept yet"
     assert sat.lines[2] == ">    2 body: The Tide" and sat.lines[8] == "The Tide"
 
 
@@ -211,7 +211,7 @@ def test_a_change_while_the_book_is_being_opened_is_said(
     monkeypatch.setattr(desks, "check", check_and_change)
     sat = sit(moon)
     assert checks == [7, 8]
-    assert sat.lines[0] == "moon.braildesk, version 8, table en, nothing sent yet"
+    assert sat.lines[0] == "moon.braildesk, version 8, table en, nothing kept yet"
     assert sat.lines[3] == "     3 body, struck: Twice a day the sea comes up."
     assert " ".join(sat.lines[-3:-1]) == (
         "Another program changed the book while it was being opened, so it was read once more."

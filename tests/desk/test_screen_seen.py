@@ -168,7 +168,7 @@ def test_a_character_that_the_table_lacks_is_said_before_it_is_sent(
     terminal.paste("a\nb c b\nab\n")
     lines = terminal.wait("Line 2: Character 3, in “b c b”: the")
     assert "The pasted text has 3 lines. Are they 3" in " ".join(lines)
-    assert lines[0].endswith("nothing sent yet")
+    assert lines[0].endswith("nothing kept yet")
 
 
 @pytest.mark.parametrize("size, width, lines", [((80, 24), 30, 10), ((40, 12), 60, 40)])
@@ -183,7 +183,7 @@ def test_a_page_is_that_of_an_export_of_the_same_size(
     terminal.wait("Export. Lines")
     pages = (moon.parent / "out" / "moon-1.brf").read_bytes().decode()
     terminal.keys("q", "down", "down", "p")
-    shown = terminal.wait("Paragraph 3: volume 1, page")
+    shown = terminal.wait("Paragraph 3, character 1: volume 1, page")
     said = " ".join(shown[1:5])
     number = said.split(" page ")[1].split(",")[0]
     line = said.split(" line ")[1].split(",")[0]

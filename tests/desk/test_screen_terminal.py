@@ -19,7 +19,7 @@ def test_the_book_is_opened_corrected_marked_undone_and_exported(
     terminal = at(moon)
     lines = terminal.wait("? shows all keys.")
     assert lines[:3] == [
-        "moon.braildesk, version 7, table en, nothing sent yet",
+        "moon.braildesk, version 7, table en, nothing kept yet",
         ">    1 body, 1 open mark: The moon is far away.",
         "     2 body: The Tides",
     ]

@@ -2,7 +2,8 @@
 
 `state` is what the screen knows, `drawing` makes lines of it, and `keys` says what each key asks
 for: a state, and a command or an errand that goes with it. `desk` sends those to the session with
-the book and gives the state after them. `terminal` alone knows the terminal, and `encoding` what
+the book and gives the state after them: `search` finds what stands next, `finding` and `in_hand` put
+the cursor there, and `pagelook` has the page of the cursor. `terminal` alone knows the terminal, and `encoding` what
 characters it has. `field` is a text that is being typed, `rows` parts a text into lines, `preview`
 translates what isn't in the book yet, and `draft` says what of it has to be kept.
 

@@ -74,7 +74,7 @@ def _import_words(path: Path, errand: ImportFrom) -> Namespace:
         file=path,
         text=errand.path,
         lines=False,
-        table=None,
+        table=errand.table,
         after=errand.after,
         dry_run=False,
         line=None,

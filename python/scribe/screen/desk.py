@@ -8,15 +8,15 @@ from typing import Any
 from braildesk import DeskError, Lost, Refused, Session, check, requests, tables
 from braildesk.requests import Command, Request
 
-from scribe.cells import NotCells, braille_patterns
+from scribe.cells import braille_patterns
 from scribe.draft import Aim, Draft
 from scribe.drafts import Drafts, NotKept
 from scribe.excerpt import opening
 from scribe.occurrences import Occurrence
-from scribe.paragraph import mark_line, quoted
+from scribe.paragraph import quoted
 from scribe.queries import shown
 from scribe.readings import Reading, answers
-from scribe.screen import keys, pagelook, pager, search
+from scribe.screen import finding, keys, pagelook, pager
 from scribe.screen.aside import done_aside
 from scribe.screen.draft import draft_of, field_of
 from scribe.screen.errands import (
@@ -33,6 +33,7 @@ from scribe.screen.errands import (
     TypeAll,
 )
 from scribe.screen.field import Field, Purpose
+from scribe.screen.in_hand import left_here, with_mark_in_hand
 from scribe.screen.keys import Step
 from scribe.screen.lighting import cells_of_marks, lit
 from scribe.screen.preview import Tables
@@ -41,7 +42,7 @@ from scribe.screen.state import Opening, Pages, Pane, Question, Size, State
 from scribe.sequences import composed
 from scribe.status import Stop
 from scribe.tables import table_request
-from scribe.visible import named, visible
+from scribe.visible import visible
 
 _WHILE_OPENED = "Another program changed the book while it was being opened, so it was read once more."
 # the refusal of a command that expects another version of the book
@@ -97,7 +98,7 @@ class Desk:
 
     def press(self, state: State, key: str) -> State:
         """The state after a key, once what it asks for was answered."""
-        return self._taken(keys.step(state, key))
+        return self._taken(keys.step(state, key)).after(state)
 
     def paste(self, state: State, text: str) -> State:
         """The state after text was pasted, with what its table lacks before it is sent."""
@@ -109,7 +110,7 @@ class Desk:
                 sentence = f"{fault} {question.sentence}"
                 question = replace(question, sentence=sentence)
                 step = Step(replace(step.state, question=question))
-        return self._taken(step)
+        return self._taken(step).after(state)
 
     def resized(self, state: State, size: Size) -> State:
         """The state on a terminal of another size."""
@@ -165,6 +166,11 @@ class Desk:
             return _closed(state, failed.sentence)
         if ending.kept:
             state = replace(state, kept=f"kept: {ending.kept}")
+        elif len(state.book) > len(before.book):
+            # an import that was cut short
+            count = len(state.book) - len(before.book)
+            what = "1 paragraph" if count == 1 else f"{count:,} paragraphs"
+            state = replace(state, kept=f"kept: {what} of the import")
         lines = (*_changed_between(before, state), *ending.lines)
         if lines:
             state = replace(state, pages=Pages(ending.title, lines))
@@ -399,7 +405,7 @@ class Desk:
         """Sends a command; only what its `ok` says is said to be kept."""
         # what is sent is kept until the book has it
         state = self.save_draft(state)
-        before, typed = state.reading, state.typed
+        before, typed = state, state.typed
         try:
             answer = self._session.ask(command)
             state = replace(
@@ -412,46 +418,42 @@ class Desk:
             number = getattr(command, "paragraph", None)
             if isinstance(command, requests.Type):
                 number = answer.id
-            elif isinstance(command, requests.Resolve) and before:
-                number = before.paragraph.id
+            elif isinstance(command, requests.Resolve) and before.reading:
+                number = before.reading.paragraph.id
             elif typed is not None and typed.purpose is Purpose.EDIT:
                 state = replace(state, pane=Pane.PRINT, place=typed.place)
-            return self._changed(state, number, before)
+            state = self._changed(state, number, before)
+            if isinstance(command, requests.Resolve):
+                state = left_here(state, command.mark)
+            return state
         except (Lost, Refused) as failed:
             raise _Interrupted(state, failed) from failed
 
-    def _changed(
-        self, state: State, number: int | None, before: Reading | None
-    ) -> State:
+    def _changed(self, state: State, number: int | None, before: State) -> State:
         """The state after a paragraph was changed, with that one chosen."""
         openings = {k: v for k, v in state.openings.items() if k != number}
         book = self._session.list()
         state = replace(state, book=book, openings=openings, reading=None, lit=None)
         places = [n for n, each in enumerate(book) if each.id == number]
         chosen = places[0] if places else state.chosen
-        place = state.place if before and before.paragraph.id == number else 0
+        was = before.reading
+        place = state.place if was and was.paragraph.id == number else 0
         state = self.refreshed(state.at(chosen, place))
-        if before is None or state.reading is None:
-            return state
-        old = {mark.id for mark in before.marks if not mark.touched}
-        touched = [m for m in state.reading.marks if m.touched and m.id in old]
-        if not touched:
-            return state
-        return state.saying(mark_line(touched[0], state.reading.text))
+        return with_mark_in_hand(state, before)
 
     def _run(self, state: State, errand: Errand) -> State:
         match errand:
             case Quit():
                 return replace(state, is_over=True)
             case ToFound():
-                return self._to_found(state, errand.sought)
+                return finding.to_found(self._session, state, errand)
             case ToMark():
-                return self._to_mark(state, errand.is_back)
+                return finding.to_mark(self._session, state, errand)
             case ShowHistory():
                 assert state.paragraph is not None
                 number = state.paragraph.id
                 lines = shown(self._session, requests.History(number))
-                title = f"History of paragraph {number}, places counted from 0."
+                title = f"History of paragraph {number}."
                 return replace(state, pages=Pages(title, tuple(lines)))
             case ShowPage():
                 return self._to_page(state)
@@ -464,37 +466,13 @@ class Desk:
             case OpenAgain():
                 return self._opened_anew(state, "The book is open again.")
 
-    def _to_found(self, state: State, sought: str) -> State:
-        try:
-            cells = state.pane is Pane.CELLS and braille_patterns(sought)
-        except NotCells as fault:
-            character = named(str(fault))
-            return state.saying(
-                f"{character} is no cell in Braille ASCII or Unicode. Tab goes to the print."
-            )
-        spot = search.next_words(self._session, state, cells or sought)
-        if spot is None:
-            where = "cells" if cells else "print"
-            return state.saying(
-                f"{quoted(sought)} stands nowhere in the {where} of the book."
-            )
-        is_around = (spot.chosen, spot.place) <= (state.chosen, state.place)
-        said = "Found again from the front of the book on." if is_around else ""
-        return state.at(spot.chosen, spot.place).saying(said)
-
-    def _to_mark(self, state: State, is_back: bool) -> State:
-        if state.pane is Pane.CELLS:
-            place = state.lit.words.start if state.lit else 0
-            state = replace(state, pane=Pane.PRINT, place=place, anchor=None, lit=None)
-        spot = search.next_mark(self._session, state, is_back)
-        if spot is None:
-            return state.saying("The book has no open marks.")
-        return state.at(spot.chosen, spot.place)
-
     def _to_page(self, state: State) -> State:
-        its = state.paragraph
-        assert its is not None
-        found = pagelook.page_of(self._session, state.book, its, state.sheet)
+        its, here = state.paragraph, state.lit
+        assert its is not None and here is not None
+        is_cell = state.pane is Pane.CELLS
+        says = f"{'cell' if is_cell else 'character'} {state.place + 1}"
+        sought = pagelook.Sought(its, here.cells.start, says)
+        found = pagelook.page_of(self._session, state.book, sought, state.sheet)
         if found is None:
             return state.saying(f"Paragraph {its.id} is struck, and stands on no page.")
         if found.line is None:

@@ -3,11 +3,10 @@
 import unicodedata
 from dataclasses import dataclass
 
-from braildesk import Style
+from braildesk import Mark, Style
 
 from scribe.cells import braille_ascii
 from scribe.excerpt import opening
-from scribe.occurrences import Occurrence
 from scribe.paragraph import mark_line, title
 from scribe.readings import Reading
 from scribe.screen.field import Field, Purpose
@@ -16,7 +15,7 @@ from scribe.screen.body import body
 from scribe.screen.encoding import has
 from scribe.screen.lines import CHOSEN, HEAD, PLAIN, Area, Line, Piece, filled
 from scribe.screen.rows import shown
-from scribe.screen.state import Lit, Pages, Pane, State
+from scribe.screen.state import Lit, Pages, Pane, Question, State
 from scribe.visible import named, visible
 from scribe.wrapping import columns, wrap
 
@@ -34,6 +33,13 @@ PROMPTS = {
     Purpose.FOLDER: "Export to the folder: ",
     Purpose.TEXT_FILE: "Import the text file: ",
 }
+
+
+# what is always seen of the book: the chosen paragraph, the line below the list, a line of the print
+# and one of the braille
+_LEAST_OF_BOOK = 4
+# as many columns of what is typed are seen after a whole prompt
+_LEAST_TYPED = 16
 
 
 @dataclass(frozen=True)
@@ -69,20 +75,26 @@ def _title(state: State) -> Line:
     parts = [state.name, f"version {state.version:,}"]
     if table:
         parts.append(f"table {table}")
-    parts.append(state.kept or "nothing sent yet")
+    # the sentence below may speak of something later
+    parts.append(f"last {state.kept}" if state.kept else "nothing kept yet")
     # what was last kept stands there at any width
     while len(parts) > 1 and columns(visible(", ".join(parts))) > state.size.columns:
         parts.pop(0)
-    text = opening(visible(", ".join(parts)), state.size.columns)
+    text = visible(", ".join(parts))
+    if columns(text) > state.size.columns:
+        text = text.removeprefix("last ")
+    text = opening(text, state.size.columns)
     return (Piece(text + " " * (state.size.columns - columns(text)), HEAD),)
 
 
 def _middle(state: State, room: int) -> Area:
     if not state.book and not (state.typed and state.typed.purpose.is_print):
         text = "The book has no paragraphs. o types the first one, i imports a text."
+        if not state.tables:
+            text = "The book has no table and no paragraphs. t puts a table into it."
         lines: list[Line] = [(Piece(each),) for each in wrap(text, state.size.columns)]
         return Area(filled(lines, room), (0, 0))
-    listed = _listed(state)[: max(0, room - 3)]
+    listed = _listed(state, min(state.list_lines, max(1, room - 3)))
     rule = _rule(state)
     below = body(state, room - len(listed) - 1)
     above = len(listed) + 1
@@ -90,10 +102,11 @@ def _middle(state: State, room: int) -> Area:
     return Area(filled([*listed, rule, *below.lines], room), cursor)
 
 
-def _listed(state: State) -> list[Line]:
-    """A line for each listed paragraph: number, style, flags, first words."""
+def _listed(state: State, count: int) -> list[Line]:
+    """So many lines of the list, the chosen paragraph among them: number, style, flags, first words."""
+    top = max(state.top, state.chosen - count + 1)
     lines: list[Line] = []
-    for place, paragraph in enumerate(state.listed, state.top):
+    for place, paragraph in enumerate(state.book[top : top + count], top):
         its = state.openings.get(paragraph.id)
         marks = its.open_marks if its else 0
         flags = [
@@ -107,7 +120,7 @@ def _listed(state: State) -> list[Line]:
         head = f"{sign}{paragraph.id:>5} {', '.join(filter(None, flags))}: "
         text = opening(head + visible(words), state.size.columns - 1)
         lines.append((Piece(text, CHOSEN if place == state.chosen else PLAIN),))
-    return lines + [(Piece(""),)] * (state.list_lines - len(lines))
+    return lines + [(Piece(""),)] * (count - len(lines))
 
 
 def _rule(state: State) -> Line:
@@ -136,72 +149,128 @@ def _pages(state: State, pages: Pages, room: int) -> Area:
 
 
 def _bottom(state: State) -> Area:
-    """Where the cursor is in words, the mark there, what is said, and what is typed."""
-    width = state.size.columns
+    """Where the cursor is in words, the marks there, what is said, and what is typed."""
     if state.question and not state.is_lost:
-        said = wrap(visible(state.message), width) if state.message else []
-        sentence = visible(state.question.sentence)
-        lines = [*said, *wrap(f"{sentence} y is yes, n is no.", width)]
-        return Area([(Piece(line),) for line in lines], (len(lines) - 1, 0))
-    said = wrap(visible(state.message), width) if state.message else []
-    most = max(1, state.size.lines // 3)
-    lines = [*_place_lines(state), *said[:most]]
+        return _asked(state, state.question)
     typed = None if state.is_lost else state.typed
+    width = state.size.columns
     if typed and not typed.purpose.is_print:
-        prompt = PROMPTS[typed.purpose]
-        text, place = _tail(prompt, typed, width)
+        text, place = _tail(PROMPTS[typed.purpose], typed, width)
+        lines = _said(state, _most_below(state) - 1)
         return Area([(Piece(line),) for line in [*lines, text]], (len(lines), place))
-    hint = HINT
+    lines = _said(state, _most_below(state))
+    # the keys are what is needed least
+    if len(lines) < _most_below(state):
+        lines.append(opening(_hint(state), width))
+    return Area([(Piece(line),) for line in lines])
+
+
+def _most_below(state: State) -> int:
+    """How many lines there are below the book, so that something of it is still seen."""
+    return max(1, state.size.lines - 1 - _LEAST_OF_BOOK)
+
+
+def _asked(state: State, question: Question) -> Area:
+    """A question after what is said, on all lines but the first where it needs them."""
+    width, most = state.size.columns, state.size.lines - 1
+    asked = wrap(f"{visible(question.sentence)} y is yes, n is no.", width)
+    if len(asked) > most:
+        # how it is answered stands at its end
+        asked = [*_at_most(asked, most - 2, width), *asked[-2:]]
+    lines = [*_message(state, most - len(asked)), *asked]
+    return Area([(Piece(line),) for line in lines], (len(lines) - 1, 0))
+
+
+def _hint(state: State) -> str:
+    """Which keys are needed most."""
     if state.is_lost:
-        hint = "Enter opens the book again  q ends  Up, Down look further"
-    elif state.away:
-        hint = "Please wait. Keys do nothing until this is done."
-    elif typed:
-        hint = "Enter keeps it  Escape leaves the book as it was"
-    elif state.anchor is not None and not state.pages:
-        hint = "m marks these cells  Left, Right choose more  Space gives them up"
-    elif state.pages:
-        hint = "Escape goes back  Up, Down, Page Up, Page Down look further"
-    return Area([(Piece(each),) for each in [*lines, opening(hint, width)]])
+        return "Enter opens the book again  q ends  Up, Down look further"
+    if state.away:
+        return "Please wait. Keys do nothing until this is done."
+    if state.typed:
+        return "Enter keeps it  Escape leaves the book as it was"
+    if state.anchor is not None and not state.pages:
+        return "m marks these cells  Left, Right choose more  Space gives them up"
+    if state.pages:
+        return "Escape goes back  Up, Down, Page Up, Page Down look further"
+    return HINT
 
 
 def _tail(prompt: str, typed: Field, width: int) -> tuple[str, int]:
     """The line of a field, its front cut where it is too long, and the cursor in it."""
+    if columns(prompt) > max(width // 2, width - _LEAST_TYPED):
+        prompt = opening(prompt, width // 2 - 1) + " "
     before = "".join(map(shown, typed.text[: typed.place]))
     while columns(prompt + before) >= width - 1 and before:
         before = before[1:]
-    return prompt + before + "".join(map(shown, typed.text[typed.place :])), len(
-        prompt + before
-    )
+    line = prompt + before
+    after = "".join(map(shown, typed.text[typed.place :]))
+    while columns(line + after) > width - 1 and after:
+        after = after[:-1]
+    return line + after, len(line)
+
+
+def _said(state: State, most: int) -> list[str]:
+    """At most so many lines: what the cursor stands on, the marks there, and what is said."""
+    if state.pages:
+        return _message(state, most)
+    marks = _marks(state)
+    said = _message(state, most - 1 if marks else most)
+    rest = most - len(said)
+    # what is said besides leaves room for the book
+    room = max(1, state.size.lines // (8 if said else 4))
+    shown = _mark_lines(state, marks, min(room, rest))
+    return [*_place_lines(state)[: rest - len(shown)], *shown, *said]
+
+
+def _message(state: State, most: int) -> list[str]:
+    """What is said, in at most so many lines."""
+    if not state.message:
+        return []
+    lines = wrap(visible(state.heard), state.size.columns)
+    return _at_most(lines, most, state.size.columns)
 
 
 def _place_lines(state: State) -> list[str]:
-    """In words: what the cursor stands on, and the first mark there."""
+    """In words: what the cursor stands on, or what the table lacks of what is typed."""
     width = state.size.columns
-    if state.pages:
-        return []
     if state.typed and state.typed.purpose.is_print:
         fault = state.preview.fault if state.preview else ""
         return wrap(fault, width) if fault else [""]
     if state.reading is None or state.lit is None:
         return [""]
-    lines = [opening(_cursor_in_words(state, state.reading, state.lit), width)]
-    marks = state.marks_here
-    if marks:
-        count = f"{len(marks)} marks here. " if len(marks) > 1 else ""
-        note = count + mark_line(marks[0], state.reading.text)
-        # what is said besides leaves room for the book
-        most = 1 if state.message else max(1, state.size.lines // 4)
-        lines += _at_most(wrap(note, width), most)
-    return lines
+    return [opening(_cursor_in_words(state, state.reading, state.lit), width)]
+
+
+def _marks(state: State) -> tuple[Mark, ...]:
+    """The marks where the cursor is, also while the print is edited there."""
+    is_new = state.typed is not None and state.typed.purpose.is_new
+    return () if is_new else state.marks_here
+
+
+def _mark_lines(state: State, marks: tuple[Mark, ...], most: int) -> list[str]:
+    """Marks in at most so many lines, of which the first has all that the others leave."""
+    if not marks or most < 1:
+        return []
+    assert state.reading is not None
+    text, width = state.reading.text, state.size.columns
+    count = f"{len(marks)} marks here. " if len(marks) > 1 else ""
+    first = wrap(count + mark_line(marks[0], text), width)
+    others = [wrap(mark_line(mark, text), width) for mark in marks[1:]]
+    if len(first) + sum(map(len, others)) > most:
+        others = [_at_most(each, 1, width) for each in others[: most // 2]]
+    first = _at_most(first, most - sum(map(len, others)), width)
+    return [*first, *(line for each in others for line in each)]
 
 
 def _cursor_in_words(state: State, reading: Reading, lit: Lit) -> str:
     """What the cursor stands on, what belongs to that, and the places of both, counted from 1."""
+    if not reading.text:
+        return "The paragraph is empty."
     words = _words(reading.text[lit.words.start : lit.words.stop], state.encoding)
     cells = reading.braille[lit.cells.start : lit.cells.stop]
     cells = braille_ascii(cells) if state.is_ascii else cells
-    places = [_span("character", lit.words), _span("cell", lit.cells)]
+    places = [lit.words.counted("character"), lit.cells.counted("cell")]
     if state.pane is Pane.PRINT:
         text = f"{words} {cells}, {', '.join(places)}"
     else:
@@ -222,16 +291,13 @@ def _words(text: str, encoding: str) -> str:
     return f"“{visible(text)}”"
 
 
-def _at_most(lines: list[str], count: int) -> list[str]:
+def _at_most(lines: list[str], count: int, width: int) -> list[str]:
     """Some lines, or the first of them where they are more, with a sign that others follow."""
     if len(lines) <= count:
         return lines
-    return [*lines[: count - 1], lines[count - 1][:-1] + "…"]
-
-
-def _span(what: str, span: Occurrence) -> str:
-    if span.stop <= span.start:
-        return f"no {what}"
-    if span.stop == span.start + 1:
-        return f"{what} {span.stop}"
-    return f"{what}s {span.start + 1} to {span.stop}"
+    if count < 1:
+        return []
+    last = lines[count - 1]
+    while columns(last) >= width:
+        last = last[:-1]
+    return [*lines[: count - 1], last + "…"]

@@ -11,9 +11,10 @@ from scribe.screen.field import Purpose
 
 @dataclass(frozen=True)
 class ToFound:
-    """To the next place of what is looked for."""
+    """To the next place of what is looked for, for the first time or again."""
 
     sought: str
+    is_again: bool = False
 
 
 @dataclass(frozen=True)
@@ -30,7 +31,7 @@ class ShowHistory:
 
 @dataclass(frozen=True)
 class ShowPage:
-    """Looks at the page on which the chosen paragraph begins."""
+    """Looks at the page on which the words of the cursor stand."""
 
 
 @dataclass(frozen=True)
@@ -58,10 +59,11 @@ class ExportTo:
 
 @dataclass(frozen=True)
 class ImportFrom:
-    """Imports a text file after a paragraph, with the session closed meanwhile."""
+    """Imports a text file after a paragraph by a table, with the session closed meanwhile."""
 
     path: Path
     after: After
+    table: str | None = None
 
 
 @dataclass(frozen=True)

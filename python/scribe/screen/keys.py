@@ -57,7 +57,7 @@ def step(state: State, key: str) -> Step:
     if bound is None:
         return Step(state.saying("That key does nothing here. ? shows all keys."))
     if bound.needs_paragraph and state.paragraph is None:
-        return Step(state.saying("The book has no paragraphs. o types the first one."))
+        return Step(state.saying("The book has no paragraphs yet."))
     return bound.does(state)
 
 
@@ -174,7 +174,7 @@ def _answering(state: State, typed: Field) -> Step:
         case Purpose.FOLDER:
             return Step(state, ExportTo(typed_path(typed.text), state.sheet))
     place: After = state.paragraph.id if state.paragraph else "end"
-    return Step(state, ImportFrom(typed_path(typed.text), place))
+    return Step(state, ImportFrom(typed_path(typed.text), place, state.table))
 
 
 def after(state: State, typed: Field) -> After:
@@ -263,6 +263,8 @@ def _lit_start(state: State) -> int:
 
 
 def _new(purpose: Purpose) -> Callable[[State], Step]:
+    """Types what is new by the table of the chosen paragraph, or of the book, if that is known."""
+
     def typed(state: State) -> Step:
         table = state.paragraph.table if state.paragraph else state.table
         if table is None and len(state.tables) == 1:
@@ -305,12 +307,23 @@ def _to_end(state: State, is_back: bool) -> Step:
 
 def _by_word(state: State, is_back: bool) -> Step:
     text = _text(state).replace("\u2800", " ")
+    if state.anchor is not None and state.pane is Pane.CELLS and not is_back:
+        return Step(replace(state, place=_word_end(text, state.place), lit=None))
     moved = Field(Purpose.EDIT, text, state.place).moved(
         "c-left" if is_back else "c-right"
     )
     assert moved is not None
     place = min(moved.place, max(0, len(text) - 1))
     return Step(replace(state, place=place, lit=None))
+
+
+def _word_end(text: str, place: int) -> int:
+    """The last place of the word, or of the next one where this is the last place already."""
+    rest = text[place + 1 :]
+    if not rest.strip(" "):
+        return place
+    stop = text.find(" ", place + 1 + len(rest) - len(rest.lstrip(" ")))
+    return (len(text) if stop < 0 else stop) - 1
 
 
 def _text(state: State) -> str:
@@ -348,7 +361,7 @@ def _resolve(state: State) -> Step:
     for mark in state.marks_here:
         if not mark.resolved:
             return Step(state, requests.Resolve(mark.id, expect=state.version))
-    return Step(state.saying("There is no open mark here. n goes to the next one."))
+    return Step(state.saying("There is no open mark here. n looks for the next one."))
 
 
 def _chosen(state: State) -> Paragraph:
@@ -397,7 +410,7 @@ def _carried(by: int) -> Callable[[State], Step]:
 def _again(state: State) -> Step:
     if not state.sought:
         return Step(state.saying("Nothing was looked for yet. / looks for words."))
-    return Step(state, ToFound(state.sought))
+    return Step(state, ToFound(state.sought, True))
 
 
 def _ascii(state: State) -> Step:
@@ -450,7 +463,10 @@ KEYS = {
     "left": Bound("to the character or cell before", lambda s: _along(s, True)),
     "right": Bound("to the character or cell after", lambda s: _along(s, False)),
     "c-left": Bound("to the word before", lambda s: _by_word(s, True)),
-    "c-right": Bound("to the word after", lambda s: _by_word(s, False)),
+    "c-right": Bound(
+        "to the word after; in a choice of cells, to the end of a word",
+        lambda s: _by_word(s, False),
+    ),
     "home": Bound("to the front of the paragraph", lambda s: _to_end(s, True)),
     "end": Bound("to the end of the paragraph", lambda s: _to_end(s, False)),
     "pageup": Bound("a list of paragraphs back", _paged(-1)),
@@ -478,10 +494,10 @@ KEYS = {
     "a-down": Bound("moves the paragraph down", _carried(1)),
     "/": Bound("finds words, or cells while on the cells", _typed_for(Purpose.WORDS)),
     "*": Bound("finds the same again", _again),
-    "p": Bound("the page on which it stands", lambda s: Step(s, ShowPage())),
+    "p": Bound("the page on which these words stand", lambda s: Step(s, ShowPage())),
     "w": Bound("the size of pages, for p and x", _size, False),
     "x": Bound("exports all volumes to a folder", _folder),
-    "i": Bound("imports a text file", _typed_for(Purpose.TEXT_FILE), False),
+    "i": Bound("imports a text file", _new(Purpose.TEXT_FILE), False),
     "?": Bound("shows all keys", _help, False),
     "q": Bound(
         "ends; all that was kept is in the book", lambda s: Step(s, Quit()), False

@@ -1,4 +1,4 @@
-"""The page of a volume on which a paragraph begins, as it will be embossed."""
+"""The page of a volume on which the cursor's words stand, as it will be embossed."""
 
 from collections.abc import Mapping, Sequence
 from dataclasses import dataclass
@@ -14,9 +14,9 @@ from scribe.volumes import layout_of, parted
 
 @dataclass(frozen=True)
 class Page:
-    """Where a paragraph stands, in words, and the lines of its page in Braille ASCII.
+    """Where the cursor's words stand, and the lines of their page in Braille ASCII.
 
-    `line` is the line of the page on which the paragraph begins, counted from 0.
+    `line` is their line of the page, counted from 0.
     """
 
     title: str
@@ -24,10 +24,20 @@ class Page:
     line: int | None = None
 
 
+@dataclass(frozen=True)
+class Sought:
+    """A paragraph, a cell of it, and what stands there in words."""
+
+    paragraph: Paragraph
+    cell: int
+    says: str
+
+
 def page_of(
-    session: Session, book: Sequence[Paragraph], its: Paragraph, sheet: Sheet
+    session: Session, book: Sequence[Paragraph], sought: Sought, sheet: Sheet
 ) -> Page | None:
-    """The page on which a paragraph begins; none for one that is struck."""
+    """The page on which a cell of a paragraph stands; none for one that is struck."""
+    its = sought.paragraph
     for number, part in enumerate(parted(book), 1):
         if its not in part:
             continue
@@ -39,12 +49,13 @@ def page_of(
         rows = [row for row in layout.rows if row.paragraph == its.id]
         if not rows:
             return Page(f"Paragraph {its.id} has no words, and takes no line.")
-        page, line = rows[0].page, rows[0].line
+        # an empty cell at which a line is broken stands on none: what is before it does
+        row = [rows[0], *(row for row in rows if row.start <= sought.cell)][-1]
         title = (
-            f"Paragraph {its.id}: volume {number}, page {page}, line {line}, of"
-            f" {described(sheet)}."
+            f"Paragraph {its.id}, {sought.says}: volume {number}, page {row.page}, line"
+            f" {row.line}, of {described(sheet)}."
         )
-        return Page(title, tuple(layout.page(page)), line - 1)
+        return Page(title, tuple(layout.page(row.page)), row.line - 1)
     return None
 
 

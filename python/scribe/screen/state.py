@@ -81,6 +81,19 @@ class Pages:
 
 
 @dataclass(frozen=True)
+class InHand:
+    """The mark that is worked on: the one that n or N went to, or that an edit began on or touched.
+
+    It is in hand while the cursor stays where it was then, at a place of a paragraph's print, also
+    where an edit took the cursor past the words of the mark.
+    """
+
+    mark: int
+    paragraph: int
+    place: int
+
+
+@dataclass(frozen=True)
 class State:
     """What the screen knows."""
 
@@ -108,16 +121,19 @@ class State:
     #: The cells of the open marks of the paragraph.
     marked_cells: tuple[Occurrence, ...] = ()
     lit: Lit | None = None
+    in_hand: InHand | None = None
     typed: Field | None = None
     preview: Preview | None = None
     question: Question | None = None
     pages: Pages | None = None
-    #: What was looked for last.
+    #: What was looked for last, and whether words that are only like it are found too.
     sought: str = ""
+    finds_alike: bool = False
     #: The table of a new paragraph where no paragraph is chosen.
     table: str | None = None
-    #: What has to be said, and what was last kept.
+    #: What has to be said, how many keys in a row said it, and what was last kept.
     message: str = ""
+    times: int = 1
     kept: str = ""
     #: The session with the book ended by itself.
     is_lost: bool = False
@@ -149,23 +165,48 @@ class State:
         return self.lit.cells if self.lit else None
 
     @property
+    def mark_in_hand(self) -> Mark | None:
+        """The mark that is worked on, as long as the cursor hasn't moved since."""
+        held, reading = self.in_hand, self.reading
+        if held is None or reading is None or self.pane is not Pane.PRINT:
+            return None
+        if (held.paragraph, held.place) != (reading.paragraph.id, self.place):
+            return None
+        return next((mark for mark in reading.marks if mark.id == held.mark), None)
+
+    @property
     def marks_here(self) -> tuple[Mark, ...]:
-        """The marks on the characters of the cursor, open ones first."""
+        """The marks on the characters of the cursor, and the one in hand.
+
+        Open ones come first, and of those the one in hand: it is the first that r resolves.
+        """
         if self.reading is None or self.lit is None:
             return ()
-        words = self.lit.words
+        held, words = self.mark_in_hand, self.lit.words
+        last = max(0, len(self.reading.text) - 1)
         found = (
             mark
             for mark in self.reading.marks
-            if mark.start <= words.start < max(mark.stop, mark.start + 1)
+            if mark == held or _stands_on(mark, words, last)
         )
-        return tuple(sorted(found, key=lambda mark: mark.resolved))
+        return tuple(sorted(found, key=lambda mark: (mark.resolved, mark != held)))
 
     @property
     def marked_words(self) -> tuple[Occurrence, ...]:
         """The words of the open marks of the paragraph."""
         marks = self.reading.marks if self.reading else ()
         return tuple(Occurrence(m.start, m.stop) for m in marks if not m.resolved)
+
+    @property
+    def heard(self) -> str:
+        """What has to be said, otherwise than before, so that it is drawn and spoken once more."""
+        again = {1: "", 2: "Again: "}.get(self.times, f"{self.times} times now: ")
+        return again + self.message
+
+    def after(self, before: "State") -> "State":
+        """The state after a key, which may have said the same as the one before it."""
+        is_again = self.message == before.message != ""
+        return replace(self, times=before.times + 1 if is_again else 1)
 
     def saying(self, sentence: str) -> "State":
         """The state with something to say."""
@@ -178,3 +219,10 @@ class State:
         top = max(top, chosen - self.list_lines + 1)
         top = max(0, min(top, len(self.book) - self.list_lines))
         return replace(self, chosen=chosen, top=top, place=place, anchor=None, lit=None)
+
+
+def _stands_on(mark: Mark, words: Occurrence, last: int) -> bool:
+    """Whether a mark stands on some of these words; without words of its own, on one character."""
+    start = min(mark.start, last)
+    stop = max(mark.stop, start + 1)
+    return start < max(words.stop, words.start + 1) and words.start < stop

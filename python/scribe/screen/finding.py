@@ -1,0 +1,87 @@
+"""The cursor at what was looked for, and what is said of the way there."""
+
+from dataclasses import replace
+
+from braildesk import Session
+
+from scribe.cells import NotCells, braille_patterns
+from scribe.likeness import alike, in_words, unlike
+from scribe.occurrences import occurrences
+from scribe.paragraph import quoted
+from scribe.screen import search
+from scribe.screen.errands import ToFound, ToMark
+from scribe.screen.in_hand import at_mark
+from scribe.screen.state import Pane, State
+from scribe.sequences import composed
+from scribe.visible import named
+
+_AROUND = "Not found up to the end of the book, so found from its front on."
+
+
+def to_found(session: Session, state: State, errand: ToFound) -> State:
+    """The state with the cursor at the next place of words, or of cells while it is on cells."""
+    sought = errand.sought
+    if state.pane is Pane.CELLS:
+        return _to_cells(session, state, sought)
+    finds_alike = errand.is_again and state.finds_alike
+    state = replace(state, finds_alike=finds_alike)
+    form = alike if finds_alike else composed
+    found = search.next_words(session, state, sought, form)
+    if found is None:
+        return _with_others_alike(session, state, sought)
+    return _at_found(state, found, sought)
+
+
+def to_mark(session: Session, state: State, errand: ToMark) -> State:
+    """The state with the cursor at the next open mark, or at the one before."""
+    here = state
+    if state.pane is Pane.CELLS:
+        place = state.lit.words.start if state.lit else 0
+        here = replace(state, pane=Pane.PRINT, place=place)
+    found = search.next_mark(session, here, errand.is_back)
+    if found is None:
+        return state.saying("The book has no open marks.")
+    return at_mark(replace(here, anchor=None), found, errand.is_back)
+
+
+def _to_cells(session: Session, state: State, sought: str) -> State:
+    try:
+        cells = braille_patterns(sought)
+    except NotCells as fault:
+        character = named(str(fault))
+        return state.saying(
+            f"{character} is no cell in Braille ASCII or Unicode. Tab goes to the print."
+        )
+    found = search.next_words(session, state, cells)
+    if found is None:
+        said = f"{quoted(sought)} stands nowhere in the cells of the book."
+        return state.saying(said)
+    return _at_found(state, found, sought)
+
+
+def _with_others_alike(session: Session, state: State, sought: str) -> State:
+    """What is said of words that stand nowhere: where there are others like them, to go to."""
+    found = search.next_words(session, state, sought, alike)
+    if found is None:
+        said = f"{quoted(sought)} stands nowhere in the print of the book."
+        return state.saying(said)
+    spot = found.spot
+    number = state.book[spot.chosen].id
+    text = session.print(number)
+    places = occurrences(text, sought, alike)
+    place = next(each for each in places if each.start == spot.place)
+    how = in_words(unlike(sought, text[place.start : place.stop]))
+    said = (
+        f"{quoted(sought)} stands nowhere as typed; with {how} it is in paragraph {number}:"
+        " * goes there."
+    )
+    return replace(state, finds_alike=True).saying(said)
+
+
+def _at_found(state: State, found: search.Found, sought: str) -> State:
+    """The state with the cursor at what was looked for."""
+    spot = found.spot
+    said = _AROUND if found.is_around else ""
+    if found.is_same:
+        said = f"{quoted(sought)} stands nowhere else in the book."
+    return state.at(spot.chosen, spot.place).saying(said)

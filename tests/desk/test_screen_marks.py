@@ -1,0 +1,218 @@
+"""Marks that are worked through on the screen: gone to, dealt with in the print, resolved."""
+
+from pathlib import Path
+
+import pytest
+
+from braildesk import Session
+from scribe.occurrences import Occurrence
+from scribe.screen.drawing import draw
+from scribe.screen.state import Size
+from sitting import Sat, Sit
+from terminal import Open
+
+SIZES = [Size(20, 8), Size(40, 12), Size(80, 24), Size(200, 60)]
+#: What is typed at the front of “moon”, which is marked, and the print after it.
+FIXES = {
+    "over its words": ("delete delete delete delete s u n", "The sun is far away."),
+    "behind them": ("right right right right s", "The moons is far away."),
+    "in front of them": ("n e w", "The newmoon is far away."),
+    "nothing in their place": ("delete delete delete delete", "The  is far away."),
+    "elsewhere": ("end !", "The moon is far away.!"),
+}
+
+
+def said(sat: Sat) -> str:
+    """All lines below the paragraph, as one."""
+    lines = sat.lines
+    rule = next(n for n, line in enumerate(lines) if line.startswith("-- "))
+    return " ".join(lines[rule + 1 :])
+
+
+@pytest.mark.parametrize("size", SIZES, ids=str)
+@pytest.mark.parametrize("fix", FIXES)
+def test_r_resolves_the_mark_that_n_went_to_whatever_was_typed(
+    moon: Path, sit: Sit, size: Size, fix: str
+) -> None:
+    keys, wanted = FIXES[fix]
+    sat = sit(moon, size=size)
+    sat.press("n", "enter", *keys.split(), "enter")
+    assert sat.state.reading and sat.state.reading.text == wanted
+    assert said(sat).count("Mark 1, open,") == 1
+    assert [line[:6] for line in sat.lines if line[:1] == ">"] == [">    1"]
+    sat.press("r")
+    assert sat.state.kept == "kept: mark 1 resolved"
+    assert "Mark 1, resolved" in said(sat)
+
+
+@pytest.mark.parametrize("size", SIZES, ids=str)
+def test_the_note_of_a_mark_is_seen_while_its_words_are_edited(
+    moon: Path, sit: Sit, size: Size
+) -> None:
+    sat = sit(moon, size=size)
+    sat.press("n")
+    before = said(sat)
+    sat.press("enter", "delete", "right")
+    assert "Mark 1, open" in before and "Mark 1, open" in said(sat)
+    if size.columns > 20:
+        assert "Mark 1, open, on “moon”: spelled so?" in sat.lines
+
+
+def test_the_mark_in_hand_is_left_once_the_cursor_moves(moon: Path, sit: Sit) -> None:
+    sat = sit(moon)
+    sat.press("n", "enter", "end", "!", "enter", "left", "r")
+    assert sat.state.message.startswith("There is no open mark here.")
+    assert "Mark 1" not in said(sat)
+
+
+def test_a_mark_that_an_edit_touched_from_elsewhere_is_in_hand(
+    moon: Path, sit: Sit
+) -> None:
+    sat = sit(moon)
+    # from the front of the print up to behind “moon”
+    sat.press("enter", *["right"] * 8, *["backspace"] * 4, *"sun", "enter")
+    assert "Mark 1, open, touched, on “sun”: spelled so?" in sat.lines
+    sat.press("r")
+    assert sat.state.kept == "kept: mark 1 resolved"
+
+
+def test_each_mark_of_one_character_is_gone_to_shown_and_resolved(
+    moon: Path, sit: Sit
+) -> None:
+    with Session(moon) as session:
+        session.mark(1, 5, 4, "whose?")
+        session.mark(1, 6, 1, "one o?")
+    sat = sit(moon)
+    first = "Mark 1, open, on “moon”: spelled so?"
+    second = "Mark 2, open, on “moon”: whose?"
+    sat.press("n")
+    assert [f"2 marks here. {first}", second] == sat.lines[-3:-1]
+    sat.press("n")
+    assert [f"2 marks here. {second}", first] == sat.lines[-4:-2]
+    assert sat.lines[-2] == "Mark 2 begins here too."
+    sat.press("n")
+    assert sat.state.place == 5
+    assert sat.lines[-4].startswith("3 marks here. Mark 3, open, on “o”: one o?")
+    sat.press("N")
+    assert sat.lines[-3:-1] == [f"2 marks here. {second}", first]
+    sat.press("r")
+    assert sat.state.kept == "kept: mark 2 resolved"
+    assert sat.state.message == (
+        "Mark 2 is resolved. 1 open mark is left here; r resolves mark 1."
+    )
+    assert f"2 marks here. {first}" in sat.lines
+    sat.press("r")
+    assert (sat.state.kept, sat.state.message) == ("kept: mark 1 resolved", "")
+    sat.press("r")
+    assert sat.state.message == "There is no open mark here. n looks for the next one."
+
+
+def test_n_says_where_it_goes_around_and_that_there_is_no_other_mark(
+    moon: Path, sit: Sit
+) -> None:
+    sat = sit(moon)
+    sat.press("n")
+    assert sat.state.message == ""
+    sat.press("n")
+    assert sat.state.message == "The book has no other open mark."
+    sat.press("down", "n")
+    assert sat.state.message == (
+        "No open mark up to the end of the book: this is the first in it."
+    )
+    sat.press("left", "left", "N")
+    assert sat.state.message == (
+        "No open mark up to the front of the book: this is the last in it."
+    )
+
+
+def test_marks_that_are_touched_besides_the_one_in_hand_are_named(
+    moon: Path, sit: Sit
+) -> None:
+    with Session(moon) as session:
+        session.mark(1, 10, 2, "is?")
+    sat = sit(moon)
+    sat.press("n", "enter", *["delete"] * 7, *"sun was", "home", "enter")
+    assert sat.lines[-3:-1] == [
+        "Mark 1, open, touched, on “sun wa”: spelled so?",
+        "This touched mark 2.",
+    ]
+
+
+def test_a_mark_whose_words_at_the_end_are_gone_is_gone_to_and_resolved(
+    moon: Path, sit: Sit
+) -> None:
+    with Session(moon) as session:
+        session.resolve(1)
+        session.mark(2, 6, 5, "which?")
+        session.correct(2, 4, 5, "")
+    sat = sit(moon)
+    sat.press("n")
+    assert "Mark 2, open, touched, on no words, at the end: which?" in sat.lines
+    sat.press("left", "right", "r")
+    assert sat.state.kept == "kept: mark 2 resolved"
+
+
+def test_the_chosen_paragraph_is_listed_whatever_is_said_below(
+    moon: Path, sit: Sit
+) -> None:
+    with Session(moon) as session:
+        session.mark(3, 0, 6, "is it so? " * 40)
+    for size in SIZES:
+        sat = sit(moon, size=size)
+        sat.press("c-end")
+        sat.state = sat.state.saying("Nothing of this is so. " * 30)
+        lines = sat.lines
+        assert [line[:6] for line in lines if line[:1] == ">"] == [">    3"], size
+        line, _ = draw(sat.state).cursor
+        assert lines[line].startswith("{Twice} a day")
+        assert len(lines) == size.lines
+        sat.desk.close()
+
+
+@pytest.mark.parametrize("size", [(20, 8), (40, 12), (80, 24)])
+def test_marks_are_worked_through_in_a_terminal(
+    moon: Path, at: Open, size: tuple[int, int]
+) -> None:
+    with Session(moon) as session:
+        session.mark(2, 6, 5, "which?")
+        session.mark(3, 1, 5, "how often?")
+    terminal = at(moon, *size)
+    terminal.wait("? shows all keys.")
+    for number, typed in enumerate(("sun", "Waves", "Once"), 1):
+        terminal.keys("n")
+        terminal.wait(f"Mark {number}, open")
+        terminal.keys("enter", *["delete"] * (4 if number == 1 else 5), typed, "enter")
+        terminal.wait("kept: corre")
+        lines = terminal.wait(f"Mark {number}, open,")
+        assert [line[:6] for line in lines if line[:1] == ">"] == [f">    {number}"]
+        terminal.keys("r")
+        terminal.wait(f"kept: mark {number}")
+    terminal.keys("q")
+    assert terminal.ended() == 0
+    with Session(moon) as session:
+        prints = [session.print(number) for number in (1, 2, 3)]
+        marks = [mark for number in (1, 2, 3) for mark in session.marks(number)]
+    assert prints == [
+        "The sun is far away.",
+        "The Waves",
+        "Once a day the sea comes up.",
+    ]
+    assert [mark.resolved for mark in marks] == [True] * 3
+
+
+@pytest.mark.parametrize("size", SIZES, ids=str)
+def test_ctrl_right_chooses_cells_to_the_end_of_a_word(
+    moon: Path, sit: Sit, size: Size
+) -> None:
+    sat = sit(moon, size=size)
+    sat.press("c-right", " ", "c-right")
+    assert sat.state.chosen_cells == Occurrence(5, 9)
+    sat.press("c-right")
+    assert sat.state.chosen_cells == Occurrence(5, 12)
+    sat.press(*["c-right"] * 5)
+    assert sat.state.chosen_cells == Occurrence(5, 22)
+    sat.press(" ", "c-left", "c-left")
+    assert sat.state.place == 13
+    # without a choice it goes to the front of the next word, as in the print
+    sat.press("c-right")
+    assert sat.state.place == 17
