@@ -5,6 +5,7 @@ import re
 import shutil
 import subprocess
 from collections.abc import Iterable, Iterator
+from contextlib import contextmanager
 from os import PathLike, fspath
 from pathlib import Path
 
@@ -12,6 +13,7 @@ from braildesk import limits, opening
 from braildesk.asked import AskedOfFile, BookFile, Line, NewBook, Pages, TableFile
 from braildesk.named_files import read_file
 from braildesk.refusals import (
+    CannotOpen,
     DeskError,
     Failed,
     Refused,
@@ -20,6 +22,7 @@ from braildesk.refusals import (
     refused_as,
 )
 from braildesk.sentences import Why
+from braildesk.values import Table
 from braildesk.wording import Refusal
 
 StrPath = str | PathLike[str]
@@ -89,19 +92,22 @@ def export(
 
 
 def translate(
-    table: StrPath, lines: Iterable[str], program: StrPath | None = None
+    table: StrPath | Table, lines: Iterable[str], program: StrPath | None = None
 ) -> list[str | Refused]:
     """The braille of each line, or why it is refused.
 
-    The table is the text in a file, or the supplied one where ``table`` is the string ``"@en"``.
+    The table is the text in a file, a table of a book as ``tables`` gives it, or the supplied one
+    where ``table`` is the string ``"@en"``.
     """
-    is_file_of_that_name = isinstance(table, PathLike) and fspath(table) == "@en"
-    asked = TableFile("./@en" if is_file_of_that_name else fspath(table))
+    asked = _table_asked(table)
     judged = [_judged(Line(asked.path, line)) for line in lines]
     sent = b"".join(
         line.text.encode() + b"\r\n" for line in judged if isinstance(line, Line)
     )
-    output = _run(program, ["translate", "--", _word(asked)], asked, sent)
+    if isinstance(table, Table):
+        output = _by_text(program, asked, sent)
+    else:
+        output = _run(program, ["translate", "--", _word(asked)], asked, sent)
     answers = iter(output.decode().split("\n"))
     return [_answered(line, answers) for line in judged]
 
@@ -123,7 +129,7 @@ def unopened(status: int, errors: str, asked: AskedOfFile) -> DeskError:
         if code == 98:
             return cannot_open(asked, opening.why(asked))
         if code == 8 and isinstance(asked, TableFile):
-            asked = TableFile(asked.path, _text_at(asked.path))
+            asked = TableFile(asked.path, asked.text or _text_at(asked.path))
         return refused(code, tuple(numbers), asked)
     return Failed(_failure(status, errors))
 
@@ -139,12 +145,63 @@ def _failure(status: int, errors: str) -> str:
     return f"braildesk ended with status {status}: {errors.strip()}"
 
 
+def _table_asked(table: StrPath | Table) -> TableFile:
+    """What is asked of: a table by its file, or by its name and its text."""
+    if isinstance(table, Table):
+        return TableFile(table.name, table.text)
+    is_file_of_that_name = isinstance(table, PathLike) and fspath(table) == "@en"
+    return TableFile("./@en" if is_file_of_that_name else fspath(table))
+
+
+def _by_text(program: StrPath | None, asked: TableFile, sent: bytes) -> bytes:
+    """The answers to lines by a table whose text is handed over in memory, and in no file."""
+    with _in_memory(asked.text) as descriptor:
+        path = f"/dev/fd/{descriptor}"
+        words = ["translate", "--", path]
+        try:
+            return _run(program, words, asked, sent, (descriptor,))
+        except CannotOpen as refused_by_program:
+            raise Failed(
+                f"The text of the table {asked.path} could not be handed to braildesk, since it"
+                f" can't open {path}. Nothing was translated. See that /proc is mounted."
+            ) from refused_by_program
+
+
+@contextmanager
+def _in_memory(text: bytes) -> Iterator[int]:
+    """The descriptor of a file in memory with a text."""
+    try:
+        descriptor = os.memfd_create("table")
+    except OSError as error:
+        raise _no_room(error) from error
+    with open(descriptor, "wb") as file:
+        try:
+            file.write(text)
+            file.flush()
+        except OSError as error:
+            raise _no_room(error) from error
+        yield descriptor
+
+
+def _no_room(error: OSError) -> Failed:
+    return Failed(
+        f"The text of a table could not be kept in memory: {error.strerror}. Nothing was"
+        " translated. Close other programs, and try again."
+    )
+
+
 def _run(
-    program: StrPath | None, words: list[str], asked: AskedOfFile, sent: bytes = b""
+    program: StrPath | None,
+    words: list[str],
+    asked: AskedOfFile,
+    sent: bytes = b"",
+    shared: tuple[int, ...] = (),
 ) -> bytes:
     found = find(program)
     try:
-        done = subprocess.run([found, *words], input=sent, capture_output=True)
+        done = subprocess.run(
+            [found, *words], input=sent, capture_output=True, pass_fds=shared
+        )
     except OSError as error:
         raise cannot_run(found, error) from error
     if done.returncode:

@@ -1,14 +1,11 @@
 """What keeps the paragraphs of a text file from being typed, all of it before any is typed."""
 
-import tempfile
 import unicodedata
 from collections import Counter
 from collections.abc import Callable, Collection, Iterator, Sequence
-from contextlib import contextmanager
 from dataclasses import dataclass
-from pathlib import Path
 
-from braildesk import Failed, Refused, Table, characters, limits, translate
+from braildesk import Refused, Table, characters, limits, translate
 
 from scribe import visible
 from scribe.manuscript import Passage, Position
@@ -27,10 +24,9 @@ def faults(passages: Sequence[Passage], table: Table) -> list[Fault]:
     counts = Counter("".join(passage.text for passage in passages))
     barred = {each for each in counts if unicodedata.category(each) == "Cc"}
     others = sorted(counts.keys() - barred)
-    with _file_of(table) as path:
-        lacking = _refused(others, translate(path, others))
-        sound = [each for each in passages if not _is_faulty(each, barred | lacking)]
-        answers = translate(path, [each.text for each in sound])
+    lacking = _refused(others, translate(table, others))
+    sound = [each for each in passages if not _is_faulty(each, barred | lacking)]
+    answers = translate(table, [each.text for each in sound])
     found = [
         *_of_characters(passages, counts, barred, _barred),
         *_of_characters(passages, counts, lacking, _lacking(table)),
@@ -38,22 +34,6 @@ def faults(passages: Sequence[Passage], table: Table) -> list[Fault]:
         *_of_lines(sound, answers),
     ]
     return sorted(found)
-
-
-@contextmanager
-def _file_of(table: Table) -> Iterator[str]:
-    """The path of a file with the text of a table, for as long as it is needed."""
-    try:
-        folder = tempfile.TemporaryDirectory(prefix="scribe-")
-        path = Path(folder.name, "table.utb")
-        path.write_bytes(table.text)
-    except OSError as cause:
-        raise Failed(
-            "The table could not be written to a temporary file, by which the text is judged:"
-            f" {cause.strerror}. Nothing was typed."
-        ) from cause
-    with folder:
-        yield str(path)
 
 
 def _refused(asked: Sequence[str], answers: Sequence[str | Refused]) -> set[str]:

@@ -1,8 +1,8 @@
 """A table that is tried at a prompt, and read again whenever its file has changed."""
 
-from contextlib import AbstractContextManager, suppress
+import stat
+from contextlib import suppress
 from pathlib import Path
-from types import TracebackType
 from typing import TypeAlias
 
 from braildesk import DeskError
@@ -17,7 +17,7 @@ from scribe.status import Status
 _Saved: TypeAlias = tuple[int, int, int]
 
 
-class Trial(AbstractContextManager["Trial"]):
+class Trial:
     """The table of a file, as its text was when it was last read."""
 
     def __init__(self, path: Path) -> None:
@@ -26,14 +26,6 @@ class Trial(AbstractContextManager["Trial"]):
         self._table = TableText(path, text_at(path))
         #: What the last line, or the last reading of the table, came to.
         self.status = Status.DONE
-
-    def __exit__(
-        self,
-        kind: type[BaseException] | None,
-        error: BaseException | None,
-        trace: TracebackType | None,
-    ) -> None:
-        self._table.close()
 
     def state(self) -> list[str]:
         """What there is to say of the table: how many lines it has, or why it is refused."""
@@ -77,9 +69,7 @@ class Trial(AbstractContextManager["Trial"]):
         text = text_at(self._path)
         if text == self._table.text:
             return False
-        table = TableText(self._path, text)
-        self._table.close()
-        self._table = table
+        self._table = TableText(self._path, text)
         return True
 
     def answer(self, text: str) -> list[str]:
@@ -96,6 +86,6 @@ class Trial(AbstractContextManager["Trial"]):
             found = self._path.stat()
         except OSError:
             return None
-        if not self._path.is_file():
+        if not stat.S_ISREG(found.st_mode):
             return None
         return found.st_mtime_ns, found.st_size, found.st_ino

@@ -177,9 +177,9 @@ USUAL: dict[str, str] = {
 
 @pytest.mark.parametrize("name", USUAL)
 def test_nothing_usual_is_warned_of(name: str) -> None:
-    with TableText("own.utb", USUAL[name].encode()) as table:
-        assert table.reading.faults == ()
-        assert warnings(table.reading.table, is_for_embosser=True) == []
+    table = TableText("own.utb", USUAL[name].encode())
+    assert table.reading.faults == ()
+    assert warnings(table.reading.table, is_for_embosser=True) == []
 
 
 #: The lines that define some classes, and a character of each.

@@ -1,8 +1,10 @@
 """Keys that are carried out on a book by the program, and what the screen shows after each."""
 
+import errno
 import os
 import shutil
 import signal
+import tempfile
 from collections.abc import Iterator
 from pathlib import Path
 
@@ -333,7 +335,37 @@ def test_the_preview_is_by_the_text_of_a_table(program: str) -> None:
     )
     tables.put("small", b"letter c 14\n")
     assert tables.preview("small", "c", "c") == Preview("c", "⠉")
-    tables.close()
+
+
+def test_a_preview_needs_no_file_that_something_else_may_clean_away(
+    program: str, tmp_path: Path, monkeypatch: pytest.MonkeyPatch
+) -> None:
+    monkeypatch.setattr(tempfile, "tempdir", str(tmp_path))
+    tables = Tables()
+    tables.put("small", b"letter c 25\n")
+    for each in tmp_path.iterdir():
+        shutil.rmtree(each)
+    # the supplied table gives c other cells
+    assert tables.preview("small", "c", "c") == Preview("c", "⠒")
+    monkeypatch.setattr(tempfile, "tempdir", str(tmp_path / "missing"))
+    Tables().put("small", b"letter c 25\n")
+
+
+def test_a_preview_by_a_table_that_cannot_be_handed_over_says_so(
+    program: str, monkeypatch: pytest.MonkeyPatch
+) -> None:
+    def full(name: str) -> int:
+        raise OSError(errno.EMFILE, os.strerror(errno.EMFILE))
+
+    monkeypatch.setattr(os, "memfd_create", full)
+    tables = Tables()
+    tables.put("small", b"letter c 25\n")
+    assert tables.preview("small", "c", "c") == Preview(
+        "c",
+        fault="There is no preview. The text of a table could not be kept in memory: Too many open"
+        " files. Nothing was translated. Close other programs, and try again.",
+    )
+    assert tables.first_fault("small", ["a"]) == ""
 
 
 def test_an_export_and_an_import_are_done_and_the_book_is_open_again(

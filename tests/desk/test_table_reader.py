@@ -84,16 +84,16 @@ GOOD: dict[str, bytes] = {
 @pytest.mark.parametrize("name", BAD)
 def test_the_first_fault_is_that_of_the_program(name: str) -> None:
     text, line, cause = BAD[name]
-    with TableText("own.utb", text) as table:
-        first = table.reading.first
+    table = TableText("own.utb", text)
+    first = table.reading.first
     assert first is not None
     assert (first.line, first.cause) == (line, cause)
 
 
 @pytest.mark.parametrize("name", GOOD)
 def test_a_sound_text_is_accepted_by_both(name: str) -> None:
-    with TableText("own.utb", GOOD[name]) as table:
-        assert table.reading.faults == ()
+    table = TableText("own.utb", GOOD[name])
+    assert table.reading.faults == ()
 
 
 def test_each_cause_is_among_the_bad_texts() -> None:
@@ -174,15 +174,16 @@ PIECES: dict[str, list[tuple[str, int, str]]] = {
 
 
 def test_prints_are_taken_to_the_pieces_of_a_table() -> None:
-    with TableText("own.utb", TABLE) as table:
-        for text, wanted in PIECES.items():
-            cells, found = table.pieces(text)
-            parts = [(it.text, it.chosen.line, it.braille) for it in found]
-            assert (parts, cells) == (wanted, "".join(it[2] for it in wanted)), text
+    table = TableText("own.utb", TABLE)
+    for text, wanted in PIECES.items():
+        cells, found = table.pieces(text)
+        parts = [(it.text, it.chosen.line, it.braille) for it in found]
+        assert (parts, cells) == (wanted, "".join(it[2] for it in wanted)), text
 
 
 def test_a_print_with_an_undefined_character_is_refused() -> None:
-    with TableText("own.utb", TABLE) as table, pytest.raises(Refused) as refused:
+    table = TableText("own.utb", TABLE)
+    with pytest.raises(Refused) as refused:
         table.pieces("ab d")
     assert refused.value.sentence == (
         "The table “own.utb” has no cells for “d” (U+0064 LATIN SMALL LETTER D), character 4 of"
@@ -191,12 +192,12 @@ def test_a_print_with_an_undefined_character_is_refused() -> None:
 
 
 def test_a_print_that_is_too_long_is_refused() -> None:
-    with TableText("own.utb", TABLE) as table:
-        assert table.pieces("a" * 4_000)[0] == "⠁" * 4_000
-        for text, code in (("a" * 4_001, 14), ("é" * 32_769, 1)):
-            with pytest.raises(Refused) as refused:
-                table.pieces(text)
-            assert refused.value.code == code
+    table = TableText("own.utb", TABLE)
+    assert table.pieces("a" * 4_000)[0] == "⠁" * 4_000
+    for text, code in (("a" * 4_001, 14), ("é" * 32_769, 1)):
+        with pytest.raises(Refused) as refused:
+            table.pieces(text)
+        assert refused.value.code == code
 
 
 def program_that(tmp_path: Path, does: str) -> Path:
@@ -228,11 +229,11 @@ def test_a_table_that_only_the_program_refuses_is_not_answered(
 def test_cells_that_differ_are_not_answered(
     answer: str, said: str, tmp_path: Path, monkeypatch: pytest.MonkeyPatch
 ) -> None:
-    with TableText("own.utb", TABLE) as table:
-        does = f"echo '{answer}'"
-        monkeypatch.setenv("BRAILDESK", str(program_that(tmp_path, does)))
-        with pytest.raises(Disagreement) as differs:
-            table.pieces("a")
+    table = TableText("own.utb", TABLE)
+    does = f"echo '{answer}'"
+    monkeypatch.setenv("BRAILDESK", str(program_that(tmp_path, does)))
+    with pytest.raises(Disagreement) as differs:
+        table.pieces("a")
     assert differs.value.sentence.startswith(
         f"braildesk and scribe differ on the table “own.utb”: for “a” braildesk {said}, and"
         " scribe gives the cells ⠁⠁."

@@ -1,21 +1,19 @@
 """What is found here beside what the program answers: where the two differ, nothing is answered."""
 
-import tempfile
-from contextlib import AbstractContextManager
-from dataclasses import dataclass, replace
+from dataclasses import dataclass
 from os import fspath
-from types import TracebackType
 
 from braildesk import limits, opening
 from braildesk import program as programs
-from braildesk.asked import Line, TableFile
+from braildesk.asked import TableFile
 from braildesk.characters import shortened
 from braildesk.named_files import TooLarge, read_file
 from braildesk.profile.reading import Reading, read
 from braildesk.profile.tiling import Piece, braille, pieces, undefined_place
 from braildesk.program import StrPath
-from braildesk.refusals import Failed, Refused, cannot_open, refused_as
+from braildesk.refusals import Failed, Refused, cannot_open
 from braildesk.sentences import Why
+from braildesk.values import Table
 
 _UNREADABLE = 1
 _BAD_TABLE = 8
@@ -35,35 +33,21 @@ class _Refusal:
     place: int | None = None
 
 
-class TableText(AbstractContextManager["TableText"]):
+class TableText:
     """The text of a table at one moment, read here and by the program.
 
-    The program reads a copy, so that both read the same whatever is saved meanwhile.
+    The program is handed this text and not the file, so that both read the same whatever is saved
+    meanwhile.
     """
 
     def __init__(self, path: StrPath, text: bytes) -> None:
         self.path = fspath(path)
         self.text = text
-        self._copy = tempfile.NamedTemporaryFile(suffix=".utb")
-        try:
-            self._copy.write(text)
-            self._copy.flush()
-            self.reading = self._read()
-        except BaseException:
-            self._copy.close()
-            raise
+        self.reading = self._read()
 
-    def __exit__(
-        self,
-        kind: type[BaseException] | None,
-        error: BaseException | None,
-        trace: TracebackType | None,
-    ) -> None:
-        self.close()
-
-    def close(self) -> None:
-        """Removes the copy."""
-        self._copy.close()
+    @property
+    def _table(self) -> Table:
+        return Table(self.path, self.text)
 
     def pieces(self, line: str) -> tuple[str, list[Piece]]:
         """The program's braille of a line, and the pieces that it is made of.
@@ -72,11 +56,10 @@ class TableText(AbstractContextManager["TableText"]):
         differ. The table has to be one that is accepted.
         """
         found = _found(self.reading, line)
-        (answer,) = programs.translate(self._copy.name, [line])
+        (answer,) = programs.translate(self._table, [line])
         if isinstance(answer, Refused):
             if found == _Refusal(answer.code, answer.place):
-                asked = Line(self.path, line)
-                raise refused_as(replace(answer.refusal, asked=asked))
+                raise answer
         elif isinstance(found, list) and braille(found) == answer:
             return answer, found
         raise self._differs(
@@ -97,7 +80,7 @@ class TableText(AbstractContextManager["TableText"]):
     def _said(self) -> tuple[int, int | None] | None:
         """The line and the cause by which the program refuses the text, if it does."""
         try:
-            programs.translate(self._copy.name, [])
+            programs.translate(self._table, [])
         except Refused as refused:
             if refused.code != _BAD_TABLE or refused.line is None:
                 raise

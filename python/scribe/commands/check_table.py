@@ -46,8 +46,7 @@ def add_parser(subparsers: Subparsers) -> ArgumentParser:
 
 def run(arguments: Namespace, console: Console) -> Status:
     """Shows the faults, or the warnings where there is none."""
-    with TableText(arguments.table, text_at(arguments.table)) as table:
-        reading = table.reading
+    reading = TableText(arguments.table, text_at(arguments.table)).reading
     rare = warnings(reading.table, is_for_embosser=not arguments.display)
     found = [] if reading.faults else rare
     for line in [*fault_lines(reading), *warning_lines(found, reading)]:

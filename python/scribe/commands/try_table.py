@@ -85,7 +85,8 @@ def add_parser(subparsers: Subparsers) -> ArgumentParser:
 
 def run(arguments: Namespace, console: Console) -> Status:
     """Answers line after line until the person ends it."""
-    with Trial(arguments.table) as trial, _lines(console) as lines:
+    trial = Trial(arguments.table)
+    with _lines(console) as lines:
         talk = _Talk(trial, lines, console, arguments.width)
         talk.show(*trial.state(), "Type print, or quit to end.")
         last = ""

@@ -79,7 +79,6 @@ class Desk:
 
     def close(self) -> None:
         """Ends the session; what was kept is in the book."""
-        self.tables.close()
         self._session.close()
 
     def first_state(self, size: Size, by: str | None, is_ascii: bool) -> State:

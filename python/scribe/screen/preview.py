@@ -1,10 +1,8 @@
 """The braille of print that isn't in the book yet, by `braildesk translate`."""
 
-import tempfile
 from collections.abc import Sequence
-from pathlib import Path
 
-from braildesk import DeskError, Refused, translate
+from braildesk import DeskError, Refused, Table, translate
 from braildesk.characters import around, named
 
 from scribe.screen.state import Preview
@@ -12,38 +10,32 @@ from scribe.sequences import composed
 
 # the number of a refusal that names a character which the table lacks
 _UNDEFINED = 7
+# the name by which the program calls its own table
+_SUPPLIED = "@en"
 
 
 class Tables:
     """The texts of the book's tables, as they were before the session began and as sent since."""
 
     def __init__(self) -> None:
-        self._texts: dict[str, bytes] = {}
-        self._folder = tempfile.TemporaryDirectory(prefix="scribe-")
-
-    def close(self) -> None:
-        """Takes away the files of the texts."""
-        self._folder.cleanup()
+        #: Each by its name; the supplied table has no text of its own.
+        self._tables: dict[str, Table | None] = {}
 
     @property
     def names(self) -> tuple[str, ...]:
         """The names of the tables."""
-        return tuple(sorted(self._texts))
+        return tuple(sorted(self._tables))
 
     def put(self, name: str, text: bytes | None) -> None:
         """Keeps the text of a table; None is the supplied one."""
-        self._texts[name] = b"" if text is None else text
-        if text is None:
-            self._path(name).unlink(missing_ok=True)
-        else:
-            self._path(name).write_bytes(text)
+        self._tables[name] = None if text is None else Table(name, text)
 
     def preview(self, name: str, typed: str, text: str) -> Preview:
         """The braille of a print, for what is typed; or the first character that is lacking."""
         try:
             (answer,) = self._answers(name, [text])
-        except (DeskError, OSError) as failed:
-            return Preview(typed, fault=f"There is no preview: {failed}")
+        except DeskError as failed:
+            return Preview(typed, fault=f"There is no preview. {failed}")
         if not isinstance(answer, Refused):
             return Preview(typed, answer)
         return Preview(typed, fault=_fault(name, text, answer))
@@ -53,7 +45,7 @@ class Tables:
         texts = list(map(composed, lines))
         try:
             found = self._answers(name, texts)
-        except (DeskError, OSError):
+        except DeskError:
             # each line is checked again when it is sent
             return ""
         for number, (text, answer) in enumerate(zip(texts, found), 1):
@@ -62,11 +54,7 @@ class Tables:
         return ""
 
     def _answers(self, name: str, texts: Sequence[str]) -> list[str | Refused]:
-        path = self._path(name)
-        return translate(path if path.exists() else "@en", texts)
-
-    def _path(self, name: str) -> Path:
-        return Path(self._folder.name, f"{name}.utb")
+        return translate(self._tables[name] or _SUPPLIED, texts)
 
 
 def _fault(name: str, text: str, refused: Refused) -> str:
