@@ -29,12 +29,10 @@ class Why(StrEnum):
 SENTENCES = MappingProxyType(
     {
         1: "{unreadable} {nothing}",
-        2: "The book has no paragraph {paragraph}. {nothing} The list of the book shows which"
-        " numbers there are.",
+        2: "The book has no paragraph {paragraph}{there}. {nothing}{look}",
         3: "The book has no table {table}. {nothing} Add that table first, or name one that is"
         " there.",
-        4: "The book has no mark {mark}. {nothing} The marks of a paragraph show which numbers"
-        " there are.",
+        4: "The book has no mark {mark}. {nothing} The request marks shows those of a paragraph.",
         5: "{span} {nothing}",
         6: "A {kind} can't have {character}, which is character {number} of this one{around}."
         " {nothing} Take it out.",

@@ -27,7 +27,7 @@ from braildesk.values import (
     Style,
     Typed,
 )
-from braildesk.wording import Refusal, line_of
+from braildesk.wording import Refusal, in_words
 
 #: How many requests are under way at most, and how many bytes of them wait to be written. More
 #: would be no faster, and where somebody stops in the middle, the more would be carried out.
@@ -35,6 +35,8 @@ _AHEAD = 512
 _AHEAD_BYTES = 1 << 16
 #: How many are written at once, where nothing has to be waited for.
 _GROUP = 128
+#: The code of a paragraph that isn't there.
+_NO_PARAGRAPH = 2
 
 
 class Session:
@@ -239,15 +241,17 @@ class Session:
         return reply
 
     def _explained(self, refusal: Refused) -> Refused:
-        """The refusal with what the book shows of the paragraph, where its sentence needs that."""
+        """The refusal with what the book shows, where its sentence needs that."""
         query = _query_about(refusal)
-        if query is None:
-            return refusal
         try:
-            shown = self.ask(query)
+            if refusal.code == _NO_PARAGRAPH:
+                count = len(self.ask(requests.List()))
+                return refused_as(replace(refusal.refusal, count=count))
+            if query is not None:
+                return refused_as(replace(refusal.refusal, shown=self.ask(query)))
         except (Refused, Lost):
-            return refusal
-        return refused_as(replace(refusal.refusal, shown=shown))
+            pass
+        return refusal
 
     def _lose(self, kind: type[Lost], sentence: str) -> Lost:
         """The exception of a session that can't go on."""
@@ -260,7 +264,7 @@ class Session:
         if self._acknowledged is None:
             return "Nothing was changed by this session."
         return (
-            f"The last command that was reported as kept is {line_of(self._acknowledged)}, by which"
+            f"The last command that was reported as kept is {in_words(self._acknowledged)}, by which"
             f" the book came to version {self._seen}. All up to it is in the book. Open the book"
             " again, and see whether what was sent after it is there too."
         )

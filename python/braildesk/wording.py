@@ -31,6 +31,8 @@ class Refusal:
     why: Why = Why.UNKNOWN
     #: The print or the braille of the paragraph, where it was looked up for the sentence.
     shown: str | None = None
+    #: How many paragraphs the book has, where that was looked up for the sentence.
+    count: int | None = None
 
 
 def worded(refusal: Refusal) -> str:
@@ -46,9 +48,47 @@ def worded(refusal: Refusal) -> str:
     return sentence.format_map(fields)
 
 
-def line_of(request: Request[Any]) -> str:
-    """The front of the line of a request, in quotation marks."""
+def in_words(request: Request[Any]) -> str:
+    """What a command makes, as a sentence names it; the front of a query's line."""
+    match request:
+        case requests.Table(table=name):
+            return f"the table {_plain(name)}"
+        case requests.Supply(table=name):
+            return f"the supplied table as {_plain(name)}"
+        case requests.Type(text=text):
+            return f"the new paragraph {shortened(text)}"
+        case requests.Resolve(mark=mark):
+            return f"the resolving of mark {mark}"
+        case requests.OfParagraph(paragraph=paragraph) if isinstance(
+            request, requests.Command
+        ):
+            return _of_paragraph(request, paragraph)
     return shortened(" ".join(request.head()))
+
+
+def _of_paragraph(command: requests.Command[Any], paragraph: int) -> str:
+    """What a command makes of a paragraph."""
+    of = f"of paragraph {paragraph}"
+    match command:
+        case requests.Correct():
+            return f"the correction {of}"
+        case requests.Undo():
+            return f"the undo in paragraph {paragraph}"
+        case requests.Mark(note=note):
+            return f"the mark {shortened(note)} in paragraph {paragraph}"
+        case requests.Strike():
+            return f"the striking {of}"
+        case requests.Restore():
+            return f"the restoring {of}"
+        case requests.Style(style=style):
+            return f"the style {style} {of}"
+        case requests.Volume(begins=begins):
+            return f"that paragraph {paragraph} begins {'a' if begins else 'no'} volume"
+        case requests.Retable(table=name):
+            return f"the table {_plain(name)} {of}"
+        case requests.Move():
+            return f"the move {of}"
+    return f"the change {of}"
 
 
 class _Fields:
@@ -92,6 +132,25 @@ class _Fields:
         return "of this number"
 
     @property
+    def there(self) -> str:
+        """Which paragraphs the book has, after what it doesn't have."""
+        match self._refusal.count:
+            case None:
+                return ""
+            case 0:
+                return ": it has none yet"
+            case 1:
+                return ": it has paragraph 1 alone"
+        return f": it has the paragraphs 1 to {self._refusal.count}"
+
+    @property
+    def look(self) -> str:
+        """By what it is seen which paragraphs the book has, where that isn't said."""
+        if self._refusal.count is not None:
+            return ""
+        return " The request list shows which there are."
+
+    @property
     def table(self) -> str:
         """The table that is spoken of, by its name or its file."""
         match self._asked:
@@ -107,9 +166,12 @@ class _Fields:
 
     @property
     def command(self) -> str:
-        """The request that was sent."""
+        """The request that was sent, at the front of a sentence."""
         asked = self._asked
-        return line_of(asked) if isinstance(asked, requests.Request) else "This"
+        if not isinstance(asked, requests.Request):
+            return "This"
+        words = in_words(asked)
+        return words[:1].upper() + words[1:]
 
     @property
     def mark(self) -> str:

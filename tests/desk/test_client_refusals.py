@@ -25,6 +25,7 @@ from braildesk import (
 )
 from braildesk.asked import BookFile
 from braildesk.characters import around, named
+from braildesk.refusals import refused
 from braildesk.requests import Request
 from braildesk.sentences import CAUSES, LIMITS, PARTS, SENTENCES, UNOPENED
 from braildesk.wording import Refusal, worded
@@ -109,21 +110,20 @@ SAID: list[tuple[Request[Any], int, dict[str, int], str]] = [
         requests.Print(9),
         2,
         {},
-        "The book has no paragraph 9. The list of the book shows which numbers there are.",
+        "The book has no paragraph 9: it has the paragraphs 1 to 3.",
     ),
     (
         requests.Type(7, "en", "a"),
         2,
         {},
-        "The book has no paragraph 7. Nothing was added. The list of the book shows which numbers"
-        " there are.",
+        "The book has no paragraph 7: it has the paragraphs 1 to 3. Nothing was added.",
     ),
     (
         requests.Move(1, 8),
         2,
         {},
-        "The book has no paragraph 1, or no paragraph 8. Nothing was changed. The list of the"
-        " book shows which numbers there are.",
+        "The book has no paragraph 1, or no paragraph 8: it has the paragraphs 1 to 3. Nothing"
+        " was changed.",
     ),
     (
         requests.Type("end", "De", "a"),
@@ -143,8 +143,8 @@ SAID: list[tuple[Request[Any], int, dict[str, int], str]] = [
         requests.Resolve(2),
         4,
         {},
-        "The book has no mark 2. Nothing was changed. The marks of a paragraph show which numbers"
-        " there are.",
+        "The book has no mark 2. Nothing was changed. The request marks shows those of a"
+        " paragraph.",
     ),
     (
         requests.Correct(1, 20, 3, "x"),
@@ -311,6 +311,68 @@ SAID: list[tuple[Request[Any], int, dict[str, int], str]] = [
         " was changed. A name has 1 to 40 characters, none of them a blank.",
     ),
 ]
+
+
+@pytest.mark.parametrize(
+    "count, there",
+    [(0, "it has none yet"), (1, "it has paragraph 1 alone")],
+)
+def test_a_paragraph_that_is_not_in_a_small_book_is_refused(
+    count: int, there: str, book: Path
+) -> None:
+    with Session(book) as session:
+        for _ in range(count):
+            session.type("end", "en", "The moon")
+        with pytest.raises(Refused) as caught:
+            session.strike(2)
+    assert caught.value.sentence == (
+        f"The book has no paragraph 2: {there}. Nothing was changed."
+    )
+
+
+def test_a_paragraph_that_is_asked_for_among_others_is_refused(book: Path) -> None:
+    with Session(book) as session:
+        (refused_,) = session.each([requests.Strike(2)])
+    assert isinstance(refused_, Refused)
+    assert refused_.sentence == (
+        "The book has no paragraph 2. Nothing was changed. The request list shows which there"
+        " are."
+    )
+
+
+#: Commands, and the words by which a person reads of one that could not be kept.
+NAMED: list[tuple[Request[Any], str]] = [
+    (requests.Table("own", b"letter a 1\n"), "The table own"),
+    (requests.Supply("en"), "The supplied table as en"),
+    (requests.Type(1, "en", "The moon"), "The new paragraph “The moon”"),
+    (requests.Correct(1, 0, 0, "aa", expect=712), "The correction of paragraph 1"),
+    (requests.CorrectBy(3, 0, 0, "a", who="anna"), "The correction of paragraph 3"),
+    (requests.Undo(2), "The undo in paragraph 2"),
+    (requests.Mark(2, 0, 1, "so?"), "The mark “so?” in paragraph 2"),
+    (requests.Resolve(4), "The resolving of mark 4"),
+    (requests.Strike(2), "The striking of paragraph 2"),
+    (requests.Restore(2), "The restoring of paragraph 2"),
+    (requests.Style(2, Style.HEADING), "The style heading of paragraph 2"),
+    (requests.Volume(2, True), "That paragraph 2 begins a volume"),
+    (requests.Volume(2, False), "That paragraph 2 begins no volume"),
+    (requests.Retable(2, "own"), "The table own of paragraph 2"),
+    (requests.Move(2, "front"), "The move of paragraph 2"),
+]
+
+
+def test_each_command_has_its_words() -> None:
+    assert {type(request) for request, _ in NAMED} == {
+        *requests.Command.__subclasses__(),
+        requests.CorrectBy,
+    }
+
+
+@pytest.mark.parametrize("request_, words", NAMED, ids=lambda v: repr(v)[:40])
+def test_a_command_that_could_not_be_kept_is_named_in_words(
+    request_: Request[Any], words: str
+) -> None:
+    sentence = refused(91, (), request_).sentence
+    assert sentence.startswith(f"{words} could not be kept, since the file of the book")
 
 
 @pytest.mark.parametrize(

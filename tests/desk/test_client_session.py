@@ -235,7 +235,7 @@ def test_of_a_killed_session_all_that_was_reported_as_kept_is_there(
     assert (lost.version, lost.answered) == (len(kept) + 1, len(kept))
     assert lost.sentence == (
         "The session was ended by signal 9. The last command that was reported as kept is"
-        f" “type end en line {len(kept) - 1}”, by which the book came to version {lost.version}."
+        f" the new paragraph “line {len(kept) - 1}”, by which the book came to version {lost.version}."
         " All up to it is in the book. Open the book again, and see whether what was sent after it"
         " is there too."
     )
@@ -313,8 +313,8 @@ def test_a_command_that_the_file_does_not_take_is_lost(
     assert lost.acknowledged == requests.Type("end", "en", "x" * 3_000)
     assert lost.version == kept
     assert lost.sentence == (
-        f"“type end en {'x' * 48}…” could not be kept, since the file of the book could not be written or read. All"
-        " that was reported as kept before is in the book. See to the disk, and open the book"
+        f"The new paragraph “{'x' * 60}…” could not be kept, since the file of the book could not"
+        " be written or read. All that was reported as kept before is in the book. See to the disk, and open the book"
         " again: its version shows whether this is kept too."
     )
     with Session(book) as session:

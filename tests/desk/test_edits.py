@@ -38,13 +38,6 @@ CASES = {
             "Before, it was open. The book is at version 8.",
         ),
     ),
-    "a mark that isn't there is refused": (
-        ["resolve", "2"],
-        refused(
-            "The book has no mark 2. Nothing was changed. The marks of a paragraph show"
-            " which numbers there are."
-        ),
-    ),
     "a paragraph is struck": (
         ["strike", "2"],
         shown(
@@ -92,8 +85,7 @@ CASES = {
     "a paragraph that isn't there can't be moved": (
         ["move", "9", "end"],
         refused(
-            "The book has no paragraph 9. Nothing was changed. The list of the book shows"
-            " which numbers there are."
+            "The book has no paragraph 9: it has the paragraphs 1 to 3. Nothing was changed."
         ),
     ),
     "a paragraph gets another table, and its cells are shown": (
@@ -118,6 +110,15 @@ CASES = {
 def test_what_is_seen(name: str, moon: Path) -> None:
     (command, *rest), expected = CASES[name]
     assert scribe(command, moon, *rest, folder=moon.parent) == expected
+
+
+def test_a_mark_that_is_not_there_is_refused_with_the_command_that_shows_them(
+    moon: Path,
+) -> None:
+    assert scribe("resolve", moon.name, "2", folder=moon.parent) == refused(
+        "The book has no mark 2. Nothing was changed. scribe marks moon.braildesk shows which"
+        " there are."
+    )
 
 
 def test_a_restored_paragraph_is_shown_with_what_it_was(moon: Path) -> None:

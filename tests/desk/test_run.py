@@ -295,7 +295,10 @@ def test_a_session_that_is_lost_says_what_was_kept(moon: Path) -> None:
     given = "strike 1\nstrike 2\nstrike 3\n"
     ran = scribe("run", moon, folder=moon.parent, given=given, BRAILDESK=str(program))
     assert (ran.status, ran.shown) == (3, "ok 8\n")
-    assert "The last command that was reported as kept is “strike 1”" in ran.said
+    assert (
+        "The last command that was reported as kept is the striking of paragraph 1"
+        in ran.said
+    )
     assert braildesk.check(moon) == 8
 
 

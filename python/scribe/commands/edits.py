@@ -1,12 +1,13 @@
 """The commands that send one request each, and show what it changed."""
 
 import argparse
+import shlex
 from argparse import ArgumentParser, Namespace
 from collections.abc import Callable
 from dataclasses import dataclass
 from typing import Any
 
-from braildesk import Session, Style, requests
+from braildesk import Refused, Session, Style, requests
 from braildesk.requests import Command
 
 from scribe.changes import carried_out
@@ -19,9 +20,12 @@ from scribe.parser import (
     after,
     number,
 )
-from scribe.status import Status
+from scribe.status import Status, Stop
 from scribe.texts import words
 from scribe.width import add_width
+
+# the number of the refusal of a mark that isn't there
+_NO_MARK = 4
 
 
 @dataclass(frozen=True)
@@ -48,9 +52,22 @@ class Edit:
     def run(self, arguments: Namespace, console: Console) -> Status:
         """Sends the request, and shows what it changed."""
         with Session(arguments.file) as session:
-            lines = carried_out(session, self.request(arguments), arguments.width)
+            try:
+                lines = carried_out(session, self.request(arguments), arguments.width)
+            except Refused as refused:
+                if refused.code == _NO_MARK:
+                    raise Stop(_no_mark(arguments)) from refused
+                raise
         console.show(*lines)
         return Status.DONE
+
+
+def _no_mark(arguments: Namespace) -> str:
+    command = shlex.join(["scribe", "marks", str(arguments.file)])
+    return (
+        f"The book has no mark {arguments.mark}. Nothing was changed. {command} shows which there"
+        " are."
+    )
 
 
 def switch(word: str) -> bool:
