@@ -1,6 +1,5 @@
 """The requests of a book as people write them: head lines, read by the grammar of docs/FORMATS.md."""
 
-import difflib
 import re
 from collections.abc import Callable
 from dataclasses import dataclass, replace
@@ -9,6 +8,8 @@ from typing import Any
 from braildesk import limits, requests
 from braildesk.requests import Command, Request
 from braildesk.values import Style
+
+from scribe.elsewhere import AMONG_REQUESTS, hint
 
 _NUMBER = re.compile("[0-9]{1,16}")
 _SWITCH = {"on": True, "off": False}
@@ -244,9 +245,7 @@ def read_head(line: bytes) -> Request[Any] | TableHead:
 
 def unknown_request(name: str) -> str:
     """What is said of a word that is no request."""
-    near = difflib.get_close_matches(name, BY_NAME, n=1)
-    guess = f" Did you mean {near[0]}?" if near else ""
-    return f"There is no request “{name[:40]}”.{guess}"
+    return f"There is no request “{name[:40]}”.{hint(name, BY_NAME, AMONG_REQUESTS)}"
 
 
 def _expected(text: str) -> tuple[int | None, str]:

@@ -1,13 +1,13 @@
 """The words of the command line: a parser that speaks in sentences, and what its words are."""
 
 import argparse
-import difflib
 from collections.abc import Sequence
 from pathlib import Path
 from typing import Any, NoReturn
 
 from braildesk import After
 
+from scribe.elsewhere import AT_SHELL, hint
 from scribe.version import version
 
 # The object on which a command calls add_parser.
@@ -121,6 +121,5 @@ def after(word: str) -> After:
 
 def unknown_command(word: str, names: Sequence[str]) -> str:
     """What is said of a word that is no command."""
-    near = difflib.get_close_matches(word, names, n=1)
-    guess = f" Did you mean {near[0]}?" if near else ""
-    return f"There is no command {word}.{guess} The commands are {', '.join(names)}."
+    said = hint(word, names, AT_SHELL)
+    return f"There is no command {word}.{said} The commands are {', '.join(names)}."

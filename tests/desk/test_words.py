@@ -10,7 +10,11 @@ import pytest
 
 import braildesk
 from braildesk import Session
+from scribe import help
 from scribe.cli import make_parser
+from scribe.elsewhere import AMONG_REQUESTS, AT_PROMPT, AT_SHELL
+from scribe.grammar import BY_NAME, unknown_request
+from scribe.parser import unknown_command
 from tool import ROOT, Ran, environment, scribe
 
 NAMES = make_parser()[1]
@@ -107,6 +111,54 @@ def test_a_word_that_is_nearly_a_command_is_guessed(tmp_path: Path) -> None:
     assert ran.said.startswith(
         "There is no command unod. Did you mean undo? The commands"
     )
+
+
+@pytest.mark.parametrize(
+    "word, sentence",
+    [
+        ("zebra", "There is no command zebra. The commands are new, edit,"),
+        # two of its letters stand in "try"
+        (
+            "history",
+            "There is no command history. The key h of scribe edit shows the history of a"
+            " paragraph, and so does history at scribe talk. The commands are",
+        ),
+        (
+            "type",
+            "There is no command type. scribe import types the paragraphs of a text, and type is"
+            " a request of scribe talk. The commands are",
+        ),
+        ("exprot", "There is no command exprot. Did you mean export? The commands"),
+    ],
+)
+def test_a_word_is_guessed_only_where_it_is_near_and_named_where_it_is_known(
+    word: str, sentence: str
+) -> None:
+    assert unknown_command(word, NAMES).startswith(sentence)
+
+
+def test_a_word_of_another_place_is_named_at_a_prompt_and_among_requests(
+    moon: Path,
+) -> None:
+    given = "import moon.txt\nhistroy 1\nhelp export\n"
+    ran = scribe("talk", moon, "--width", "200", folder=moon.parent, given=given)
+    assert ran.said.splitlines() == [
+        "There is no import. import is a command of the shell, where scribe import --help says"
+        " more. End this first, since the book is in use here. help says what can be typed.",
+        "There is no histroy. Did you mean history? help says what can be typed.",
+        "There is no export. export is a command of the shell, where scribe export --help says"
+        " more. End this first, since the book is in use here. help says what can be typed.",
+    ]
+    assert unknown_request("mark-text") == (
+        "There is no request “mark-text”. mark-text is a command of scribe talk."
+    )
+
+
+def test_each_word_of_another_place_is_known() -> None:
+    requests, prompt = set(BY_NAME), set(help.names())
+    assert set(AT_SHELL) == prompt - set(NAMES)
+    assert set(AT_PROMPT) == set(NAMES) - prompt
+    assert set(AMONG_REQUESTS) == (set(NAMES) | prompt) - requests
 
 
 def test_a_file_that_is_not_there_is_refused(tmp_path: Path) -> None:

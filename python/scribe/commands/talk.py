@@ -1,6 +1,5 @@
 """`scribe talk`: a book at a prompt, in words."""
 
-import difflib
 import shutil
 from argparse import ArgumentParser, Namespace
 from contextlib import AbstractContextManager, nullcontext
@@ -11,6 +10,7 @@ from scribe import help
 from scribe.console import Console
 from scribe.conversation import Conversation, Ended, request_line
 from scribe.dialogues import DIALOGUES
+from scribe.elsewhere import AT_PROMPT, hint
 from scribe.grammar import BY_NAME
 from scribe.parser import Subparsers, add_file, command_parser
 from scribe.status import Status, Stop
@@ -127,6 +127,5 @@ def _help(conversation: Conversation, name: str) -> None:
 
 
 def _unknown(name: str) -> str:
-    near = difflib.get_close_matches(name, help.names(), n=1)
-    guess = f" Did you mean {near[0]}?" if near else ""
-    return f"There is no {visible(name[:40])}.{guess} help says what can be typed."
+    said = hint(name, help.names(), AT_PROMPT)
+    return f"There is no {visible(name[:40])}.{said} help says what can be typed."
