@@ -1,6 +1,5 @@
 """The command line: its words are parsed, a command runs, and what went wrong is said once."""
 
-import os
 import sys
 from collections.abc import Sequence
 from contextlib import suppress
@@ -9,6 +8,8 @@ from braildesk import DeskError, Failed, NoProgram
 
 from scribe.commands import COMMANDS
 from scribe.console import Console, OutputFailed
+from scribe.endings import ended
+from scribe.failures import of_system
 from scribe.parser import Parser, TextAsked, WordsRefused, unknown_command
 from scribe.status import Status, Stop
 
@@ -20,7 +21,8 @@ statuses:
   0  done
   1  the words are refused
   2  something is refused: a request, a book, a table, a text
-  3  something failed: a file, the disk, standard input or output"""
+  3  something failed: a file, the disk, standard input or output, scribe itself
+After Ctrl-C (SIGINT), SIGTERM and SIGHUP scribe says what is so, and ends by that signal."""
 
 
 def make_parser() -> tuple[Parser, list[str]]:
@@ -60,24 +62,24 @@ def run_words(words: Sequence[str], console: Console) -> Status:
     except DeskError as refused_by_desk:
         console.say(refused_by_desk.sentence)
         return Status.REFUSED
+    except OSError as failure:
+        console.say(of_system(failure))
+        return Status.FAILED
 
 
 def main() -> int:
-    """Runs the words of this process."""
+    """Runs the words of this process, and gives its status."""
+    return ended(_run_process)
+
+
+def _run_process() -> int:
+    console = Console.of_process()
     try:
-        console = Console.of_process()
         status = run_words(sys.argv[1:], console)
         console.flush()
         return status
-    except OutputFailed as failed:
-        if not failed.reader_left:
-            _say_last(failed.sentence)
-    except KeyboardInterrupt:
-        _say_last("Stopped. What was shown as done is done.")
-    return Status.FAILED
-
-
-def _say_last(sentence: str) -> None:
-    """Says a sentence where standard error is there, and nothing else may be."""
-    with suppress(OSError):
-        os.write(2, f"{sentence}\n".encode())
+    except BaseException:
+        # what was shown comes before what is said of the end
+        with suppress(OutputFailed):
+            console.flush()
+        raise

@@ -1,9 +1,11 @@
 """Where a command reads and writes."""
 
+import errno
 import os
 import sys
 import time
 from collections.abc import Callable
+from contextlib import suppress
 from dataclasses import dataclass
 from typing import BinaryIO, TextIO
 
@@ -20,7 +22,7 @@ class NoInput(Failed):
     """Standard input can't be read."""
 
     def __init__(self, cause: OSError) -> None:
-        super().__init__(f"Standard input could not be read: {cause.strerror}.")
+        super().__init__(f"Standard input could not be read: {_why(cause)}.")
 
 
 class EndlessLine(Failed):
@@ -33,12 +35,15 @@ class EndlessLine(Failed):
 
 
 class OutputFailed(Exception):
-    """Standard output can't be written."""
+    """Standard output, or standard error, can't be written."""
 
-    def __init__(self, cause: OSError) -> None:
+    def __init__(self, cause: OSError, what: str = "Standard output") -> None:
         super().__init__(cause)
         self.reader_left = isinstance(cause, BrokenPipeError)
-        self.sentence = f"Standard output could not be written: {cause.strerror}."
+        self.sentence = (
+            f"{what} could not be written: {_why(cause)}. What was changed in a book before that"
+            " is kept."
+        )
 
 
 @dataclass(frozen=True)
@@ -53,11 +58,18 @@ class Console:
     input: BinaryIO
     output: TextIO
     errors: TextIO
+    #: Raises Interrupted where the work is to end: at the process's own streams a signal does that.
+    check: Callable[[], None] = lambda: None
 
     @classmethod
     def of_process(cls) -> "Console":
-        """The streams of this process; OutputFailed where its output is closed."""
-        source = open(os.devnull, "rb") if sys.stdin is None else sys.stdin.buffer
+        """The streams of this process; OutputFailed where its output is closed.
+
+        What can't be said, since the errors are closed, isn't missed by anybody.
+        """
+        if sys.stdout is None:
+            raise OutputFailed(OSError(errno.EBADF, os.strerror(errno.EBADF)))
+        source = _closed_input() if sys.stdin is None else sys.stdin.buffer
         try:
             return cls(source, _utf8_writer(1), _utf8_writer(2))
         except OSError as cause:
@@ -98,26 +110,40 @@ class Console:
     def say(self, *sentences: str) -> None:
         """Writes sentences, after all that was shown before them."""
         self.flush()
-        self.errors.writelines(visible(sentence) + "\n" for sentence in sentences)
-        self.errors.flush()
+        try:
+            self.errors.writelines(visible(sentence) + "\n" for sentence in sentences)
+            self.errors.flush()
+        except OSError as cause:
+            raise OutputFailed(cause, "Standard error") from cause
 
     def progress(self, what: str) -> Callable[[int, int], None]:
         """A function of how many are done, of how many, that says so from time to time.
 
         Where the errors are no terminal nothing is said. Each sentence is a line of its own, since
-        a line that is written over can't be followed by a screen reader.
+        a line that is written over can't be followed by a screen reader. Where nothing more can be
+        said the work goes on.
         """
-        if not self.errors.isatty():
-            return lambda done, total: None
+        is_followed = self.errors.isatty()
         last = time.monotonic()
 
         def report(done: int, total: int) -> None:
             nonlocal last
-            if time.monotonic() - last >= PROGRESS_SECONDS:
+            self.check()
+            if is_followed and time.monotonic() - last >= PROGRESS_SECONDS:
                 last = time.monotonic()
-                self.say(f"{done:,} of {total:,} {what}.")
+                with suppress(OutputFailed):
+                    self.say(f"{done:,} of {total:,} {what}.")
 
         return report
+
+
+def _closed_input() -> BinaryIO:
+    """An input that can't be read, as one that was closed."""
+    return open(os.open(os.devnull, os.O_WRONLY), "rb")
+
+
+def _why(cause: OSError) -> str:
+    return "it is closed" if cause.errno == errno.EBADF else str(cause.strerror)
 
 
 def _utf8_writer(descriptor: int) -> TextIO:

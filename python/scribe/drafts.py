@@ -8,7 +8,6 @@ path; they say that path, and the device and the inode of the book's file.
 import hashlib
 import json
 import os
-import pwd
 from collections.abc import Callable
 from pathlib import Path
 from typing import TypeVar
@@ -16,6 +15,7 @@ from typing import TypeVar
 from scribe.draft import Draft, draft_in
 from scribe.own_folder import MOST_BYTES, OwnFolder, Unfit, bytes_of, opened
 from scribe.record import NotSuch, Record
+from scribe.state_folder import state_folder
 from scribe.status import Stop
 
 #: How many texts that were given up are kept for a book.
@@ -34,7 +34,7 @@ class Drafts:
     def __init__(self, book: Path) -> None:
         self.book = Path(os.path.realpath(book))
         self._key = hashlib.sha256(os.fsencode(self.book)).hexdigest()[:32]
-        self._folder = OwnFolder(_state_home() / "braildesk")
+        self._folder = OwnFolder(state_folder())
 
     @property
     def place(self) -> Path:
@@ -172,20 +172,3 @@ def _identity(book: Path) -> list[int] | None:
     except OSError:
         return None
     return [found.st_dev, found.st_ino]
-
-
-def _state_home() -> Path:
-    """Where programs keep the state of their work for this user."""
-    named = Path(os.environ.get("XDG_STATE_HOME", ""))
-    return named if named.is_absolute() else _home() / ".local" / "state"
-
-
-def _home() -> Path:
-    """The home folder of this user; a path that isn't absolute where none is known."""
-    named = os.environ.get("HOME", "")
-    if named:
-        return Path(named)
-    try:
-        return Path(pwd.getpwuid(os.geteuid()).pw_dir)
-    except KeyError:
-        return Path()

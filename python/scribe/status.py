@@ -2,6 +2,7 @@
 
 import enum
 from collections.abc import Iterable
+import signal
 
 
 class Status(enum.IntEnum):
@@ -26,3 +27,33 @@ class Stop(Exception):
         self.sentence = "\n".join(self.lines)
         self.status = status
         super().__init__(self.sentence)
+
+
+class Interrupted(KeyboardInterrupt):
+    """A signal told scribe to end, between any two of its steps.
+
+    What was begun is ended in order, as after Ctrl-C, and the process ends by the same signal, so
+    that a loop of a shell stops too.
+    """
+
+    def __init__(self, number: signal.Signals, is_said: bool = False) -> None:
+        super().__init__(number)
+        self.number = number
+        #: Whether it was said already what became of the work.
+        self.is_said = is_said
+
+    @classmethod
+    def after(cls, cause: KeyboardInterrupt) -> "Interrupted":
+        """The one that ends scribe after it was said what became of the work."""
+        return cls(number_of(cause), is_said=True)
+
+
+def number_of(cause: KeyboardInterrupt) -> signal.Signals:
+    """The signal that stopped the work, which is that of Ctrl-C if nothing else says so."""
+    return cause.number if isinstance(cause, Interrupted) else signal.SIGINT
+
+
+def stopped_by(cause: KeyboardInterrupt) -> str:
+    """That the work was stopped, in a sentence."""
+    number = number_of(cause)
+    return "Stopped." if number is signal.SIGINT else f"Stopped by {number.name}."

@@ -18,7 +18,7 @@ from types import FrameType, TracebackType
 from typing import Protocol, Self
 
 from scribe.console import Console
-from scribe.status import Status, Stop
+from scribe.status import Interrupted, Status, Stop
 
 # where a terminal that collects lines cuts them, by n_tty(4)
 CUT_BYTES = 4_095
@@ -108,10 +108,7 @@ class TypedLines(AbstractContextManager["TypedLines"]):
         self._before = termios.tcgetattr(0)
 
     def __enter__(self) -> Self:
-        self._handlers = {
-            signal.SIGINT: signal.signal(signal.SIGINT, _nothing),
-            signal.SIGTERM: signal.signal(signal.SIGTERM, _leave),
-        }
+        self._interrupted = signal.signal(signal.SIGINT, _nothing)
         self._set(echoes=False)
         return self
 
@@ -121,9 +118,10 @@ class TypedLines(AbstractContextManager["TypedLines"]):
         error: BaseException | None,
         trace: TracebackType | None,
     ) -> None:
-        termios.tcsetattr(0, termios.TCSADRAIN, self._before)
-        for number, handler in self._handlers.items():
-            signal.signal(number, handler)
+        # a terminal that was closed needs no care
+        with suppress(termios.error):
+            termios.tcsetattr(0, termios.TCSADRAIN, self._before)
+        signal.signal(signal.SIGINT, self._interrupted)
 
     def line(
         self,
@@ -139,6 +137,9 @@ class TypedLines(AbstractContextManager["TypedLines"]):
             print()
             return None
         except Due:
+            print()
+            raise
+        except Interrupted:
             print()
             raise
         except KeyboardInterrupt:
@@ -190,7 +191,8 @@ class TypedLines(AbstractContextManager["TypedLines"]):
 
 def are_typed() -> bool:
     """Whether a person sits at a terminal that shows what is typed."""
-    return sys.stdin.isatty() and sys.stdout.isatty()
+    streams = (sys.stdin, sys.stdout)
+    return all(stream is not None and stream.isatty() for stream in streams)
 
 
 def _read_utf8() -> None:
@@ -203,11 +205,6 @@ def _read_utf8() -> None:
         os.environ["LC_ALL"] = "C.UTF-8"
         with suppress(locale.Error):
             locale.setlocale(locale.LC_CTYPE, "C.UTF-8")
-
-
-def _leave(number: int, frame: FrameType | None) -> None:
-    """What ends scribe from outside: the terminal is left as it was."""
-    raise SystemExit(Status.FAILED)
 
 
 def _nothing(number: int, frame: FrameType | None) -> None:

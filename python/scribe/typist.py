@@ -7,17 +7,25 @@ from braildesk import DeskError, Refused, Session
 
 from scribe.intake import Intake
 from scribe.readings import answers
-from scribe.status import Status, Stop
+from scribe.status import Status, Stop, stopped_by
 
 
 class CutShort(Exception):
     """The typing ended after some paragraphs were reported as kept."""
 
-    def __init__(self, done: int, sentence: str, status: Status) -> None:
+    def __init__(
+        self,
+        done: int,
+        sentence: str,
+        status: Status,
+        stopped: KeyboardInterrupt | None = None,
+    ) -> None:
         super().__init__(sentence)
         self.done = done
         self.sentence = sentence
         self.status = status
+        #: What stopped it, where that was a signal.
+        self.stopped = stopped
 
 
 def type_all(path: Path, intake: Intake, report: Callable[[int], None]) -> None:
@@ -33,7 +41,7 @@ def type_all(path: Path, intake: Intake, report: Callable[[int], None]) -> None:
             for _ in answers(session, intake.requests(), report):
                 done += 1
     except KeyboardInterrupt as cause:
-        raise CutShort(done, "Stopped.", Status.FAILED) from cause
+        raise CutShort(done, stopped_by(cause), Status.FAILED, cause) from cause
     except Refused as cause:
         raise CutShort(done, cause.sentence, Status.REFUSED) from cause
     except DeskError as cause:

@@ -16,10 +16,10 @@ from typing import IO
 #: How far a command has come when the deed is done: it was read here; half of its line was passed
 #: on; its reply was read here; its reply was passed back.
 READ, HALF, KEPT, ANSWERED = "read", "half", "kept", "answered"
-#: The deeds: the program or scribe is killed; all waits until a queue of the file system was read
+#: The deeds: the program or scribe is killed; scribe gets a signal; all waits until a queue of the file system was read
 #: and then written; the program isn't asked, and the words are the reply; the words are a request
 #: that goes before.
-KILL_PROGRAM, KILL_SCRIBE = "kill-program", "kill-scribe"
+KILL_PROGRAM, KILL_SCRIBE, SIGNAL = "kill-program", "kill-scribe", "signal"
 WAIT, REPLY, SEND = "wait", "reply", "send"
 
 
@@ -62,6 +62,8 @@ def _do(program: subprocess.Popen[bytes], deed: list[str]) -> bytes | None:
             os.kill(os.getpid(), signal.SIGKILL)
         case ["kill-scribe"]:
             os.kill(os.getppid(), signal.SIGKILL)
+        case ["signal", name]:
+            os.kill(os.getppid(), signal.Signals[name])
         case ["wait", path]:
             # each end waits for the other
             with open(path, "wb"):

@@ -118,6 +118,13 @@ class Terminal:
             self._read()
         assert self.cursor == cursor
 
+    def wait_left(self) -> None:
+        """Waits until the screen is left, and the terminal shows what it showed before."""
+        end = time.monotonic() + WAIT_SECONDS
+        while b"\x1b[?1049l" not in self.written:
+            assert time.monotonic() < end, self.lines
+            self._read()
+
     def settle(self) -> None:
         """Waits until nothing more is written for a while."""
         while self._read():

@@ -327,14 +327,16 @@ sys.exit(status)
 
 
 @pytest.mark.parametrize(
-    "process, signal, sentence",
+    "process, signal, sentence, status",
     [
-        ("os.getppid()", "SIGINT", "Stopped.\n"),
-        ("session.pid", "SIGKILL", "The session was ended"),
+        ("os.getppid()", "SIGINT", "Stopped.\n", -2),
+        ("os.getppid()", "SIGTERM", "Stopped by SIGTERM.\n", -15),
+        ("os.getppid()", "SIGHUP", "Stopped by SIGHUP.\n", -1),
+        ("session.pid", "SIGKILL", "The session was ended", 3),
     ],
 )
 def test_an_import_that_is_cut_short_says_what_is_in_the_book(
-    book: Path, program: str, process: str, signal: str, sentence: str
+    book: Path, program: str, process: str, signal: str, sentence: str, status: int
 ) -> None:
     between = book.parent / "between"
     between.write_text(
@@ -350,7 +352,7 @@ def test_an_import_that_is_cut_short_says_what_is_in_the_book(
         BRAILDESK=str(between),
         PROGRAM=program,
     )
-    assert (ran.status, ran.shown) == (3, "")
+    assert (ran.status, ran.shown) == (status, "")
     assert ran.said.startswith(sentence)
     found = re.search(r"--lines --after (\d+) --from (\d+)\n$", ran.said)
     assert found is not None

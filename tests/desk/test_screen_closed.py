@@ -9,6 +9,7 @@ import pytest
 from scribe.drafts import Drafts
 from stand_in import KEPT, READ, WAIT
 from terminal import Open, Terminal, once_free, standing_in
+from tool import ROOT
 
 HUNG_UP, SIGNALS = "hung up", ["SIGHUP", "SIGTERM", "SIGHUP SIGTERM"]
 WAYS = [HUNG_UP, *SIGNALS]
@@ -26,7 +27,7 @@ def close(terminal: Terminal, way: str) -> None:
 def check_has_ended(terminal: Terminal, way: str) -> None:
     """Waits until scribe has ended by itself, without what nobody understands."""
     status = terminal.left() if way == HUNG_UP else terminal.ended()
-    assert status == (0 if way == "SIGTERM" else 3)
+    assert status == (-signal.SIGTERM if way == "SIGTERM" else 3)
     assert terminal.said == ""
     assert b"Traceback" not in terminal.written
     assert b"Unhandled" not in terminal.written
@@ -146,3 +147,50 @@ def test_a_question_about_a_text_stays_where_it_isnt_answered(
     assert again.ended() == 3
     waits = Drafts(moon).waiting()
     assert waits and waits.text == "Oh, The moon is far away."
+
+
+def failing(folder: Path, failure: str) -> dict[str, str]:
+    """The settings by which text that is pasted fails in a way that nobody foresaw."""
+    (folder / "sitecustomize.py").write_text(
+        "import errno, os\n"
+        "from scribe.screen.desk import Desk\n\n"
+        "def paste(self, state, text):\n"
+        f"    raise {failure}\n\n"
+        "Desk.paste = paste\n"
+    )
+    return {"PYTHONPATH": f"{folder}:{ROOT / 'python'}"}
+
+
+@pytest.mark.parametrize("code", ["ENOSPC", "EIO"])
+def test_what_the_system_refuses_is_said_and_the_screen_stays(
+    moon: Path, at: Open, code: str
+) -> None:
+    failure = f"OSError(errno.{code}, os.strerror(errno.{code}))"
+    terminal = at(moon, **failing(moon.parent, failure))
+    terminal.wait("? shows all keys.")
+    terminal.paste("The sun")
+    terminal.wait("The system failed: ")
+    terminal.keys("s")
+    terminal.wait("kept: paragraph 1 struck")
+    terminal.keys("q")
+    assert terminal.ended() == 0
+    assert terminal.said == ""
+
+
+def test_a_fault_of_scribe_ends_the_screen_in_words_and_keeps_what_is_typed(
+    moon: Path, at: Open
+) -> None:
+    settings = failing(moon.parent, "KeyError('moon')")
+    terminal = at(moon, XDG_STATE_HOME=str(moon.parent / "state"), **settings)
+    terminal.wait("? shows all keys.")
+    terminal.keys("enter", "Oh, ")
+    terminal.wait("Oh, The moon is far away.")
+    terminal.paste("The sun")
+    assert terminal.ended() == 3
+    assert terminal.said.startswith(
+        "scribe has a fault of its own and stopped (KeyError, sitecustomize.py line 5). What was"
+        " reported as kept is in the book,"
+    )
+    assert b"Traceback" not in terminal.written
+    again = at(moon, XDG_STATE_HOME=str(moon.parent / "state"))
+    again.wait("further? y is yes, n is no.")

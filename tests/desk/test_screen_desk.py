@@ -431,7 +431,7 @@ def test_a_killed_session_says_what_was_kept_and_keeps_what_was_typed(
     sat.press("enter")
     text = " ".join(sat.lines)
     assert "The session was ended by signal 9." in text
-    assert "“@8 restore 2”, by which the book came to version 9." in text
+    assert "the restoring of paragraph 2, by which the book came to version 9." in text
     assert "This was typed, and was not reported as kept: It rose." in text
     assert sat.lines[0].endswith("kept: paragraph 2 restored")
     sat.press("s", "down")

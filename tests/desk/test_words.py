@@ -16,6 +16,7 @@ from scribe.elsewhere import AMONG_REQUESTS, AT_PROMPT, AT_SHELL
 from scribe.grammar import BY_NAME, unknown_request
 from scribe.parser import unknown_command
 from tool import ROOT, Ran, environment, scribe
+from words import WORDS
 
 NAMES = make_parser()[1]
 #: The commands of the desk.
@@ -26,7 +27,7 @@ ALL = (
 
 
 def test_each_command_is_there() -> None:
-    assert sorted(NAMES) == sorted(ALL)
+    assert sorted(NAMES) == sorted(ALL) == sorted(WORDS)
 
 
 def examples(help_text: str) -> list[str]:
@@ -203,7 +204,8 @@ def test_a_full_output_is_said_and_ends_with_3(moon: Path) -> None:
         )
     assert done.returncode == 3
     assert done.stderr == (
-        b"Standard output could not be written: No space left on device.\n"
+        b"Standard output could not be written: No space left on device. What was changed in a book"
+        b" before that is kept.\n"
     )
 
 

@@ -12,7 +12,7 @@ from braildesk import Lost
 from scribe.console import Console
 from scribe.page_size import add_page_size, sheet_of
 from scribe.parser import Subparsers, add_file, command_parser
-from scribe.status import Status, Stop
+from scribe.status import Interrupted, Status, Stop
 from scribe.terminal import are_typed
 from scribe.texts import words
 
@@ -91,6 +91,9 @@ def _end(desk: "Desk", screen: "Screen", name: str, console: Console) -> Status:
         console.say(*lines_said)
         return Status.FAILED
     console.show(f"{name} is at version {screen.state.version:,}.")
+    console.say(*screen.unseen)
+    if screen.ended_by is not None:
+        raise Interrupted(screen.ended_by, is_said=True)
     return Status.DONE
 
 

@@ -13,7 +13,7 @@ from scribe.console import Console
 from scribe.layout import Sheet
 from scribe.page_size import add_page_size, sheet_of
 from scribe.parser import Subparsers, add_file, command_parser
-from scribe.status import Status, Stop
+from scribe.status import Interrupted, Status, Stop, stopped_by
 from scribe.whole_file import MayNotLast, write_whole
 
 NO_SUCH_VOLUME = 96
@@ -48,10 +48,28 @@ def add_parser(subparsers: Subparsers) -> ArgumentParser:
 def run(arguments: Namespace, console: Console) -> Status:
     """Writes each volume, and says what became of it."""
     job = Job(arguments.file, arguments.folder, sheet_of(arguments))
-    volumes = volumes_of_one_version(job)
-    _make_folder(job.folder)
     written: list[int] = []
+    volumes: list[bytes | Refused] = []
+    try:
+        volumes = volumes_of_one_version(job)
+        _make_folder(job.folder)
+        _write_all(job, volumes, written, console)
+    except KeyboardInterrupt as cause:
+        console.say(stopped_by(cause) + _so_far(job, volumes, written))
+        raise Interrupted.after(cause) from cause
+    console.say(*_ending(job, len(volumes)))
+    return Status.DONE if len(written) == len(volumes) else Status.REFUSED
+
+
+def _write_all(
+    job: "Job",
+    volumes: Sequence[bytes | Refused],
+    written: list[int],
+    console: Console,
+) -> None:
+    """Writes each volume that isn't refused, and notes those that are written."""
     for volume, pages in enumerate(volumes, 1):
+        console.check()
         if isinstance(pages, Refused):
             left = (
                 "is as it was" if os.path.lexists(job.file(volume)) else "was not made"
@@ -63,8 +81,6 @@ def run(arguments: Namespace, console: Console) -> Status:
         _write(job, volume, pages, written, len(volumes))
         written.append(volume)
         console.show(f"{job.file(volume)}: volume {volume}, {described(pages)}.")
-    console.say(*_ending(job, len(volumes)))
-    return Status.DONE if len(written) == len(volumes) else Status.REFUSED
 
 
 @dataclass(frozen=True)
@@ -177,6 +193,27 @@ def _others(written: Sequence[int], later: Sequence[int]) -> str:
     """What became of the other volumes, where there are any."""
     new = f" {_numbered(written)} new." if written else ""
     return new + (f" {_numbered(later)} as before." if later else "")
+
+
+def _so_far(
+    job: Job, volumes: Sequence[bytes | Refused], written: Sequence[int]
+) -> str:
+    """What became of the volumes where the work was stopped, by what the files have."""
+    if not volumes:
+        return " Nothing was exported."
+    wanted = {n: each for n, each in enumerate(volumes, 1) if isinstance(each, bytes)}
+    rest = [number for number in wanted if number not in written]
+    # the first of these may have its pages and not be noted yet
+    if rest and _has(job.file(rest[0]), wanted[rest[0]]):
+        return _others([*written, rest[0]], rest[1:])
+    return _others(written, rest)
+
+
+def _has(file: Path, pages: bytes) -> bool:
+    try:
+        return file.is_file() and file.read_bytes() == pages
+    except OSError:
+        return False
 
 
 def _numbered(volumes: Sequence[int]) -> str:

@@ -19,7 +19,7 @@ from scribe.intake import (
 from scribe.judgement import faults
 from scribe.manuscript import Passage, Unreadable, passages
 from scribe.parser import Subparsers, add_file, after, command_parser, number
-from scribe.status import Status, Stop
+from scribe.status import Interrupted, Status, Stop, stopped_by
 from scribe.typist import CutShort, kept_of, type_all
 
 MORE = """\
@@ -60,7 +60,11 @@ def add_parser(subparsers: Subparsers) -> ArgumentParser:
 
 
 def run(arguments: Namespace, console: Console) -> Status:
-    intake = prepared(arguments)
+    try:
+        intake = prepared(arguments)
+    except KeyboardInterrupt as cause:
+        console.say(f"{stopped_by(cause)} Nothing was typed.")
+        raise Interrupted.after(cause) from cause
     count = len(intake.passages)
     if arguments.dry_run:
         console.show(f"{_paragraphs(count)} would be typed, {_by(intake)}.")
@@ -71,6 +75,8 @@ def run(arguments: Namespace, console: Console) -> Status:
     except CutShort as cut:
         kept = kept_of(arguments.file, intake)
         console.say(cut.sentence, *going_on(arguments, intake, cut.done, kept))
+        if cut.stopped is not None:
+            raise Interrupted.after(cut.stopped) from cut
         return cut.status
     first, last = intake.there + 1, intake.there + count
     numbers = f"number {first}" if count == 1 else f"numbers {first} to {last}"

@@ -7,7 +7,7 @@ from pathlib import Path
 
 from braildesk import DeskError, Failed
 
-from scribe.console import Console
+from scribe.console import Console, NoInput
 from scribe.parser import Subparsers, command_parser
 from scribe.sequences import composed
 from scribe.status import Status, Stop
@@ -102,6 +102,8 @@ def run(arguments: Namespace, console: Console) -> Status:
             except Stop as stop:
                 trial.status = stop.status
                 talk.say(stop.sentence)
+            except NoInput:
+                raise
             except DeskError as refused:
                 failed = isinstance(refused, Failed)
                 trial.status = Status.FAILED if failed else Status.REFUSED

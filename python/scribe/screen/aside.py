@@ -10,8 +10,9 @@ from braildesk import DeskError
 
 from scribe.commands import export, import_text
 from scribe.console import Console
+from scribe.failures import of_system
 from scribe.screen.errands import ExportTo, ImportFrom
-from scribe.status import Stop
+from scribe.status import Interrupted, Stop
 
 
 @dataclass(frozen=True)
@@ -42,11 +43,14 @@ class Heard(StringIO):
 
 
 def done_aside(
-    path: Path, errand: ExportTo | ImportFrom, report: Callable[[str], None]
+    path: Path,
+    errand: ExportTo | ImportFrom,
+    report: Callable[[str], None],
+    check: Callable[[], None],
 ) -> Ending:
-    """Does an errand by the command of the same name."""
+    """Does an errand by the command of the same name, until the check has it end."""
     shown, said = Heard(report), Heard(report)
-    console = Console(BytesIO(), shown, said)
+    console = Console(BytesIO(), shown, said, check)
     try:
         if isinstance(errand, ExportTo):
             export.run(_export_words(path, errand), console)
@@ -56,6 +60,11 @@ def done_aside(
         console.say(*stop.lines)
     except DeskError as failed:
         console.say(failed.sentence)
+    except OSError as failure:
+        console.say(of_system(failure))
+    except Interrupted:
+        # the command has said what became of it
+        pass
     what = "Export." if isinstance(errand, ExportTo) else "Import."
     lines = shown.getvalue().splitlines()
     kept = lines[-1].rstrip(".") if lines and isinstance(errand, ImportFrom) else ""

@@ -1,5 +1,6 @@
 """A book that is open on the screen: keys are carried out, and the state after them is given."""
 
+import signal
 from collections.abc import Callable
 from dataclasses import replace
 from pathlib import Path
@@ -12,6 +13,7 @@ from scribe.cells import braille_patterns
 from scribe.draft import Aim, Draft
 from scribe.drafts import Drafts, NotKept
 from scribe.excerpt import opening
+from scribe.failures import of_system
 from scribe.occurrences import Occurrence
 from scribe.paragraph import quoted
 from scribe.queries import shown
@@ -40,7 +42,7 @@ from scribe.screen.preview import Tables
 from scribe.screen.sentences import kept
 from scribe.screen.state import Opening, Pages, Pane, Question, Size, State
 from scribe.sequences import composed
-from scribe.status import Stop
+from scribe.status import Interrupted, Stop
 from scribe.tables import table_request
 from scribe.visible import visible
 
@@ -70,6 +72,8 @@ class Desk:
         self._session: Session
         self._saved: Draft | None = None
         self._notices = self._take_up()
+        #: The signal by which the work with the session closed is to end.
+        self._stopped_by: signal.Signals | None = None
         self._was_changed = self._open()
 
     @property
@@ -155,7 +159,7 @@ class Desk:
         state = replace(state, away=None)
         try:
             self._session.close()
-            ending = done_aside(self.path, errand, report)
+            ending = done_aside(self.path, errand, report, self._check)
             self._open()
             before = state
             state = self._opened_again(state)
@@ -163,6 +167,8 @@ class Desk:
             return self._after_loss(state, lost)
         except (DeskError, Stop) as failed:
             return _closed(state, failed.sentence)
+        except OSError as failure:
+            return _closed(state, of_system(failure))
         if ending.kept:
             state = replace(state, kept=f"kept: {ending.kept}")
         elif len(state.book) > len(before.book):
@@ -174,6 +180,14 @@ class Desk:
         if lines:
             state = replace(state, pages=Pages(ending.title, lines))
         return self.refreshed(state)
+
+    def stop(self, number: signal.Signals) -> None:
+        """Has the work with the session closed end before its next step."""
+        self._stopped_by = number
+
+    def _check(self) -> None:
+        if self._stopped_by is not None:
+            raise Interrupted(self._stopped_by)
 
     def refreshed(self, state: State) -> State:
         """The state with all that is drawn of the listed and the chosen paragraphs."""
@@ -336,6 +350,8 @@ class Desk:
             state = self._after_failure(interrupted.state, interrupted.cause)
         except Stop as stop:
             state = state.saying(stop.sentence)
+        except OSError as failure:
+            state = state.saying(of_system(failure))
         except (Lost, Refused) as failed:
             state = self._after_failure(state, failed)
         if not (state.is_lost or state.is_over or state.away):
@@ -380,6 +396,8 @@ class Desk:
             return self._after_loss(state, lost)
         except DeskError as failed:
             return _closed(state, failed.sentence)
+        except OSError as failure:
+            return _closed(state, of_system(failure))
 
     def _after_loss(self, state: State, lost: Lost) -> State:
         """What the screen says when the session ended by itself."""

@@ -1,8 +1,12 @@
 """The terminal: keys come in, and what is drawn goes out."""
 
 import asyncio
+import errno
 import os
 import signal
+import sys
+from concurrent.futures import Future, ThreadPoolExecutor
+from contextlib import suppress
 from dataclasses import replace
 from types import FrameType
 from typing import Any
@@ -13,8 +17,10 @@ from prompt_toolkit.formatted_text import StyleAndTextTuples
 from prompt_toolkit.key_binding import KeyBindings, KeyPressEvent
 from prompt_toolkit.keys import Keys
 from prompt_toolkit.layout import FormattedTextControl, Layout, Window
+from prompt_toolkit.output.vt100 import Vt100_Output
 from prompt_toolkit.styles import Style
 
+from scribe.failures import of_system
 from scribe.screen.desk import Desk, preview_of
 from scribe.screen.drawing import Drawing, draw
 from scribe.screen.encoding import in_encoding
@@ -39,6 +45,35 @@ _SAVE_SECONDS = 1.0
 _ESCAPE_SECONDS = 0.1
 
 
+# what a terminal that was closed answers
+_CLOSED = (errno.EIO, errno.EBADF)
+
+
+class HungUp(Exception):
+    """The terminal was closed, so that nobody reads what is written there."""
+
+
+class Output(Vt100_Output):
+    """What is written on the terminal. Only here a failure says something of the terminal."""
+
+    def flush(self) -> None:
+        """Writes out what is drawn; HungUp where the terminal was closed."""
+        try:
+            super().flush()
+        except OSError as failure:
+            if failure.errno in _CLOSED:
+                raise HungUp from failure
+            raise _TerminalFailed(failure) from failure
+
+
+class _TerminalFailed(Exception):
+    """The terminal is there and can't be written."""
+
+    def __init__(self, failure: OSError) -> None:
+        super().__init__(failure)
+        self.failure = failure
+
+
 class Screen:
     """A book on the terminal of this process, until the person ends it."""
 
@@ -47,6 +82,12 @@ class Screen:
         self.state = state
         #: Whether the terminal was closed, so that nobody reads what is said.
         self.is_hung_up = False
+        #: The signal that ended scribe, where one did.
+        self.ended_by: signal.Signals | None = None
+        #: What was said of the work with the session closed, where that came after the screen.
+        self.unseen: tuple[str, ...] = ()
+        self._worker = ThreadPoolExecutor(max_workers=1)
+        self._aside: Future[State] | None = None
         self._watched: int | None = None
         self._drawn = (state, draw(state))
         self._translates = False
@@ -58,6 +99,7 @@ class Screen:
             key_bindings=self._bindings(),
             style=_STYLE,
             full_screen=True,
+            output=Output.from_pty(sys.stdout, term=os.environ.get("TERM")),
             before_render=lambda app: self._fit(),
         )
         self._app.ttimeoutlen = self._app.timeoutlen = _ESCAPE_SECONDS
@@ -65,11 +107,23 @@ class Screen:
     def run(self) -> None:
         """Shows the book until it is left, or until the terminal hangs up."""
         try:
-            self._app.run(pre_run=self._begin, set_exception_handler=False)
-        except (EOFError, OSError):
+            self._app.run(
+                pre_run=self._begin, set_exception_handler=False, handle_sigint=False
+            )
+        except (EOFError, HungUp):
             self.is_hung_up = True
+        except _TerminalFailed as failed:
+            raise failed.failure from None
         finally:
+            self._settle()
             self.state = self._desk.save_draft(self.state)
+
+    def _settle(self) -> None:
+        """Waits for what is done with the session closed, which ends soon once it is to end."""
+        if self.state.away and self._aside is not None:
+            self._stop_aside()
+            self.state = self._aside.result()
+            self.unseen = self.state.pages.lines if self.state.pages else ()
 
     def _begin(self) -> None:
         loop = asyncio.get_running_loop()
@@ -77,11 +131,13 @@ class Screen:
 
         # kept to the end, so that no second signal cuts short what the first one began
         def ended(number: int, frame: FrameType | None) -> None:
+            if self.ended_by is None:
+                self.ended_by = signal.Signals(number)
             leave = self._hang_up if number == signal.SIGHUP else self._leave
             if not loop.is_closed():
                 loop.call_soon_threadsafe(leave)
 
-        for number in (signal.SIGHUP, signal.SIGTERM):
+        for number in (signal.SIGHUP, signal.SIGTERM, signal.SIGINT):
             signal.signal(number, ended)
         self._watch()
         self._app.create_background_task(self._keep())
@@ -166,9 +222,13 @@ class Screen:
         loop = asyncio.get_running_loop()
 
         def report(line: str) -> None:
-            loop.call_soon_threadsafe(self._say, line)
+            # the screen may be gone before the work is ended
+            with suppress(RuntimeError):
+                loop.call_soon_threadsafe(self._say, line)
 
-        state = await loop.run_in_executor(None, self._desk.away, self.state, report)
+        self._aside = self._worker.submit(self._desk.away, self.state, report)
+        # where the screen ends meanwhile, the work is waited for and not given up
+        state = await asyncio.shield(asyncio.wrap_future(self._aside))
         self._become(replace(state, message=""))
 
     def _say(self, line: str) -> None:
@@ -208,15 +268,27 @@ class Screen:
                 self.state = self._desk.save_draft(self.state)
 
     def _fail(self, loop: asyncio.AbstractEventLoop, context: dict[str, Any]) -> None:
-        """What can't be drawn on a terminal that is gone, or any other failure: all ends."""
+        """What a key, or what goes on beside the keys, failed by.
+
+        A terminal that is gone ends all; what the system refused is said, and the work goes on; a
+        fault of scribe ends it.
+        """
         cause = context.get("exception")
-        if isinstance(cause, OSError):
+        if isinstance(cause, HungUp):
             self._hang_up()
+        elif isinstance(cause, OSError):
+            self.state = self.state.saying(of_system(cause))
+            self._app.invalidate()
         elif not isinstance(cause, Exception):
             loop.default_exception_handler(context)
         elif self._app.is_running and not self.state.is_over:
             self.state = replace(self.state, is_over=True)
             self._app.exit(exception=cause)
+
+    def _stop_aside(self) -> None:
+        """Has what is done with the session closed end before its next step."""
+        if self.state.away:
+            self._desk.stop(self.ended_by or signal.SIGHUP)
 
     def _hang_up(self) -> None:
         self.is_hung_up = True
@@ -224,6 +296,7 @@ class Screen:
 
     def _leave(self) -> None:
         """What ends scribe from outside: what is typed is kept."""
+        self._stop_aside()
         self.state = self._desk.save_draft(self.state)
         # a terminal that is closed and a shell that ends may both send a signal
         if not self.state.is_over:

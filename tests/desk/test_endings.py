@@ -1,0 +1,222 @@
+"""How scribe ends: by which status or signal, with which sentence, whatever stood in its way."""
+
+import errno
+import os
+import re
+import resource
+import signal
+import stat
+import subprocess
+import sys
+from pathlib import Path
+
+import pytest
+
+import braildesk
+from braildesk import Session
+from tool import ROOT, Ran, environment, scribe
+from words import GIVEN, WORDS
+
+IN_THE_BOOK = "What was reported as kept is in the book, and what was asked after that may be there too."
+STOPPING = (signal.SIGINT, signal.SIGTERM, signal.SIGHUP)
+#: Runs scribe with a command that fails as no command should.
+FAULTY = """\
+import sys
+import scribe.cli as cli
+
+def fail(words, console):
+    console.show("ok 8")
+    raise {fault}
+
+cli.run_words = fail
+sys.exit(cli.main())
+"""
+
+
+def faulty(fault: str, folder: Path, **more: str) -> Ran:
+    """A run of scribe in which something goes wrong that nobody thought of."""
+    done = subprocess.run(
+        [sys.executable, "-c", FAULTY.format(fault=fault), "run"],
+        cwd=folder,
+        env=environment(**more),
+        capture_output=True,
+    )
+    return Ran(done.returncode, done.stdout.decode(), done.stderr.decode())
+
+
+def test_a_fault_of_scribe_itself_is_a_sentence_with_3_and_its_details_are_kept(
+    tmp_path: Path,
+) -> None:
+    ran = faulty("KeyError('moon')", tmp_path, XDG_STATE_HOME=str(tmp_path / "state"))
+    kept = tmp_path / "state" / "braildesk" / "fault.txt"
+    assert ran == Ran(
+        3,
+        "ok 8\n",
+        f"scribe has a fault of its own and stopped (KeyError, <string> line 6). {IN_THE_BOOK}"
+        f" Please report it with its details, which are in {kept}.\n",
+    )
+    details = kept.read_text()
+    version = (ROOT / "VERSION").read_text().strip()
+    assert details.startswith(f"scribe {version} run, Python 3.")
+    assert "Traceback" in details and details.endswith("KeyError: 'moon'\n")
+    assert stat.S_IMODE(kept.stat().st_mode) == 0o600
+    assert stat.S_IMODE(kept.parent.stat().st_mode) == 0o700
+
+
+def test_a_fault_whose_details_can_not_be_kept_is_a_sentence_too(
+    tmp_path: Path,
+) -> None:
+    (tmp_path / "file").write_text("mine")
+    ran = faulty("KeyError('moon')", tmp_path, XDG_STATE_HOME=str(tmp_path / "file"))
+    assert ran.status == 3
+    assert ran.said == (
+        f"scribe has a fault of its own and stopped (KeyError, <string> line 6). {IN_THE_BOOK}"
+        " Please report it. Its details could not be written to a file: Not a directory.\n"
+    )
+
+
+def test_a_want_of_memory_is_no_fault_of_scribe(tmp_path: Path) -> None:
+    assert faulty("MemoryError()", tmp_path) == Ran(
+        3,
+        "ok 8\n",
+        f"There was no memory for this. {IN_THE_BOOK} Close other programs, and try again.\n",
+    )
+
+
+@pytest.fixture
+def running(moon: Path) -> "subprocess.Popen[bytes]":
+    """A run that has answered one request and waits for the next one."""
+    process = subprocess.Popen(
+        [sys.executable, "-m", "scribe", "run", moon.name],
+        cwd=moon.parent,
+        env=environment(),
+        stdin=subprocess.PIPE,
+        stdout=subprocess.PIPE,
+        stderr=subprocess.PIPE,
+    )
+    assert process.stdin is not None and process.stdout is not None
+    process.stdin.write(b"strike 1\n")
+    process.stdin.flush()
+    assert process.stdout.readline() == b"ok 8\n"
+    return process
+
+
+@pytest.mark.parametrize("number", STOPPING)
+def test_a_signal_ends_scribe_after_a_sentence_by_the_same_signal(
+    running: "subprocess.Popen[bytes]", moon: Path, number: signal.Signals
+) -> None:
+    running.send_signal(number)
+    shown, said = running.communicate()
+    by = "" if number is signal.SIGINT else f" by {number.name}"
+    assert (running.returncode, shown) == (-number, b"")
+    assert said.decode() == f"Stopped{by}. {IN_THE_BOOK}\n"
+    assert braildesk.check(moon) == 8
+
+
+def test_no_second_signal_cuts_short_what_the_first_one_began(
+    running: "subprocess.Popen[bytes]",
+) -> None:
+    for number in (signal.SIGINT, signal.SIGINT, signal.SIGTERM, signal.SIGHUP):
+        running.send_signal(number)
+    _, said = running.communicate()
+    # signals that come at once may be delivered in another order
+    assert -running.returncode in STOPPING
+    assert re.fullmatch(f"Stopped( by SIG[A-Z]+)?. {IN_THE_BOOK}\n", said.decode())
+
+
+def test_a_loop_of_a_shell_stops_where_ctrl_c_stops_scribe(moon: Path) -> None:
+    loop = f"for turn in 1 2 3; do '{sys.executable}' -m scribe run moon.braildesk; echo $turn; done"
+    process = subprocess.Popen(
+        ["bash", "-c", loop],
+        cwd=moon.parent,
+        env=environment(),
+        stdin=subprocess.PIPE,
+        stdout=subprocess.PIPE,
+        stderr=subprocess.DEVNULL,
+        process_group=0,
+    )
+    assert process.stdin is not None and process.stdout is not None
+    process.stdin.write(b"version\n")
+    process.stdin.flush()
+    assert process.stdout.readline() == b"end 7\n"
+    os.killpg(process.pid, signal.SIGINT)
+    shown, _ = process.communicate()
+    assert (process.returncode, shown) == (-signal.SIGINT, b"")
+
+
+CLOSED = {0: "input", 1: "output", 2: "errors"}
+#: Commands that read standard input.
+READING = ("run", "talk", "try")
+
+
+@pytest.fixture
+def sample(moon: Path) -> Path:
+    """The folder of the sample, with a book of which paragraph 3 is struck, and a text."""
+    with Session(moon) as session:
+        session.strike(3)
+    moon.with_name("text.txt").write_text("The sun\n")
+    return moon.parent
+
+
+@pytest.mark.parametrize("descriptor", CLOSED)
+@pytest.mark.parametrize("name", WORDS)
+def test_a_descriptor_that_is_closed_is_said_or_does_not_matter(
+    name: str, descriptor: int, sample: Path
+) -> None:
+    before = (sample / "moon.braildesk").read_bytes()
+    ran = scribe(
+        name,
+        *WORDS[name],
+        folder=sample,
+        given=GIVEN.get(name, ""),
+        before=lambda: os.close(descriptor),
+    )
+    assert "Traceback" not in ran.said
+    if name == "edit":
+        assert ran.status == (3 if descriptor == 1 else 2)
+    elif descriptor == 1:
+        assert (ran.status, ran.said) == (
+            3,
+            "Standard output could not be written: it is closed. What was changed in a book before"
+            " that is kept.\n",
+        )
+        assert (sample / "moon.braildesk").read_bytes() == before
+        assert not (sample / "other.braildesk").exists()
+    elif descriptor == 0 and name in READING:
+        assert ran.status == 3
+        assert ran.said.endswith("Standard input could not be read: it is closed.\n")
+    else:
+        assert ran.status == 0
+        assert ran.shown
+
+
+def test_errors_that_can_not_be_written_end_with_3(moon: Path) -> None:
+    with open("/dev/full", "w") as full:
+        done = subprocess.run(
+            [sys.executable, "-m", "scribe", "undo", moon.name, "9"],
+            cwd=moon.parent,
+            env=environment(),
+            stdout=subprocess.PIPE,
+            stderr=full,
+        )
+    assert (done.returncode, done.stdout) == (3, b"")
+
+
+def test_input_that_can_not_be_read_ends_each_command_that_reads_it(
+    sample: Path,
+) -> None:
+    for name in READING:
+        with open("/proc/self/mem", "rb") as unreadable:
+            done = subprocess.run(
+                [sys.executable, "-m", "scribe", name, *WORDS[name]],
+                cwd=sample,
+                env=environment(),
+                stdin=unreadable,
+                stderr=subprocess.PIPE,
+                stdout=subprocess.PIPE,
+                timeout=60,
+            )
+        assert (name, done.returncode) == (name, 3)
+        assert done.stderr.decode().endswith(
+            "Standard input could not be read: Input/output error.\n"
+        )

@@ -1,0 +1,225 @@
+"""An import or an export that is told to end: what is said of it is what the files have."""
+
+import os
+import re
+import signal
+import subprocess
+import sys
+from argparse import Namespace
+from io import BytesIO, StringIO
+from pathlib import Path
+
+import pytest
+
+import braildesk
+from braildesk import Session
+from scribe.commands import export
+from scribe.console import Console
+from scribe.status import Interrupted
+from sitting import Sit
+from stand_in import ANSWERED, HALF, KEPT, READ, SIGNAL, WAIT
+from terminal import Open, once_free, standing_in
+from tool import Ran, environment
+
+LINES = [f"Line number {number} of the moon." for number in range(1, 601)]
+TOLD = re.compile(
+    r"text\.txt is in the book up to line (\d+), which is the end of paragraph (\d+) of the book\."
+)
+
+
+@pytest.fixture
+def text(book: Path) -> Path:
+    """A text of many lines beside an empty book."""
+    path = book.with_name("text.txt")
+    path.write_text("\n".join(LINES))
+    return path
+
+
+def run(settings: dict[str, str], folder: Path, *words: str) -> Ran:
+    """A run of scribe with settings of the environment."""
+    done = subprocess.run(
+        [sys.executable, "-m", "scribe", *words],
+        cwd=folder,
+        env=environment(**settings),
+        capture_output=True,
+    )
+    return Ran(done.returncode, done.stdout.decode(), done.stderr.decode())
+
+
+def check_told(said: str, book: Path) -> None:
+    """Looks at whether what is said to be in the book is what is there."""
+    with once_free(book) as session:
+        prints = [session.print(each.id) for each in session.list()]
+    found = TOLD.search(said)
+    count = int(found[1]) if found else 0
+    assert prints == LINES[:count]
+    if not found:
+        assert "Nothing of text.txt is in the book." in said
+    if count < len(LINES):
+        assert f"go on by: scribe import {book.name} text.txt --lines" in said
+        assert f" --from {count + 1}\n" in said
+
+
+@pytest.mark.parametrize(
+    "number, far, name",
+    [
+        (1, READ, "SIGTERM"),
+        (1, KEPT, "SIGHUP"),
+        (7, READ, "SIGINT"),
+        (7, HALF, "SIGTERM"),
+        (7, KEPT, "SIGTERM"),
+        (7, ANSWERED, "SIGHUP"),
+        (600, READ, "SIGTERM"),
+    ],
+)
+def test_an_import_that_is_told_to_end_says_what_is_in_the_book(
+    book: Path, text: Path, number: int, far: str, name: str
+) -> None:
+    ran = run(
+        standing_in(number, far, SIGNAL, name),
+        book.parent,
+        *("import", book.name, text.name, "--lines"),
+    )
+    assert ran.status == -signal.Signals[name]
+    by = "" if name == "SIGINT" else f" by {name}"
+    assert ran.said.startswith(f"Stopped{by}.\n") and ran.shown == ""
+    check_told(ran.said, book)
+
+
+def between(folder: Path, action: str, number: int) -> dict[str, str]:
+    """The settings by which the program tells scribe to end before it does an action so often."""
+    path = folder / "between"
+    path.write_text(
+        "#!/bin/sh\n"
+        f'if [ "$1" = {action} ]; then\n'
+        f"  echo >> '{folder}/often'\n"
+        f"  if [ \"$(wc -l < '{folder}/often')\" = {number} ]; then kill -TERM $PPID; sleep 60; fi\n"
+        "fi\n"
+        f"exec '{braildesk.find()}' \"$@\"\n"
+    )
+    path.chmod(0o755)
+    return {"BRAILDESK": str(path)}
+
+
+def test_an_import_that_is_told_to_end_while_it_judges_has_typed_nothing(
+    book: Path, text: Path
+) -> None:
+    settings = between(book.parent, "translate", 2)
+    ran = run(settings, book.parent, "import", str(book), str(text), "--lines")
+    assert (ran.status, ran.shown) == (-signal.SIGTERM, "")
+    assert ran.said == "Stopped by SIGTERM. Nothing was typed.\n"
+    assert braildesk.check(book) == 1
+
+
+@pytest.fixture
+def volumes(moon: Path) -> Path:
+    """A book of three volumes, and a folder with older files of them."""
+    with Session(moon) as session:
+        session.volume(2, True)
+        session.volume(3, True)
+    folder = moon.with_name("pages")
+    folder.mkdir()
+    for number in (1, 2, 3):
+        (folder / f"moon-{number}.brf").write_bytes(b"older")
+    return moon
+
+
+def test_an_export_that_is_told_to_end_while_it_reads_the_book_changes_no_file(
+    volumes: Path,
+) -> None:
+    folder = volumes.parent
+    ran = run(between(folder, "export", 2), folder, "export", str(volumes), "pages")
+    assert (ran.status, ran.shown) == (-signal.SIGTERM, "")
+    assert ran.said == "Stopped by SIGTERM. Nothing was exported.\n"
+    assert [path.read_bytes() for path in (folder / "pages").iterdir()] == [
+        b"older"
+    ] * 3
+
+
+@pytest.mark.parametrize(
+    "call, is_renamed, told, new",
+    [
+        (1, False, " Volumes 1, 2 and 3 are as before.", 0),
+        (1, True, " Volume 1 is new. Volumes 2 and 3 are as before.", 1),
+        (2, False, " Volume 1 is new. Volumes 2 and 3 are as before.", 1),
+        (3, True, " Volumes 1, 2 and 3 are new.", 3),
+    ],
+)
+def test_an_export_that_is_told_to_end_while_it_writes_says_which_files_are_new(
+    volumes: Path,
+    monkeypatch: pytest.MonkeyPatch,
+    call: int,
+    is_renamed: bool,
+    told: str,
+    new: int,
+) -> None:
+    calls = 0
+    replace = os.replace
+
+    def replaced(one: str, other: str, **folders: int) -> None:
+        nonlocal calls
+        calls += 1
+        if calls == call and not is_renamed:
+            raise Interrupted(signal.SIGTERM)
+        replace(one, other, **folders)
+        if calls == call:
+            raise Interrupted(signal.SIGTERM)
+
+    monkeypatch.setattr(os, "replace", replaced)
+    said = StringIO()
+    folder = volumes.with_name("pages")
+    words = Namespace(file=volumes, folder=folder, width=40, lines=25)
+    with pytest.raises(Interrupted) as stopped:
+        export.run(words, Console(BytesIO(), StringIO(), said))
+    assert stopped.value.is_said
+    assert said.getvalue() == f"Stopped by SIGTERM.{told}\n"
+    files = [folder / f"moon-{number}.brf" for number in (1, 2, 3)]
+    is_new = [file.read_bytes() != b"older" for file in files]
+    assert is_new == [number <= new for number in (1, 2, 3)]
+    assert sorted(folder.iterdir()) == files
+
+
+def test_work_beside_the_screen_ends_before_its_next_step(
+    book: Path, text: Path, sit: Sit
+) -> None:
+    sat = sit(book)
+    sat.press("i")
+    sat.write(str(text))
+    sat.press("enter")
+    sat.desk.stop(signal.SIGTERM)
+    # blank lines part the paragraphs here, so that the text is one
+    text.write_text("\n\n".join(LINES))
+    sat.state = sat.desk.away(sat.state, lambda line: None)
+    pages = sat.state.pages
+    assert pages is not None
+    assert pages.lines[0] == "Stopped by SIGTERM."
+    found = re.search("is in the book up to line ([0-9]+), which", pages.lines[1])
+    assert found is not None
+    count = (int(found[1]) + 1) // 2
+    assert 1 <= count < len(LINES) and len(sat.state.book) == count
+
+
+@pytest.mark.parametrize("name", ["SIGTERM", "SIGINT"])
+def test_an_import_of_the_screen_ends_at_a_signal_and_says_what_is_in_the_book(
+    book: Path, text: Path, at: Open, name: str
+) -> None:
+    queue = book.with_name("queue")
+    os.mkfifo(queue)
+    text.write_text("\n\n".join(LINES))
+    terminal = at(book, **standing_in(3, KEPT, WAIT, str(queue)))
+    terminal.wait("? shows all keys.")
+    terminal.keys("i", str(text), "enter")
+    # until the third paragraph is kept, and then until the stand-in goes on
+    queue.read_bytes()
+    terminal.send_signal(signal.Signals[name])
+    terminal.wait_left()
+    queue.write_bytes(b"")
+    assert terminal.ended() == -signal.Signals[name]
+    by = "" if name == "SIGINT" else f" by {name}"
+    assert terminal.said.startswith(f"Stopped{by}.\n")
+    found = re.search("is in the book up to line ([0-9]+), which", terminal.said)
+    assert found is not None
+    with once_free(book) as session:
+        prints = [session.print(each.id) for each in session.list()]
+    assert prints == LINES[: (int(found[1]) + 1) // 2]
+    assert 3 <= len(prints) < len(LINES)

@@ -1,0 +1,46 @@
+"""Words by which each command does something in the folder of the sample."""
+
+#: The names of the files and folders in it among these words.
+PATHS = (
+    "moon.braildesk",
+    "other.braildesk",
+    "copy.braildesk",
+    "plain.utb",
+    "text.txt",
+    "pages",
+)
+#: Each command with its words.
+WORDS: dict[str, list[str]] = {
+    "new": ["other.braildesk"],
+    "edit": ["moon.braildesk"],
+    "run": ["moon.braildesk"],
+    "talk": ["moon.braildesk"],
+    "table": ["moon.braildesk", "own", "plain.utb"],
+    "check-table": ["plain.utb"],
+    "try": ["plain.utb"],
+    "import": ["moon.braildesk", "text.txt"],
+    "show": ["moon.braildesk"],
+    "find": ["moon.braildesk", "moon"],
+    "change": ["moon.braildesk", "1", "far away", "near"],
+    "mark": ["moon.braildesk", "1", "far", "how far?"],
+    "marks": ["moon.braildesk"],
+    "undo": ["moon.braildesk", "1"],
+    "resolve": ["moon.braildesk", "1"],
+    "strike": ["moon.braildesk", "1"],
+    "restore": ["moon.braildesk", "3"],
+    "heading": ["moon.braildesk", "1"],
+    "body": ["moon.braildesk", "1"],
+    "volume": ["moon.braildesk", "1", "on"],
+    "move": ["moon.braildesk", "2", "front"],
+    "retable": ["moon.braildesk", "2", "plain"],
+    "pages": ["moon.braildesk"],
+    "export": ["moon.braildesk", "pages"],
+    "copy": ["moon.braildesk", "copy.braildesk"],
+    "bring": ["--list", "German"],
+}
+#: What each command is given, where it reads that.
+GIVEN = {
+    "run": "strike 2\n",
+    "talk": "strike 2\n",
+    "try": "The moon\n",
+}
