@@ -34,6 +34,7 @@ BY_HAND = {
     "sv-g0.utb": {
         "Åsa är 7 år.": "⠠⠡⠎⠁⠀⠜⠗⠀⠼⠛⠀⠡⠗⠄",
         "NATO": "⠠⠠⠝⠁⠞⠕",
+        "e-post": "⠑⠤⠏⠕⠎⠞",
     },
     "Pl-Pl-g1.utb": {
         "Żółw ma 3 lata.": "⠨⠯⠬⠣⠺⠀⠍⠁⠀⠼⠉⠀⠇⠁⠞⠁⠄",
@@ -189,6 +190,20 @@ def test_rules_are_not_guessed_from_made_up_words(tmp_path: Path) -> None:
 
 def test_without_a_table_the_list_is_named(tmp_path: Path) -> None:
     assert refused(tmp_path).startswith("Which table is to be brought over?")
+
+
+def test_characters_that_texts_often_have_and_a_table_lacks_are_named(
+    brought: Mapping[str, Brought]
+) -> None:
+    found = brought["sv-g0.utb"]
+    (said,) = [one for one in found.losses if one.startswith("A text can't have")]
+    assert said == (
+        "A text can't have these characters by this table, though texts often do:"
+        " “‚” (U+201A SINGLE LOW-9 QUOTATION MARK),"
+        " “‹” (U+2039 SINGLE LEFT-POINTING ANGLE QUOTATION MARK),"
+        " “›” (U+203A SINGLE RIGHT-POINTING ANGLE QUOTATION MARK)."
+    )
+    assert "A text can't have these characters by this table" in found.text
 
 
 def test_the_list_shows_the_share_of_all_lines_first(tmp_path: Path) -> None:
