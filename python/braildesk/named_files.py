@@ -42,6 +42,8 @@ class TooLarge(OSError):
 
 def open_file(path: StrPath) -> BinaryIO:
     """A file, open for reading; ``NoFile`` where it is none."""
+    if "\0" in fspath(path):
+        raise NoFile("no path has the character U+0000")
     _judge(os.stat(path).st_mode)
     descriptor = os.open(path, _READ)
     try:

@@ -23,6 +23,8 @@ def named_table(name: str) -> Path:
     This is a path, or of an installed table its name with or without the ending, its title, or the
     language if there is one table of it.
     """
+    if not name:
+        raise NoTable("The name of the table is empty.")
     try:
         return find_table(name)
     except NoTable:

@@ -164,6 +164,10 @@ def _make_folder(folder: Path) -> None:
         folder.mkdir(exist_ok=True)
     except FileExistsError:
         raise Stop(f"{folder} is no folder. Nothing was exported.") from None
+    except ValueError:
+        raise Stop(
+            f"{folder} can't be a path, which has no character U+0000. Nothing was exported."
+        ) from None
     except OSError as error:
         raise Stop(
             f"The folder {folder} can't be made: {error.strerror}. Nothing was exported."

@@ -1,0 +1,135 @@
+"""Words of the command line at random: each ends in a status and a sentence."""
+
+import os
+import shutil
+from collections.abc import Iterator
+from io import BytesIO, StringIO
+from pathlib import Path
+from tempfile import TemporaryDirectory
+
+import pytest
+from hypothesis import HealthCheck, given, settings
+from hypothesis import strategies as st
+
+from scribe.cli import make_parser, run_words
+from scribe.console import Console
+
+SAMPLE = Path(__file__).resolve().parents[2] / "sample"
+#: bring asks liblouis for seconds where a table is one, which test_bring.py does.
+NAMES = sorted({*make_parser()[1]} - {"bring"})
+PATHS = [
+    "moon.braildesk",
+    "other.braildesk",
+    "link",
+    "hanging",
+    "missing/moon.braildesk",
+    "folder",
+    "plain.utb",
+    "text.txt",
+    "empty",
+    "noise",
+    "/dev/null",
+    "/dev/full",
+    "/proc",
+    "",
+    ".",
+    "..",
+    "~",
+    "~nobody/x",
+    "-",
+    "x" * 300,
+    "y/" * 2_100,
+    "caf\udce9",
+    "a\nb\x1b[2J",
+]
+OPTIONS = (
+    "--by --width --lines --nth --table --after --from --dry-run --paragraphs --print --braille"
+    " --ascii --page --paragraph --display --keep-going --list --help -h --version --"
+).split()
+TEXTS = [
+    "moon",
+    "The",
+    "",
+    " ",
+    "…",
+    "\u0301",
+    "a\tb",
+    "\x1b",
+    "\udce9",
+    "z" * 4_001,
+    "en",
+    "plain",
+    "front",
+    "end",
+    "on",
+    "off",
+    "3-9",
+    "9-3",
+    "-1",
+    "0",
+    "1",
+    "2",
+    "3",
+    "40",
+    "9007199254740993",
+    "99999999999999999",
+    "٣",
+    "1.5",
+]
+WORD = st.one_of(
+    st.sampled_from(PATHS), st.sampled_from(TEXTS), st.sampled_from(OPTIONS)
+)
+#: What is typed for the commands that read input.
+INPUT = st.sampled_from(
+    [
+        b"",
+        b"strike 1\nprint 1\nlist\n",
+        b"change-text\n1\nmoon\nsun\n",
+        b"table own 2\nletter a 1\n",
+        b"\xff\n\x00\n@1 undo 1\n@\nhistory 1\nhelp mark\n",
+        b"table-file\nown\n" + b"y/" * 2_100 + b"\nshow all\nmark-text 1\n",
+        b"quit\n",
+    ]
+)
+
+
+@pytest.fixture(scope="module")
+def folder(moon_once: Path) -> Iterator[Path]:
+    """A folder with files of all kinds, in which the commands run one after another."""
+    before = os.getcwd()
+    with TemporaryDirectory() as name:
+        # one folder below, so that nothing is written beside it
+        path = Path(name, "work")
+        shutil.copytree(SAMPLE, path, dirs_exist_ok=True)
+        shutil.copyfile(moon_once, path / "moon.braildesk")
+        (path / "folder").mkdir()
+        (path / "link").symlink_to("moon.braildesk")
+        (path / "hanging").symlink_to("nowhere")
+        (path / "text.txt").write_text("The sun\n\nThe stars.\n")
+        (path / "empty").touch()
+        (path / "noise").write_bytes(bytes(range(256)) * 20)
+        os.chdir(path)
+        yield path
+        os.chdir(before)
+
+
+@settings(
+    max_examples=300,
+    deadline=None,
+    suppress_health_check=[HealthCheck.function_scoped_fixture],
+)
+@given(
+    name=st.sampled_from(NAMES),
+    path=st.sampled_from(PATHS),
+    words=st.lists(WORD, max_size=4),
+    data=INPUT,
+)
+def test_any_words_end_in_a_status_and_a_sentence(
+    folder: Path, name: str, path: str, words: list[str], data: bytes
+) -> None:
+    shown, said = StringIO(), StringIO()
+    status = run_words([name, path, *words], Console(BytesIO(data), shown, said))
+    assert status in (0, 1, 2, 3)
+    # what has nothing to say was given no request
+    assert shown.getvalue() or said.getvalue() or (name, status) == ("run", 0)
+    assert "Traceback" not in said.getvalue() and "\x1b" not in said.getvalue()

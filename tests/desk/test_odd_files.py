@@ -1,0 +1,223 @@
+"""Files and folders that the system refuses: a sentence and a status, whatever the command."""
+
+import json
+import os
+import shutil
+import subprocess
+import sys
+import tempfile
+from argparse import Namespace
+from collections.abc import Iterator, Sequence
+from io import BytesIO, StringIO
+from pathlib import Path
+
+import pytest
+
+import braildesk
+from scribe.cli import run_words
+from scribe.commands import export, import_text
+from scribe.console import Console
+from scribe.status import Stop
+from tool import ROOT, Ran, environment
+from words import PATHS, WORDS
+
+NOBODY = 65_534
+#: The words of each command; one of bring that names files.
+ALL = {**WORDS, "bring": ["plain.utb", "other.utb"]}
+PLACES = {*PATHS, "other.utb"}
+del ALL["edit"]  # which looks for a terminal first
+del ALL["copy"]
+
+
+def ran(words: Sequence[str]) -> Ran:
+    """What comes of a command in this folder; an exception where it ends without a sentence."""
+    shown, said = StringIO(), StringIO()
+    status = run_words(words, Console(BytesIO(b"The moon\n"), shown, said))
+    return Ran(status, shown.getvalue(), said.getvalue())
+
+
+def check_said(found: Ran, name: str) -> None:
+    """Looks at whether a command ended by a status for what failed, and a sentence."""
+    assert found.status in (2, 3), (name, found)
+    assert "Errno" not in found.said, (name, found)
+    assert found.said.endswith(".\n"), (name, found)
+
+
+def odd(kind: str, folder: Path) -> str:
+    """A path of a kind."""
+    match kind:
+        case "a long path":
+            return "x/" * 2_500
+        case "a long name":
+            return "x" * 300
+        case "a loop":
+            (folder / "loop").symlink_to("loop")
+            return "loop"
+        case "through a file":
+            return "text.txt/x"
+        case "nothing":
+            return ""
+        case "a folder":
+            (folder / "folder").mkdir()
+            return "folder"
+        case "in a folder that is missing":
+            return "missing/x"
+        case "not UTF-8":
+            return "caf\udce9"
+    raise ValueError(kind)
+
+
+ODD = (
+    "a long path|a long name|a loop|through a file|nothing|a folder|in a folder that is missing"
+    "|not UTF-8"
+).split("|")
+#: What is no error, by the kind and the place of a path.
+FINE = {
+    ("a folder", "pages"),
+    ("not UTF-8", "pages"),
+    ("nothing", "pages"),
+    ("not UTF-8", "copy.braildesk"),
+    ("not UTF-8", "other.utb"),
+    ("a loop", "other.utb"),
+}
+
+
+@pytest.fixture
+def sample(moon: Path, monkeypatch: pytest.MonkeyPatch) -> Path:
+    """The folder of the sample, with a text, in which the tests work."""
+    moon.with_name("text.txt").write_text("The sun\n")
+    monkeypatch.chdir(moon.parent)
+    return moon.parent
+
+
+@pytest.mark.parametrize("kind", ODD)
+def test_a_path_of_any_kind_ends_each_command_in_a_sentence(
+    kind: str, sample: Path
+) -> None:
+    path = odd(kind, sample)
+    for name, words in ALL.items():
+        for place in PLACES.intersection(words):
+            if (kind, place) not in FINE:
+                changed = [path if word == place else word for word in words]
+                check_said(ran([name, *changed]), f"{name} {place}")
+
+
+def test_a_path_that_is_typed_with_nul_is_refused_in_a_sentence(sample: Path) -> None:
+    with pytest.raises(Stop) as stop:
+        import_text.read(Path("mo\0on"), by_lines=False)
+    assert stop.value.sentence == (
+        "mo\0on can't be read: no path has the character U+0000. Nothing was typed."
+    )
+    words = Namespace(file=Path("moon.braildesk"), folder=Path("mo\0on"), width=40)
+    words.lines = 25
+    with pytest.raises(Stop) as stop:
+        export.run(words, Console(BytesIO(), StringIO(), StringIO()))
+    assert stop.value.sentence == (
+        "mo\0on can't be a path, which has no character U+0000. Nothing was exported."
+    )
+    console = Console(
+        BytesIO(b"table-file\nown\nmo\0on\n\n"), StringIO(), said := StringIO()
+    )
+    assert run_words(["talk", "moon.braildesk"], console) == 0
+    assert said.getvalue() == "There is no file mo<U+0000>on.\n"
+
+
+def test_a_folder_that_is_gone_ends_each_command_in_a_sentence(
+    sample: Path, monkeypatch: pytest.MonkeyPatch
+) -> None:
+    gone = sample / "gone"
+    gone.mkdir()
+    monkeypatch.chdir(gone)
+    gone.rmdir()
+    for name, words in ALL.items():
+        check_said(ran([name, *words]), name)
+
+
+#: Runs commands, and writes what came of each.
+EACH = """\
+import json, sys
+from io import BytesIO, StringIO
+from scribe.cli import run_words
+from scribe.console import Console
+
+for words in json.load(sys.stdin):
+    shown, said = StringIO(), StringIO()
+    status = run_words(words, Console(BytesIO(b"The moon\\n"), shown, said))
+    print(json.dumps([status, shown.getvalue(), said.getvalue()]))
+"""
+
+
+@pytest.fixture(scope="module")
+def installed() -> Iterator[Path]:
+    """A folder that anybody may read, with all that scribe needs."""
+    with tempfile.TemporaryDirectory(prefix="scribe-installed-") as name:
+        folder = Path(name)
+        folder.chmod(0o755)
+        shutil.copytree(ROOT / "python", folder / "python")
+        shutil.copytree(ROOT / "tables", folder / "tables")
+        shutil.copy(ROOT / "VERSION", folder)
+        shutil.copy(braildesk.find(), folder / "braildesk")
+        yield folder
+
+
+@pytest.fixture
+def locked(moon: Path, installed: Path) -> Iterator[Path]:
+    """The folder of the sample, with a text, where another user can come to."""
+    folder = installed / "sample"
+    shutil.copytree(moon.parent, folder)
+    (folder / "text.txt").write_text("The sun\n")
+    yield folder
+    folder.chmod(0o700)
+    shutil.rmtree(folder)
+
+
+def ran_by_another(installed: Path, asked: list[list[str]]) -> list[Ran]:
+    """What comes of commands of a user who owns no file, or of this one, who isn't root then."""
+    user = NOBODY if os.geteuid() == 0 else None
+    done = subprocess.run(
+        [sys.executable, "-c", EACH],
+        cwd=installed,
+        env=environment(
+            PYTHONPATH=str(installed / "python"),
+            BRAILDESK=str(installed / "braildesk"),
+            HOME="/nonexistent",
+        ),
+        input=json.dumps(asked).encode(),
+        capture_output=True,
+        user=user,
+        group=user,
+        extra_groups=None if user is None else [],
+    )
+    assert done.returncode == 0, done.stderr.decode()
+    return [Ran(*json.loads(line)) for line in done.stdout.splitlines()]
+
+
+#: The mode of the folder, and of the files in it, that keep a user from what a command does.
+MODES = {
+    "a folder of mode 600": (0o600, 0o644),
+    "a folder that may not be read": (0o333, 0o000),
+    "a folder without any leave": (0o000, 0o644),
+    "a folder that may only be read": (0o555, 0o444),
+}
+
+
+@pytest.mark.parametrize("kind", MODES)
+def test_what_may_not_be_opened_ends_each_command_in_a_sentence(
+    kind: str, locked: Path, installed: Path
+) -> None:
+    folder_mode, mode = MODES[kind]
+    names = [
+        name
+        for name in ALL
+        if kind != "a folder that may only be read"
+        or name not in ("check-table", "try")
+    ]
+    for file in locked.iterdir():
+        file.chmod(mode)
+    locked.chmod(folder_mode)
+    asked = [
+        [name, *(str(locked / w) if w in PLACES else w for w in ALL[name])]
+        for name in names
+    ]
+    for name, found in zip(names, ran_by_another(installed, asked)):
+        check_said(found, f"{name}, {kind}")
