@@ -8,6 +8,8 @@ from pathlib import Path
 
 ANYONE = 0o666
 _OF_THE_SYSTEM = ("/dev/", "/proc/")
+# what a file system says, as one of a network may, that has no way to sync a folder
+_NO_SYNC_OF_FOLDERS = (errno.EINVAL, errno.ENOTSUP, errno.ENOSYS)
 
 
 class MayNotLast(OSError):
@@ -48,7 +50,8 @@ def write_whole(path: Path, data: bytes, mode: int = ANYONE) -> None:
         try:
             os.fsync(folder)
         except OSError as error:
-            raise MayNotLast(error.errno, error.strerror) from error
+            if error.errno not in _NO_SYNC_OF_FOLDERS:
+                raise MayNotLast(error.errno, error.strerror) from error
     finally:
         os.close(folder)
 

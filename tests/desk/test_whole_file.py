@@ -126,22 +126,39 @@ def test_a_file_that_cannot_be_replaced_stays_as_it_was(
     assert os.listdir(tmp_path) == ["pages.brf"]
 
 
+def no_folder_is_synced(number: int, monkeypatch: pytest.MonkeyPatch) -> None:
+    """Has each sync of a folder fail with the number of an error."""
+    sync = os.fsync
+
+    def refuse_folders(descriptor: int) -> None:
+        if stat.S_ISDIR(os.fstat(descriptor).st_mode):
+            raise OSError(number, "no sync")
+        sync(descriptor)
+
+    monkeypatch.setattr(os, "fsync", refuse_folders)
+
+
 def test_a_folder_that_cannot_be_synced_has_the_new_file_and_that_is_said(
     tmp_path: Path, monkeypatch: pytest.MonkeyPatch
 ) -> None:
     file = tmp_path / "pages.brf"
     file.write_bytes(b"older")
-    sync = os.fsync
-
-    def refuse_folders(descriptor: int) -> None:
-        if stat.S_ISDIR(os.fstat(descriptor).st_mode):
-            raise OSError(errno.EIO, "input/output error")
-        sync(descriptor)
-
-    monkeypatch.setattr(os, "fsync", refuse_folders)
-    with pytest.raises(MayNotLast, match="input/output error"):
+    no_folder_is_synced(errno.EIO, monkeypatch)
+    with pytest.raises(MayNotLast) as failed:
         write_whole(file, b"newer")
     assert file.read_bytes() == b"newer"
+    assert failed.value.sentence_about(file) == (
+        f"{file} is written, but its folder could not be brought to the disk: no sync. After"
+        " a loss of power the older file may be there."
+    )
+
+
+def test_a_file_is_written_where_no_folder_can_be_synced_at_all(
+    tmp_path: Path, monkeypatch: pytest.MonkeyPatch
+) -> None:
+    no_folder_is_synced(errno.EINVAL, monkeypatch)
+    write_whole(tmp_path / "pages.brf", b"new")
+    assert (tmp_path / "pages.brf").read_bytes() == b"new"
 
 
 @NEEDS_ROOT

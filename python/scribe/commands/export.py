@@ -8,6 +8,7 @@ from dataclasses import dataclass
 from pathlib import Path
 
 from braildesk import Failed, Refused, check, export
+from braildesk.named_files import read_file
 
 from scribe.console import Console
 from scribe.layout import Sheet
@@ -215,7 +216,7 @@ def _so_far(
 
 def _has(file: Path, pages: bytes) -> bool:
     try:
-        return file.is_file() and file.read_bytes() == pages
+        return not file.is_symlink() and read_file(file, len(pages)) == pages
     except OSError:
         return False
 
