@@ -68,6 +68,17 @@ def test_a_table_of_too_many_lines_is_refused(
         read_source(table)
 
 
+@pytest.mark.parametrize("ending", [".uti", ".dis"])
+def test_no_pipe_that_a_table_includes_is_waited_for(
+    ending: str, tmp_path: Path
+) -> None:
+    os.mkfifo(tmp_path / f"pipe{ending}")
+    table = tmp_path / "own.utb"
+    table.write_text(f"include pipe{ending}\nletter a 1\n", encoding="utf-8")
+    with pytest.raises(NoTable, match=f"includes pipe{ending}, which is no file"):
+        read_source(table)
+
+
 def test_bring_ends_with_a_sentence_where_liblouis_alone_would_loop(
     tmp_path: Path,
 ) -> None:

@@ -19,8 +19,8 @@ from typing import Any, Final
 
 from braildesk.bring.operands import Cells
 
-FIRST_SECONDS: Final = 120.0
-"""How long the reading of a table may take."""
+FIRST_SECONDS: Final = 30.0
+"""How long the reading of a table may take on a busy machine; the system ends the process well before."""
 
 SECONDS: Final = 20.0
 """How long an answer may take on a busy machine; the process ends itself well before."""

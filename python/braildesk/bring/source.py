@@ -140,13 +140,17 @@ class _Reading:
                 self.include(line.operands[0], path, above)
 
     def include(self, name: str, path: Path, above: tuple[Path, ...]) -> None:
+        candidates = (folder / name for folder in (path.parent, *search_path()))
+        found = next((each for each in candidates if each.exists()), None)
+        if found is not None and not found.is_file():
+            # liblouis would wait for a pipe
+            raise NoTable(f"The table includes {name}, which is no file.")
         if name.endswith(_DISPLAY_ENDINGS):
             return
-        for folder in (path.parent, *search_path()):
-            if (folder / name).is_file():
-                self.take(folder / name, (*above, path))
-                return
-        self.missing.append(name)
+        if found is None:
+            self.missing.append(name)
+        else:
+            self.take(found, (*above, path))
 
 
 def _lines_of(path: Path) -> Iterator[Line]:
