@@ -15,7 +15,7 @@ _scribe() {
             talk) words='--by --width' ;;
             table | try) words='--width' ;;
             check-table) words='--display --width' ;;
-            import) words='--lines --table --after --dry-run --from' ;;
+            import) words='--lines --table --after --dry-run --from --continue --again --leave' ;;
             show) words='--paragraphs --print --braille --ascii --width' ;;
             find) words='--braille --alike --width' ;;
             change) words='--nth --by --width' ;;

@@ -1,4 +1,4 @@
-"""What a person typed for a book and the book doesn't have yet, kept in a folder of their own.
+"""What a person began for a book and the book doesn't have yet, kept in a folder of their own.
 
 The folder is `braildesk` under `XDG_STATE_HOME`, else under `~/.local/state`, and not beside the
 book: a book may come from anybody and lie where others write. Files there are named by the book's
@@ -13,6 +13,7 @@ from pathlib import Path
 from typing import TypeVar
 
 from scribe.draft import Draft, draft_in
+from scribe.import_note import ImportNote, note_in
 from scribe.own_folder import MOST_BYTES, OwnFolder, Unfit, bytes_of, opened
 from scribe.record import NotSuch, Record
 from scribe.state_folder import state_folder
@@ -20,7 +21,14 @@ from scribe.status import Stop
 
 #: How many texts that were given up are kept for a book.
 MOST_GIVEN_UP = 10
-_WAITING, _GIVEN_UP = "unsent", "given-up"
+#: How many imports that were cut short are noted for a book.
+MOST_IMPORTS = 10
+_WAITING, _GIVEN_UP, _IMPORTS = "unsent", "given-up", "imports"
+_BEGUN = {
+    _WAITING: "What is typed",
+    _GIVEN_UP: "What is given up",
+    _IMPORTS: "How far the import comes",
+}
 _Kept = TypeVar("_Kept")
 
 
@@ -29,7 +37,7 @@ class NotKept(Stop):
 
 
 class Drafts:
-    """The texts of one book that wait, and those that were given up."""
+    """The text of one book that waits, those that were given up, and imports that aren't done."""
 
     def __init__(self, book: Path) -> None:
         self.book = Path(os.path.realpath(book))
@@ -67,6 +75,20 @@ class Drafts:
         """The texts that were given up, the newest first."""
         return self._read(_GIVEN_UP, _drafts_in) or ()
 
+    def imports(self) -> tuple[ImportNote, ...]:
+        """The imports that were begun and haven't come to their end, the newest first."""
+        return self._read(_IMPORTS, _notes_in) or ()
+
+    def begin_import(self, note: ImportNote) -> None:
+        """Notes an import before its first paragraph is typed, in place of others of its text."""
+        self._note((note, *self._others(note)))
+
+    def end_import(self, note: ImportNote) -> None:
+        """Takes away what is noted of an import: it is done, or nobody goes on with it."""
+        others = self._others(note)
+        if len(others) < len(self.imports()):
+            self._note(others)
+
     def take_in(self) -> None:
         """Moves in what an older scribe left beside the book.
 
@@ -74,6 +96,7 @@ class Drafts:
         is a draft; else it stays where it is, which `NotKept` says.
         """
         self._clear_left()
+        self.adopt()
         beside = self.book.name + "-unsent"
         try:
             with opened(self.book.parent) as folder:
@@ -92,12 +115,46 @@ class Drafts:
         except OSError as cause:
             raise self._left(beside, cause.strerror) from cause
 
+    def adopt(self) -> None:
+        """Takes over what was kept for this book at a path where it is no more: it was moved."""
+        identity = _identity(self.book)
+        try:
+            names = self._folder.names() if identity else []
+            for name in names:
+                what = name.partition(".")[2]
+                own = self._name(what)
+                if what in _BEGUN and own not in names and self._is_of(name, identity):
+                    self._folder.rename(name, own)
+        except OSError:
+            # what can't be read is said where it is asked for
+            pass
+
+    def _is_of(self, name: str, identity: list[int] | None) -> bool:
+        """Whether a file was kept for this book, at a path where another file is, or none."""
+        try:
+            kept = Record.of(self._folder.read(name) or b"")
+            path = Path(kept.path("book"))
+            is_same = kept.has("file") and kept.numbers("file") == identity
+        except NotSuch:
+            return False
+        return is_same and _identity(path) != identity
+
     def _add_given_up(self, draft: Draft) -> None:
         others = [each for each in self.given_up() if each.text != draft.text]
         values = [each.values() for each in (draft, *others)][:MOST_GIVEN_UP]
         while len(values) > 1 and len(json.dumps(values)) > MOST_BYTES // 2:
             values.pop()
         self._write(_GIVEN_UP, {"texts": values})
+
+    def _others(self, note: ImportNote) -> tuple[ImportNote, ...]:
+        return tuple(each for each in self.imports() if not each.is_of(note))
+
+    def _note(self, notes: tuple[ImportNote, ...]) -> None:
+        if notes:
+            values = [each.values() for each in notes[:MOST_IMPORTS]]
+            self._write(_IMPORTS, {"imports": values})
+        else:
+            self._remove(_IMPORTS)
 
     def _left(self, name: str, why: str) -> NotKept:
         path = self.book.with_name(name)
@@ -148,7 +205,7 @@ class Drafts:
             self._folder.write(self._name(what), data.encode())
         except OSError as cause:
             raise NotKept(
-                f"What is typed can't be kept{self._where}: {cause.strerror}."
+                f"{_BEGUN[what]} can't be kept{self._where}: {cause.strerror}."
             ) from cause
 
     def _remove(self, what: str) -> None:
@@ -156,13 +213,17 @@ class Drafts:
             self._folder.remove(self._name(what))
         except OSError as cause:
             raise NotKept(
-                f"What was typed can't be taken out of {self._folder.path}:"
+                f"{_BEGUN[what]} can't be taken out of {self._folder.path}:"
                 f" {cause.strerror}."
             ) from cause
 
 
 def _drafts_in(kept: Record) -> tuple[Draft, ...]:
     return tuple(map(draft_in, kept.records("texts")))
+
+
+def _notes_in(kept: Record) -> tuple[ImportNote, ...]:
+    return tuple(map(note_in, kept.records("imports")))
 
 
 def _identity(book: Path) -> list[int] | None:

@@ -6,6 +6,7 @@ from dataclasses import dataclass
 from braildesk import After, Paragraph, Table
 from braildesk.requests import Type
 
+from scribe.import_note import ImportNote
 from scribe.manuscript import Passage
 from scribe.paragraph import quoted
 from scribe.status import Stop
@@ -34,6 +35,20 @@ class Intake:
             yield Type(after, self.table.name, passage.text, expect=expected)
             if after != "end":
                 after = self.there + count + 1
+
+    def noted(self, text: str, digest: str, by_lines: bool) -> ImportNote:
+        """What is noted of this import: the path of the text, its digest, and how it is read."""
+        return ImportNote(
+            text,
+            digest,
+            by_lines,
+            self.passages[0].first_line,
+            len(self.passages),
+            self.table.name,
+            self.after,
+            self.version,
+            self.there,
+        )
 
 
 def parted_at(

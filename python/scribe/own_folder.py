@@ -17,7 +17,9 @@ MOST_BYTES = 4 * 2**20
 _TOO_LARGE = f"it has more than {MOST_BYTES:,} bytes"
 _READ = os.O_RDONLY | os.O_NOFOLLOW | os.O_NONBLOCK | os.O_NOCTTY | os.O_CLOEXEC
 _MAKE = os.O_WRONLY | os.O_CREAT | os.O_EXCL | os.O_NOFOLLOW | os.O_CLOEXEC
-_FOLDER = os.O_RDONLY | os.O_DIRECTORY | os.O_CLOEXEC
+_FOLDER = os.O_RDONLY | os.O_DIRECTORY | os.O_NOFOLLOW | os.O_CLOEXEC
+# a file in place of a folder has no files
+_ABSENT = (FileNotFoundError, NotADirectoryError)
 # what a writer that was killed left is taken away after this time
 _LEFT_SECONDS = 3_600
 
@@ -40,15 +42,16 @@ class OwnFolder:
         try:
             with self._opened() as folder:
                 return bytes_of(folder, name)
-        except FileNotFoundError:
+        except _ABSENT:
             return None
 
     def write(self, name: str, data: bytes) -> None:
         """Gives a file these bytes, in place of what it had; or leaves it as it was."""
         if len(data) > MOST_BYTES:
             raise Unfit(_TOO_LARGE)
-        if self.path.is_absolute():
-            _make(self.path)
+        if not self.path.is_absolute():
+            raise Unfit("no home folder is known")
+        _make(self.path)
         beside = f".{name}.{secrets.token_hex(4)}"
         with self._opened() as folder:
             try:
@@ -71,7 +74,7 @@ class OwnFolder:
             with self._opened() as folder:
                 if _remove(folder, name):
                     os.fsync(folder)
-        except FileNotFoundError:
+        except _ABSENT:
             pass
 
     def names(self) -> list[str]:
@@ -79,7 +82,7 @@ class OwnFolder:
         try:
             with self._opened() as folder:
                 found = os.listdir(folder)
-        except FileNotFoundError:
+        except _ABSENT:
             return []
         return sorted(name for name in found if not name.startswith("."))
 
@@ -90,14 +93,12 @@ class OwnFolder:
                 for name in os.listdir(folder):
                     if name.startswith(".") and _is_old(folder, name):
                         _remove(folder, name)
-        except FileNotFoundError:
+        except _ABSENT:
             pass
 
     @contextmanager
     def _opened(self) -> Iterator[int]:
-        if not self.path.is_absolute():
-            raise Unfit("no home folder is known")
-        folder = os.open(self.path, _FOLDER | os.O_NOFOLLOW)
+        folder = os.open(self.path, _FOLDER)
         try:
             found = os.fstat(folder)
             if found.st_uid != os.geteuid():
@@ -112,7 +113,7 @@ class OwnFolder:
 @contextmanager
 def opened(path: Path) -> Iterator[int]:
     """A folder that may be anybody's, to read a file of one's own there."""
-    folder = os.open(path, _FOLDER)
+    folder = os.open(path, os.O_PATH | os.O_DIRECTORY | os.O_CLOEXEC)
     try:
         yield folder
     finally:

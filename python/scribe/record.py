@@ -54,6 +54,10 @@ class Record:
             raise NotSuch(name) from cause
         return value
 
+    def is_number(self, name: str) -> bool:
+        """Whether the value of this name is a whole number."""
+        return type(self._values.get(name)) is int
+
     def number(self, name: str, least: int = 0) -> int:
         """A whole number, within what a request can have."""
         return _number(self._values.get(name), name, least)

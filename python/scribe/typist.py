@@ -28,8 +28,16 @@ class CutShort(Exception):
         self.stopped = stopped
 
 
-def type_all(path: Path, intake: Intake, report: Callable[[int], None]) -> None:
-    """Types all paragraphs, or raises `CutShort`; `Stop` where the book isn't as it was."""
+def type_all(
+    path: Path,
+    intake: Intake,
+    report: Callable[[int], None],
+    begin: Callable[[], None] = lambda: None,
+) -> None:
+    """Types all paragraphs, or raises `CutShort`; `Stop` where the book isn't as it was.
+
+    What has to be done before the first one is typed is done once nobody else can type.
+    """
     done = 0
     try:
         with Session(path) as session:
@@ -38,6 +46,7 @@ def type_all(path: Path, intake: Intake, report: Callable[[int], None]) -> None:
                     f"Somebody else changed the book meanwhile: it is at version"
                     f" {session.seen:,}. Nothing was typed. Import the text again."
                 )
+            begin()
             for _ in answers(session, intake.requests(), report):
                 done += 1
     except KeyboardInterrupt as cause:

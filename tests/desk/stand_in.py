@@ -16,10 +16,11 @@ from typing import IO
 #: How far a command has come when the deed is done: it was read here; half of its line was passed
 #: on; its reply was read here; its reply was passed back.
 READ, HALF, KEPT, ANSWERED = "read", "half", "kept", "answered"
-#: The deeds: the program or scribe is killed; scribe gets a signal; all waits until a queue of the file system was read
-#: and then written; the program isn't asked, and the words are the reply; the words are a request
-#: that goes before.
-KILL_PROGRAM, KILL_SCRIBE, SIGNAL = "kill-program", "kill-scribe", "signal"
+#: The deeds: the program, scribe or both are killed; scribe gets a signal; all waits until a queue of
+#: the file system was read and then written; the program isn't asked, and the words are the reply;
+#: the words are a request that goes before.
+KILL_PROGRAM, KILL_SCRIBE, KILL_BOTH = "kill-program", "kill-scribe", "kill-both"
+SIGNAL = "signal"
 WAIT, REPLY, SEND = "wait", "reply", "send"
 
 
@@ -62,6 +63,11 @@ def _do(program: subprocess.Popen[bytes], deed: list[str]) -> bytes | None:
             os.kill(os.getpid(), signal.SIGKILL)
         case ["kill-scribe"]:
             os.kill(os.getppid(), signal.SIGKILL)
+        case ["kill-both"]:
+            program.kill()
+            program.wait()
+            os.kill(os.getppid(), signal.SIGKILL)
+            os.kill(os.getpid(), signal.SIGKILL)
         case ["signal", name]:
             os.kill(os.getppid(), signal.Signals[name])
         case ["wait", path]:

@@ -4,22 +4,22 @@ import json
 import os
 import shutil
 import stat
-import subprocess
-import sys
 import tempfile
 from collections.abc import Callable, Iterator
 from pathlib import Path
 
 import pytest
-from hypothesis import given
+from hypothesis import given, settings
 from hypothesis import strategies as st
 
 from scribe.draft import Aim, Draft, draft_in
 from scribe.drafts import Drafts, NotKept
+from scribe.import_note import note_in
 from scribe.occurrences import Occurrence
 from scribe.own_folder import MOST_BYTES
 from scribe.record import NotSuch, Record
 from sitting import Sit
+from strangers import NEEDS_ROOT, STRANGER, as_stranger
 
 NOTE = Draft(Aim.NOTE, 3, "en", "The Tides", "which?\nwhy?", Occurrence(2, 4), 9)
 FORGED = {
@@ -31,7 +31,6 @@ FORGED = {
     "cells": None,
     "version": 7,
 }
-NOBODY = 65_534
 
 
 @pytest.fixture
@@ -50,23 +49,9 @@ def beside(moon: Path, store: Path) -> Path:
 @pytest.fixture
 def shared(moon_once: Path, store: Path) -> Iterator[Path]:
     """A book in a folder in which everybody may write, and that isn't sticky."""
-    if os.geteuid() != 0:
-        pytest.skip("only root can be two users")
     with tempfile.TemporaryDirectory() as folder:
         os.chmod(folder, 0o777)
         yield Path(shutil.copyfile(moon_once, Path(folder, "moon.braildesk")))
-
-
-def as_nobody(folder: Path, program: str) -> None:
-    """Runs a program of Python in a folder as another user."""
-    subprocess.run(
-        [sys.executable, "-I", "-c", f"import json, os\n{program}"],
-        cwd=folder,
-        check=True,
-        user=NOBODY,
-        group=NOBODY,
-        extra_groups=[],
-    )
 
 
 def modes(*paths: Path) -> list[str]:
@@ -111,6 +96,31 @@ def test_a_draft_is_read_back_as_it_was_and_by_each_way_to_the_book(
     drafts.clear()
     drafts.clear()
     assert drafts.waiting() is None
+
+
+def test_a_draft_goes_with_a_book_that_is_moved_and_not_with_a_copy(
+    moon: Path, store: Path
+) -> None:
+    Drafts(moon).save(NOTE)
+    Drafts(moon).give_up(NOTE)
+    Drafts(moon).save(NOTE)
+    copy = Path(shutil.copyfile(moon, moon.with_name("copy.braildesk")))
+    Drafts(copy).take_in()
+    assert Drafts(copy).waiting() is None
+    moved = moon.rename(moon.parent / "moved.braildesk")
+    Drafts(moved).take_in()
+    assert Drafts(moved).waiting() == NOTE and Drafts(moved).given_up() == (NOTE,)
+    assert Drafts(moon).waiting() is None
+
+
+def test_a_draft_stays_with_the_path_where_the_file_of_the_book_is_replaced(
+    moon: Path, store: Path
+) -> None:
+    Drafts(moon).save(NOTE)
+    new = Path(shutil.copyfile(moon, moon.with_name("new")))
+    new.rename(moon)
+    Drafts(moon).take_in()
+    assert Drafts(moon).waiting() == NOTE
 
 
 def test_the_last_ten_texts_that_were_given_up_are_kept(
@@ -281,6 +291,7 @@ def test_a_link_from_a_tar_leads_no_text_into_another_file(
     assert aliases.read_text() == "alias ll='ls -l'\n" and beside.is_symlink()
 
 
+@NEEDS_ROOT
 def test_a_link_that_another_user_makes_leads_no_text_into_ones_own_file(
     shared: Path, sit: Sit, tmp_path: Path
 ) -> None:
@@ -288,42 +299,42 @@ def test_a_link_that_another_user_makes_leads_no_text_into_ones_own_file(
     mine.write_text("alias ll='ls -l'\n")
     sat = sit(shared)
     sat.press("enter", "O")
-    as_nobody(shared.parent, f"os.symlink({str(mine)!r}, 'moon.braildesk-unsent')")
+    beside = shared.with_name("moon.braildesk-unsent")
+    assert as_stranger(lambda: beside.symlink_to(mine)) == ""
     sat.state = sat.desk.save_draft(sat.state)
     sat.press("enter")
     assert sat.state.kept == "kept: correction 2 of paragraph 1"
     assert mine.read_text() == "alias ll='ls -l'\n"
 
 
+@NEEDS_ROOT
 @pytest.mark.parametrize(
-    "program, why",
+    "put, why",
     [
-        (
-            f"open(name, 'w').write({json.dumps(FORGED)!r})",
-            "it belongs to another user",
-        ),
-        ("os.mkfifo(name, 0o666)", "it is no regular file"),
+        (lambda path: path.write_text(forged()), "it belongs to another user"),
+        (lambda path: os.mkfifo(path, 0o666), "it is no regular file"),
     ],
     ids=["a draft", "a FIFO"],
 )
 def test_nobody_is_offered_what_another_user_left_beside_the_book(
-    shared: Path, sit: Sit, program: str, why: str
+    shared: Path, sit: Sit, put: Callable[[Path], object], why: str
 ) -> None:
-    as_nobody(shared.parent, f"name = 'moon.braildesk-unsent'\n{program}")
-    sat = sit(shared)
     beside = shared.with_name("moon.braildesk-unsent")
+    assert as_stranger(lambda: put(beside)) == ""
+    sat = sit(shared)
     assert sat.state.question is None
     assert sat.state.message == (
         f"{beside} isn't taken as a text that waits: {why}. It was left as it is."
     )
-    assert beside.lstat().st_uid == NOBODY
+    assert beside.lstat().st_uid == STRANGER
 
 
+@NEEDS_ROOT
 def test_a_folder_of_another_user_is_not_used(
     moon: Path, store: Path, shared: Path, monkeypatch: pytest.MonkeyPatch
 ) -> None:
     monkeypatch.setenv("XDG_STATE_HOME", str(shared.parent))
-    as_nobody(shared.parent, "os.mkdir('braildesk', 0o777)")
+    assert as_stranger(lambda: (shared.parent / "braildesk").mkdir(0o777)) == ""
     with pytest.raises(NotKept) as told:
         Drafts(moon).save(NOTE)
     assert told.value.sentence == (
@@ -388,6 +399,7 @@ ANY = st.recursive(
 )
 
 
+@settings(max_examples=40)
 @given(st.dictionaries(st.sampled_from(list(FORGED)), ANY))
 def test_only_values_of_the_right_types_are_read_as_a_draft(
     changed: dict[str, object]
@@ -406,6 +418,37 @@ def test_only_values_of_the_right_types_are_read_as_a_draft(
     assert draft_in(Record.of(json.dumps(found.values()).encode())) == found
 
 
+BEGUN = {
+    "text": "/home/anna/text.txt",
+    "digest": "0" * 64,
+    "by_lines": False,
+    "line": 1,
+    "count": 4,
+    "table": "en",
+    "after": "end",
+    "version": 7,
+    "there": 3,
+}
+
+
+@settings(max_examples=40)
+@given(st.dictionaries(st.sampled_from(list(BEGUN)), ANY))
+def test_only_values_of_the_right_types_are_read_as_a_note_of_an_import(
+    changed: dict[str, object]
+) -> None:
+    data = json.dumps(BEGUN | changed).encode()
+    try:
+        found = note_in(Record.of(data))
+    except NotSuch:
+        return
+    numbers = (found.line, found.count, found.version, found.there)
+    assert all(type(number) is int and number >= 0 for number in numbers)
+    assert found.after in ("front", "end") or type(found.after) is int
+    os.fsencode(found.text)
+    assert note_in(Record.of(json.dumps(found.values()).encode())) == found
+
+
+@settings(max_examples=40)
 @given(st.binary(max_size=200) | ANY.map(lambda value: json.dumps(value).encode()))
 def test_any_bytes_are_read_as_a_draft_or_refused(data: bytes) -> None:
     try:

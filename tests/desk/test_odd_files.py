@@ -104,7 +104,7 @@ def test_a_path_of_any_kind_ends_each_command_in_a_sentence(
 
 def test_a_path_that_is_typed_with_nul_is_refused_in_a_sentence(sample: Path) -> None:
     with pytest.raises(Stop) as stop:
-        import_text.read(Path("mo\0on"), by_lines=False)
+        import_text.bytes_of(Path("mo\0on"))
     assert stop.value.sentence == (
         "mo\0on can't be read: no path has the character U+0000. Nothing was typed."
     )

@@ -15,7 +15,7 @@ cd "$(dirname "$0")/../.."
 scratch=$(mktemp -d); trap 'rm -rf "$scratch"' EXIT
 mkdir "$scratch/found"
 unset COLUMNS BRAILDESK MAKEFLAGS MAKELEVEL
-export LC_ALL=C.UTF-8
+export LC_ALL=C.UTF-8 XDG_STATE_HOME="$scratch/state"
 if [ "$program" != --installed ]; then
     tests/needs.sh python louis
     PYTHON=${PYTHON:-$(tests/python.sh)}

@@ -1,14 +1,17 @@
 """`scribe import`: the paragraphs of a text file, typed into the book."""
 
+import os
 import shlex
 from argparse import ArgumentParser, Namespace
-from collections.abc import Iterator, Sequence
+from collections.abc import Callable, Iterator, Sequence
 from pathlib import Path
 
 from braildesk import Session, Table, limits, tables
 from braildesk.named_files import read_file
 
 from scribe.console import Console
+from scribe.drafts import Drafts
+from scribe.earlier import Watch, Way, check_is_new, decided, leave
 from scribe.intake import (
     Intake,
     check_goes_on,
@@ -18,15 +21,19 @@ from scribe.intake import (
 )
 from scribe.judgement import faults
 from scribe.manuscript import Passage, Unreadable, passages
+from scribe.origin import standing
 from scribe.parser import Subparsers, add_file, after, command_parser, number
 from scribe.status import Interrupted, Status, Stop, stopped_by
 from scribe.typist import CutShort, kept_of, type_all
+from scribe.unfinished import digest_of
 
 MORE = """\
 Blank lines part the paragraphs, and the lines between them are joined; with --lines each
 line is a paragraph. The text is UTF-8. Before anything is typed all of it is judged: each
 character that the table lacks and each paragraph that is too long is shown with its line
-and column. If the typing is cut short, --from goes on at a line of the text."""
+and column. If the typing is cut short, also by a terminal that is closed, --continue types
+the rest; --from goes on at a line of the text. A text that stands there already, or of
+which a part does, isn't typed once more without --again."""
 EXAMPLE = """\
 echo 'Twice a day the sea comes up.' > tides.txt && scribe import moon.braildesk tides.txt"""
 
@@ -56,58 +63,106 @@ def add_parser(subparsers: Subparsers) -> ArgumentParser:
     parser.add_argument(
         "--from", dest="line", metavar="LINE", type=number, help="begin at this line"
     )
+    _add_ways(parser)
     return parser
 
 
+def _add_ways(parser: ArgumentParser) -> None:
+    """Adds the words that say what is done about an earlier import of the text."""
+    ways = parser.add_mutually_exclusive_group()
+    for option, way, does in (
+        ("--continue", Way.GO_ON, "type the rest of an import that was cut short"),
+        ("--again", Way.AGAIN, "type what stands there already once more"),
+        ("--leave", Way.LEAVE, "leave out the rest of an import that was cut short"),
+    ):
+        ways.add_argument(
+            option,
+            dest="way",
+            action="store_const",
+            const=way,
+            default=Way.ASK,
+            help=does,
+        )
+
+
 def run(arguments: Namespace, console: Console) -> Status:
+    """Imports the text."""
+    path, drafts = arguments.text, Drafts(arguments.file)
+    if arguments.way is Way.LEAVE:
+        console.show(leave(drafts, path))
+        return Status.DONE
+    watch = Watch(drafts, console.say)
     try:
-        intake = prepared(arguments)
+        data = bytes_of(path)
+        arguments = decided(arguments, watch.noted(path, data))
+        intake = prepared(arguments, data)
     except KeyboardInterrupt as cause:
         console.say(f"{stopped_by(cause)} Nothing was typed.")
         raise Interrupted.after(cause) from cause
-    count = len(intake.passages)
     if arguments.dry_run:
+        count = len(intake.passages)
         console.show(f"{_paragraphs(count)} would be typed, {_by(intake)}.")
         return Status.DONE
-    report = console.progress("paragraphs typed")
+    note = intake.noted(os.path.abspath(path), digest_of(data), arguments.lines)
     try:
-        type_all(arguments.file, intake, lambda done: report(done, count))
+        _type(arguments, intake, lambda: watch.begin(note), console)
     except CutShort as cut:
         kept = kept_of(arguments.file, intake)
+        if kept == 0 and not arguments.line:
+            watch.end(note)
         console.say(cut.sentence, *going_on(arguments, intake, cut.done, kept))
         if cut.stopped is not None:
             raise Interrupted.after(cut.stopped) from cut
         return cut.status
-    first, last = intake.there + 1, intake.there + count
-    numbers = f"number {first}" if count == 1 else f"numbers {first} to {last}"
-    console.show(f"{_paragraphs(count)} typed, {numbers}, {_by(intake)}.")
+    watch.end(note)
     return Status.DONE
 
 
-def prepared(arguments: Namespace) -> Intake:
+def _type(
+    arguments: Namespace, intake: Intake, begin: Callable[[], None], console: Console
+) -> None:
+    """Types a text, and says so; `CutShort` where a part of it isn't."""
+    count = len(intake.passages)
+    report = console.progress("paragraphs typed")
+    type_all(arguments.file, intake, lambda done: report(done, count), begin)
+    first, last = intake.there + 1, intake.there + count
+    numbers = f"number {first}" if count == 1 else f"numbers {first} to {last}"
+    console.show(f"{_paragraphs(count)} typed, {numbers}, {_by(intake)}.")
+
+
+def prepared(arguments: Namespace, data: bytes) -> Intake:
     """What is to be typed, once nothing stands in its way."""
-    whole = read(arguments.text, arguments.lines)
+    path, place = arguments.text, arguments.after
+    whole = read(path, data, arguments.lines)
     before, rest = parted_at(whole, arguments.line or 1)
     found = tables(arguments.file)
     with Session(arguments.file) as session:
         book = session.list()
-        anchor = paragraph_before(book, arguments.after)
+        anchor = paragraph_before(book, place)
         table = table_for(found, anchor, arguments.table)
         stored = session.print(anchor.id) if anchor and before else None
         version = session.seen
-    check_goes_on(stored, before, rest)
-    judge(arguments.text, rest, table, len(book))
-    return Intake(version, len(book), rest, arguments.after, table)
+        check_goes_on(stored, before, rest)
+        if arguments.way is not Way.AGAIN:
+            check_is_new(path, standing(session, book, place, rest))
+    judge(path, rest, table, len(book))
+    return Intake(version, len(book), rest, place, table)
 
 
-def read(path: Path, by_lines: bool) -> tuple[Passage, ...]:
-    """The paragraphs of a text file."""
+def bytes_of(path: Path) -> bytes:
+    """The bytes of a text file."""
     try:
-        found = passages(read_file(path, limits.TEXT_BYTES), by_lines)
+        return read_file(path, limits.TEXT_BYTES)
     except OSError as cause:
         raise Stop(
             f"{path} can't be read: {cause.strerror}. Nothing was typed."
         ) from cause
+
+
+def read(path: Path, data: bytes, by_lines: bool) -> tuple[Passage, ...]:
+    """The paragraphs of a text file."""
+    try:
+        found = passages(data, by_lines)
     except Unreadable as cause:
         raise Stop(f"{path} {cause.sentence}. Nothing was typed.") from cause
     if not found:

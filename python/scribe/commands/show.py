@@ -5,6 +5,8 @@ from argparse import ArgumentParser, Namespace
 from braildesk import Session
 
 from scribe.console import Console
+from scribe.drafts import Drafts
+from scribe.earlier import reminders, to_go_on
 from scribe.parser import Subparsers, add_file, command_parser
 from scribe.readings import readings
 from scribe.status import Status
@@ -15,7 +17,8 @@ from scribe.width import add_width
 MORE = """\
 Print and braille stand under one another, and after them the marks with their notes.
 --paragraphs 3-9 shows what the book has from paragraph 3 to paragraph 9, in its own
-order; 3- goes on to its end, -9 begins at its front, and 3-9,12 shows both."""
+order; 3- goes on to its end, -9 begins at its front, and 3-9,12 shows both. An import
+that was cut short, so that the book has a part of its text, is named at the end."""
 EXAMPLE = "scribe show moon.braildesk --paragraphs 1-2"
 
 
@@ -54,6 +57,9 @@ def run(arguments: Namespace, console: Console) -> Status:
         chosen = [paragraph for part in parts for paragraph in part]
         for count, reading in enumerate(readings(session, chosen)):
             console.show(*([""] if count else []), *view.lines(reading))
+        begun = to_go_on(Drafts(arguments.file), session, book)
     if not book:
         console.say("The book has no paragraphs.")
+    for each in begun:
+        console.say(*reminders(each, arguments.file))
     return Status.DONE

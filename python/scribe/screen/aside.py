@@ -2,7 +2,7 @@
 
 from argparse import Namespace
 from collections.abc import Callable, Iterable
-from dataclasses import dataclass
+from dataclasses import dataclass, replace
 from io import BytesIO, StringIO
 from pathlib import Path
 
@@ -10,8 +10,10 @@ from braildesk import DeskError
 
 from scribe.commands import export, import_text
 from scribe.console import Console
+from scribe.earlier import Undecided
 from scribe.failures import of_system
-from scribe.screen.errands import ExportTo, ImportFrom
+from scribe.screen.errands import ExportTo, ImportFrom, LeaveImport
+from scribe.screen.state import Question
 from scribe.status import Interrupted, Stop
 
 
@@ -22,6 +24,8 @@ class Ending:
     title: str
     lines: tuple[str, ...]
     kept: str = ""
+    #: What is asked before a text is imported that was imported before.
+    question: Question | None = None
 
 
 class Heard(StringIO):
@@ -51,11 +55,15 @@ def done_aside(
     """Does an errand by the command of the same name, until the check has it end."""
     shown, said = Heard(report), Heard(report)
     console = Console(BytesIO(), shown, said, check)
+    question = None
     try:
         if isinstance(errand, ExportTo):
             export.run(_export_words(path, errand), console)
         else:
             import_text.run(_import_words(path, errand), console)
+    except Undecided as asked:
+        assert isinstance(errand, ImportFrom)
+        question = question_about(asked, errand)
     except Stop as stop:
         console.say(*stop.lines)
     except DeskError as failed:
@@ -68,7 +76,13 @@ def done_aside(
     what = "Export." if isinstance(errand, ExportTo) else "Import."
     lines = shown.getvalue().splitlines()
     kept = lines[-1].rstrip(".") if lines and isinstance(errand, ImportFrom) else ""
-    return Ending(what, (*lines, *said.getvalue().splitlines()), kept)
+    return Ending(what, (*lines, *said.getvalue().splitlines()), kept, question)
+
+
+def question_about(asked: Undecided, errand: ImportFrom) -> Question:
+    """What is asked before a text is imported that was imported before, in part or whole."""
+    no = None if asked.note is None else LeaveImport(asked.note)
+    return Question(asked.question, yes=replace(errand, way=asked.way), no=no)
 
 
 def _export_words(path: Path, errand: ExportTo) -> Namespace:
@@ -87,4 +101,5 @@ def _import_words(path: Path, errand: ImportFrom) -> Namespace:
         after=errand.after,
         dry_run=False,
         line=None,
+        way=errand.way,
     )

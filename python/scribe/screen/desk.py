@@ -12,6 +12,7 @@ from braildesk.requests import Command, Request
 from scribe.cells import braille_patterns
 from scribe.draft import Aim, Draft
 from scribe.drafts import Drafts, NotKept
+from scribe.earlier import cut_short, to_go_on
 from scribe.excerpt import opening
 from scribe.failures import of_system
 from scribe.occurrences import Occurrence
@@ -19,13 +20,14 @@ from scribe.paragraph import quoted
 from scribe.queries import shown
 from scribe.readings import Reading, answers
 from scribe.screen import finding, keys, pagelook, pager
-from scribe.screen.aside import done_aside
+from scribe.screen.aside import done_aside, question_about
 from scribe.screen.draft import draft_of, field_of
 from scribe.screen.errands import (
     Errand,
     ExportTo,
     GiveTable,
     ImportFrom,
+    LeaveImport,
     OpenAgain,
     Quit,
     ShowHistory,
@@ -44,6 +46,7 @@ from scribe.screen.state import Opening, Pages, Pane, Question, Size, State
 from scribe.sequences import composed
 from scribe.status import Interrupted, Stop
 from scribe.tables import table_request
+from scribe.unfinished import Unfinished
 from scribe.visible import visible
 
 _WHILE_OPENED = "Another program changed the book while it was being opened, so it was read once more."
@@ -97,7 +100,8 @@ class Desk:
             is_ascii=is_ascii,
             message=_WHILE_OPENED if self._was_changed else self._greeting(),
         )
-        return self.refreshed(self._offered(state, self._saved))
+        state = self._reminded(self._offered(state, self._saved))
+        return self.refreshed(state)
 
     def press(self, state: State, key: str) -> State:
         """The state after a key, once what it asks for was answered."""
@@ -176,6 +180,8 @@ class Desk:
             count = len(state.book) - len(before.book)
             what = "1 paragraph" if count == 1 else f"{count:,} paragraphs"
             state = replace(state, kept=f"kept: {what} of the import")
+        if ending.question:
+            state = replace(state, question=ending.question)
         lines = (*_changed_between(before, state), *ending.lines)
         if lines:
             state = replace(state, pages=Pages(ending.title, lines))
@@ -224,6 +230,20 @@ class Desk:
         except NotKept as fault:
             notices.append(fault.sentence)
         return tuple(notices)
+
+    def _reminded(self, state: State) -> State:
+        """Asks about an import that was cut short, or says so where something else is asked."""
+        for found in to_go_on(self.drafts, self._session, state.book):
+            if isinstance(found, Unfinished) and state.question is None:
+                errand = ImportFrom(Path(found.note.text), found.after)
+                question = question_about(cut_short(found), errand)
+                state = replace(state, message="", question=question)
+                continue
+            sentences = [state.message, found.sentence]
+            if isinstance(found, Unfinished):
+                sentences.append("i and the name of that file go on.")
+            state = state.saying(" ".join(filter(None, sentences)))
+        return state
 
     def _greeting(self) -> str:
         found = " ".join(self._notices)
@@ -480,8 +500,15 @@ class Desk:
                 return self._typed_all(state, errand)
             case ExportTo() | ImportFrom():
                 return replace(state, away=errand, message="Please wait.")
+            case LeaveImport():
+                return self._left_out(state, errand)
             case OpenAgain():
                 return self._opened_anew(state, "The book is open again.")
+
+    def _left_out(self, state: State, errand: LeaveImport) -> State:
+        self.drafts.end_import(errand.note)
+        said = f"The rest of {errand.note.text} is left out. What is in the book stays there."
+        return state.saying(said)
 
     def _to_page(self, state: State) -> State:
         its, here = state.paragraph, state.lit

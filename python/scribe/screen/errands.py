@@ -5,6 +5,8 @@ from pathlib import Path
 
 from braildesk import After
 
+from scribe.earlier import Way
+from scribe.import_note import ImportNote
 from scribe.layout import Sheet
 from scribe.screen.field import Purpose
 
@@ -64,6 +66,15 @@ class ImportFrom:
     path: Path
     after: After
     table: str | None = None
+    #: What is done about an earlier import of that file.
+    way: Way = Way.ASK
+
+
+@dataclass(frozen=True)
+class LeaveImport:
+    """Leaves out the rest of an import that was cut short."""
+
+    note: ImportNote
 
 
 @dataclass(frozen=True)
@@ -85,6 +96,7 @@ Errand = (
     | TypeAll
     | ExportTo
     | ImportFrom
+    | LeaveImport
     | OpenAgain
     | Quit
 )

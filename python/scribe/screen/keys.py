@@ -92,6 +92,8 @@ def _is_cut(text: str) -> bool:
 
 
 def _answered(state: State, question: Question, key: str) -> Step:
+    if question.yes is not None:
+        return _about_import(state, question, question.yes, key)
     state = replace(state, question=None)
     if key == "escape" and question.draft is None:
         return Step(state.saying("The pasted text was left out. Nothing was sent."))
@@ -104,6 +106,20 @@ def _answered(state: State, question: Question, key: str) -> Step:
         return Step(state, TypeAll(state.typed.purpose, question.lines))
     text = " ".join(question.lines)
     return Step(replace(state, typed=replace(state.typed, text=text, place=len(text))))
+
+
+def _about_import(
+    state: State, question: Question, errand: ImportFrom, key: str
+) -> Step:
+    """An earlier import of a text: it goes on or is done again, or nothing is typed."""
+    answered = replace(state, question=None)
+    if key == "y":
+        return Step(answered, errand)
+    if key == "n" and question.no:
+        return Step(answered, question.no)
+    if key in ("n", "escape"):
+        return Step(answered.saying("Nothing was typed."))
+    return Step(state)
 
 
 def _taken_up(state: State, draft: Field, key: str) -> Step:

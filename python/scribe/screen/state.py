@@ -9,7 +9,7 @@ from braildesk import Mark, Paragraph
 from scribe.layout import Sheet
 from scribe.occurrences import Occurrence
 from scribe.readings import Reading
-from scribe.screen.errands import ExportTo, ImportFrom
+from scribe.screen.errands import ExportTo, ImportFrom, LeaveImport
 from scribe.screen.field import Field
 
 
@@ -60,6 +60,9 @@ class Question:
     sentence: str
     lines: tuple[str, ...] = ()
     draft: Field | None = None
+    #: What is done if the answer is yes, or no, where the question is about a text in a file.
+    yes: ImportFrom | None = None
+    no: LeaveImport | None = None
 
 
 #: Where the cursor stands when it is on what is said above the lines that are looked at.

@@ -1,0 +1,354 @@
+"""Imports that were cut short, and texts that are imported again."""
+
+import hashlib
+import os
+import shutil
+import signal
+from collections.abc import Callable
+from pathlib import Path
+
+import pytest
+
+from braildesk import Session
+from scribe.drafts import Drafts
+from scribe.import_note import ImportNote
+from sitting import Sat, Sit
+from stand_in import KEPT, KILL_BOTH, READ
+from terminal import standing_in
+from test_import import TEXT, prints, put, version
+from tool import Ran, scribe
+
+LINES = [f"Line number {number} of the moon." for number in range(1, 13)]
+
+
+def begun(book: Path) -> ImportNote:
+    """What is noted of the import of these lines after the first of two paragraphs."""
+    text = book.parent / "text.txt"
+    digest = hashlib.sha256(text.read_bytes()).hexdigest()
+    return ImportNote(str(text), digest, True, 1, 12, "en", 1, 3, 2)
+
+
+@pytest.fixture
+def front(book: Path) -> Path:
+    """A book with two paragraphs, and the lines in a file beside it."""
+    (book.parent / "text.txt").write_text("\n".join(LINES))
+    with Session(book) as session:
+        session.type("end", "en", "front")
+        session.type("end", "en", "end")
+    return book
+
+
+@pytest.fixture
+def killed(front: Path) -> Path:
+    """That book after the import of the lines between the two ended when five were kept."""
+    with Session(front) as session:
+        for number, line in enumerate(LINES[:5], 2):
+            session.type(1 if number == 2 else number, "en", line)
+    Drafts(front).begin_import(begun(front))
+    assert prints(front) == ["front", *LINES[:5], "end"]
+    return front
+
+
+def again(book: Path, *words: str) -> Ran:
+    return scribe("import", book, "text.txt", *words, folder=book.parent)
+
+
+def ended(
+    patch: pytest.MonkeyPatch, number: int, far: str, book: Path, *words: str
+) -> None:
+    """Imports the lines, and ends all when so many of them have come so far."""
+    with patch.context() as patched:
+        for name, value in standing_in(number, far, KILL_BOTH).items():
+            patched.setenv(name, value)
+        assert again(book, *words).status == -signal.SIGKILL
+
+
+def test_an_import_is_noted_before_its_first_paragraph_is_typed(
+    front: Path, monkeypatch: pytest.MonkeyPatch
+) -> None:
+    for number, far, kept in ((1, READ, 0), (5, KEPT, 5)):
+        ended(monkeypatch, number, far, front, "--lines", "--after", "1")
+        assert Drafts(front).imports() == (begun(front),)
+        assert prints(front) == ["front", *LINES[:kept], "end"]
+
+
+def where(book: Path, kept: int) -> str:
+    return (
+        f"The import of {book.parent}/text.txt was cut short: {kept} of its 12 paragraphs are in"
+        f" the book, up to line {kept} of the text."
+    )
+
+
+def test_show_says_where_an_import_was_cut_short_and_how_it_goes_on(
+    killed: Path,
+) -> None:
+    folder = killed.parent
+    ran = scribe("show", killed, "--paragraphs", "1", "--print", folder=folder)
+    assert ran == Ran(
+        0,
+        "Paragraph 1, body\nfront\n",
+        f"{where(killed, 5)}\n"
+        f"Go on by: scribe import {killed} {folder}/text.txt --continue\n"
+        f"Leave the rest out by: scribe import {killed} {folder}/text.txt --leave\n",
+    )
+    assert again(killed, "--continue").shown == (
+        "7 paragraphs typed, numbers 8 to 14, by the table en.\n"
+    )
+    assert prints(killed) == ["front", *LINES, "end"]
+    assert scribe("show", killed, "--paragraphs", "1", folder=folder).said == ""
+
+
+def test_the_same_import_is_refused_where_it_was_cut_short(killed: Path) -> None:
+    asked = (
+        f"{where(killed, 5)}\n--continue goes on with line 6, --again types all of it once more,"
+        " and --leave leaves the rest out. Nothing was typed.\n"
+    )
+    assert again(killed) == Ran(2, "", asked)
+    assert again(killed, "--lines", "--dry-run") == Ran(2, "", asked)
+    shutil.copyfile(killed.parent / "text.txt", killed.parent / "copy.txt")
+    assert scribe("import", killed, "copy.txt", folder=killed.parent).said == asked
+    assert prints(killed) == ["front", *LINES[:5], "end"]
+
+
+def test_an_import_that_was_cut_short_is_done_anew_where_that_is_asked_for(
+    killed: Path,
+) -> None:
+    assert again(killed, "--lines", "--again").status == 0
+    assert prints(killed) == ["front", *LINES[:5], "end", *LINES]
+    assert scribe("show", killed, folder=killed.parent).said == ""
+
+
+def test_the_rest_of_an_import_can_be_left_out(killed: Path) -> None:
+    assert again(killed, "--leave") == Ran(
+        0, "The rest of text.txt is left out. What is in the book stays there.\n", ""
+    )
+    assert prints(killed) == ["front", *LINES[:5], "end"]
+    assert scribe("show", killed, folder=killed.parent).said == ""
+    none = "No import of text.txt is known that was cut short."
+    assert again(killed, "--leave") == Ran(2, "", f"{none}\n")
+    assert again(killed, "--continue") == Ran(2, "", f"{none} Nothing was typed.\n")
+
+
+def test_an_import_goes_on_after_corrections_and_other_paragraphs(killed: Path) -> None:
+    with Session(killed) as session:
+        session.correct(3, 0, 4, "Row")
+        session.correct(4, 0, 4, "Row")
+        session.correct(4, 0, 1, "B")
+        session.undo(4)
+        session.type("end", "en", "Typed by hand.")
+    assert again(killed, "--continue").status == 0
+    rows = ["Row number 1 of the moon.", "Row number 2 of the moon."]
+    assert prints(killed) == ["front", *rows, *LINES[2:], "end", "Typed by hand."]
+
+
+def test_an_import_that_was_taken_back_is_not_called_cut_short(killed: Path) -> None:
+    with Session(killed) as session:
+        for number in range(3, 8):
+            session.strike(number)
+    assert scribe("show", killed, folder=killed.parent).said == ""
+    assert Drafts(killed).imports() == ()
+
+
+@pytest.mark.parametrize("kept", [0, 12])
+def test_an_import_of_which_nothing_or_all_is_in_the_book_is_not_called_cut_short(
+    front: Path, kept: int
+) -> None:
+    Drafts(front).begin_import(begun(front))
+    with Session(front) as session:
+        for line in LINES[:kept]:
+            session.type("end", "en", line)
+    assert scribe("show", front, folder=front.parent).said == ""
+    assert Drafts(front).imports() == ()
+
+
+def _fifo(path: Path) -> None:
+    path.unlink()
+    os.mkfifo(path)
+
+
+@pytest.mark.parametrize(
+    "change, why",
+    [
+        (lambda path: path.write_text("Other"), "was changed since"),
+        (Path.unlink, "can't be read: No such file or directory"),
+        (
+            _fifo,
+            "can't be read: it is a pipe and no file",
+        ),
+    ],
+    ids=["changed", "gone", "a FIFO"],
+)
+def test_a_text_that_is_another_now_shows_nothing_of_where_its_import_stopped(
+    killed: Path, change: Callable[[Path], object], why: str
+) -> None:
+    change(killed.parent / "text.txt")
+    ran = scribe("show", killed, "--paragraphs", "1", folder=killed.parent)
+    assert ran.said.startswith(
+        f"The import of {killed.parent}/text.txt was cut short, and that file {why}. So how much"
+        " of it is in the book can't be seen: the book had 2 paragraphs before, and the text"
+        f" 12.\nLeave the rest out by: scribe import {killed} "
+    )
+
+
+def test_a_text_that_was_changed_since_is_not_imported_before_that_is_decided(
+    killed: Path,
+) -> None:
+    (killed.parent / "text.txt").write_text("Other")
+    for words in ("", "--continue"):
+        ran = again(killed, *words.split())
+        assert ran.status == 2 and ran.said.endswith(
+            "\n--from goes on at a line of the text, --again types all of it, and --leave leaves"
+            " the rest out. Nothing was typed.\n"
+        )
+    assert again(killed, "--again").status == 0
+    assert prints(killed)[-1] == "Other"
+
+
+def test_an_import_that_goes_on_and_is_cut_short_again_goes_on_once_more(
+    killed: Path, monkeypatch: pytest.MonkeyPatch
+) -> None:
+    for number, far, kept in ((1, READ, 5), (2, KEPT, 7)):
+        ended(monkeypatch, number, far, killed, "--continue")
+        assert again(killed).said.startswith(where(killed, kept))
+    assert again(killed, "--continue").status == 0
+    assert prints(killed) == ["front", *LINES, "end"]
+
+
+def test_the_desk_asks_whether_an_import_that_was_cut_short_goes_on(
+    killed: Path, sit: Sit
+) -> None:
+    sat = sit(killed)
+    assert sat.state.question and sat.state.question.sentence == (
+        f"{where(killed, 5)} Shall the rest be typed now?"
+    )
+    sat.press("q", "escape")
+    assert sat.state.message == "Nothing was typed." and sat.state.question is None
+    sat = sit_again(sat, sit)
+    sat.press("y")
+    sat.state = sat.desk.away(sat.state, lambda line: None)
+    assert sat.state.kept == (
+        "kept: 7 paragraphs typed, numbers 8 to 14, by the table en"
+    )
+    sat = sit_again(sat, sit)
+    assert sat.state.question is None
+    assert prints_of(sat) == ["front", *LINES, "end"]
+
+
+def sit_again(sat: Sat, sit: Sit) -> Sat:
+    """Leaves the book, and opens it again."""
+    sat.desk.close()
+    return sit(sat.desk.path)
+
+
+def prints_of(sat: Sat) -> list[str]:
+    sat.desk.close()
+    return prints(sat.desk.path)
+
+
+def test_the_desk_leaves_the_rest_of_an_import_out(killed: Path, sit: Sit) -> None:
+    sat = sit(killed)
+    sat.press("n")
+    assert sat.state.message == (
+        f"The rest of {killed.parent}/text.txt is left out. What is in the book stays there."
+    )
+    assert sat.state.question is None
+    sat = sit_again(sat, sit)
+    assert sat.state.question is None and len(sat.state.book) == 7
+
+
+def test_the_desk_names_an_import_that_was_cut_short_beside_a_text_that_waits(
+    killed: Path, sit: Sit
+) -> None:
+    sat = sit(killed)
+    sat.press("escape", "enter", "O")
+    sat.state = sat.desk.save_draft(sat.state)
+    sat = sit_again(sat, sit)
+    assert (
+        sat.state.question and "was typed and not sent" in sat.state.question.sentence
+    )
+    assert sat.state.message.endswith(
+        " of the text. i and the name of that file go on."
+    )
+    sat.press("n", "i")
+    sat.write(str(killed.parent / "text.txt"))
+    sat.press("enter")
+    sat.state = sat.desk.away(sat.state, lambda line: None)
+    assert sat.state.question and "cut short" in sat.state.question.sentence
+    sat.press("y")
+    sat.state = sat.desk.away(sat.state, lambda line: None)
+    assert prints_of(sat) == ["front", *LINES, "end"]
+
+
+def test_a_text_that_stands_in_the_book_is_typed_once_more_only_where_asked_for(
+    book: Path,
+) -> None:
+    assert put(book, TEXT).status == 0
+    with Session(book) as session:
+        session.correct(2, 0, 5, "Tide")
+    assert put(book, TEXT) == Ran(
+        2,
+        "",
+        "text.txt stands there in the book already, from paragraph 1 to paragraph 3.\n"
+        "--again types it once more. Nothing was typed.\n",
+    )
+    assert version(book) == 5
+    assert put(book, TEXT, "--again").status == 0
+    assert len(prints(book)) == 6
+
+
+@pytest.mark.parametrize("place", ["front", "1", "3"])
+def test_a_text_is_recognized_where_it_would_go(book: Path, place: str) -> None:
+    put(book, "front")
+    assert put(book, "One.\n\nTwo.\n", "--after", "front").status == 0
+    with Session(book) as session:
+        assert [each.id for each in session.list()] == [2, 3, 1]
+    ran = put(book, "One.\n\nTwo.\n", "--after", place)
+    if place == "1":
+        assert ran.status == 0
+    else:
+        assert ran.said.startswith(
+            "text.txt stands there in the book already, from paragraph 2 to paragraph 3.\n"
+        )
+
+
+def test_a_text_that_is_struck_is_imported_again(book: Path) -> None:
+    put(book, "One.")
+    with Session(book) as session:
+        session.strike(1)
+    assert put(book, "One.").status == 0
+
+
+def test_the_desk_asks_before_it_imports_a_text_once_more(moon: Path, sit: Sit) -> None:
+    (moon.parent / "text.txt").write_text("One.\n\nTwo.\n")
+    sat = sit(moon)
+
+    def imported() -> None:
+        sat.press("c-end", "i")
+        sat.write(str(moon.parent / "text.txt"))
+        sat.press("enter")
+        sat.state = sat.desk.away(sat.state, lambda line: None)
+
+    imported()
+    sat.press("escape")
+    imported()
+    assert sat.state.question and sat.state.question.sentence == (
+        f"{moon.parent}/text.txt stands there in the book already, from paragraph 4 to paragraph"
+        " 5. Shall it be typed once more?"
+    )
+    sat.press("n")
+    assert (sat.state.message, len(sat.state.book)) == ("Nothing was typed.", 5)
+    imported()
+    sat.press("y")
+    sat.state = sat.desk.away(sat.state, lambda line: None)
+    assert len(sat.state.book) == 7
+
+
+def test_an_import_is_done_where_it_can_not_be_noted(book: Path) -> None:
+    (book.parent / "text.txt").write_text(TEXT)
+    ran = scribe(
+        "import", book, "text.txt", folder=book.parent, XDG_STATE_HOME=str(book)
+    )
+    assert (ran.status, ran.said) == (
+        0,
+        f"How far the import comes can't be kept in {book}/braildesk: Not a directory.\n",
+    )
