@@ -144,9 +144,14 @@ def test_a_loop_of_a_shell_stops_where_ctrl_c_stops_scribe(moon: Path) -> None:
     assert (process.returncode, shown) == (-signal.SIGINT, b"")
 
 
-CLOSED = {0: "input", 1: "output", 2: "errors"}
 #: Commands that read standard input.
 READING = ("run", "talk", "try")
+#: Commands, and which of standard input, output and errors are closed.
+CLOSED = [
+    *((name, (0, 2)) for name in WORDS if name not in (*READING, "edit")),
+    *((name, (closed,)) for name in (*READING, "edit") for closed in range(3)),
+    *((name, (1,)) for name in ("new", "strike", "show", "export")),
+]
 
 
 @pytest.fixture
@@ -158,10 +163,14 @@ def sample(moon: Path) -> Path:
     return moon.parent
 
 
-@pytest.mark.parametrize("descriptor", CLOSED)
-@pytest.mark.parametrize("name", WORDS)
+def close(descriptors: tuple[int, ...]) -> None:
+    for number in descriptors:
+        os.close(number)
+
+
+@pytest.mark.parametrize("name, closed", CLOSED)
 def test_a_descriptor_that_is_closed_is_said_or_does_not_matter(
-    name: str, descriptor: int, sample: Path
+    name: str, closed: tuple[int, ...], sample: Path
 ) -> None:
     before = (sample / "moon.braildesk").read_bytes()
     ran = scribe(
@@ -169,20 +178,20 @@ def test_a_descriptor_that_is_closed_is_said_or_does_not_matter(
         *WORDS[name],
         folder=sample,
         given=GIVEN.get(name, ""),
-        before=lambda: os.close(descriptor),
+        before=lambda: close(closed),
     )
-    assert "Traceback" not in ran.said
-    if name == "edit":
-        assert ran.status == (3 if descriptor == 1 else 2)
-    elif descriptor == 1:
-        assert (ran.status, ran.said) == (
+    if 1 in closed:
+        assert ran == Ran(
             3,
+            "",
             "Standard output could not be written: it is closed. What was changed in a book before"
             " that is kept.\n",
         )
         assert (sample / "moon.braildesk").read_bytes() == before
         assert not (sample / "other.braildesk").exists()
-    elif descriptor == 0 and name in READING:
+    elif name == "edit":
+        assert ran.status == 2
+    elif 0 in closed and name in READING:
         assert ran.status == 3
         assert ran.said.endswith("Standard input could not be read: it is closed.\n")
     else:

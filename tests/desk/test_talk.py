@@ -411,3 +411,26 @@ def test_a_talk_takes_lines_from_a_pipe_too(moon: Path) -> None:
         "The book is at version 8.",
         "The book is at version 8.",
     ]
+
+
+@pytest.mark.parametrize("name", ["SIGTERM", "SIGHUP"])
+def test_a_talk_that_is_told_to_end_says_so_and_leaves_the_terminal_as_it_was(
+    moon: Path, name: str
+) -> None:
+    line = (
+        f"stty -g; '{sys.executable}' -m scribe talk '{moon}'; echo status $?; stty -g"
+    )
+    child = pexpect.spawn("sh", ["-c", line], env=environment(), encoding="utf-8")
+    child.expect_exact("> ")
+    before = child.before.split()[0]
+    child.send("strike 1\r")
+    child.expect_exact("The book is at version 8.\r\n> ")
+    children = Path(f"/proc/{child.pid}/task/{child.pid}/children").read_text()
+    os.kill(int(children.split()[0]), signal.Signals[name])
+    child.expect(pexpect.EOF)
+    assert f"Stopped by {name}. What was reported as kept is in the book," in (
+        child.before
+    )
+    assert f"status {128 + signal.Signals[name]}\r\n" in child.before
+    assert child.before.split()[-1] == before
+    assert braildesk.check(moon) == 8
