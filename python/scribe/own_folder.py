@@ -5,18 +5,18 @@ file. What isn't a regular file of one's own, with one name and of a moderate si
 """
 
 import os
-import secrets
 import stat
 import time
 from collections.abc import Iterator
 from contextlib import contextmanager
 from pathlib import Path
 
+from scribe.whole_file import remove_from, replace_in, sync_names
+
 #: The bytes of a file at most.
 MOST_BYTES = 4 * 2**20
 _TOO_LARGE = f"it has more than {MOST_BYTES:,} bytes"
 _READ = os.O_RDONLY | os.O_NOFOLLOW | os.O_NONBLOCK | os.O_NOCTTY | os.O_CLOEXEC
-_MAKE = os.O_WRONLY | os.O_CREAT | os.O_EXCL | os.O_NOFOLLOW | os.O_CLOEXEC
 _FOLDER = os.O_RDONLY | os.O_DIRECTORY | os.O_NOFOLLOW | os.O_CLOEXEC
 # a file in place of a folder has no files
 _ABSENT = (FileNotFoundError, NotADirectoryError)
@@ -52,28 +52,21 @@ class OwnFolder:
         if not self.path.is_absolute():
             raise Unfit("no home folder is known")
         _make(self.path)
-        beside = f".{name}.{secrets.token_hex(4)}"
         with self._opened() as folder:
-            try:
-                _write(folder, beside, data)
-                os.rename(beside, name, src_dir_fd=folder, dst_dir_fd=folder)
-            except BaseException:
-                _remove(folder, beside)
-                raise
-            os.fsync(folder)
+            replace_in(folder, name, data, 0o600)
 
     def rename(self, name: str, other: str) -> None:
         """Gives a file another name, also one that can't be read."""
         with self._opened() as folder:
             os.rename(name, other, src_dir_fd=folder, dst_dir_fd=folder)
-            os.fsync(folder)
+            sync_names(folder)
 
     def remove(self, name: str) -> None:
         """Takes a file away, where there is one."""
         try:
             with self._opened() as folder:
-                if _remove(folder, name):
-                    os.fsync(folder)
+                remove_from(folder, name)
+                sync_names(folder)
         except _ABSENT:
             pass
 
@@ -92,7 +85,7 @@ class OwnFolder:
             with self._opened() as folder:
                 for name in os.listdir(folder):
                     if name.startswith(".") and _is_old(folder, name):
-                        _remove(folder, name)
+                        remove_from(folder, name)
         except _ABSENT:
             pass
 
@@ -154,22 +147,6 @@ def _make(path: Path) -> None:
     except FileNotFoundError:
         _make(path.parent)
         path.mkdir(mode=0o700, exist_ok=True)
-
-
-def _write(folder: int, name: str, data: bytes) -> None:
-    descriptor = os.open(name, _MAKE, 0o600, dir_fd=folder)
-    with open(descriptor, "wb") as file:
-        file.write(data)
-        file.flush()
-        os.fsync(descriptor)
-
-
-def _remove(folder: int, name: str) -> bool:
-    try:
-        os.unlink(name, dir_fd=folder)
-    except FileNotFoundError:
-        return False
-    return True
 
 
 def _is_old(folder: int, name: str) -> bool:

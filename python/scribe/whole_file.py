@@ -40,20 +40,43 @@ def write_whole(path: Path, data: bytes, mode: int = ANYONE) -> None:
     folder = os.open(path.parent, os.O_RDONLY | os.O_DIRECTORY | os.O_CLOEXEC)
     try:
         kept = _kept_permissions(path.name, folder)
-        beside = f".scribe-{secrets.token_hex(8)}"
-        try:
-            _write(beside, folder, data, mode & ANYONE, kept)
-            os.replace(beside, path.name, src_dir_fd=folder, dst_dir_fd=folder)
-        except BaseException:
-            _remove(beside, folder)
-            raise
-        try:
-            os.fsync(folder)
-        except OSError as error:
-            if error.errno not in _NO_SYNC_OF_FOLDERS:
-                raise MayNotLast(error.errno, error.strerror) from error
+        replace_in(folder, path.name, data, mode, kept)
     finally:
         os.close(folder)
+
+
+def replace_in(
+    folder: int, name: str, data: bytes, mode: int, kept: int | None = None
+) -> None:
+    """Gives a name in an open folder these bytes, as a new file.
+
+    It has the permissions that are kept, else what the mode and the umask allow.
+    """
+    beside = f".scribe-{secrets.token_hex(8)}"
+    try:
+        _write(beside, folder, data, mode & ANYONE, kept)
+        os.replace(beside, name, src_dir_fd=folder, dst_dir_fd=folder)
+    except BaseException:
+        remove_from(folder, beside)
+        raise
+    sync_names(folder)
+
+
+def sync_names(folder: int) -> None:
+    """Has the names of an open folder on the disk, where its file system has a way to do so."""
+    try:
+        os.fsync(folder)
+    except OSError as error:
+        if error.errno not in _NO_SYNC_OF_FOLDERS:
+            raise MayNotLast(error.errno, error.strerror) from error
+
+
+def remove_from(folder: int, name: str) -> None:
+    """Takes a name out of an open folder, if it is there."""
+    try:
+        os.unlink(name, dir_fd=folder)
+    except FileNotFoundError:
+        pass
 
 
 def _kept_permissions(name: str, folder: int) -> int | None:
@@ -86,10 +109,3 @@ def _write(name: str, folder: int, data: bytes, mode: int, kept: int | None) -> 
         if kept is not None:
             os.fchmod(file.fileno(), kept)
         os.fsync(file.fileno())
-
-
-def _remove(name: str, folder: int) -> None:
-    try:
-        os.unlink(name, dir_fd=folder)
-    except FileNotFoundError:
-        pass

@@ -1,5 +1,6 @@
 """Texts that wait for a book: where they are kept, and what is never read as one or written over."""
 
+import errno
 import json
 import os
 import shutil
@@ -330,17 +331,45 @@ def test_nobody_is_offered_what_another_user_left_beside_the_book(
 
 
 @NEEDS_ROOT
-def test_a_folder_of_another_user_is_not_used(
-    moon: Path, store: Path, shared: Path, monkeypatch: pytest.MonkeyPatch
+@pytest.mark.parametrize(
+    "put, why",
+    [
+        (lambda path: path.mkdir(0o777), "it belongs to another user"),
+        (lambda path: path.symlink_to("/root"), "Not a directory"),
+    ],
+    ids=["a folder", "a link"],
+)
+def test_what_another_user_put_in_place_of_the_folder_of_drafts_is_not_used(
+    moon: Path,
+    shared: Path,
+    monkeypatch: pytest.MonkeyPatch,
+    put: Callable[[Path], object],
+    why: str,
 ) -> None:
     monkeypatch.setenv("XDG_STATE_HOME", str(shared.parent))
-    assert as_stranger(lambda: (shared.parent / "braildesk").mkdir(0o777)) == ""
+    assert as_stranger(lambda: put(shared.parent / "braildesk")) == ""
     with pytest.raises(NotKept) as told:
         Drafts(moon).save(NOTE)
     assert told.value.sentence == (
-        f"What is typed can't be kept in {shared.parent}/braildesk: it belongs to another"
-        " user."
+        f"What is typed can't be kept in {shared.parent}/braildesk: {why}."
     )
+
+
+def test_a_draft_is_kept_where_the_file_system_can_sync_no_folder(
+    moon: Path, store: Path, monkeypatch: pytest.MonkeyPatch
+) -> None:
+    sync = os.fsync
+
+    def refuse_folders(number: int) -> None:
+        if stat.S_ISDIR(os.fstat(number).st_mode):
+            raise OSError(errno.EINVAL, "Invalid argument")
+        sync(number)
+
+    monkeypatch.setattr(os, "fsync", refuse_folders)
+    Drafts(moon).save(NOTE)
+    assert Drafts(moon).waiting() == NOTE
+    Drafts(moon).clear()
+    assert Drafts(moon).waiting() is None
 
 
 def test_a_draft_that_is_unreadable_is_set_aside_and_the_book_is_opened(
