@@ -104,7 +104,7 @@ def _going_on(arguments: Namespace, its: Unfinished) -> Namespace:
     """The words by which an import goes on."""
     note = its.note
     if its.kept == len(its.rest):
-        raise Stop(f"All of {note.text} is in the book. Nothing was typed.")
+        raise Stop(f"All of {note.name} is in the book. Nothing was typed.")
     words: dict[str, object] = dict(vars(arguments))
     words |= {"lines": note.by_lines, "table": note.table}
     words |= {"after": its.after, "line": its.line}

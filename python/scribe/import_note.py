@@ -2,6 +2,7 @@
 
 import re
 from dataclasses import dataclass
+from pathlib import PurePath
 
 from braildesk import After, limits
 
@@ -27,6 +28,11 @@ class ImportNote:
     #: The version of the book, and how many paragraphs it had.
     version: int
     there: int
+
+    @property
+    def name(self) -> str:
+        """The name of the text."""
+        return PurePath(self.text).name
 
     def is_of(self, other: "ImportNote") -> bool:
         """Whether both are of one text."""

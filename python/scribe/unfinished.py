@@ -23,8 +23,9 @@ class NotSeen(Exception):
     def __init__(self, note: ImportNote, why: str) -> None:
         self.note = note
         self.sentence = (
-            f"{_cut_short(note)}, and that file {why}. So how much of it is in the book can't be"
-            f" seen: the book had {note.there:,} paragraphs before, and the text {note.count:,}."
+            f"{_cut_short(note)}, and {note.text} {why}. So how much of it is in the book can't"
+            f" be seen: the book had {note.there:,} paragraphs before, and the text"
+            f" {note.count:,}."
         )
         super().__init__(self.sentence)
 
@@ -113,4 +114,4 @@ def _parts(note: ImportNote) -> tuple[tuple[Passage, ...], tuple[Passage, ...]]:
 
 
 def _cut_short(note: ImportNote) -> str:
-    return f"The import of {note.text} was cut short"
+    return f"The import of {note.name} was cut short"

@@ -72,10 +72,10 @@ def test_an_import_is_noted_before_its_first_paragraph_is_typed(
         assert prints(front) == ["front", *LINES[:kept], "end"]
 
 
-def where(book: Path, kept: int) -> str:
+def where(kept: int) -> str:
     return (
-        f"The import of {book.parent}/text.txt was cut short: {kept} of its 12 paragraphs are in"
-        f" the book, up to line {kept} of the text."
+        f"The import of text.txt was cut short: {kept} of its 12 paragraphs are in the book, up to"
+        f" line {kept} of the text."
     )
 
 
@@ -87,7 +87,7 @@ def test_show_says_where_an_import_was_cut_short_and_how_it_goes_on(
     assert ran == Ran(
         0,
         "Paragraph 1, body\nfront\n",
-        f"{where(killed, 5)}\n"
+        f"{where(5)}\n"
         f"Go on by: scribe import {killed} {folder}/text.txt --continue\n"
         f"Leave the rest out by: scribe import {killed} {folder}/text.txt --leave\n",
     )
@@ -100,7 +100,7 @@ def test_show_says_where_an_import_was_cut_short_and_how_it_goes_on(
 
 def test_the_same_import_is_refused_where_it_was_cut_short(killed: Path) -> None:
     asked = (
-        f"{where(killed, 5)}\n--continue goes on with line 6, --again types all of it once more,"
+        f"{where(5)}\n--continue goes on with line 6, --again types all of it once more,"
         " and --leave leaves the rest out. Nothing was typed.\n"
     )
     assert again(killed) == Ran(2, "", asked)
@@ -184,8 +184,8 @@ def test_a_text_that_is_another_now_shows_nothing_of_where_its_import_stopped(
     change(killed.parent / "text.txt")
     ran = scribe("show", killed, "--paragraphs", "1", folder=killed.parent)
     assert ran.said.startswith(
-        f"The import of {killed.parent}/text.txt was cut short, and that file {why}. So how much"
-        " of it is in the book can't be seen: the book had 2 paragraphs before, and the text"
+        f"The import of text.txt was cut short, and {killed.parent}/text.txt {why}. So how much of"
+        " it is in the book can't be seen: the book had 2 paragraphs before, and the text"
         f" 12.\nLeave the rest out by: scribe import {killed} "
     )
 
@@ -209,7 +209,7 @@ def test_an_import_that_goes_on_and_is_cut_short_again_goes_on_once_more(
 ) -> None:
     for number, far, kept in ((1, READ, 5), (2, KEPT, 7)):
         ended(monkeypatch, number, far, killed, "--continue")
-        assert again(killed).said.startswith(where(killed, kept))
+        assert again(killed).said.startswith(where(kept))
     assert again(killed, "--continue").status == 0
     assert prints(killed) == ["front", *LINES, "end"]
 
@@ -219,7 +219,7 @@ def test_the_desk_asks_whether_an_import_that_was_cut_short_goes_on(
 ) -> None:
     sat = sit(killed)
     assert sat.state.question and sat.state.question.sentence == (
-        f"{where(killed, 5)} Shall the rest be typed now?"
+        f"{where(5)} Shall the rest be typed now?"
     )
     sat.press("q", "escape")
     assert sat.state.message == "Nothing was typed." and sat.state.question is None
@@ -249,7 +249,7 @@ def test_the_desk_leaves_the_rest_of_an_import_out(killed: Path, sit: Sit) -> No
     sat = sit(killed)
     sat.press("n")
     assert sat.state.message == (
-        f"The rest of {killed.parent}/text.txt is left out. What is in the book stays there."
+        "The rest of text.txt is left out. What is in the book stays there."
     )
     assert sat.state.question is None
     sat = sit_again(sat, sit)

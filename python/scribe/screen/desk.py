@@ -507,7 +507,7 @@ class Desk:
 
     def _left_out(self, state: State, errand: LeaveImport) -> State:
         self.drafts.end_import(errand.note)
-        said = f"The rest of {errand.note.text} is left out. What is in the book stays there."
+        said = f"The rest of {errand.note.name} is left out. What is in the book stays there."
         return state.saying(said)
 
     def _to_page(self, state: State) -> State:
