@@ -1,6 +1,19 @@
 """What the system refused or failed to do, in sentences."""
 
 import os
+from collections.abc import Iterator
+from contextlib import contextmanager
+
+from scribe.status import Status, Stop
+
+
+@contextmanager
+def in_sentences() -> Iterator[None]:
+    """Stops by a sentence where the system refuses something, after which a person may go on."""
+    try:
+        yield
+    except OSError as failure:
+        raise Stop(of_system(failure), Status.FAILED) from failure
 
 
 def of_system(failure: OSError) -> str:

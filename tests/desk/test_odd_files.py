@@ -18,6 +18,7 @@ from scribe.cli import run_words
 from scribe.commands import export, import_text
 from scribe.console import Console
 from scribe.status import Stop
+from scribe.trial import Trial
 from tool import ROOT, Ran, environment
 from words import PATHS, WORDS
 
@@ -120,6 +121,33 @@ def test_a_path_that_is_typed_with_nul_is_refused_in_a_sentence(sample: Path) ->
     )
     assert run_words(["talk", "moon.braildesk"], console) == 0
     assert said.getvalue() == "There is no file mo<U+0000>on.\n"
+
+
+def test_a_path_that_can_not_be_looked_at_ends_no_talk_and_no_trial(
+    sample: Path, monkeypatch: pytest.MonkeyPatch
+) -> None:
+    given = b"table-file\nown\n" + b"x" * 300 + b"\nversion\n"
+    shown, said = StringIO(), StringIO()
+    status = run_words(["talk", "moon.braildesk"], Console(BytesIO(given), shown, said))
+    assert (status, shown.getvalue().splitlines()[-2:]) == (
+        0,
+        ["The book is at version 7."] * 2,
+    )
+    assert " ".join(said.getvalue().split()).endswith(
+        "could not be read or written: File name too long. What was reported as kept is in the"
+        " book."
+    )
+
+    def refused(trial: Trial) -> bool:
+        raise PermissionError(13, "Permission denied", "plain.utb")
+
+    monkeypatch.setattr(Trial, "reread", refused)
+    shown, said = StringIO(), StringIO()
+    status = run_words(
+        ["try", "plain.utb"], Console(BytesIO(b"The\nsea\n"), shown, said)
+    )
+    assert status == 3
+    assert said.getvalue().count("“plain.utb” could not be read or written:") == 2
 
 
 def test_a_folder_that_is_gone_ends_each_command_in_a_sentence(

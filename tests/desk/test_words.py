@@ -2,6 +2,7 @@
 
 import os
 import shutil
+import signal
 import subprocess
 import sys
 from pathlib import Path
@@ -251,6 +252,48 @@ def test_the_command_works_where_it_is_installed(moon: Path, tmp_path: Path) -> 
     ]
     done = subprocess.run(words, env=bare, capture_output=True, check=True)
     assert done.stdout.startswith(b"Paragraph 2: struck now")
+
+
+@pytest.fixture
+def installed(tmp_path: Path) -> Path:
+    """The command, beside which there is a folder of packages with nothing of scribe in it yet."""
+    (tmp_path / "bin").mkdir()
+    (tmp_path / "python" / "scribe").mkdir(parents=True)
+    (tmp_path / "python" / "scribe" / "__init__.py").touch()
+    return Path(shutil.copy(ROOT / "bin" / "scribe", tmp_path / "bin"))
+
+
+def test_a_command_that_is_not_installed_whole_says_so(installed: Path) -> None:
+    (installed.parents[1] / "python" / "scribe" / "cli.py").write_text(
+        "import scribe.x"
+    )
+    done = subprocess.run(
+        [sys.executable, installed, "show", "moon.braildesk"],
+        env={"PATH": "/usr/bin:/bin"},
+        capture_output=True,
+    )
+    assert done.returncode == 3
+    assert done.stderr == (
+        b"scribe can't be started, since it isn't installed whole (ModuleNotFoundError: No module"
+        b" named 'scribe.x'). Install it again.\n"
+    )
+
+
+def test_ctrl_c_while_scribe_starts_ends_it_without_a_word(installed: Path) -> None:
+    (installed.parents[1] / "python" / "scribe" / "cli.py").write_text(
+        "import time\nprint('begun', flush=True)\ntime.sleep(60)\n"
+    )
+    process = subprocess.Popen(
+        [sys.executable, installed, "show", "moon.braildesk"],
+        env={"PATH": "/usr/bin:/bin"},
+        stdout=subprocess.PIPE,
+        stderr=subprocess.PIPE,
+    )
+    assert process.stdout is not None
+    assert process.stdout.readline() == b"begun\n"
+    process.send_signal(signal.SIGINT)
+    _, said = process.communicate()
+    assert (process.returncode, said) == (-signal.SIGINT, b"")
 
 
 @pytest.mark.parametrize("name", ALL)

@@ -11,6 +11,7 @@ from scribe.console import Console
 from scribe.conversation import Conversation, Ended, request_line
 from scribe.dialogues import DIALOGUES
 from scribe.elsewhere import AT_PROMPT, hint
+from scribe.failures import in_sentences
 from scribe.grammar import BY_NAME
 from scribe.parser import Subparsers, add_file, command_parser
 from scribe.status import Status, Stop
@@ -85,7 +86,8 @@ def _talk(conversation: Conversation) -> None:
             line = conversation.next_line(PROMPT, is_kept=True)
             if line.strip() == b"quit":
                 return
-            _answer(conversation, line)
+            with in_sentences():
+                _answer(conversation, line)
         except GivenUp:
             conversation.show("Given up. Nothing was sent.")
         except Stop as stop:

@@ -8,6 +8,7 @@ from pathlib import Path
 from braildesk import DeskError, Failed
 
 from scribe.console import Console, NoInput
+from scribe.failures import in_sentences
 from scribe.parser import Subparsers, command_parser
 from scribe.sequences import composed
 from scribe.status import Status, Stop
@@ -96,7 +97,8 @@ def run(arguments: Namespace, console: Console) -> Status:
                 if line is None:
                     return trial.status
                 last = _text(line) or last
-                talk.answer(last)
+                with in_sentences():
+                    talk.answer(last)
             except GivenUp:
                 talk.show("Given up.")
             except Stop as stop:
