@@ -16,6 +16,10 @@ from braildesk.sentences import Why
 from tool import environment
 
 WAIT_SECONDS = 60
+# how long the screen may take to be drawn after a key; keys that do nothing draw nothing
+_DRAWN_SECONDS = 1
+# how long nothing is written once all is drawn, and how long Escape waits for a key with Alt
+_QUIET_SECONDS, _ESCAPE_SECONDS = 0.02, 0.15
 STAND_IN = Path(__file__).with_name("stand_in.py")
 KEYS = {
     "enter": "\r",
@@ -37,6 +41,9 @@ KEYS = {
     "c-left": "\x1b[1;5D",
     "a-up": "\x1b[1;3A",
     "a-down": "\x1b[1;3B",
+    "c-w": "\x17",
+    "c-y": "\x19",
+    "f5": "\x1b[15~",
 }
 
 
@@ -51,6 +58,7 @@ class Terminal:
         self._screen = pyte.Screen(columns, lines)
         self._stream = pyte.ByteStream(self._screen)
         self.written = b""
+        self._drawn_before, self._pressed_at, self._pressed = 0, 0.0, ""
         self._errors = book.parent / "errors"
         self._child = pexpect.spawn(
             "/bin/sh",
@@ -81,9 +89,35 @@ class Terminal:
         return self._errors.read_text(encoding="utf-8")
 
     def keys(self, *names: str) -> None:
-        """Presses keys, each by its name or its character; more characters are typed."""
+        """Presses keys, each by its name or its character; more characters are one text.
+
+        Characters are pressed once the screen is drawn after the one before, as by hands: those
+        that come all at once are text that was pasted.
+        """
         for name in names:
-            self._child.send(KEYS.get(name, name))
+            if name not in KEYS and len(name) > 1 and not name.startswith("a-"):
+                self.paste(name)
+                continue
+            is_held = _is_held(name)
+            if self._pressed == "escape" or is_held and _is_held(self._pressed):
+                self._await_drawn()
+            self._drawn_before, self._pressed_at = self._drawn, time.monotonic()
+            self._pressed = name
+            self._child.send(_sent_for(name))
+
+    def send(self, text: str) -> None:
+        """Sends characters all at once."""
+        self._child.send(text)
+
+    def _await_drawn(self) -> None:
+        """Waits until the screen is drawn after the last key, and nothing more is written."""
+        least = self._pressed_at + (_ESCAPE_SECONDS if self._pressed == "escape" else 0)
+        end = time.monotonic() + _DRAWN_SECONDS
+        while time.monotonic() < end:
+            is_written = self._read(_QUIET_SECONDS)
+            is_drawn = self._drawn > self._drawn_before
+            if is_drawn and not is_written and time.monotonic() >= least:
+                break
 
     def paste(self, text: str) -> None:
         """Pastes a text as a terminal does, with an ending of each line that is that of Enter."""
@@ -98,6 +132,11 @@ class Terminal:
         while not self._is_drawn and self._read():
             pass
         return self.lines
+
+    @property
+    def _drawn(self) -> int:
+        """How often the screen was drawn to its end."""
+        return self.written.count(b"\x1b[?25h")
 
     @property
     def _is_drawn(self) -> bool:
@@ -174,15 +213,27 @@ class Terminal:
             self._child.wait()
         self._child.close()
 
-    def _read(self) -> bool:
-        """Reads what is written within half a second, and says whether anything was."""
+    def _read(self, seconds: float = 0.5) -> bool:
+        """Reads what is written within some time, and says whether anything was."""
         try:
-            data = self._child.read_nonblocking(65_536, timeout=0.5)
+            data = self._child.read_nonblocking(65_536, timeout=seconds)
         except pexpect.TIMEOUT:
             return False
         self.written += data
         self._stream.feed(data)
         return True
+
+
+def _is_held(name: str) -> bool:
+    """Whether scribe holds a key until it sees that it isn't a part of pasted text."""
+    return len(name) == 1 or name in ("enter", "tab")
+
+
+def _sent_for(name: str) -> str:
+    """What a terminal sends for a key, by its name or its character; for Alt, Escape before it."""
+    if name in KEYS or not name.startswith("a-") or len(name) == len("a-"):
+        return KEYS.get(name, name)
+    return KEYS["escape"] + _sent_for(name.removeprefix("a-"))
 
 
 #: What opens a terminal: a book, the columns, the lines, and settings of the environment.

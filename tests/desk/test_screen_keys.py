@@ -23,7 +23,14 @@ from scribe.screen.errands import (
     TypeAll,
 )
 from scribe.screen.field import Field, Purpose
-from scribe.screen.keys import KEYS, NAMES, help_lines, pasted, step
+from scribe.screen.keys import (
+    KEYS,
+    NAMES,
+    WHILE_TYPING,
+    help_lines,
+    pasted,
+    step,
+)
 from scribe.screen.state import Lit, Opening, Pages, Pane, Question, Size, State
 from tool import ROOT
 
@@ -204,8 +211,8 @@ SAID = {
     ),
     "Ctrl-C while typing": (
         typed(Purpose.EDIT, "x"),
-        "\x03",
-        "Enter keeps what is typed, Escape gives it up.",
+        "c-c",
+        "That key does nothing here. Enter keeps what is typed, Escape gives it up.",
     ),
     "Escape where pasted lines are asked about": (
         replace(typed(Purpose.AFTER, "x"), question=Question("?", ("a", "b"))),
@@ -370,7 +377,8 @@ def test_pasted_lines_that_wait_from_before_are_asked_about_again() -> None:
 def test_all_keys_are_in_the_help() -> None:
     shown = "\n".join(help_lines())
     assert all(bound.says in shown for bound in KEYS.values())
-    assert len(help_lines()) == len({bound.says for bound in KEYS.values()})
+    says = {bound.says for bound in KEYS.values()}
+    assert len(help_lines()) == len(says) + len(WHILE_TYPING)
     assert step(STATE, "?").state.pages == Pages("All keys.", help_lines())
 
 

@@ -9,6 +9,7 @@ from braildesk.requests import Command
 
 from scribe.correction import replaced, smallest_correction
 from scribe.page_size import NoSize, described, typed_sheet
+from scribe.paragraph import quoted
 from scribe.paths import typed_path
 from scribe.screen import pager
 from scribe.screen.errands import (
@@ -24,10 +25,14 @@ from scribe.screen.errands import (
     ToMark,
     TypeAll,
 )
-from scribe.screen.field import Field, Purpose
+from scribe.screen.field import Cut, Field, Purpose
 from scribe.screen.state import Pages, Pane, Question, State
 from scribe.sequences import composed, seams
 from scribe.visible import control_refused
+
+_NOTHING_WHILE_TYPING = (
+    "That key does nothing here. Enter keeps what is typed, Escape gives it up."
+)
 
 
 @dataclass(frozen=True)
@@ -148,16 +153,37 @@ def _typing(state: State, typed: Field, key: str) -> Step:
         return Step(replace(state, typed=None, preview=None).saying(said))
     if key == "enter":
         refused = control_refused(typed.text.encode())
-        return Step(state.saying(refused)) if refused else _entered(state, typed)
+        return Step(state.saying(refused)) if refused else entered(state, typed)
+    if key == "c-y":
+        return Step(_put_back(state, typed))
+    cut = typed.cut(key)
+    if cut is not None:
+        return Step(_cut_out(state, cut))
     moved = typed.moved(key)
     if moved is not None:
         return Step(replace(state, typed=moved))
     if len(key) == 1 and (key >= " " and not "\x7f" <= key < "\xa0"):
         return Step(replace(state, typed=typed.inserted(key)))
-    return Step(state.saying("Enter keeps what is typed, Escape gives it up."))
+    return Step(state.saying(_NOTHING_WHILE_TYPING))
 
 
-def _entered(state: State, typed: Field) -> Step:
+def _cut_out(state: State, cut: Cut) -> State:
+    """The state with words cut out; those cut one after the other are put back together."""
+    if not cut.text:
+        return state.saying("There is nothing to cut there.")
+    before = state.cut.text if state.cut and state.cut.field == state.typed else ""
+    text = cut.text + before if cut.is_back else before + cut.text
+    state = replace(state, typed=cut.field, cut=replace(cut, text=text))
+    return state.saying(f"{quoted(text)} was cut. Ctrl-Y puts it in.")
+
+
+def _put_back(state: State, typed: Field) -> State:
+    if state.cut is None:
+        return state.saying("Nothing was cut yet, so nothing was put in.")
+    return replace(state, typed=typed.inserted(state.cut.text))
+
+
+def entered(state: State, typed: Field) -> Step:
     """What a text asks for when Enter ends it. Print stays on the screen until it is kept."""
     match typed.purpose:
         case Purpose.EDIT:
@@ -442,7 +468,8 @@ def help_lines() -> tuple[str, ...]:
     seen: dict[str, list[str]] = {}
     for key, bound in KEYS.items():
         seen.setdefault(bound.says, []).append(NAMES.get(key, key))
-    return tuple(f"{', '.join(keys)}: {says}" for says, keys in seen.items())
+    lines = (f"{', '.join(keys)}: {says}" for says, keys in seen.items())
+    return (*lines, *WHILE_TYPING)
 
 
 @dataclass(frozen=True)
@@ -454,6 +481,13 @@ class Bound:
     needs_paragraph: bool = True
 
 
+WHILE_TYPING = (
+    "While typing, Home, Ctrl-A, End, Ctrl-E: to the front and the end of the line",
+    "While typing, Ctrl-Left, Alt-B, Ctrl-Right, Alt-F: by words",
+    "While typing, Ctrl-W, Alt-Backspace, Alt-D: cut a word before, a word after",
+    "While typing, Ctrl-U, Ctrl-K: cut to the front, to the end",
+    "While typing, Ctrl-Y: puts in what was cut",
+)
 NAMES = {
     "up": "Up",
     "down": "Down",

@@ -10,7 +10,7 @@ from scribe.layout import Sheet
 from scribe.occurrences import Occurrence
 from scribe.readings import Reading
 from scribe.screen.errands import ExportTo, ImportFrom, LeaveImport
-from scribe.screen.field import Field
+from scribe.screen.field import Cut, Field
 
 
 class Pane(Enum):
@@ -126,6 +126,8 @@ class State:
     lit: Lit | None = None
     in_hand: InHand | None = None
     typed: Field | None = None
+    #: What was last cut out of a text that is typed.
+    cut: Cut | None = None
     preview: Preview | None = None
     question: Question | None = None
     pages: Pages | None = None

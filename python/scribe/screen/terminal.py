@@ -5,6 +5,8 @@ import errno
 import os
 import signal
 import sys
+import time
+from collections.abc import Callable, Sequence
 from concurrent.futures import Future, ThreadPoolExecutor
 from contextlib import suppress
 from dataclasses import replace
@@ -14,16 +16,18 @@ from typing import Any
 from prompt_toolkit.application import Application
 from prompt_toolkit.data_structures import Point
 from prompt_toolkit.formatted_text import StyleAndTextTuples
-from prompt_toolkit.key_binding import KeyBindings, KeyPressEvent
-from prompt_toolkit.keys import Keys
+from prompt_toolkit.input.vt100 import Vt100Input
+from prompt_toolkit.key_binding.key_processor import KeyPress
 from prompt_toolkit.layout import FormattedTextControl, Layout, Window
 from prompt_toolkit.output.vt100 import Vt100_Output
 from prompt_toolkit.styles import Style
 
 from scribe.failures import of_system
+from scribe.screen.arrivals import Arrivals
 from scribe.screen.desk import Desk, preview_of
 from scribe.screen.drawing import Drawing, draw
 from scribe.screen.encoding import in_encoding
+from scribe.screen.keyboard import Keyboard, Pasted, Stroke
 from scribe.screen.lines import CHOSEN, HEAD, LIT, MARKED, PLAIN
 from scribe.screen.state import Size, State
 
@@ -35,14 +39,31 @@ _CLASSES = {
     PLAIN: "",
     **{each: f"class:{each}" for each in (LIT, MARKED, CHOSEN, HEAD)},
 }
-_KEYS = (
-    "up down left right home end pageup pagedown c-home c-end c-left c-right escape delete"
-).split()
-_OTHERS = {"c-m": "enter", "c-i": "tab", "c-h": "backspace"}
 # how often what is typed is kept
 _SAVE_SECONDS = 1.0
 # how long Escape waits for a key that would make it Alt
 _ESCAPE_SECONDS = 0.1
+# how soon what was sent meanwhile is read once the screen is drawn
+_AT_ONCE_SECONDS = 0.005
+
+
+class _Input(Vt100Input):
+    """Hands on the characters of the terminal as they come, and says when no more come."""
+
+    def __init__(self, came: Callable[[str], None], ended: Callable[[], None]) -> None:
+        super().__init__(sys.stdin)
+        self._came = came
+        self._ended = ended
+
+    def read_keys(self) -> list[KeyPress]:
+        """No keys, since what comes is handed on."""
+        self._came(self.stdin_reader.read())
+        return []
+
+    def flush_keys(self) -> list[KeyPress]:
+        """No keys either."""
+        self._ended()
+        return []
 
 
 # what a terminal that was closed answers
@@ -77,9 +98,18 @@ class _TerminalFailed(Exception):
 class Screen:
     """A book on the terminal of this process, until the person ends it."""
 
-    def __init__(self, desk: Desk, state: State) -> None:
+    def __init__(
+        self, desk: Desk, state: State, clock: Callable[[], float] = time.monotonic
+    ) -> None:
         self._desk = desk
         self.state = state
+        self._clock = clock
+        self._keyboard = Keyboard()
+        self._arrivals = Arrivals()
+        self._timer: asyncio.TimerHandle | None = None
+        self._waiting: list[Pasted] = []
+        # since when there is no time for keys, until when there was none, and when they were read
+        self._busy_from = self._busy_to = self._read_at = clock()
         #: Whether the terminal was closed, so that nobody reads what is said.
         self.is_hung_up = False
         #: The signal that ended scribe, where one did.
@@ -96,13 +126,14 @@ class Screen:
         )
         self._app: Application[None] = Application(
             layout=Layout(Window(control)),
-            key_bindings=self._bindings(),
+            input=_Input(self._came, self._paused),
             style=_STYLE,
             full_screen=True,
             output=Output.from_pty(sys.stdout, term=os.environ.get("TERM")),
             before_render=lambda app: self._fit(),
+            after_render=lambda app: self._rest(),
         )
-        self._app.ttimeoutlen = self._app.timeoutlen = _ESCAPE_SECONDS
+        self._app.ttimeoutlen = _ESCAPE_SECONDS
 
     def run(self) -> None:
         """Shows the book until it is left, or until the terminal hangs up."""
@@ -166,6 +197,7 @@ class Screen:
 
     def _fit(self) -> None:
         """Takes the size of the terminal, which may have changed."""
+        self._begin_work()
         found = self._app.output.get_size()
         size = Size(max(10, found.columns), max(8, found.rows))
         if size == self.state.size:
@@ -175,35 +207,49 @@ class Screen:
         else:
             self.state = self._desk.resized(self.state, size)
 
-    def _bindings(self) -> KeyBindings:
-        bindings = KeyBindings()
-        for key in _KEYS:
-            self._bind(bindings, (key,), key)
-        for key, name in _OTHERS.items():
-            self._bind(bindings, (key,), name)
-        self._bind(bindings, ("escape", "up"), "a-up")
-        self._bind(bindings, ("escape", "down"), "a-down")
+    def _begin_work(self) -> None:
+        """From here on keys wait, if they don't already."""
+        now = self._clock()
+        if now - self._busy_to > _AT_ONCE_SECONDS:
+            self._busy_from = now
 
-        @bindings.add(Keys.Any)
-        def typed(event: KeyPressEvent) -> None:
-            if len(event.data) == 1:
-                self._press(event.data)
+    def _rest(self) -> None:
+        """Up to here keys waited."""
+        self._busy_to = self._clock()
 
-        @bindings.add(Keys.BracketedPaste)
-        def pasted(event: KeyPressEvent) -> None:
-            if not self.state.away:
-                self._become(self._desk.paste(self.state, event.data))
+    def _came(self, text: str) -> None:
+        """Characters came: keys that may have waited while there was no time for them."""
+        now, read_at = self._clock(), self._read_at
+        self._read_at = now
+        has_waited = now - self._busy_to <= _AT_ONCE_SECONDS
+        since = max(self._busy_from, read_at) if has_waited else None
+        self._do(self._arrivals.came(self._keyboard.strokes(text), now, since))
 
-        return bindings
+    def _paused(self) -> None:
+        """Nothing comes after Escape, so it is that key."""
+        self._do(self._arrivals.came(self._keyboard.last(), self._clock()))
 
-    def _bind(self, bindings: KeyBindings, keys: tuple[str, ...], name: str) -> None:
-        @bindings.add(*keys)
-        def pressed(event: KeyPressEvent) -> None:
-            self._press(name)
+    def _let_go(self) -> None:
+        self._do(self._arrivals.let_go(self._clock()))
 
-    def _press(self, key: str) -> None:
-        if not self.state.away and not self.state.is_over:
-            self._become(self._desk.press(self.state, key))
+    def _do(self, strokes: Sequence[Stroke]) -> None:
+        """Carries out keys, and sees to it that those that are held are let go."""
+        self._begin_work()
+        for stroke in strokes:
+            if self.state.away or self.state.is_over:
+                # what is pasted meanwhile is no key that does nothing
+                self._waiting += [stroke] if isinstance(stroke, Pasted) else []
+            elif isinstance(stroke, Pasted):
+                self._become(self._desk.paste(self.state, stroke.text))
+            else:
+                self._become(self._desk.press(self.state, stroke))
+        self._rest()
+        if self._timer is not None:
+            self._timer.cancel()
+        due, self._timer = self._arrivals.due, None
+        if due is not None:
+            wait = max(0.0, due - self._clock())
+            self._timer = asyncio.get_running_loop().call_later(wait, self._let_go)
 
     def _become(self, state: State) -> None:
         self.state = state
@@ -230,6 +276,8 @@ class Screen:
         # where the screen ends meanwhile, the work is waited for and not given up
         state = await asyncio.shield(asyncio.wrap_future(self._aside))
         self._become(replace(state, message=""))
+        waiting, self._waiting = self._waiting, []
+        self._do(waiting)
 
     def _say(self, line: str) -> None:
         if self.state.away:
@@ -265,7 +313,9 @@ class Screen:
         while True:
             await asyncio.sleep(_SAVE_SECONDS)
             if self.state.typed:
+                self._begin_work()
                 self.state = self._desk.save_draft(self.state)
+                self._rest()
 
     def _fail(self, loop: asyncio.AbstractEventLoop, context: dict[str, Any]) -> None:
         """What a key, or what goes on beside the keys, failed by.

@@ -1,0 +1,76 @@
+"""Keys as they arrive, and text among them that no hands typed, which is taken as pasted.
+
+A terminal that doesn't say what is pasted sends it as keys, all at once. If the letters acted, a
+pasted line would strike paragraphs and move them.
+"""
+
+from collections.abc import Sequence
+from dataclasses import dataclass, field
+
+from scribe.screen.keyboard import Pasted, Stroke
+
+# a key that is held down comes again after 20 ms or more, and hands are slower
+_TOGETHER_SECONDS = 0.015
+# what is pasted over a slow line comes in pieces
+_PASTE_SECONDS = 0.05
+# keys that waited while the desk was busy are typed if there was so much time for each
+_TYPED_SECONDS = 0.04
+_FEW = 3
+_TEXT = {"enter": "\n", "tab": "\t"}
+
+
+@dataclass
+class Arrivals:
+    """Keys in their order: each by itself, or together as a text that was pasted.
+
+    Characters, Enter and Tab are held until it is seen whether others come with them. Times are in
+    seconds, of any clock that only goes on.
+    """
+
+    _held: list[str] = field(default_factory=list)
+    _latest: float = 0.0
+
+    @property
+    def due(self) -> float | None:
+        """The time at which nothing more comes with what is held; None where nothing is."""
+        if not self._held:
+            return None
+        is_many = len(self._held) > _FEW
+        return self._latest + (_PASTE_SECONDS if is_many else _TOGETHER_SECONDS)
+
+    def came(
+        self, strokes: Sequence[Stroke], now: float, busy_since: float | None = None
+    ) -> list[Stroke]:
+        """What is to be done once keys have come.
+
+        They may have waited since a time, while the desk was busy. If there was time enough to
+        type each of them, they were typed.
+        """
+        done = self.let_go(now if busy_since is None else busy_since)
+        waited = 0.0 if busy_since is None else now - busy_since
+        is_typed = busy_since is not None and waited >= _TYPED_SECONDS * len(strokes)
+        for stroke in strokes:
+            if isinstance(stroke, Pasted) or not _is_text(stroke):
+                done += [*self._judged(), stroke]
+            elif is_typed:
+                done += [*self._judged(), stroke]
+            else:
+                self._held.append(stroke)
+                self._latest = now
+        return done
+
+    def let_go(self, now: float) -> list[Stroke]:
+        """What was held, if nothing more comes with it."""
+        due = self.due
+        return self._judged() if due is not None and now >= due else []
+
+    def _judged(self) -> list[Stroke]:
+        held, self._held = self._held, []
+        # one key that is held down is no text
+        if len(held) <= _FEW or len(set(held)) == 1:
+            return list(held)
+        return [Pasted("".join(_TEXT.get(key, key) for key in held))]
+
+
+def _is_text(key: str) -> bool:
+    return key in _TEXT or len(key) == 1

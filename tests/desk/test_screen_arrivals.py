@@ -1,0 +1,99 @@
+"""Keys that come faster than hands type: by times that are written here, without waiting."""
+
+import random
+
+import pytest
+
+from scribe.screen.arrivals import Arrivals
+from scribe.screen.keyboard import Keyboard, Pasted, Stroke
+
+
+def done_with(*came: tuple[float, str]) -> list[Stroke]:
+    """What is done with characters that came at these times, up to a second after the last."""
+    arrivals, keyboard = Arrivals(), Keyboard()
+    done: list[Stroke] = []
+    for at, text in came:
+        done += arrivals.let_go(at)
+        done += arrivals.came(keyboard.strokes(text), at)
+    return done + arrivals.let_go(came[-1][0] + 1)
+
+
+def test_a_line_that_comes_at_once_is_pasted_text_and_no_letter_acts() -> None:
+    assert done_with((0.0, "strike bit.\r")) == [Pasted("strike bit.\n")]
+
+
+def test_lines_that_come_in_pieces_are_one_pasted_text() -> None:
+    text = "The moon is far.\rTwice a day\tthe sea comes up.\r"
+    one_by_one = [(n / 1000, each) for n, each in enumerate(text)]
+    wanted = [Pasted(text.replace("\r", "\n"))]
+    assert done_with(*one_by_one) == wanted
+    assert done_with((0.0, text[:20]), (0.03, text[20:30]), (0.07, text[30:])) == wanted
+
+
+@pytest.mark.parametrize("text", ["s", "sb", "sbv", "nnnnnnnn", "\r\r\r\r\r", "    "])
+def test_three_keys_and_a_key_that_is_held_down_are_typed(text: str) -> None:
+    keys = ["enter" if each == "\r" else each for each in text]
+    assert done_with((0.0, text)) == keys
+
+
+@pytest.mark.parametrize("gap", [0.02, 0.033, 0.1])
+def test_letters_that_hands_type_are_keys(gap: float) -> None:
+    came = [(n * gap, each) for n, each in enumerate("snbvti")]
+    assert done_with(*came) == list("snbvti")
+
+
+def test_other_keys_are_never_held_and_part_what_comes_before_them() -> None:
+    arrivals = Arrivals()
+    assert arrivals.came(["down"] * 50, 0.0) == ["down"] * 50
+    assert arrivals.due is None
+    assert arrivals.came(["s"], 0.0) == []
+    assert arrivals.came(["a-up", "escape", "b"], 0.001) == ["s", "a-up", "escape"]
+    assert arrivals.due == pytest.approx(0.016)
+    assert arrivals.came([Pasted("text")], 0.002) == ["b", Pasted("text")]
+    assert arrivals.came(["one", "unknown"], 0.01) == ["one", "unknown"]
+
+
+def test_a_key_acts_within_a_fiftieth_of_a_second() -> None:
+    arrivals = Arrivals()
+    assert arrivals.came(["s"], 5.0) == []
+    assert arrivals.let_go(5.001) == []
+    assert arrivals.let_go(5.02) == ["s"]
+    assert arrivals.let_go(6.0) == []
+
+
+@pytest.mark.parametrize(
+    "busy, keys, is_text",
+    [(1.0, "snbr", False), (1.0, "snbrtv", False), (0.05, "snbr", True)],
+)
+def test_keys_that_waited_while_the_desk_was_busy_were_typed_if_there_was_time(
+    busy: float, keys: str, is_text: bool
+) -> None:
+    arrivals = Arrivals()
+    done = arrivals.came([*keys], 10.0, 10.0 - busy) + arrivals.let_go(11.0)
+    wanted: list[Stroke] = [*keys]
+    assert done == ([Pasted(keys)] if is_text else wanted)
+
+
+def test_a_line_is_pasted_text_also_where_the_desk_was_busy_for_a_second() -> None:
+    arrivals = Arrivals()
+    line = "Twice a day the sea comes up."
+    assert arrivals.came([*line], 10.0, 9.0) + arrivals.let_go(11.0) == [Pasted(line)]
+
+
+def test_what_comes_is_done_once_and_in_its_order_however_it_comes() -> None:
+    chance = random.Random(58)
+    for _ in range(300):
+        text = "".join(chance.choices("ab \r\t\x1b", k=30)).replace("\x1b", "\x1b[A")
+        came, at, rest = [], 0.0, text
+        while rest:
+            count = chance.randint(1, 6)
+            came.append((at, rest[:count]))
+            rest, at = rest[count:], at + chance.choice([0, 0.001, 0.02, 0.2])
+        written = {"enter": "\r", "tab": "\t", "up": "\x1b[A"}
+        done = [
+            each.text.replace("\n", "\r")
+            if isinstance(each, Pasted)
+            else written.get(each, each)
+            for each in done_with(*came)
+        ]
+        assert "".join(done) == text
