@@ -343,9 +343,37 @@ def test_pasted_lines_of_a_new_paragraph_are_asked_about() -> None:
     assert joined.typed and joined.typed.text == "One Two ThreeIt. "
 
 
-def test_pasted_lines_are_joined_where_print_is_edited() -> None:
-    state = pasted(typed(Purpose.EDIT, "ab", 1), "x\ny").state
-    assert state.typed and state.typed.text == "ax yb"
+def test_pasted_lines_where_print_is_edited_are_asked_about() -> None:
+    state = pasted(typed(Purpose.EDIT, "The moon.", 4), "old \n\nnew\n").state
+    assert state.question == Question(
+        "The pasted text has 2 lines. Shall the first go on in this paragraph, and the other be"
+        " new after it? If not, they are joined.",
+        ("The old", "newmoon."),
+    )
+    joined = step(state, "n").state
+    assert joined.typed == Field(Purpose.EDIT, "The old newmoon.", 11)
+    assert step(state, "y").asked == TypeAll(Purpose.EDIT, ("The old", "newmoon."))
+    left = step(state, "escape").state
+    assert left.typed == Field(Purpose.EDIT, "The moon.", 4)
+
+
+def test_a_pasted_line_goes_in_as_it_is() -> None:
+    for text in ("old ", "old \n", "\r\nold "):
+        state = pasted(typed(Purpose.EDIT, "The moon.", 4), text).state
+        assert state.typed == Field(Purpose.EDIT, "The old moon.", 8)
+
+
+def test_pasted_lines_at_a_prompt_are_joined_which_is_said() -> None:
+    state = pasted(typed(Purpose.NOTE, "ab", 1), "x\ny").state
+    assert state.typed == Field(Purpose.NOTE, "ax yb", 4)
+    assert state.message == "The 2 pasted lines were joined."
+
+
+def test_pasted_lines_with_a_control_character_are_not_typed() -> None:
+    state = pasted(typed(Purpose.AFTER), "One\nT\x1bwo").state
+    taken = step(state, "y")
+    assert (taken.asked, taken.state.question) == (None, state.question)
+    assert taken.state.message.startswith("Character 2 of the line is U+001B ESCAPE")
 
 
 def test_a_size_of_pages_is_kept_and_what_is_none_is_typed_further() -> None:

@@ -61,7 +61,7 @@ def test_pasted_lines_stay_one_line_at_a_prompt_and_nothing_is_sent(
     before = sat.state.typed
     sat.state = sat.desk.paste(sat.state, "one\r\ntwo\r\n\r\nthree\r\n")
     check(sat)
-    if key in "oO":
+    if key in ("o", "O", "enter"):
         sat.press("n")
     assert sat.state.typed and before
     assert sat.state.typed.text == "one two three" + before.text

@@ -300,7 +300,9 @@ class Desk:
             return state
         where = self._where_kept(state, saved)
         if where:
-            rest = saved.after_first_line(max(each.id for each in state.book))
+            newest = max(each.id for each in state.book)
+            is_edit = saved.aim is Aim.EDIT
+            rest = saved.after_first_line((is_edit and saved.paragraph) or newest)
             if rest is None:
                 said = f"What was typed last is in the book, {where}: {quoted(saved.text)}."
                 return self.save_draft(state.saying(said))
@@ -548,25 +550,24 @@ class Desk:
 
     def _typed_all(self, state: State, errand: TypeAll) -> State:
         """Types paragraphs until one is refused; that one and those after it stay typed."""
-        place = keys.after(state, Field(errand.purpose))
-        table = state.table
-        assert table is not None
         for count, line in enumerate(errand.lines):
             lines = errand.lines[count:]
             rest = " ".join(lines)
             field = Field(Purpose.AFTER if count else errand.purpose, rest, len(rest))
-            waiting = replace(state, typed=field, question=keys.about_lines(lines))
-            command = requests.Type(place, table, line, expect=state.version)
+            asked = keys.entered(state, replace(field, text=line)).asked
+            if not isinstance(asked, Command):
+                # the first line leaves the paragraph as it is
+                continue
+            about = keys.about_lines(field.purpose, lines)
+            waiting = replace(state, typed=field, question=about)
             try:
-                state = replace(self._sent(waiting, command), question=None)
+                state = replace(self._sent(waiting, asked), question=None)
             except _Interrupted as interrupted:
                 if isinstance(interrupted.cause, Lost) or not interrupted.state.typed:
                     raise
                 said = f"{count} typed. {interrupted.cause.sentence}"
                 return replace(interrupted.state, question=None).saying(said)
-            assert state.paragraph is not None
-            place = state.paragraph.id
-        return state
+        return replace(state, typed=None, preview=None)
 
 
 def preview_of(state: State, typed: Field) -> tuple[str, str, str]:

@@ -33,6 +33,7 @@ from scribe.visible import control_refused
 _NOTHING_WHILE_TYPING = (
     "That key does nothing here. Enter keeps what is typed, Escape gives it up."
 )
+_NOT_ENTER = "The end of the pasted line was left out. Enter keeps what is typed."
 
 
 @dataclass(frozen=True)
@@ -75,20 +76,36 @@ def pasted(state: State, text: str) -> Step:
         return Step(
             state.saying("Pasted text goes in after Enter or o. None was taken.")
         )
-    lines = [line.strip() for line in text.replace("\r", "\n").split("\n")]
-    lines = [line.replace("\t", " ") for line in lines if line]
-    if not typed.purpose.is_new or len(lines) < 2:
-        return Step(replace(state, typed=typed.inserted(" ".join(lines))))
-    lines[0] = typed.text[: typed.place] + lines[0]
-    lines[-1] += typed.text[typed.place :]
-    return Step(replace(state, question=about_lines(lines)))
+    lines = text.replace("\r", "\n").replace("\t", " ").split("\n")
+    lines = [line for line in lines if line.strip()]
+    if len(lines) < 2:
+        said = _NOT_ENTER if text.endswith(("\r", "\n")) else ""
+        whole = replace(state, typed=typed.inserted("".join(lines)))
+        return Step(whole.saying(said))
+    front, back = typed.text[: typed.place], typed.text[typed.place :]
+    # a blank parts the first line from what it goes on
+    gap = " " if front and lines[0].startswith(" ") else ""
+    lines = [line.strip() for line in lines]
+    if not typed.purpose.is_print:
+        said = f"The {len(lines)} pasted lines were joined."
+        joined = replace(state, typed=typed.inserted(" ".join(lines)))
+        return Step(joined.saying(said))
+    lines[0] = front + gap + lines[0]
+    lines[-1] += back
+    return Step(replace(state, question=about_lines(typed.purpose, lines)))
 
 
-def about_lines(lines: Sequence[str]) -> Question:
+def about_lines(purpose: Purpose, lines: Sequence[str]) -> Question:
     """Whether lines that were pasted are paragraphs."""
     count = len(lines)
-    sentence = f"The pasted text has {count} lines. Are they {count} paragraphs?"
-    return Question(sentence, tuple(lines))
+    asked = f"Are they {count} paragraphs?"
+    if purpose is Purpose.EDIT:
+        others = "the other" if count == 2 else f"the other {count - 1}"
+        asked = (
+            f"Shall the first go on in this paragraph, and {others} be new after it? If"
+            " not, they are joined."
+        )
+    return Question(f"The pasted text has {count} lines. {asked}", tuple(lines))
 
 
 def _is_cut(text: str) -> bool:
@@ -108,9 +125,14 @@ def _answered(state: State, question: Question, key: str) -> Step:
         return _taken_up(state, question.draft, key)
     assert state.typed is not None
     if key == "y":
+        for line in question.lines:
+            refused = control_refused(line.encode())
+            if refused:
+                return Step(replace(state, question=question).saying(refused))
         return Step(state, TypeAll(state.typed.purpose, question.lines))
     text = " ".join(question.lines)
-    return Step(replace(state, typed=replace(state.typed, text=text, place=len(text))))
+    place = len(text) - len(state.typed.text[state.typed.place :])
+    return Step(replace(state, typed=replace(state.typed, text=text, place=place)))
 
 
 def _about_import(
@@ -136,7 +158,7 @@ def _taken_up(state: State, draft: Field, key: str) -> Step:
     if len(lines) == 1:
         return Step(replace(state, typed=draft))
     typed = Field(draft.purpose)
-    return Step(replace(state, typed=typed, question=about_lines(lines)))
+    return Step(replace(state, typed=typed, question=about_lines(typed.purpose, lines)))
 
 
 def _looking(state: State, pages: Pages, key: str) -> State:
@@ -297,7 +319,8 @@ def _edit(state: State) -> Step:
         return Step(state.saying(said))
     assert reading is not None
     place = state.place if state.pane is Pane.PRINT else _lit_start(state)
-    return Step(replace(state, typed=Field(Purpose.EDIT, reading.text, place)))
+    typed = Field(Purpose.EDIT, reading.text, place)
+    return Step(replace(state, table=paragraph.table, typed=typed))
 
 
 def _lit_start(state: State) -> int:
