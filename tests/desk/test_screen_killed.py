@@ -21,7 +21,7 @@ WORK = (
     ("tab m w h y ? enter", "kept: mark 2"),
     ("o S o o n . enter", "kept: paragraph 4"),
     ("down s", "kept: paragraph 2 struck"),
-    ("c-home u", "kept: undo in paragraph 1"),
+    ("c-home u", "kept: paragraph 2 restored"),
 )
 #: The book after none of the commands, after the first one, and so on.
 BOOKS = (
@@ -32,7 +32,7 @@ BOOKS = (
     " 3 Twice a day the sea comes up.",
     "11: 1 The Moon is far away. <Moon> <o>, 4 Soon., 2 The Tides struck,"
     " 3 Twice a day the sea comes up.",
-    "12: 1 The moon is far away. <moon> <o>, 4 Soon., 2 The Tides struck,"
+    "12: 1 The Moon is far away. <Moon> <o>, 4 Soon., 2 The Tides,"
     " 3 Twice a day the sea comes up.",
 )
 SAID = ("nothing kept yet", *(said for _, said in WORK))

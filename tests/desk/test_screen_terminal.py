@@ -37,6 +37,8 @@ def test_the_book_is_opened_corrected_marked_undone_and_exported(
     terminal.keys("tab", "m", "why?", "enter")
     terminal.wait("kept: mark 2")
     terminal.keys("u")
+    terminal.wait("kept: mark 2 resolved")
+    terminal.keys("u")
     terminal.wait("kept: undo in paragraph 1")
     terminal.keys("x", "pages", "enter")
     lines = terminal.wait("Export. Lines 1 to 1 of 1.")

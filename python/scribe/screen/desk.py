@@ -19,8 +19,9 @@ from scribe.occurrences import Occurrence
 from scribe.paragraph import quoted
 from scribe.queries import shown
 from scribe.readings import Reading, answers
-from scribe.screen import finding, keys, pagelook, pager
+from scribe.screen import deeds, finding, keys, pagelook, pager
 from scribe.screen.aside import done_aside, question_about
+from scribe.screen.deeds import Deed
 from scribe.screen.draft import draft_of, field_of
 from scribe.screen.errands import (
     Errand,
@@ -32,6 +33,7 @@ from scribe.screen.errands import (
     Quit,
     ShowHistory,
     ShowPage,
+    TakeBack,
     ToFound,
     ToMark,
     TypeAll,
@@ -160,7 +162,9 @@ class Desk:
         """Does what needs the session closed, and opens it again."""
         errand = state.away
         assert errand is not None
-        state = replace(state, away=None)
+        state = replace(state, away=None, message="")
+        if isinstance(errand, TakeBack):
+            return self._all_taken_back(state, report)
         try:
             self._session.close()
             ending = done_aside(self.path, errand, report, self._check)
@@ -182,6 +186,7 @@ class Desk:
             state = replace(state, kept=f"kept: {what} of the import")
         if ending.question:
             state = replace(state, question=ending.question)
+        state = _with_imported(before, state)
         lines = (*_changed_between(before, state), *ending.lines)
         if lines:
             state = replace(state, pages=Pages(ending.title, lines))
@@ -283,6 +288,8 @@ class Desk:
     def _opened_again(self, state: State) -> State:
         book = self._session.list()
         number = state.paragraph.id if state.paragraph else None
+        # what others did may be in the way of taking back what was done here
+        is_same = state.version == self._session.seen
         state = replace(
             state,
             version=self._session.seen,
@@ -290,6 +297,7 @@ class Desk:
             tables=self.tables.names,
             openings={},
             reading=None,
+            deeds=state.deeds if is_same else (),
         )
         places = [n for n, each in enumerate(book) if each.id == number]
         return state.at(places[0], state.place) if places else state.at(0)
@@ -446,13 +454,16 @@ class Desk:
         state = self.save_draft(state)
         before, typed = state, state.typed
         try:
+            resolving = self._resolving(state, command)
             answer = self._session.ask(command)
+            deed = resolving or deeds.deed_of(command, answer, state.book)
             state = replace(
                 state,
                 version=self._session.seen,
                 kept=kept(command, answer),
                 typed=None,
                 preview=None,
+                deeds=(*state.deeds, deed) if deed else state.deeds,
             )
             number = getattr(command, "paragraph", None)
             if isinstance(command, requests.Type):
@@ -467,6 +478,53 @@ class Desk:
             return state
         except (Lost, Refused) as failed:
             raise _Interrupted(state, failed) from failed
+
+    def _resolving(self, state: State, command: Command[Any]) -> Deed | None:
+        """How a mark that is about to be resolved is put again; its cells are found before."""
+        its = state.reading
+        if its is None or not isinstance(command, requests.Resolve):
+            return None
+        marks = tuple(m for m in its.marks if m.id == command.mark and not m.resolved)
+        cells = cells_of_marks(self._session, replace(its, marks=marks))
+        if not cells:
+            return None
+        return deeds.resolved(marks[0], its.paragraph.id, cells[0])
+
+    def _taking_back(self, state: State, errand: TakeBack) -> State:
+        """Takes back what a key last did; what takes many commands is done beside the screen."""
+        *earlier, deed = state.deeds
+        if len(deed.back) > 1:
+            return replace(state, away=errand, message="Please wait.")
+        if deed.paragraph is not None:
+            state = self.refreshed(_at_paragraph(state, deed.paragraph))
+        state = self._sent(state, replace(deed.back[0], expect=state.version))
+        left = deeds.without(deed, earlier, state.deeds[-1])
+        return replace(state, deeds=left).saying(deed.sentence)
+
+    def _all_taken_back(self, state: State, report: Callable[[str], None]) -> State:
+        """Takes back what a key did by many commands, as far as none is refused."""
+        *earlier, deed = state.deeds
+        said, done, count = deed.sentence, 0, len(deed.back)
+        left = tuple(earlier)
+        try:
+            for done, command in enumerate(deed.back):
+                self._check()
+                asked = replace(command, expect=state.version)
+                answer = self._session.ask(asked)
+                version = self._session.seen
+                state = replace(state, version=version, kept=kept(asked, answer))
+                report(f"{done + 1:,} of {count:,} done.")
+        except Lost as lost:
+            return self._after_loss(state, lost)
+        except Refused as refused:
+            said = f"{done:,} of {count:,} done. {refused.sentence}"
+            left = (*earlier, replace(deed, back=deed.back[done:]))
+        except Interrupted:
+            said = f"{done:,} of {count:,} done."
+            left = (*earlier, replace(deed, back=deed.back[done:]))
+        book = self._session.list()
+        state = replace(state, deeds=left, book=book, openings={}, reading=None)
+        return self._drawn(replace(state, lit=None).saying(said))
 
     def _changed(self, state: State, number: int | None, before: State) -> State:
         """The state after a paragraph was changed, with that one chosen."""
@@ -504,6 +562,8 @@ class Desk:
                 return replace(state, away=errand, message="Please wait.")
             case LeaveImport():
                 return self._left_out(state, errand)
+            case TakeBack():
+                return self._taking_back(state, errand)
             case OpenAgain():
                 return self._opened_anew(state, "The book is open again.")
 
@@ -536,11 +596,13 @@ class Desk:
             text = request.text if isinstance(request, requests.Table) else None
             answer = self._session.ask(replace(request, expect=state.version))
             self.tables.put(name, text)
+            deed = deeds.deed_of(request, answer, state.book)
             state = replace(
                 state,
                 version=self._session.seen,
                 kept=kept(request, answer),
                 tables=self.tables.names,
+                deeds=(*state.deeds, deed) if deed else state.deeds,
             )
         if state.paragraph is None:
             said = f"New paragraphs have the table {name}. o types the first one."
@@ -550,6 +612,7 @@ class Desk:
 
     def _typed_all(self, state: State, errand: TypeAll) -> State:
         """Types paragraphs until one is refused; that one and those after it stay typed."""
+        before = len(state.deeds)
         for count, line in enumerate(errand.lines):
             lines = errand.lines[count:]
             rest = " ".join(lines)
@@ -566,8 +629,9 @@ class Desk:
                 if isinstance(interrupted.cause, Lost) or not interrupted.state.typed:
                     raise
                 said = f"{count} typed. {interrupted.cause.sentence}"
-                return replace(interrupted.state, question=None).saying(said)
-        return replace(state, typed=None, preview=None)
+                state = replace(interrupted.state, question=None).saying(said)
+                return _done_by_one_key(state, before)
+        return _done_by_one_key(replace(state, typed=None, preview=None), before)
 
 
 def preview_of(state: State, typed: Field) -> tuple[str, str, str]:
@@ -576,6 +640,31 @@ def preview_of(state: State, typed: Field) -> tuple[str, str, str]:
     if typed.purpose is Purpose.EDIT and state.paragraph:
         table = state.paragraph.table
     return table or "", typed.text, keys.print_of(state, typed)
+
+
+def _done_by_one_key(state: State, before: int) -> State:
+    """The state in which what was done since there were so many deeds is one deed."""
+    done = state.deeds[before:]
+    if len(done) < 2:
+        return state
+    return replace(state, deeds=(*state.deeds[:before], deeds.together(done)))
+
+
+def _with_imported(before: State, after: State) -> State:
+    """The state with an import as a deed, where nothing else changed the book."""
+    there = {each.id for each in before.book}
+    new = sorted(each.id for each in after.book if each.id not in there)
+    if not new or after.version - before.version != len(new):
+        return after
+    return replace(after, deeds=(*before.deeds, deeds.typed(new, "imported")))
+
+
+def _at_paragraph(state: State, number: int) -> State:
+    """The state with a paragraph chosen, where the book has it."""
+    if state.paragraph and state.paragraph.id == number:
+        return state
+    places = [n for n, each in enumerate(state.book) if each.id == number]
+    return state.at(places[0]) if places else state
 
 
 def _of(number: int) -> list[Request[Any]]:

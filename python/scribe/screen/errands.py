@@ -78,6 +78,11 @@ class LeaveImport:
 
 
 @dataclass(frozen=True)
+class TakeBack:
+    """Takes back what a key last did, with one command or with many."""
+
+
+@dataclass(frozen=True)
 class OpenAgain:
     """Opens the book again after the session ended by itself."""
 
@@ -97,6 +102,7 @@ Errand = (
     | ExportTo
     | ImportFrom
     | LeaveImport
+    | TakeBack
     | OpenAgain
     | Quit
 )

@@ -21,6 +21,7 @@ from scribe.screen.errands import (
     Quit,
     ShowHistory,
     ShowPage,
+    TakeBack,
     ToFound,
     ToMark,
     TypeAll,
@@ -34,6 +35,10 @@ _NOTHING_WHILE_TYPING = (
     "That key does nothing here. Enter keeps what is typed, Escape gives it up."
 )
 _NOT_ENTER = "The end of the pasted line was left out. Enter keeps what is typed."
+# what is said before it is done, since the book keeps it
+_OF_MARK = "The book keeps each mark: r resolves it, and nothing takes it out."
+_OF_TABLE = "A table that the book lacks is put into it, and stays there."
+_OF_IMPORT = "The book keeps what is imported. u strikes it, and nothing takes it out."
 
 
 @dataclass(frozen=True)
@@ -115,7 +120,7 @@ def _is_cut(text: str) -> bool:
 
 def _answered(state: State, question: Question, key: str) -> Step:
     if question.yes is not None:
-        return _about_import(state, question, question.yes, key)
+        return _about_errand(state, question, question.yes, key)
     state = replace(state, question=None)
     if key == "escape" and question.draft is None:
         return Step(state.saying("The pasted text was left out. Nothing was sent."))
@@ -135,17 +140,18 @@ def _answered(state: State, question: Question, key: str) -> Step:
     return Step(replace(state, typed=replace(state.typed, text=text, place=place)))
 
 
-def _about_import(
-    state: State, question: Question, errand: ImportFrom, key: str
+def _about_errand(
+    state: State, question: Question, errand: ImportFrom | TakeBack, key: str
 ) -> Step:
-    """An earlier import of a text: it goes on or is done again, or nothing is typed."""
+    """An earlier import of a text goes on or is done again; or what keys did is taken back."""
     answered = replace(state, question=None)
     if key == "y":
         return Step(answered, errand)
     if key == "n" and question.no:
         return Step(answered, question.no)
     if key in ("n", "escape"):
-        return Step(answered.saying("Nothing was typed."))
+        done = "taken back" if isinstance(errand, TakeBack) else "typed"
+        return Step(answered.saying(f"Nothing was {done}."))
     return Step(state)
 
 
@@ -308,8 +314,8 @@ def _folder(state: State) -> Step:
     return Step(replace(state, typed=Field(Purpose.FOLDER)).saying(said))
 
 
-def _typed_for(purpose: Purpose) -> Callable[[State], Step]:
-    return lambda state: Step(replace(state, typed=Field(purpose)))
+def _typed_for(purpose: Purpose, said: str = "") -> Callable[[State], Step]:
+    return lambda state: Step(replace(state, typed=Field(purpose)).saying(said))
 
 
 def _edit(state: State) -> Step:
@@ -327,7 +333,7 @@ def _lit_start(state: State) -> int:
     return state.lit.words.start if state.lit else 0
 
 
-def _new(purpose: Purpose) -> Callable[[State], Step]:
+def _new(purpose: Purpose, said: str = "") -> Callable[[State], Step]:
     """Types what is new by the table of the chosen paragraph, or of the book, if that is known."""
 
     def typed(state: State) -> Step:
@@ -338,7 +344,8 @@ def _new(purpose: Purpose) -> Callable[[State], Step]:
             names = ", ".join(state.tables)
             what = f"has the tables {names}" if names else "has no table yet"
             return Step(state.saying(f"The book {what}. t chooses one."))
-        return Step(replace(state, table=table, typed=Field(purpose)))
+        state = replace(state, table=table, typed=Field(purpose))
+        return Step(state.saying(said))
 
     return typed
 
@@ -419,7 +426,7 @@ def _mark(state: State) -> Step:
     cells = state.chosen_cells
     if cells is None or cells.stop <= cells.start:
         return Step(state.saying("There is no cell here that a mark could stand on."))
-    return Step(replace(state, typed=Field(Purpose.NOTE)))
+    return Step(replace(state, typed=Field(Purpose.NOTE)).saying(_OF_MARK))
 
 
 def _resolve(state: State) -> Step:
@@ -434,8 +441,20 @@ def _chosen(state: State) -> Paragraph:
     return state.paragraph
 
 
-def _undo(state: State) -> Step:
-    return Step(state, requests.Undo(_chosen(state).id, expect=state.version))
+def _take_back(state: State) -> Step:
+    """What a key last did is taken back; where keys did nothing, the newest correction is."""
+    if not state.deeds:
+        return Step(state, requests.Undo(_chosen(state).id, expect=state.version))
+    *earlier, deed = state.deeds
+    if not deed.back:
+        said = f"The book has no way back from this: {deed.what}."
+        if earlier:
+            said += f" u again takes back that {earlier[-1].what}."
+        return Step(replace(state, deeds=tuple(earlier)).saying(said))
+    if len(deed.back) == 1:
+        return Step(state, TakeBack())
+    sentence = f"The last key did this: {deed.what}. Shall all of it be taken back?"
+    return Step(replace(state, question=Question(sentence, yes=TakeBack())))
 
 
 def _strike(state: State) -> Step:
@@ -552,7 +571,7 @@ KEYS = {
     "enter": Bound("edits the print; Enter keeps it, Escape doesn't", _edit),
     "o": Bound("a new paragraph after this one", _new(Purpose.AFTER), False),
     "O": Bound("a new paragraph before this one", _new(Purpose.BEFORE), False),
-    "u": Bound("takes back the newest correction", _undo),
+    "u": Bound("takes back what a key last did, or the newest correction", _take_back),
     "h": Bound("the history of the paragraph", lambda s: Step(s, ShowHistory())),
     " ": Bound("begins or ends a choice of cells, for m", _choose_cells),
     "m": Bound("puts a mark on the cells, with a note", _mark),
@@ -562,7 +581,7 @@ KEYS = {
     "s": Bound("strikes the paragraph, or restores it", _strike),
     "b": Bound("makes it a heading, or body text", _style),
     "v": Bound("has it begin a volume, or not", _volume),
-    "t": Bound("gives it a table", _typed_for(Purpose.TABLE), False),
+    "t": Bound("gives it a table", _typed_for(Purpose.TABLE, _OF_TABLE), False),
     "a-up": Bound("moves the paragraph up", _carried(-1)),
     "a-down": Bound("moves the paragraph down", _carried(1)),
     "/": Bound("finds words, or cells while on the cells", _typed_for(Purpose.WORDS)),
@@ -570,7 +589,7 @@ KEYS = {
     "p": Bound("the page on which these words stand", lambda s: Step(s, ShowPage())),
     "w": Bound("the size of pages, for p and x", _size, False),
     "x": Bound("exports all volumes to a folder", _folder),
-    "i": Bound("imports a text file", _new(Purpose.TEXT_FILE), False),
+    "i": Bound("imports a text file", _new(Purpose.TEXT_FILE, _OF_IMPORT), False),
     "?": Bound("shows all keys", _help, False),
     "q": Bound(
         "ends; all that was kept is in the book", lambda s: Step(s, Quit()), False

@@ -9,7 +9,8 @@ from braildesk import Mark, Paragraph
 from scribe.layout import Sheet
 from scribe.occurrences import Occurrence
 from scribe.readings import Reading
-from scribe.screen.errands import ExportTo, ImportFrom, LeaveImport
+from scribe.screen.deeds import Deed
+from scribe.screen.errands import ExportTo, ImportFrom, LeaveImport, TakeBack
 from scribe.screen.field import Cut, Field
 
 
@@ -55,13 +56,14 @@ class Preview:
 
 @dataclass(frozen=True)
 class Question:
-    """What is asked before something is done; y is yes, and any other key is no."""
+    """What is asked before something is done: y is yes, and n is no."""
 
     sentence: str
     lines: tuple[str, ...] = ()
     draft: Field | None = None
-    #: What is done if the answer is yes, or no, where the question is about a text in a file.
-    yes: ImportFrom | None = None
+    #: What is done if the answer is yes, or no, where the question is about a text in a file or
+    #: about what is taken back.
+    yes: ImportFrom | TakeBack | None = None
     no: LeaveImport | None = None
 
 
@@ -136,14 +138,16 @@ class State:
     finds_alike: bool = False
     #: The table of a new paragraph where no paragraph is chosen.
     table: str | None = None
+    #: What keys did in this session and didn't take back, the newest last.
+    deeds: tuple[Deed, ...] = ()
     #: What has to be said, how many keys in a row said it, and what was last kept.
     message: str = ""
     times: int = 1
     kept: str = ""
     #: The session with the book ended by itself.
     is_lost: bool = False
-    #: What is going on with the session closed.
-    away: ExportTo | ImportFrom | None = None
+    #: What is going on beside the screen.
+    away: ExportTo | ImportFrom | TakeBack | None = None
     is_over: bool = False
 
     @property

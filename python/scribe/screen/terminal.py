@@ -275,7 +275,7 @@ class Screen:
         self._aside = self._worker.submit(self._desk.away, self.state, report)
         # where the screen ends meanwhile, the work is waited for and not given up
         state = await asyncio.shield(asyncio.wrap_future(self._aside))
-        self._become(replace(state, message=""))
+        self._become(state)
         waiting, self._waiting = self._waiting, []
         self._do(waiting)
 

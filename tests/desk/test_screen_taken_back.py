@@ -1,0 +1,227 @@
+"""What `u` takes back, and what it says of it; and what is said where the book has no way back."""
+
+from pathlib import Path
+
+import pytest
+
+from braildesk import Session
+from sitting import Sat, Sit
+from stand_in import READ, REPLY
+from terminal import standing_in
+
+#: Keys, what `u` says after them, and what the chosen paragraph or the book is then as before.
+DEEDS = {
+    "a struck paragraph": ("s", "Taken back: paragraph 1 was struck."),
+    "a heading": ("b", "Taken back: paragraph 1 was made a heading."),
+    "a volume": ("v", "Taken back: paragraph 1 was made to begin a volume."),
+    "a table": (
+        "t p l a i n enter",
+        "Taken back: paragraph 1 was given the table plain.",
+    ),
+    "a move down": ("a-down", "Taken back: paragraph 1 was moved."),
+    "a move up": ("c-end a-up", "Taken back: paragraph 3 was moved."),
+    "a move to the front": ("down a-up", "Taken back: paragraph 2 was moved."),
+    "a correction": (
+        "enter O h , enter",
+        "Taken back: paragraph 1 was corrected.",
+    ),
+}
+
+
+def whole(sat: Sat) -> list[tuple[object, str]]:
+    """The paragraphs of the book, each with its print."""
+    return [(each, sat.state.openings[each.id].words) for each in sat.state.book]
+
+
+def paste(sat: Sat, text: str) -> None:
+    """Pastes a text."""
+    sat.state = sat.desk.paste(sat.state, text)
+
+
+@pytest.mark.parametrize("name", DEEDS)
+def test_u_takes_back_what_a_key_last_did_and_says_what(
+    moon: Path, sit: Sit, name: str
+) -> None:
+    keys, said = DEEDS[name]
+    sat = sit(moon)
+    before = whole(sat)
+    sat.press(*keys.split())
+    assert (sat.state.version, whole(sat) == before) == (8, False)
+    # whichever paragraph is chosen by then
+    sat.press("c-end", "u")
+    assert (sat.state.version, sat.state.message) == (9, said)
+    assert whole(sat) == before
+
+
+def test_u_takes_back_one_thing_after_the_other(moon: Path, sit: Sit) -> None:
+    sat = sit(moon)
+    before = whole(sat)
+    sat.press("s", "down", "b", "v", "a-down", "c-home", "s", "s")
+    sat.press(*["u"] * 6)
+    assert sat.state.message == "Taken back: paragraph 1 was struck."
+    assert sat.state.version == 7 + 6 + 6
+    assert whole(sat) == before
+    # nothing that a key did is left, so it is the newest correction from before
+    sat.press("u")
+    assert sat.state.kept == "kept: undo in paragraph 1"
+    assert sat.lines[8].startswith("The {mon} is far away.")
+
+
+def test_a_typed_paragraph_is_taken_back_by_striking_it(moon: Path, sit: Sit) -> None:
+    sat = sit(moon)
+    sat.press("o", *"It rose.", "enter", "c-home", "u")
+    assert sat.state.message == (
+        "Taken back: paragraph 4 was typed. The book keeps it, struck."
+    )
+    assert sat.lines[2] == ">    4 body, struck: It rose."
+
+
+def test_pasted_paragraphs_are_taken_back_together_once_that_is_asked(
+    moon: Path, sit: Sit
+) -> None:
+    sat = sit(moon)
+    sat.press("enter", "end")
+    paste(sat, " So\nfar.\nIt rose.")
+    sat.press("y")
+    assert sat.lines[1:4] == [
+        "     1 body, 1 open mark: The moon is far away. So",
+        "     4 body: far.",
+        ">    5 body: It rose.",
+    ]
+    sat.press("u")
+    asked = (
+        "The last key did this: paragraph 1 was corrected, and 2 paragraphs were typed, 4 to 5."
+        " Shall all of it be taken back?"
+    )
+    assert sat.state.question and sat.state.question.sentence == asked
+    sat.press("n")
+    assert (sat.state.message, sat.state.version) == ("Nothing was taken back.", 10)
+    sat.press("u", "y")
+    heard: list[str] = []
+    sat.state = sat.desk.away(sat.state, heard.append)
+    assert heard == ["1 of 3 done.", "2 of 3 done.", "3 of 3 done."]
+    assert sat.state.message == (
+        "Taken back: paragraph 1 was corrected, and 2 paragraphs were typed, 4 to 5. The book"
+        " keeps them, struck."
+    )
+    assert (sat.state.version, sat.state.deeds) == (13, ())
+    assert sat.lines[1:4] == [
+        "     1 body, 1 open mark: The moon is far away.",
+        "     4 body, struck: far.",
+        ">    5 body, struck: It rose.",
+    ]
+
+
+def test_an_import_is_taken_back_by_striking_its_paragraphs(
+    moon: Path, sit: Sit
+) -> None:
+    sat = sit(moon)
+    text = moon.parent / "more.txt"
+    text.write_text("The sun\n\nThe stars.\n\nThe sea.\n")
+    sat.press("i")
+    assert sat.state.message == (
+        "The book keeps what is imported. u strikes it, and nothing takes it out."
+    )
+    sat.press(*str(text), "enter")
+    sat.state = sat.desk.away(sat.state, print)
+    sat.press("escape", "u")
+    assert sat.state.question and sat.state.question.sentence == (
+        "The last key did this: 3 paragraphs were imported, 4 to 6. Shall all of it be taken"
+        " back?"
+    )
+    sat.press("y")
+    sat.state = sat.desk.away(sat.state, print)
+    assert sat.state.message.endswith("The book keeps them, struck.")
+    struck = [each.id for each in sat.state.book if each.struck]
+    assert (struck, sat.state.version) == ([4, 5, 6], 13)
+
+
+def test_a_mark_is_taken_back_by_resolving_it_and_that_by_a_new_one(
+    moon: Path, sit: Sit
+) -> None:
+    sat = sit(moon)
+    sat.press("down", "m")
+    assert sat.state.message == (
+        "The book keeps each mark: r resolves it, and nothing takes it out."
+    )
+    sat.press(*"who?", "enter", "r", "c-home", "u")
+    assert sat.state.message == (
+        "Taken back: mark 2 was resolved. It stays resolved, and a new mark stands in its"
+        " place."
+    )
+    assert [mark.id for mark in sat.state.marks_here] == [3, 2]
+    sat.press("c-home", "u")
+    assert sat.state.message == (
+        "Taken back: mark 2 was put. The book keeps it, resolved."
+    )
+    sat.desk.close()
+    with Session(moon) as session:
+        marks = [(m.id, m.start, m.stop, m.resolved) for m in session.marks(2)]
+    assert marks == [(2, 0, 1, True), (3, 0, 1, True)]
+
+
+def test_a_table_that_was_put_into_the_book_stays_there_which_is_said_before(
+    moon: Path, sit: Sit
+) -> None:
+    sat = sit(moon)
+    sat.press("s", "t")
+    assert sat.state.message == (
+        "A table that the book lacks is put into it, and stays there."
+    )
+    sat.press("escape", "s", "t", *"ueb", "enter", "u")
+    assert sat.state.message == "Taken back: paragraph 1 was given the table ueb."
+    version = sat.state.version
+    sat.press("u")
+    assert (sat.state.message, sat.state.version) == (
+        "The book has no way back from this: table ueb was put into the book. u again takes"
+        " back that paragraph 1 was restored.",
+        version,
+    )
+    sat.press("u")
+    assert sat.state.message == "Taken back: paragraph 1 was restored."
+
+
+def test_what_others_changed_meanwhile_is_not_taken_back(moon: Path, sit: Sit) -> None:
+    def changed(line: str) -> None:
+        with Session(moon) as session:
+            session.style(2, "heading")
+
+    sat = sit(moon)
+    sat.press("down", "s", "x", *str(moon.parent / "pages"), "enter")
+    sat.state = sat.desk.away(sat.state, changed)
+    sat.press("escape", "u")
+    assert sat.state.message == (
+        "Paragraph 2 is struck. Nothing was changed. Restore it first."
+    )
+
+
+def test_what_is_refused_midway_is_said_and_the_rest_is_taken_back_later(
+    moon: Path, sit: Sit, monkeypatch: pytest.MonkeyPatch
+) -> None:
+    # three paragraphs are typed, and the second one isn't struck
+    for name, value in standing_in(5, READ, REPLY, "no", "90").items():
+        monkeypatch.setenv(name, value)
+    sat = sit(moon)
+    sat.press("o")
+    paste(sat, "One.\nTwo.\nThree.")
+    sat.press("y", "u", "y")
+    sat.state = sat.desk.away(sat.state, print)
+    assert sat.state.message.startswith("1 of 3 done. ")
+    assert [each.struck for each in sat.state.book[1:4]] == [False, False, True]
+    sat.press("u", "y")
+    sat.state = sat.desk.away(sat.state, print)
+    assert [each.struck for each in sat.state.book[1:4]] == [True, True, True]
+    assert (sat.state.version, sat.state.deeds) == (13, ())
+
+
+def test_a_refusal_leaves_what_can_be_taken_back(
+    moon: Path, sit: Sit, monkeypatch: pytest.MonkeyPatch
+) -> None:
+    for name, value in standing_in(2, READ, REPLY, "no", "90").items():
+        monkeypatch.setenv(name, value)
+    sat = sit(moon)
+    sat.press("s", "u")
+    assert sat.state.book[0].struck and sat.state.version == 8
+    assert "memory" in sat.state.message
+    sat.press("u")
+    assert sat.state.message == "Taken back: paragraph 1 was struck."
