@@ -68,8 +68,16 @@ class Drafts:
 
     def give_up(self, draft: Draft) -> None:
         """Has a text wait no more, and keeps it as the newest of the last ten given up."""
-        self._add_given_up(draft)
+        self.put_by(draft)
         self._remove(_WAITING)
+
+    def put_by(self, draft: Draft) -> None:
+        """Keeps a text as the newest of the last ten given up; the one that waits stays."""
+        others = [each for each in self.given_up() if each.text != draft.text]
+        values = [each.values() for each in (draft, *others)][:MOST_GIVEN_UP]
+        while len(values) > 1 and len(json.dumps(values)) > MOST_BYTES // 2:
+            values.pop()
+        self._write(_GIVEN_UP, {"texts": values})
 
     def given_up(self) -> tuple[Draft, ...]:
         """The texts that were given up, the newest first."""
@@ -106,7 +114,7 @@ class Drafts:
                 if self.waiting() is None:
                     self.save(found)
                 else:
-                    self._add_given_up(found)
+                    self.put_by(found)
                 os.unlink(beside, dir_fd=folder)
         except FileNotFoundError:
             return
@@ -138,13 +146,6 @@ class Drafts:
         except NotSuch:
             return False
         return is_same and _identity(path) != identity
-
-    def _add_given_up(self, draft: Draft) -> None:
-        others = [each for each in self.given_up() if each.text != draft.text]
-        values = [each.values() for each in (draft, *others)][:MOST_GIVEN_UP]
-        while len(values) > 1 and len(json.dumps(values)) > MOST_BYTES // 2:
-            values.pop()
-        self._write(_GIVEN_UP, {"texts": values})
 
     def _others(self, note: ImportNote) -> tuple[ImportNote, ...]:
         return tuple(each for each in self.imports() if not each.is_of(note))

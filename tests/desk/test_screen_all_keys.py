@@ -58,6 +58,11 @@ enter
 O
 'Soon.'
 enter
+o
+'Dusk.'
+escape
+U
+n
 s
 s
 b

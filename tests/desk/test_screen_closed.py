@@ -183,7 +183,7 @@ def test_a_fault_of_scribe_ends_the_screen_in_words_and_keeps_what_is_typed(
     settings = failing(moon.parent, "KeyError('moon')")
     terminal = at(moon, XDG_STATE_HOME=str(moon.parent / "state"), **settings)
     terminal.wait("? shows all keys.")
-    terminal.keys("enter", "Oh, ")
+    terminal.keys("enter", *"Oh, ")
     terminal.wait("Oh, The moon is far away.")
     terminal.paste("The sun")
     assert terminal.ended() == 3

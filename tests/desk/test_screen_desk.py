@@ -442,7 +442,7 @@ def test_a_killed_session_says_what_was_kept_and_keeps_what_was_typed(
     assert again.state.version == 9
     assert again.lines[-2:] == [
         "A text of a new paragraph was typed and not sent: “It rose.”. Shall it be typed",
-        "further? y is yes, n is no.",
+        "further? y is yes, n is no. l leaves it for later.",
     ]
     again.press("y", "enter")
     assert again.lines[0].endswith("kept: paragraph 4")
@@ -455,7 +455,7 @@ def test_a_text_that_waits_can_be_left_out(moon: Path, sit: Sit) -> None:
     sat = sit(moon)
     assert sat.lines[-2:] == [
         "A text of paragraph 2 was typed and not sent: “The Tide”. Shall it be typed",
-        "further? y is yes, n is no.",
+        "further? y is yes, n is no. l leaves it for later.",
     ]
     sat.press("q", "n")
     assert sat.state.typed is None and sat.desk.drafts.waiting() is None

@@ -213,7 +213,7 @@ def test_keys_with_alt_at_the_terminal_leave_the_text_and_escape_alone_ends_it(
     terminal.wait("Given up.")
     terminal.keys("a-s", "a-b", "a-q")
     lines = terminal.wait("That key does nothing here. ? shows all keys.")
-    assert lines[0] == "moon.braildesk, version 7, table en, nothing sent yet"
+    assert lines[0] == "moon.braildesk, version 7, table en, nothing kept yet"
     terminal.keys("q")
     assert terminal.ended() == 0
     with Session(moon) as session:

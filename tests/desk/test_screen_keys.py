@@ -11,10 +11,13 @@ from scribe.layout import Sheet
 from scribe.occurrences import Occurrence
 from scribe.readings import Reading
 from scribe.screen.errands import (
+    BringBack,
     ExportTo,
     GiveTable,
+    GiveUp,
     ImportFrom,
     OpenAgain,
+    PutOff,
     Quit,
     ShowHistory,
     ShowPage,
@@ -145,6 +148,28 @@ ASKED = {
         "enter",
         ImportFrom(Path("a.txt"), 4, "en"),
     ),
+    "Escape gives up what is typed": (typed(Purpose.EDIT, "x"), "escape", GiveUp()),
+    "Escape leaves pasted lines out": (
+        replace(typed(Purpose.AFTER, "x"), question=Question("?", ("a", "b"))),
+        "escape",
+        GiveUp(),
+    ),
+    "no gives up a text that waits": (
+        replace(STATE, question=Question("?", draft=Field(Purpose.EDIT, "x"))),
+        "n",
+        GiveUp(),
+    ),
+    "a text that waits is left for later": (
+        replace(STATE, question=Question("?", draft=Field(Purpose.EDIT, "x"))),
+        "l",
+        PutOff(),
+    ),
+    "U brings back a text": (STATE, "U", BringBack()),
+    "U brings back an older text": (
+        replace(STATE, question=Question("?", draft=Field(Purpose.EDIT, "x"), older=2)),
+        "U",
+        BringBack(2),
+    ),
     "yes types pasted lines as paragraphs": (
         replace(typed(Purpose.AFTER), question=Question("?", ("a", "b"))),
         "y",
@@ -189,8 +214,13 @@ SAID = {
         "u",
         "The book has no paragraphs yet.",
     ),
-    "Escape while typing": (
-        typed(Purpose.EDIT, "x"),
+    "Escape at a prompt": (
+        typed(Purpose.NUMBER, "x"),
+        "escape",
+        "Given up. Nothing was sent.",
+    ),
+    "Escape while nothing is changed": (
+        typed(Purpose.EDIT, PRINT),
         "escape",
         "Given up. Nothing was sent.",
     ),
@@ -213,11 +243,6 @@ SAID = {
         typed(Purpose.EDIT, "x"),
         "c-c",
         "That key does nothing here. Enter keeps what is typed, Escape gives it up.",
-    ),
-    "Escape where pasted lines are asked about": (
-        replace(typed(Purpose.AFTER, "x"), question=Question("?", ("a", "b"))),
-        "escape",
-        "The pasted text was left out. Nothing was sent.",
     ),
     "a number that isn't there": (
         typed(Purpose.NUMBER, "9"),
@@ -353,8 +378,8 @@ def test_pasted_lines_where_print_is_edited_are_asked_about() -> None:
     joined = step(state, "n").state
     assert joined.typed == Field(Purpose.EDIT, "The old newmoon.", 11)
     assert step(state, "y").asked == TypeAll(Purpose.EDIT, ("The old", "newmoon."))
-    left = step(state, "escape").state
-    assert left.typed == Field(Purpose.EDIT, "The moon.", 4)
+    left = step(state, "escape")
+    assert (left.asked, left.state) == (GiveUp(), state)
 
 
 def test_a_pasted_line_goes_in_as_it_is() -> None:

@@ -33,7 +33,7 @@ def test_enter_opens_the_book_again_with_what_was_typed(moon: Path, sit: Sit) ->
     assert sat.lines[-3:] == [
         "The book is open again. It is at version 8, as the screen said last.",
         "A text of paragraph 2 was typed and not sent: “Oh, The Tides”. Shall it be typed",
-        "further? y is yes, n is no.",
+        "further? y is yes, n is no. l leaves it for later.",
     ]
     sat.press("y", "enter")
     assert sat.state.kept == "kept: correction 1 of paragraph 2"

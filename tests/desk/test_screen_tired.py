@@ -45,7 +45,7 @@ def test_escape_at_a_prompt_leaves_the_book_as_it_was(
 ) -> None:
     sat = sit(moon)
     sat.press("c-right", key, "q", "x", "escape")
-    assert sat.state.message == "Given up. Nothing was sent."
+    assert sat.state.message.startswith("Given up. Nothing was sent.")
     assert (sat.state.version, sat.state.typed, sat.state.is_over) == (7, None, False)
     assert sat.desk.drafts.waiting() is None
     check(sat)
@@ -66,19 +66,6 @@ def test_pasted_lines_stay_one_line_at_a_prompt_and_nothing_is_sent(
     assert sat.state.typed and before
     assert sat.state.typed.text == "one two three" + before.text
     assert (sat.state.version, sat.state.away) == (7, None)
-
-
-def test_lines_that_are_pasted_where_nothing_is_typed_are_not_taken(
-    moon: Path, sit: Sit
-) -> None:
-    sat = sit(moon)
-    sat.state = sat.desk.paste(sat.state, "s\nb\n")
-    assert sat.state.message == "Pasted text goes in after Enter or o. None was taken."
-    assert sat.state.version == 7
-    sat.press("?")
-    sat.state = sat.desk.paste(sat.state, "s\nb\n")
-    sat.press("escape")
-    assert (sat.state.version, sat.state.typed) == (7, None)
 
 
 def test_enter_pressed_twice_keeps_one_paragraph(moon: Path, sit: Sit) -> None:

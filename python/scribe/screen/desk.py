@@ -24,12 +24,16 @@ from scribe.screen.aside import done_aside, question_about
 from scribe.screen.deeds import Deed
 from scribe.screen.draft import draft_of, field_of
 from scribe.screen.errands import (
+    BringBack,
     Errand,
     ExportTo,
     GiveTable,
+    GiveUp,
     ImportFrom,
     LeaveImport,
     OpenAgain,
+    PutBy,
+    PutOff,
     Quit,
     ShowHistory,
     ShowPage,
@@ -44,6 +48,7 @@ from scribe.screen.keys import Step
 from scribe.screen.lighting import cells_of_marks, lit
 from scribe.screen.preview import Tables
 from scribe.screen.sentences import kept
+from scribe.screen.unsent import Unsent
 from scribe.screen.state import Opening, Pages, Pane, Question, Size, State
 from scribe.sequences import composed
 from scribe.status import Interrupted, Stop
@@ -52,6 +57,10 @@ from scribe.unfinished import Unfinished
 from scribe.visible import visible
 
 _WHILE_OPENED = "Another program changed the book while it was being opened, so it was read once more."
+_PASTED = (
+    "Pasted text goes in after Enter or o. No key of it was obeyed. U brings it back, for a new"
+    " paragraph."
+)
 # the refusal of a command that expects another version of the book
 _OTHER_VERSION = 16
 # the first words of a listed paragraph are kept as long as any line may be
@@ -75,7 +84,7 @@ class Desk:
         self.drafts = Drafts(path)
         self.tables = Tables()
         self._session: Session
-        self._saved: Draft | None = None
+        self._unsent = Unsent(self.drafts)
         self._notices = self._take_up()
         #: The signal by which the work with the session closed is to end.
         self._stopped_by: signal.Signals | None = None
@@ -102,12 +111,16 @@ class Desk:
             is_ascii=is_ascii,
             message=_WHILE_OPENED if self._was_changed else self._greeting(),
         )
-        state = self._reminded(self._offered(state, self._saved))
+        state = self._reminded(self._offered(state, self._unsent.waiting))
         return self.refreshed(state)
 
     def press(self, state: State, key: str) -> State:
         """The state after a key, once what it asks for was answered."""
-        return self._taken(keys.step(state, key)).after(state)
+        step = keys.step(state, key)
+        asked = state.question.draft if state.question else None
+        if asked is not None and step.state.typed is not None:
+            self._unsent.take_up(asked.text)
+        return self._taken(step).after(state)
 
     def paste(self, state: State, text: str) -> State:
         """The state after text was pasted, with what its table lacks before it is sent."""
@@ -144,18 +157,12 @@ class Desk:
 
     def save_draft(self, state: State) -> State:
         """Keeps what is typed until the book has it, and takes it away once nothing waits."""
-        typed = draft_of(state)
-        waits = state.question is not None and state.question.draft is not None
-        if waits or typed == self._saved:
+        if state.question is not None and state.question.draft is not None:
             return state
         try:
-            if typed is None:
-                self.drafts.clear()
-            else:
-                self.drafts.save(typed)
+            self._unsent.keep(draft_of(state))
         except NotKept as fault:
             return state.saying(fault.sentence)
-        self._saved = typed
         return state
 
     def away(self, state: State, report: Callable[[str], None]) -> State:
@@ -231,7 +238,7 @@ class Desk:
         except NotKept as fault:
             notices.append(fault.sentence)
         try:
-            self._saved = self.drafts.waiting()
+            self._unsent.read()
         except NotKept as fault:
             notices.append(fault.sentence)
         return tuple(notices)
@@ -252,7 +259,7 @@ class Desk:
 
     def _greeting(self) -> str:
         found = " ".join(self._notices)
-        return found or ("" if self._saved else "? shows all keys.")
+        return found or ("" if self._unsent.waiting else "? shows all keys.")
 
     def _openings(self, numbers: list[int]) -> dict[int, Opening]:
         asked: list[Request[Any]] = []
@@ -326,17 +333,18 @@ class Desk:
             now = self._session.print(state.book[places[0]].id)
             if not saved.aim.is_new and now != saved.before:
                 changed = " The print there has been changed since."
-        sentence = (
-            f"{saved.what} was typed and not sent: {quoted(saved.joined)}.{changed} Shall it be"
-            " typed further?"
-        )
+        amount = _amount(saved)
+        sentence = f"{saved.what} was typed and not sent: {quoted(saved.joined)}.{amount}{changed}"
         field = field_of(saved)
         if saved.aim is Aim.NOTE and places:
             state = self._on_cells(state, saved)
         elif not places and not saved.aim.is_new:
             field = Field(Purpose.AFTER, saved.text, len(saved.text))
-        state = replace(state, table=saved.table or state.table)
-        return replace(state, question=Question(sentence, draft=field))
+        table = saved.table if saved.table in state.tables else None
+        state = replace(state, table=table or state.table)
+        asked = f"{sentence} Shall it be typed further?"
+        question = Question(asked, draft=field, more="l leaves it for later.")
+        return replace(state, question=question)
 
     def _where_kept(self, state: State, saved: Draft) -> str:
         """Where a text that waits, or its first line, is in the book, in words; or nothing.
@@ -409,7 +417,7 @@ class Desk:
 
     def _opened_anew(self, state: State, said: str) -> State:
         """The book as it is now, in another session, with what was typed offered again."""
-        waits = draft_of(state) or self._saved
+        waits = draft_of(state) or self._unsent.waiting
         try:
             self._session.close()
             self._open()
@@ -438,7 +446,8 @@ class Desk:
                 "This was typed, and was not reported as kept:",
                 visible(state.typed.text),
             ]
-        if self._saved is not None and self._saved == draft_of(state):
+        waiting = self._unsent.waiting
+        if waiting is not None and waiting == draft_of(state):
             lines.append(
                 "It is kept, and is offered when the book is opened again. Until then it is in"
                 f" {self.drafts.place}."
@@ -564,6 +573,8 @@ class Desk:
                 return self._left_out(state, errand)
             case TakeBack():
                 return self._taking_back(state, errand)
+            case GiveUp() | PutOff() | BringBack() | PutBy():
+                return self._with_text(state, errand)
             case OpenAgain():
                 return self._opened_anew(state, "The book is open again.")
 
@@ -571,6 +582,60 @@ class Desk:
         self.drafts.end_import(errand.note)
         said = f"The rest of {errand.note.name} is left out. What is in the book stays there."
         return state.saying(said)
+
+    def _with_text(
+        self, state: State, errand: GiveUp | PutOff | BringBack | PutBy
+    ) -> State:
+        """What becomes of a text that isn't sent."""
+        match errand:
+            case GiveUp():
+                return self._given_up(state)
+            case BringBack():
+                return self._brought_back(state, errand.place)
+            case PutBy():
+                return self._put_by(state, errand.text)
+        self._unsent.put_off()
+        said = "The text waits for the next opening. U asks about it before."
+        return replace(state, question=None, anchor=None).saying(said)
+
+    def _given_up(self, state: State) -> State:
+        """Gives up the lines that were pasted, what is typed, or the text that waits."""
+        asked, was_pasted = state.question, False
+        if asked is not None and asked.draft is not None:
+            state = replace(state, typed=asked.draft, question=None)
+        draft, said = draft_of(state), "Given up. Nothing was sent."
+        if asked is not None and asked.lines:
+            was_pasted, said = True, "The pasted text was left out. Nothing was sent."
+        if draft is not None:
+            said = f"{said} {self._unsent.put_by(draft) or 'U brings it back.'}"
+        state = replace(state, question=None).saying(said)
+        if was_pasted:
+            return state
+        return replace(state, typed=None, preview=None, anchor=None)
+
+    def _brought_back(self, state: State, place: int) -> State:
+        """Asks about a text that was given up, or left for later."""
+        texts = self._unsent.texts()
+        if not texts:
+            return state.saying("No text was given up in this book.")
+        place %= len(texts)
+        state = self._asked_about(replace(state, question=None), texts[place])
+        assert state.question is not None
+        sentence = f"{place + 1} of {len(texts)}. {state.question.sentence}"
+        more = "U asks about the one before." if len(texts) > 1 else ""
+        asked = replace(state.question, sentence=sentence, older=place + 1, more=more)
+        return replace(state, question=asked)
+
+    def _put_by(self, state: State, text: str) -> State:
+        """Keeps a text that was pasted where nothing is typed, so that it can be typed."""
+        lines = [line.strip() for line in text.replace("\r", "\n").split("\n")]
+        text = "\n".join(line.replace("\t", " ") for line in lines if line)
+        its = state.paragraph
+        table = its.table if its else state.table
+        number = its.id if its else None
+        put = Draft(Aim.AFTER, number, table, "", text, None, state.version)
+        fault = self._unsent.put_by(put)
+        return state.saying(f"{_PASTED} {fault}".rstrip())
 
     def _to_page(self, state: State) -> State:
         its, here = state.paragraph, state.lit
@@ -640,6 +705,15 @@ def preview_of(state: State, typed: Field) -> tuple[str, str, str]:
     if typed.purpose is Purpose.EDIT and state.paragraph:
         table = state.paragraph.table
     return table or "", typed.text, keys.print_of(state, typed)
+
+
+def _amount(saved: Draft) -> str:
+    """How much text it is, where that isn't seen from its first words."""
+    lines = saved.text.count("\n") + 1
+    if lines == 1 and quoted(saved.text) == f"“{visible(saved.text)}”":
+        return ""
+    of_lines = f", {lines:,} lines" if lines > 1 else ""
+    return f" It has {len(saved.text):,} characters{of_lines}."
 
 
 def _done_by_one_key(state: State, before: int) -> State:

@@ -173,7 +173,8 @@ def _most_below(state: State) -> int:
 def _asked(state: State, question: Question) -> Area:
     """A question after what is said, on all lines but the first where it needs them."""
     width, most = state.size.columns, state.size.lines - 1
-    asked = wrap(f"{visible(question.sentence)} y is yes, n is no.", width)
+    how = f"y is yes, n is no. {question.more}".rstrip()
+    asked = wrap(f"{visible(question.sentence)} {how}", width)
     if len(asked) > most:
         # how it is answered stands at its end
         asked = [*_at_most(asked, most - 2, width), *asked[-2:]]

@@ -83,6 +83,30 @@ class TakeBack:
 
 
 @dataclass(frozen=True)
+class GiveUp:
+    """Gives up what is typed, was pasted or waits; it is kept, and can be brought back."""
+
+
+@dataclass(frozen=True)
+class PutOff:
+    """Leaves the text that waits for later."""
+
+
+@dataclass(frozen=True)
+class BringBack:
+    """Asks about a text that was given up, by its place among them, the newest first."""
+
+    place: int = 0
+
+
+@dataclass(frozen=True)
+class PutBy:
+    """Keeps a text that was pasted where nothing is typed."""
+
+    text: str
+
+
+@dataclass(frozen=True)
 class OpenAgain:
     """Opens the book again after the session ended by itself."""
 
@@ -103,6 +127,10 @@ Errand = (
     | ImportFrom
     | LeaveImport
     | TakeBack
+    | GiveUp
+    | PutOff
+    | BringBack
+    | PutBy
     | OpenAgain
     | Quit
 )

@@ -12,12 +12,17 @@ from scribe.page_size import NoSize, described, typed_sheet
 from scribe.paragraph import quoted
 from scribe.paths import typed_path
 from scribe.screen import pager
+from scribe.screen.draft import draft_of
 from scribe.screen.errands import (
+    BringBack,
     Errand,
     ExportTo,
     GiveTable,
+    GiveUp,
     ImportFrom,
     OpenAgain,
+    PutBy,
+    PutOff,
     Quit,
     ShowHistory,
     ShowPage,
@@ -35,6 +40,7 @@ _NOTHING_WHILE_TYPING = (
     "That key does nothing here. Enter keeps what is typed, Escape gives it up."
 )
 _NOT_ENTER = "The end of the pasted line was left out. Enter keeps what is typed."
+_STAYS_GIVEN_UP = "Nothing was sent. U asks about it again."
 # what is said before it is done, since the book keeps it
 _OF_MARK = "The book keeps each mark: r resolves it, and nothing takes it out."
 _OF_TABLE = "A table that the book lacks is put into it, and stays there."
@@ -78,9 +84,7 @@ def pasted(state: State, text: str) -> Step:
         return Step(state.saying("What came isn't UTF-8, and was left out."))
     typed = state.typed
     if typed is None or state.question or state.is_lost:
-        return Step(
-            state.saying("Pasted text goes in after Enter or o. None was taken.")
-        )
+        return Step(state, PutBy(text) if text.strip() else None)
     lines = text.replace("\r", "\n").replace("\t", " ").split("\n")
     lines = [line for line in lines if line.strip()]
     if len(lines) < 2:
@@ -122,12 +126,12 @@ def _answered(state: State, question: Question, key: str) -> Step:
     if question.yes is not None:
         return _about_errand(state, question, question.yes, key)
     state = replace(state, question=None)
-    if key == "escape" and question.draft is None:
-        return Step(state.saying("The pasted text was left out. Nothing was sent."))
-    if key not in ("y", "n"):
-        return Step(replace(state, question=question))
     if question.draft is not None:
-        return _taken_up(state, question.draft, key)
+        return _about_text(state, question, question.draft, key)
+    if key not in ("y", "n", "escape"):
+        return Step(replace(state, question=question))
+    if key == "escape":
+        return Step(replace(state, question=question), GiveUp())
     assert state.typed is not None
     if key == "y":
         for line in question.lines:
@@ -155,11 +159,29 @@ def _about_errand(
     return Step(state)
 
 
-def _taken_up(state: State, draft: Field, key: str) -> Step:
-    """A text that waits from before: it is typed further, or left out."""
-    if key == "n":
-        left = replace(state, anchor=None)
-        return Step(left.saying("The text was left out. Nothing was sent."))
+def _about_text(state: State, question: Question, draft: Field, key: str) -> Step:
+    """A text that waits or was given up: it is typed further, given up, or left for later."""
+    asked = replace(state, question=question)
+    if key == "y":
+        return _taken_up(asked, draft)
+    if question.older is None:
+        errands: dict[str, Errand] = {"n": GiveUp(), "l": PutOff()}
+        return Step(asked, errands.get(key))
+    if key == "U":
+        return Step(asked, BringBack(question.older))
+    if key in ("n", "escape"):
+        return Step(replace(state, anchor=None).saying(_STAYS_GIVEN_UP))
+    return Step(asked)
+
+
+def _taken_up(asked: State, draft: Field) -> Step:
+    """A text that waits or was given up is typed further."""
+    table = _table_of_new(asked)
+    if draft.purpose is not Purpose.EDIT:
+        table = asked.table or table
+    if draft.purpose.is_new and table is None:
+        return Step(asked.saying(_no_table(asked)))
+    state = replace(asked, question=None, table=table)
     lines = draft.text.split("\n")
     if len(lines) == 1:
         return Step(replace(state, typed=draft))
@@ -176,6 +198,8 @@ def _looking(state: State, pages: Pages, key: str) -> State:
 
 
 def _typing(state: State, typed: Field, key: str) -> Step:
+    if key == "escape" and draft_of(state) is not None:
+        return Step(state, GiveUp())
     if key == "escape":
         said = "Given up. Nothing was sent."
         return Step(replace(state, typed=None, preview=None).saying(said))
@@ -337,17 +361,27 @@ def _new(purpose: Purpose, said: str = "") -> Callable[[State], Step]:
     """Types what is new by the table of the chosen paragraph, or of the book, if that is known."""
 
     def typed(state: State) -> Step:
-        table = state.paragraph.table if state.paragraph else state.table
-        if table is None and len(state.tables) == 1:
-            table = state.tables[0]
+        table = _table_of_new(state)
         if table is None:
-            names = ", ".join(state.tables)
-            what = f"has the tables {names}" if names else "has no table yet"
-            return Step(state.saying(f"The book {what}. t chooses one."))
+            return Step(state.saying(_no_table(state)))
         state = replace(state, table=table, typed=Field(purpose))
         return Step(state.saying(said))
 
     return typed
+
+
+def _table_of_new(state: State) -> str | None:
+    """The table of a new paragraph, where there is no doubt about it."""
+    if state.paragraph is not None:
+        return state.paragraph.table
+    only = state.tables[0] if len(state.tables) == 1 else None
+    return state.table or only
+
+
+def _no_table(state: State) -> str:
+    names = ", ".join(state.tables)
+    what = f"has the tables {names}" if names else "has no table yet"
+    return f"The book {what}. t chooses one."
 
 
 def _moved(by: int) -> Callable[[State], Step]:
@@ -455,6 +489,10 @@ def _take_back(state: State) -> Step:
         return Step(state, TakeBack())
     sentence = f"The last key did this: {deed.what}. Shall all of it be taken back?"
     return Step(replace(state, question=Question(sentence, yes=TakeBack())))
+
+
+def _bring_back(state: State) -> Step:
+    return Step(state, BringBack())
 
 
 def _strike(state: State) -> Step:
@@ -572,6 +610,7 @@ KEYS = {
     "o": Bound("a new paragraph after this one", _new(Purpose.AFTER), False),
     "O": Bound("a new paragraph before this one", _new(Purpose.BEFORE), False),
     "u": Bound("takes back what a key last did, or the newest correction", _take_back),
+    "U": Bound("brings back a text that was given up", _bring_back, False),
     "h": Bound("the history of the paragraph", lambda s: Step(s, ShowHistory())),
     " ": Bound("begins or ends a choice of cells, for m", _choose_cells),
     "m": Bound("puts a mark on the cells, with a note", _mark),

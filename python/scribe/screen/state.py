@@ -56,7 +56,7 @@ class Preview:
 
 @dataclass(frozen=True)
 class Question:
-    """What is asked before something is done: y is yes, and n is no."""
+    """What is asked before something is done: y is yes, n is no, and what else there is."""
 
     sentence: str
     lines: tuple[str, ...] = ()
@@ -65,6 +65,9 @@ class Question:
     #: about what is taken back.
     yes: ImportFrom | TakeBack | None = None
     no: LeaveImport | None = None
+    #: The place of the text that U asks about next, where this one was given up.
+    older: int | None = None
+    more: str = ""
 
 
 #: Where the cursor stands when it is on what is said above the lines that are looked at.

@@ -235,15 +235,23 @@ class Screen:
     def _do(self, strokes: Sequence[Stroke]) -> None:
         """Carries out keys, and sees to it that those that are held are let go."""
         self._begin_work()
-        for stroke in strokes:
-            if self.state.away or self.state.is_over:
-                # what is pasted meanwhile is no key that does nothing
-                self._waiting += [stroke] if isinstance(stroke, Pasted) else []
-            elif isinstance(stroke, Pasted):
-                self._become(self._desk.paste(self.state, stroke.text))
-            else:
-                self._become(self._desk.press(self.state, stroke))
-        self._rest()
+        try:
+            for stroke in strokes:
+                self._carry_out(stroke)
+        finally:
+            self._rest()
+            self._wait_for_held()
+
+    def _carry_out(self, stroke: Stroke) -> None:
+        if self.state.away or self.state.is_over:
+            # what is pasted meanwhile is no key that does nothing
+            self._waiting += [stroke] if isinstance(stroke, Pasted) else []
+        elif isinstance(stroke, Pasted):
+            self._become(self._desk.paste(self.state, stroke.text))
+        else:
+            self._become(self._desk.press(self.state, stroke))
+
+    def _wait_for_held(self) -> None:
         if self._timer is not None:
             self._timer.cancel()
         due, self._timer = self._arrivals.due, None

@@ -1,0 +1,248 @@
+"""What is given up, left for later or pasted where nothing is typed: it is kept and comes back."""
+
+import os
+import shutil
+import signal
+from pathlib import Path
+
+import pytest
+
+from braildesk import Session
+from scribe.draft import Aim, Draft
+from scribe.drafts import Drafts
+from sitting import Sat, Sit
+from terminal import Open
+
+LONG = "Twice a day the sea comes up, and twice it goes down again."
+
+
+def paste(sat: Sat, text: str) -> None:
+    """Pastes a text."""
+    sat.state = sat.desk.paste(sat.state, text)
+
+
+def asked(sat: Sat) -> str:
+    """The question that is on the screen, from the bottom up to what stands above it."""
+    assert sat.state.question is not None
+    lines = " ".join(sat.lines)
+    return lines[lines.index(sat.state.question.sentence[:20]) :]
+
+
+def test_what_escape_gives_up_comes_back_by_a_key(moon: Path, sit: Sit) -> None:
+    sat = sit(moon)
+    sat.press("o", *"It rose.", "escape")
+    assert sat.state.message == "Given up. Nothing was sent. U brings it back."
+    assert (sat.state.typed, sat.desk.drafts.waiting()) == (None, None)
+    sat.press("c-end", "U")
+    assert asked(sat) == (
+        "1 of 1. A text of a new paragraph was typed and not sent: “It rose.”. Shall it be typed"
+        " further? y is yes, n is no."
+    )
+    sat.press("y", "enter")
+    assert sat.state.kept == "kept: paragraph 4"
+    assert [each.id for each in sat.state.book] == [1, 4, 2, 3]
+
+
+def test_what_was_given_up_comes_back_when_the_book_is_opened_again(
+    moon: Path, sit: Sit
+) -> None:
+    sat = sit(moon)
+    sat.press("down", "enter", *"Oh, ", "escape", "m", *"who?", "escape")
+    sat.press("o", *"It rose.", "escape", "q")
+    sat.desk.close()
+    again = sit(moon)
+    assert again.state.question is None
+    sentences = []
+    for _ in range(4):
+        again.press("U")
+        sentences.append(asked(again).split(" Shall")[0])
+    assert sentences == [
+        "1 of 3. A text of a new paragraph was typed and not sent: “It rose.”.",
+        "2 of 3. A note for a mark in paragraph 2 was typed and not sent: “who?”.",
+        "3 of 3. A text of paragraph 2 was typed and not sent: “Oh, The Tides”.",
+        "1 of 3. A text of a new paragraph was typed and not sent: “It rose.”.",
+    ]
+    assert asked(again).endswith("n is no. U asks about the one before.")
+    again.press("n")
+    assert again.state.message == "Nothing was sent. U asks about it again."
+    again.press("U", "U", "y", "enter")
+    assert again.state.kept == "kept: mark 2"
+    again.press("U", "U", "U", "y", "enter")
+    assert again.state.kept == "kept: correction 1 of paragraph 2"
+
+
+def test_the_last_ten_texts_are_kept(moon: Path, sit: Sit) -> None:
+    sat = sit(moon)
+    for number in range(12):
+        sat.press("o", *f"Text {number}.", "escape")
+    texts = [each.text for each in sat.desk.drafts.given_up()]
+    assert texts == [f"Text {number}." for number in range(11, 1, -1)]
+    sat.press("U")
+    assert asked(sat).startswith("1 of 10. ")
+
+
+def test_no_to_a_text_that_waits_keeps_it_and_it_comes_back(
+    moon: Path, sit: Sit
+) -> None:
+    Drafts(moon).save(Draft(Aim.EDIT, 2, "en", "The Tides", LONG))
+    sat = sit(moon)
+    assert asked(sat) == (
+        "A text of paragraph 2 was typed and not sent: “Twice a day the sea comes up, and twice…”."
+        " It has 59 characters. Shall it be typed further? y is yes, n is no. l leaves it for"
+        " later."
+    )
+    sat.press("n")
+    assert sat.state.message == "Given up. Nothing was sent. U brings it back."
+    assert sat.desk.drafts.waiting() is None
+    sat.press("U", "y")
+    assert sat.state.typed and sat.state.typed.text == LONG
+
+
+def test_the_question_says_how_many_lines_wait(moon: Path, sit: Sit) -> None:
+    Drafts(moon).save(Draft(Aim.AFTER, 2, "en", "", "It rose.\nIt set.\nIt rose."))
+    sat = sit(moon)
+    assert "It has 25 characters, 3 lines. Shall it be typed" in asked(sat)
+
+
+def test_a_text_that_is_left_for_later_waits_through_other_work(
+    moon: Path, sit: Sit
+) -> None:
+    Drafts(moon).save(Draft(Aim.EDIT, 2, "en", "The Tides", "The Tide"))
+    sat = sit(moon)
+    sat.press("l")
+    assert sat.state.message == (
+        "The text waits for the next opening. U asks about it before."
+    )
+    sat.press("s", "s", "o", *"It rose.", "enter", "o", *"It set.")
+    sat.state = sat.desk.save_draft(sat.state)
+    waiting = sat.desk.drafts.waiting()
+    assert waiting and waiting.text == "It set."
+    # whatever stops the machine now, the text is there
+    assert [each.text for each in sat.desk.drafts.given_up()] == ["The Tide"]
+    sat.press("enter", "q")
+    sat.desk.close()
+    again = sit(moon)
+    assert "“The Tide”" in asked(again)
+    again.press("l", "U")
+    assert asked(again).startswith("1 of 1. A text of paragraph 2 was typed and not")
+    again.press("y", "enter")
+    assert again.state.kept == "kept: correction 1 of paragraph 2"
+    assert again.desk.drafts.waiting() is None
+
+
+def test_where_nothing_was_given_up_the_key_says_so(empty_book: Path, sit: Sit) -> None:
+    sat = sit(empty_book)
+    sat.press("U")
+    assert sat.state.message == "No text was given up in this book."
+
+
+@pytest.mark.parametrize("before", ["", "?", "x", "t"])
+def test_text_that_is_pasted_where_none_is_typed_comes_back_as_a_paragraph(
+    moon: Path, sit: Sit, before: str
+) -> None:
+    sat = sit(moon)
+    if before == "?":
+        sat.press("?")
+    paste(sat, "strike bits.\rIt rose.\r")
+    assert sat.state.message == (
+        "Pasted text goes in after Enter or o. No key of it was obeyed. U brings it back, for a"
+        " new paragraph."
+    )
+    sat.press(*["escape"] * (before == "?"), "c-end", "U", "y")
+    assert sat.state.question and sat.state.question.lines == (
+        "strike bits.",
+        "It rose.",
+    )
+    sat.press("y")
+    prints = [sat.state.openings[each.id].words for each in sat.state.book]
+    assert prints[1:3] == ["strike bits.", "It rose."]
+    assert sat.state.version == 9
+
+
+def test_text_that_is_pasted_at_a_question_is_no_answer_and_is_kept(
+    moon: Path, sit: Sit
+) -> None:
+    Drafts(moon).save(Draft(Aim.EDIT, 2, "en", "The Tides", "The Tide"))
+    sat = sit(moon)
+    paste(sat, "yes, no and later")
+    assert sat.state.question and sat.state.typed is None
+    waiting = sat.desk.drafts.waiting()
+    assert waiting and waiting.text == "The Tide"
+    sat.press("n", "U", "U")
+    assert "“yes, no and later”" in asked(sat)
+
+
+def test_pasted_lines_that_are_left_out_come_back(moon: Path, sit: Sit) -> None:
+    sat = sit(moon)
+    sat.press("o", *"Oh")
+    paste(sat, ", it rose.\nIt set.")
+    sat.press("escape")
+    assert sat.state.message == (
+        "The pasted text was left out. Nothing was sent. U brings it back."
+    )
+    assert sat.state.typed and sat.state.typed.text == "Oh"
+    sat.press("escape", "U", "U", "y")
+    assert sat.state.question and sat.state.question.lines == (
+        "Oh, it rose.",
+        "It set.",
+    )
+
+
+def test_what_is_given_up_in_an_empty_book_waits_for_a_table(
+    empty_book: Path, sit: Sit
+) -> None:
+    sat = sit(empty_book)
+    paste(sat, "It rose.")
+    sat.press("U", "y")
+    assert sat.state.message == "The book has no table yet. t chooses one."
+    sat.press("n", "t", *"en", "enter", "U", "y", "enter")
+    assert sat.state.kept == "kept: paragraph 1"
+
+
+def test_what_cant_be_kept_is_there_until_the_end(moon: Path, sit: Sit) -> None:
+    sat = sit(moon)
+    folder = sat.desk.drafts.place.parent
+    shutil.rmtree(folder, ignore_errors=True)
+    folder.write_text("in the way")
+    sat.press("o", *"It rose.", "escape")
+    assert sat.state.typed is None
+    sat.press("U", "y")
+    assert sat.state.typed and sat.state.typed.text == "It rose."
+    folder.unlink()
+
+
+def test_lines_that_were_pasted_into_an_edit_and_cut_short_go_on(
+    moon: Path, sit: Sit
+) -> None:
+    sat = sit(moon)
+    sat.press("down", "enter", "end")
+    paste(sat, " of\nthe sea.\nThey come.")
+    os.kill(sat.desk.pid, signal.SIGKILL)
+    sat.press("y", "enter")
+    assert sat.state.question and sat.state.question.draft
+    sat.press("y", "y")
+    prints = [sat.state.openings[each.id].words for each in sat.state.book]
+    assert prints[1:4] == ["The Tides of", "the sea.", "They come."]
+
+
+def test_an_unbracketed_paste_at_the_terminal_changes_nothing_and_comes_back(
+    moon: Path, at: Open
+) -> None:
+    terminal = at(moon)
+    terminal.wait("? shows all keys.")
+    terminal.send("strike this bit and import.\r")
+    terminal.wait("No key of it was obeyed.")
+    terminal.keys("U", "y", "enter")
+    terminal.wait("kept: paragraph 4")
+    terminal.keys("enter", "end")
+    terminal.wait("being edited")
+    terminal.send(" One\rtwo")
+    terminal.wait("Shall the first go on in this paragraph")
+    terminal.keys("n")
+    terminal.wait("strike this bit and import. One two")
+    terminal.keys("enter")
+    terminal.wait("kept: correction 1 of paragraph 4")
+    terminal.keys("q")
+    assert terminal.ended() == 0
+    with Session(moon) as session:
+        assert session.seen == 9
