@@ -34,6 +34,24 @@ def is_file_or_free(path: str) -> bool:
 
 def why(asked: AskedOfFile) -> Why:
     """Why the file can't be opened."""
+    found = _why(asked)
+    if found in (Why.UNKNOWN, Why.DENIED) and not isinstance(asked, TableFile):
+        return _why_by_disk(asked.path) or found
+    return found
+
+
+def _why_by_disk(path: str) -> Why | None:
+    """What of the disk keeps a book from being written, where that is seen."""
+    try:
+        disk = os.statvfs(os.path.dirname(os.path.realpath(path)))
+    except (OSError, ValueError):
+        return None
+    if disk.f_flag & os.ST_RDONLY:
+        return Why.READ_ONLY
+    return Why.NO_ROOM if disk.f_bavail == 0 else None
+
+
+def _why(asked: AskedOfFile) -> Why:
     try:
         return _why_not_regular(asked.path) or _why_regular(asked)
     except (FileNotFoundError, NotADirectoryError):

@@ -18,6 +18,8 @@ class Why(StrEnum):
     NO_FILE = "no file"
     DENIED = "not permitted"
     NO_DATABASE = "no database"
+    READ_ONLY = "read-only"
+    NO_ROOM = "no room"
     IN_USE = "in use"
     CUT_SHORT = "cut short"
     TOO_LARGE = "too large"
@@ -130,6 +132,10 @@ UNOPENED = MappingProxyType(
         " the path of a file.",
         Why.DENIED: "You aren't permitted to open {path}. Nothing was changed. Ask who owns it"
         " for leave to read and write it and to write in its folder.",
+        Why.READ_ONLY: "{path} is on a disk that can only be read, and a book is opened where it can"
+        " be written. Nothing was changed. Copy the book to another disk.",
+        Why.NO_ROOM: "There is no room on the disk of {path}. Nothing was changed. Make room there,"
+        " and try again.",
         Why.NO_DATABASE: "{path} is no book, since it isn't even a database. Nothing was changed."
         " Check that the path is right.",
         Why.IN_USE: "Another program has {path} open. Nothing was changed. End that one first.",

@@ -4,7 +4,7 @@ import sys
 from collections.abc import Sequence
 from contextlib import suppress
 
-from braildesk import DeskError, Failed, NoProgram
+from braildesk import CannotOpen, DeskError, Failed, NoProgram, Why
 
 from scribe.commands import COMMANDS
 from scribe.console import Console, OutputFailed
@@ -61,10 +61,16 @@ def run_words(words: Sequence[str], console: Console) -> Status:
         return Status.FAILED
     except DeskError as refused_by_desk:
         console.say(refused_by_desk.sentence)
-        return Status.REFUSED
+        return Status.FAILED if _is_of_disk(refused_by_desk) else Status.REFUSED
     except OSError as failure:
         console.say(of_system(failure))
         return Status.FAILED
+
+
+def _is_of_disk(error: DeskError) -> bool:
+    """Whether a disk is why a file can't be opened, and not what was asked."""
+    disk = (Why.READ_ONLY, Why.NO_ROOM)
+    return isinstance(error, CannotOpen) and error.why in disk
 
 
 def main() -> int:

@@ -1,4 +1,4 @@
-"""Each command of scribe on a disk without room: what is said is what the book has."""
+"""Each command of scribe on a disk without room, or that can only be read: what is said is so."""
 
 import json
 import os
@@ -14,32 +14,48 @@ from braildesk import Session
 from tool import environment
 from words import WORDS
 
-#: Runs commands, each with a fresh copy of a folder on a disk of memory that is full then.
+#: Runs commands, each with a fresh copy of a folder on a disk of memory that refuses more then.
 EACH = """\
-import json, os, shutil, sys
+import json, os, shutil, subprocess, sys
 from io import BytesIO, StringIO
 import braildesk
 from scribe.cli import run_words
 from scribe.console import Console
 
-small, sample = sys.argv[1:]
-os.mkdir(os.path.join(small, "work"))
-work = os.path.join(small, "work")
+kind, small, sample = sys.argv[1:]
+work, full = os.path.join(small, "work"), os.path.join(small, "full")
+os.mkdir(work)
 os.chdir("/")
-for words in json.load(sys.stdin):
-    shutil.rmtree(work)
-    shutil.copytree(sample, work)
-    filler = os.open(os.path.join(small, "filler"), os.O_WRONLY | os.O_CREAT)
+
+
+def refuse():
+    if kind == "read-only":
+        subprocess.run(["mount", "-o", "remount,ro", small], check=True)
+        return
+    filler = os.open(full, os.O_WRONLY | os.O_CREAT)
     try:
         while os.write(filler, bytes(4096)):
             pass
     except OSError:
         os.close(filler)
+
+
+def allow():
+    if kind == "read-only":
+        subprocess.run(["mount", "-o", "remount,rw", small], check=True)
+    else:
+        os.unlink(full)
+
+
+for words in json.load(sys.stdin):
+    shutil.rmtree(work)
+    shutil.copytree(sample, work)
+    refuse()
     os.chdir(work)
     shown, said = StringIO(), StringIO()
     status = run_words(words, Console(BytesIO(b"strike 2\\n"), shown, said))
     os.chdir("/")
-    os.unlink(os.path.join(small, "filler"))
+    allow()
     files = sorted(set(os.listdir(work)) - set(os.listdir(sample)) - {"moon.braildesk-wal"})
     pages = os.path.join(work, "pages")
     files += os.listdir(pages) if os.path.isdir(pages) else []
@@ -52,7 +68,7 @@ SAMPLE = Path(__file__).resolve().parents[2] / "sample"
 #: Mounts a disk of memory at a folder, which goes with the process, and goes on there.
 MOUNTED = 'mount -t tmpfs -o size=2m none "$1" && shift && exec "$@"'
 #: edit looks for a terminal first, and test_screen_tired.py has it.
-NAMES = [name for name in WORDS if name not in ("edit", "new")]
+NAMES = [name for name in WORDS if name != "edit"]
 
 
 @dataclass(frozen=True)
@@ -67,27 +83,46 @@ class Came:
 
 
 @pytest.fixture(scope="module")
-def came(moon_once: Path, tmp_path_factory: pytest.TempPathFactory) -> dict[str, Came]:
-    """What comes of each command on a disk that is full."""
+def sample(moon_once: Path, tmp_path_factory: pytest.TempPathFactory) -> Path:
+    """The folder of the sample, with a book of which paragraph 3 is struck, and a text."""
+    folder = tmp_path_factory.mktemp("sample")
+    shutil.copytree(SAMPLE, folder, dirs_exist_ok=True)
+    shutil.copyfile(moon_once, folder / "moon.braildesk")
+    with Session(folder / "moon.braildesk") as session:
+        session.strike(3)
+    (folder / "text.txt").write_text("The sun\n")
+    return folder
+
+
+def came_of(kind: str, sample: Path, small: Path) -> dict[str, Came]:
+    """What comes of each command on a disk of a kind."""
     if os.geteuid() != 0:
         pytest.skip("only root can mount a disk")
-    sample = tmp_path_factory.mktemp("sample")
-    shutil.copytree(SAMPLE, sample, dirs_exist_ok=True)
-    shutil.copyfile(moon_once, sample / "moon.braildesk")
-    with Session(sample / "moon.braildesk") as session:
-        session.strike(3)
-    (sample / "text.txt").write_text("The sun\n")
-    small = tmp_path_factory.mktemp("small")
     done = subprocess.run(
         ["unshare", "-m", "sh", "-c", MOUNTED, "sh", str(small), sys.executable]
-        + ["-c", EACH, str(small), str(sample)],
-        env=environment(XDG_STATE_HOME=str(small / "state"), TMPDIR=str(small)),
+        + ["-c", EACH, kind, str(small), str(sample)],
+        # the folder of the user's own is on another disk
+        env=environment(XDG_STATE_HOME=str(sample.parent), TMPDIR=str(small)),
         input=json.dumps([[name, *WORDS[name]] for name in NAMES]).encode(),
         capture_output=True,
     )
     assert done.returncode == 0, done.stderr.decode()
     lines = done.stdout.splitlines()
     return {name: Came(*json.loads(line)) for name, line in zip(NAMES, lines)}
+
+
+@pytest.fixture(scope="module")
+def on_full(sample: Path, tmp_path_factory: pytest.TempPathFactory) -> dict[str, Came]:
+    """What comes of each command on a disk that is full."""
+    return came_of("full", sample, tmp_path_factory.mktemp("full"))
+
+
+@pytest.fixture(scope="module")
+def on_read_only(
+    sample: Path, tmp_path_factory: pytest.TempPathFactory
+) -> dict[str, Came]:
+    """What comes of each command on a disk that can only be read."""
+    return came_of("read-only", sample, tmp_path_factory.mktemp("read-only"))
 
 
 #: Commands that write nothing.
@@ -112,6 +147,8 @@ CHANGING = {
 }
 #: What the others say, which make files.
 MAKING = {
+    "new": "There is no room on the disk of “other.braildesk”. Nothing was changed. Make room there,"
+    " and try again.",
     "export": "Volume 1 could not be written: No space left on device. pages/moon-1.brf was not"
     " made.",
     "copy": "The copy “copy.braildesk” could not be written",
@@ -124,17 +161,17 @@ def test_each_command_is_tried_on_a_full_disk() -> None:
 
 @pytest.mark.parametrize("name", READING)
 def test_a_command_that_writes_nothing_needs_no_room(
-    name: str, came: dict[str, Came]
+    name: str, on_full: dict[str, Came]
 ) -> None:
-    assert (came[name].status, came[name].version) == (0, 8)
-    assert came[name].shown
+    assert (on_full[name].status, on_full[name].version) == (0, 8)
+    assert on_full[name].shown
 
 
 @pytest.mark.parametrize("name", CHANGING)
 def test_a_change_that_finds_no_room_is_said_not_to_be_kept_and_is_not(
-    name: str, came: dict[str, Came]
+    name: str, on_full: dict[str, Came]
 ) -> None:
-    found = came[name]
+    found = on_full[name]
     assert (found.status, found.version) == (3, 8)
     assert found.said.startswith(f"{CHANGING[name]} could not be kept")
     assert "kept" not in found.shown and "now" not in found.shown
@@ -142,10 +179,34 @@ def test_a_change_that_finds_no_room_is_said_not_to_be_kept_and_is_not(
 
 @pytest.mark.parametrize("name", MAKING)
 def test_a_file_that_finds_no_room_is_said_not_to_be_made_and_is_not(
-    name: str, came: dict[str, Came]
+    name: str, on_full: dict[str, Came]
 ) -> None:
-    found = came[name]
+    found = on_full[name]
     assert (found.status, found.shown) == (3, "")
     assert found.said.startswith(MAKING[name])
     left = {"export": ["pages"]}.get(name, [])
-    assert found.files == left
+    assert found.files == left or name == "new"
+
+
+#: Commands that open no book.
+WITHOUT_BOOK = ("check-table", "try", "bring")
+
+
+@pytest.mark.parametrize("name", NAMES)
+def test_a_disk_that_can_only_be_read_is_said(
+    name: str, on_read_only: dict[str, Came]
+) -> None:
+    found = on_read_only[name]
+    assert (found.files, found.version) == ([], 8)
+    if name in WITHOUT_BOOK:
+        assert found.status == 0
+    elif name == "copy":
+        assert found.said.startswith("The copy “copy.braildesk” could not be written")
+        assert found.status == 3
+    else:
+        file = "other.braildesk" if name == "new" else "moon.braildesk"
+        assert (found.status, found.shown) == (3, "")
+        assert found.said == (
+            f"“{file}” is on a disk that can only be read, and a book is opened where it can be"
+            " written. Nothing was changed. Copy the book to another disk.\n"
+        )
