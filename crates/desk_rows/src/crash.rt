@@ -11,7 +11,7 @@ ghost use Rattle.desk_rows.specs.Layout.{Layout};
 ghost use Rattle.std.specs.Iterator.{IsFinite};
 ghost use Rattle.desk_rows.specs.Puts.{HasThem, OfItems, Writes, puts_into};
 ghost use Rattle.desk_rows.specs.States.{IsFile, ShowsContents};
-ghost use Rattle.sql_tables.specs.States.{Leaves};
+ghost use Rattle.sql_tables.specs.States.{IsSettled, Leaves};
 
 use crate::fault::DatabaseFault;
 use crate::open::open_file;
@@ -36,6 +36,9 @@ pub fn reopen<S: Alter + Reopen + Drop>(
     ensures shows { IfOk result (λ after. HasCleanDisk (state S.Store after)
         → (l : Layout) (c : Contents)
         → IsFile l c (state S.Store after).now.trees → ShowsContents l c (state S.Store after)) }
+    // A further crash leaves just what is shown.
+    ensures settled { IfOk result (λ after. HasCleanDisk (state S.Store after)
+        → IsSettled (state S.Store after)) }
     ensures idle { IfOk result (λ after. after.in_transaction ≡ false) }
     ensures clean { IfOk result (λ after. HasCleanDisk (state S.Store after)
         → HasCleanDisk (state S.Store conn)) }
@@ -69,6 +72,8 @@ pub fn reopen_after_write<'a, S: Alter + Reopen + Drop, I: Iterator<Item = Put<'
     ensures opens { IfOk result (λ it. HasCleanDisk (state S.Store it.1)
         → Opens (state S.Store it.1) × IsLive (state S.Store it.1)) }
     ensures unlimited { IfOk result (λ it. (state S.Store it.1).step_limit ≡ None) }
+    ensures settled { IfOk result (λ it. HasCleanDisk (state S.Store it.1)
+        → IsSettled (state S.Store it.1)) }
     ensures clean { IfOk result (λ it. HasCleanDisk (state S.Store it.1)
         → HasCleanDisk (state S.Store conn)) }
     ensures crash { IfOk result (λ it. HasCleanDisk (state S.Store it.1)

@@ -9,7 +9,7 @@ ghost use Rattle.desk_store.specs.Books.{HasNewTables, MayServe, shown_by};
 ghost use Rattle.desk_store.specs.Opened.{FindsBook, HoldsEither, OpensBook, Stands, StopsOpening, with_missing_tables};
 ghost use Rattle.desk_store.specs.Reopened.{IsKeptThere};
 ghost use Rattle.desk_store.specs.declared.fault.OpenFault.{OpenFault};
-ghost use Rattle.sql_tables.specs.States.{IsSettled, Leaves};
+ghost use Rattle.sql_tables.specs.States.{Leaves};
 ghost use Rattle.sqlite.specs.Held.{state};
 ghost use Rattle.sqlite.specs.State.{Opens};
 ghost use Rattle.std.specs.Prelude.{Bool, IsTrue, List, Ok, Result, ◌≡◌};
@@ -19,7 +19,7 @@ use sqlite::{Alter, Connection};
 
 /// Whatever a crash leaves after a session, however that ended: if a connection opened at it and the book is opened, the book after the
 /// first of the commands that the session gave is found, with all that were acknowledged and at most one more, or no refusal is reported. The
-/// next session may begin with that book, if a crash of the new connection leaves just what it shows.
+/// next session may begin with that book.
 pub fn opened_after_a_session<S: Alter, T: Alter>(
     last: &Store<S>,
     next: &Connection<T>,
@@ -35,8 +35,7 @@ pub fn opened_after_a_session<S: Alter, T: Alter>(
     ensures begins { (l : Layout) (book held : Book) (ended : Ended) (given : List GivenCommand)
         → HasNewTables l → IsLeft l book held ended given (shown_by S.Store last.now)
         → (shown_by S.Store last.now).may_leave (state T.Store next.now).committed.trees
-        → Opens (state T.Store next.now) → IsSettled (state T.Store next.now)
-        → (make : Bool) (found : Book)
+        → Opens (state T.Store next.now) → (make : Bool) (found : Book)
         → OpensBook T.Store make next.now (state T.Store opened.now) (Ok found)
         → IsKeptThere found (state T.Store opened.now) }
 {

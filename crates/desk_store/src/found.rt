@@ -11,7 +11,7 @@ ghost use Rattle.desk_store.specs.Opening.{IsRefusal};
 ghost use Rattle.desk_store.specs.Reopened.{IsKeptThere, LeavesOneOf};
 ghost use Rattle.desk_store.specs.Undamaged.{HasBook, IsUndamaged};
 ghost use Rattle.desk_store.specs.declared.fault.OpenFault.{OpenFault};
-ghost use Rattle.sql_tables.specs.States.{IsSettled, Leaves, ShowsAsBefore};
+ghost use Rattle.sql_tables.specs.States.{Leaves, ShowsAsBefore};
 ghost use Rattle.sqlite.specs.Held.{state};
 ghost use Rattle.sqlite.specs.State.{Opens};
 ghost use Rattle.std.specs.List.{Contains};
@@ -20,8 +20,8 @@ ghost use Rattle.std.specs.Prelude.{Bool, IfErr, IfOk, IsTrue, List, Ok, Result,
 use sqlite::{Alter, Connection};
 
 /// Whatever a crash leaves of a connection, if each outcome holds one of some books in a file of either format: a connection that opened
-/// at it finds one of these when the book is opened, or no refusal is reported. If the new connection leaves just what it shows, the book
-/// that is found is then kept in a file with the tables of a new one. If each outcome holds no book or the empty one, only the empty book
+/// at it finds one of these when the book is opened, or no refusal is reported. The book that is found is then kept in a file with the
+/// tables of a new one. If each outcome holds no book or the empty one, only the empty book
 /// is found or made, or it is reported that there is none, and there is none.
 pub fn found_after_a_crash<S: Alter, T: Alter>(
     last: &Connection<S>,
@@ -37,7 +37,7 @@ pub fn found_after_a_crash<S: Alter, T: Alter>(
     ensures kept { (books : List Book) (make : Bool) (book : Book)
         → LeavesOneOf books (state S.Store last.now)
         → (state S.Store last.now).may_leave (state T.Store next.now).committed.trees
-        → Opens (state T.Store next.now) → IsSettled (state T.Store next.now)
+        → Opens (state T.Store next.now)
         → OpensBook T.Store make next.now (state T.Store opened.now) (Ok book)
         → IsKeptThere book (state T.Store opened.now) }
     ensures none { (make : Bool) (result : Result Book OpenFault)

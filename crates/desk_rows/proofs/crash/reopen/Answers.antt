@@ -1,4 +1,4 @@
-use Rattle.std.proofs.Common.{◌≤◌, ℕ, inl, inr, Result, Ok, Err, IfErr, arith, refl, sym, ◌∙◌, rules, subst}
+use Rattle.std.proofs.Common.{◌≤◌, ℕ, inl, inr, Result, Ok, Err, IfErr, IfOk, arith, refl, sym, ◌∙◌, rules, subst}
 use Rattle.sqlite_catalog.specs.Listing.{IsSound}
 use Rattle.sqlite_disk.specs.Disk.{MoreFaults}
 use Rattle.sqlite_schema.specs.declared.schema.Schema.{Schema}
@@ -34,9 +34,17 @@ fails_each : {A E : Type 0} (r : Result A E) (P Q R : E → Type 0) → ((e : E)
 fails_each (Ok a) P Q R f p q = tt
 fails_each (Err e) P Q R f p q = f e p q
 
+ok_both : {A E : Type 0} (r : Result A E) (P Q R : A → Type 0) → ((a : A) → P a → Q a → R a) → IfOk r P → IfOk r Q → IfOk r R
+ok_both (Ok a) P Q R f p q = f a p q
+ok_both (Err e) P Q R f p q = tt
+
 pub returns-in-Ok-clause-shows : goal.returns-in-Ok-clause-shows
 returns-in-Ok-clause-shows g c =
     IfOk-weaker c.open_file.result _ _ (λ after opens clean l contents is. let opened = opens clean in shows_own (state g.S.Store after) l contents opened.1 opened.0.is_open is) c.open_file.ensures.opens
+
+pub returns-in-Ok-clause-settled : goal.returns-in-Ok-clause-settled
+returns-in-Ok-clause-settled g c =
+    ok_both c.open_file.result _ _ _ (λ after trees crash clean db left. crash clean db left ∙ sym (trees clean)) c.open_file.ensures.trees c.open_file.ensures.crash
 
 pub returns-in-Ok-clause-told : goal.returns-in-Ok-clause-told
 returns-in-Ok-clause-told g c =
