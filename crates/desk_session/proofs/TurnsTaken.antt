@@ -1,5 +1,5 @@
 -- One turn of a session: what is answered, what the file is then, and what is replied.
-use Rattle.std.proofs.Common.{◌≡◌, ◌⊎◌, ℕ, ◌++◌, Bool, true, false, List, Option, Result, refl, sym, ap, subst, ◌∙◌, inl, inr, arith}
+use Rattle.std.proofs.Common.{◌≡◌, ◌⊎◌, ℕ, ◌++◌, Bool, true, false, List, [], ◌∷◌, Option, Result, refl, sym, ap, subst, ◌∙◌, inl, inr, arith}
 use Rattle.std.specs.Prelude.{OnErr, OnOk, is_ok}
 use Rattle.std.specs.Io.KnownBytes.{Appends, Keeps}
 use Rattle.std.proofs.KnownBytes.{Appends-kept}
@@ -27,6 +27,7 @@ use Rattle.desk_line.specs.Request.{Reads}
 use Rattle.desk_store.specs.Books.{LeavesBook, LeavesEither, MayKeep, MayServe}
 use Rattle.desk_rows.specs.Layout.{Layout}
 use Rattle.desk_session.specs.Requests.{IsFaultOf}
+use Rattle.desk_session.specs.Service.{IsPart}
 use Rattle.desk_session.specs.Turns.{SendsReply, TakesTurn, fault_answer}
 
 -- ---- what leaves the file as it was
@@ -115,16 +116,23 @@ SendsReply-flushed F old mid new flushed book answer r ok replied whole keeps al
       fails = at_err r F fails;
     }
 
--- a beginning of it went out
+-- a beginning of it went out, or all of it before the sink failed
 pub SendsReply-broken : (F : Type 0) (old new flushed : Option (List ℕ)) (book : Book) (answer : Answer) (ok : Bool)
     → IsReplied F old new book answer ok → ok ≡ false → SendsReply F old new flushed book answer false
-SendsReply-broken F old new flushed book answer ok replied broken = record {
-  taken = false;
-  reply = replied.text;
-  piece = replied.sent.out;
-  is = replied.is;
-  part = (replied.sent.rest, replied.sent.begins);
-  appends = replied.sent.appends;
-  all = λ good. absurd (cc good);
-  fails = λ bad. replied.sent.fails broken;
-}
+SendsReply-broken F old new flushed book answer ok replied broken = by replied.sent.rest replied.sent.begins
+  where
+    sent : (taken : Bool) → IsPart taken replied.sent.out replied.text → SendsReply F old new flushed book answer false
+    sent taken part = record {
+      taken = taken;
+      reply = replied.text;
+      piece = replied.sent.out;
+      is = replied.is;
+      part = part;
+      appends = replied.sent.appends;
+      all = λ good. absurd (cc good);
+      fails = λ bad. replied.sent.fails broken;
+    }
+
+    by : (rest : List ℕ) → replied.sent.out ++ rest ≡ replied.text → SendsReply F old new flushed book answer false
+    by [] begins = sent true (sym (append-nil replied.sent.out) ∙ begins)
+    by (byte ∷ rest) begins = sent false (byte ∷ rest, (λ none. cc none), begins)

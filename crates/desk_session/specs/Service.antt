@@ -63,10 +63,10 @@ AreRequests Lost AtEnd read requests = FirstRequests AtEnd read requests
 
 -- ---- what is written
 
--- of a reply that was taken, all went out, and of another one a beginning
+-- of a reply that was taken, all went out, and of another one a beginning, but not all
 abbrev pub IsPart : (taken : Bool) → (piece reply : List ℕ) → Type 0
 IsPart true piece reply = piece ≡ reply
-IsPart false piece reply = (rest : List ℕ) × (piece ++ rest ≡ reply)
+IsPart false piece reply = (rest : List ℕ) × (rest ≢ []) × (piece ++ rest ≡ reply)
 
 -- what goes out of the reply to a request, on the book after it
 abbrev pub GoesOut : Turn → Book → List ℕ → Type 0
