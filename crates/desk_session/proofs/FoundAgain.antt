@@ -5,7 +5,6 @@ use Rattle.std.specs.List.{All}
 use Rattle.std.proofs.lemmas.List.Elements.{All-cons, All-nil}
 use Rattle.sqlite_trees.specs.Tree.{Trees}
 use Rattle.sqlite_trees.specs.declared.store.Store.{Ghosts}
-use Rattle.sqlite.specs.Effect.{Database}
 use Rattle.sqlite.specs.Held.{Held, state}
 use Rattle.sqlite.specs.State.{IsLive, State}
 use Rattle.sqlite.specs.State.{Opens as IsOpenedAnew}
@@ -28,6 +27,7 @@ use Rattle.desk_session.specs.declared.session.Ended.TheVariants as ended
 use Rattle.desk_session.specs.Service.{EndsAs, HoldsGiven, IsFoundAfter, MayLack}
 use Rattle.desk_session.specs.Reopened.{IsKeptBook}
 use Rattle.desk_session.specs.Session.{EndsLost, GivenCommand, Gives, HoldsAcknowledged, IsSession, Turn}
+use Rattle.desk_session.proofs.TurnsTaken.{shows-still}
 
 -- ---- a command that was lost is the last one, and wasn't acknowledged
 
@@ -126,12 +126,7 @@ module _ {S : Type 0} (g : Ghosts S) (make : Bool) (book : Book) (old : Held S) 
 
 -- a book that stands in what a connection shows stands where another shows the same
 stands_still : (l : Layout) (book : Book) (old new : State) → new.now ≡ old.now → Stands l book old → Stands l book new
-stands_still l book old new same (of, (c, shows, rows)) =
-    let still : ShowsContents l c new = record {
-      schema = ap (λ (d : Database). d.schema) same ∙ shows.schema;
-      is = subst (λ (d : Database). IsFile l c d.trees) (sym same) shows.is;
-    } in
-    (of, (c, still, rows))
+stands_still l book old new same (of, shows) = (of, shows-still l book old new same shows)
 
 pub begins_after_a_stop : {S : Type 0} (g : Ghosts S) (make : Bool) (book : Book) (first old : Held S) (new : State) (fault : OpenFault) → StopsOpening g first (state g old) fault
     → (state g first).now ≡ (state g first).committed → IsTrue (state g old).is_open → (l : Layout) → Stands l book (state g first) → Leaves (HoldsEither l book) (state g old)

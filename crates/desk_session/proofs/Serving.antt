@@ -24,7 +24,7 @@ use Rattle.desk_line.specs.declared.request.Request.{Request}
 use Rattle.desk_line.specs.declared.request.Request.TheVariants.{Do}
 use Rattle.desk_line.specs.Request.{WholeRequests}
 use Rattle.desk_line.proofs.RequestLaws.{one-request}
-use Rattle.desk_store.specs.Books.{HoldsBook, MayServe}
+use Rattle.desk_store.specs.Books.{HoldsBook, MayServe, ShowsBook}
 use Rattle.desk_rows.specs.Layout.{Layout}
 use Rattle.desk_session.specs.declared.session.Ended.{Ended}
 use Rattle.desk_session.specs.declared.session.Ended.TheVariants as ended
@@ -33,7 +33,7 @@ use Rattle.desk_session.specs.Requests.{FirstRequests}
 use Rattle.desk_session.specs.Service.{AreRequests, EndsAs, EndsFlushed, GoesOut, HoldsGiven, IsHonest, IsLeft, IsWritten, MayLack, Serves, SessionEnds, ends_of}
 use Rattle.desk_session.specs.Session.{EndsLost, GivenCommand, Gives, IsCommand, IsSession, MayGoOn, Turn, commands_of}
 use Rattle.desk_session.specs.Turns.{LeavesLost, LeftBy, SendsReply, TakesTurn}
-use Rattle.desk_session.proofs.MoreTurns.{AllTaken, TurnsFrom-more, after-given, ends-held, ends-lost, gives-some, goes-held, goes-more, requests-more, requests_of, taken-more}
+use Rattle.desk_session.proofs.MoreTurns.{AllTaken, TurnsFrom-more, after-given, ends-held, ends-lost, gives-some, goes-held, goes-more, lost-stays, requests-more, requests_of, taken-more}
 use Rattle.desk_session.proofs.RequestCuts.{CutInto, CutInto-all, CutInto-first, CutInto-more, CutInto-whole, next-some}
 
 -- ---- the file
@@ -89,8 +89,11 @@ module _ (l : Layout) (start book : Book) (given gives : List GivenCommand) (byt
   }
 
   -- after a session in which a command was lost
-  pub lost-left : (last : Book) → IsLeft l start last ended.Lost (given ++ gives) s
-  lost-left last = record { shows = λ held. absurd (held refl); leaves = λ db left. lost-holds db (lost.leaves db left) }
+  pub lost-left : (last : Book) → last ≡ book → IsLeft l start last ended.Lost (given ++ gives) s
+  lost-left last same = record {
+    shows = λ how. subst (λ (b : Book). ShowsBook l b s) (sym same) (lost.shows (elim how [ inl held ↦ absurd (held refl) | inr opened ↦ opened ]));
+    leaves = λ db left. lost-holds db (lost.leaves db left);
+  }
 
 kept-by : (l : Layout) (bytes : List ℕ) (book next : Book) (answer : Answer) (s : State) → answer ≢ answers.Lost → LeftBy l bytes book next answer s → MayServe l next s
 kept-by l bytes book next (answers.Done number) s held left = left
@@ -316,4 +319,4 @@ module _ (start book : Book) (over : SessionEnds) (c : Option (List ℕ)) (input
         let one = gave-lost is in
         lost-left l start book so_far.given gave.0 read.bytes s'
         (after-given so_far.turns start book so_far.given so_far.session (goes-held so_far.turns so_far.goes))
-        lost one.0 one.1 one.2 next)
+        lost one.0 one.1 one.2 next (lost-stays read.bytes book next answer took.answered is))

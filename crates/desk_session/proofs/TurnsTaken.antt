@@ -5,7 +5,9 @@ use Rattle.std.specs.Io.KnownBytes.{Appends, Keeps}
 use Rattle.std.proofs.KnownBytes.{Appends-kept}
 use Rattle.std.proofs.lemmas.List.{append-nil}
 use Rattle.sqlite_trees.specs.Tree.{Trees}
+use Rattle.sqlite.specs.Effect.{Database}
 use Rattle.sqlite.specs.State.{HasCleanDisk, State, Survives}
+use Rattle.sql_tables.specs.States.{ShowsAsBefore}
 use Rattle.desk_command.specs.declared.command.Command.{Command}
 use Rattle.desk_command.specs.declared.refusal.Refusal.{Refusal}
 use Rattle.desk_command.specs.declared.refusal.Refusal.TheVariants as refusals
@@ -24,8 +26,9 @@ use Rattle.desk_line.specs.declared.request.Request.TheVariants.{Ask, Do}
 use Rattle.desk_line.specs.Answers.{IsAnswered, accepted, asked, lost, no_request, refused, unplanned, unread}
 use Rattle.desk_line.specs.Reply.{IsReplied}
 use Rattle.desk_line.specs.Request.{Reads}
-use Rattle.desk_store.specs.Books.{LeavesBook, LeavesEither, MayKeep, MayServe}
+use Rattle.desk_store.specs.Books.{LeavesBook, LeavesEither, MayKeep, MayServe, ShowsBook}
 use Rattle.desk_rows.specs.Layout.{Layout}
+use Rattle.desk_rows.specs.States.{IsFile}
 use Rattle.desk_session.specs.Requests.{IsFaultOf}
 use Rattle.desk_session.specs.Service.{IsPart}
 use Rattle.desk_session.specs.Turns.{SendsReply, TakesTurn, fault_answer}
@@ -56,6 +59,17 @@ refused-turn bytes book command expect refusal s reads is =
 
 -- ---- a command that is accepted
 
+-- a connection that shows what another showed shows its book
+pub shows-still : (l : Layout) (book : Book) (old new : State) → new.now ≡ old.now → ShowsBook l book old → ShowsBook l book new
+shows-still l book old new same (c, shows, rows) = (
+  c,
+  record {
+    schema = ap (λ (d : Database). d.schema) same ∙ shows.schema;
+    is = subst (λ (d : Database). IsFile l c d.trees) (sym same) shows.is;
+  },
+  rows,
+)
+
 module _ (bytes : List ℕ) (book : Book) (command : Command) (expect : Option ℕ) (next : Book) (change : Change) (old new : State)
     (reads : Reads bytes (Do command expect)) (is : IsAccepted book expect command) (carries : Carries book command next change)
     (P : Trees → Type 0) (survives : Survives old new P) where
@@ -67,8 +81,8 @@ module _ (bytes : List ℕ) (book : Book) (command : Command) (expect : Option �
 
   -- it isn't kept
   pub lost-turn : (HasCleanDisk new → (l : Layout) (next : Book) → MayKeep l book change next old → LeavesBook l book old → LeavesEither l book next new)
-      → TakesTurn bytes book book answers.Lost old new
-  lost-turn either = record {
+      → (HasCleanDisk new → ShowsAsBefore old new) → TakesTurn bytes book book answers.Lost old new
+  lost-turn either as_before = record {
     answered = lost command expect next reads is carries.makes refl refl;
     clean = was-clean;
     left = λ clean l may. record {
@@ -78,6 +92,7 @@ module _ (bytes : List ℕ) (book : Book) (command : Command) (expect : Option �
       accepted = carries.accepted;
       makes = carries.makes;
       leaves = either clean l next (may-keep l may) may.leaves;
+      shows = λ opened. shows-still l book old new (as_before clean opened) may.shows;
     };
   }
 

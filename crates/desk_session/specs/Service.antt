@@ -1,5 +1,5 @@
 -- What a session over two ends and a file does, and how it ends.
-use Rattle.std.specs.Prelude.{◌≡◌, ◌≢◌, ◌⊎◌, ℕ, ◌≤◌, Bool, true, false, List, [], ◌++◌, length, map, Option}
+use Rattle.std.specs.Prelude.{◌≡◌, ◌≢◌, ◌⊎◌, ℕ, ◌≤◌, Bool, true, false, IsTrue, List, [], ◌++◌, length, map, Option}
 use Rattle.std.specs.Io.KnownBytes.{Appends, Consumes, IsAtEnd}
 use Rattle.std.specs.List.{AllByRecursion}
 use Rattle.sqlite_trees.specs.Tree.{Trees}
@@ -122,10 +122,11 @@ pub record HoldsGiven (l : Layout) (book : Book) (ended : Ended) (given : List G
   pub after : After book (commands_of kept) next
   pub holds : HoldsBook l next db
 
--- The connection shows the last book, but where a command was lost, and whatever a crash leaves holds the given commands.
+-- The connection shows the last book, also where a command was lost if it is still open, and whatever a crash leaves holds the given
+-- commands.
 pub record IsLeft (l : Layout) (book last : Book) (ended : Ended) (given : List GivenCommand) (s : State)
     : Type 0 where
-  pub shows : ended ≢ Lost → ShowsBook l last s
+  pub shows : (ended ≢ Lost) ⊎ IsTrue s.is_open → ShowsBook l last s
   pub leaves : Leaves (HoldsGiven l book ended given) s
 
 -- ---- the whole

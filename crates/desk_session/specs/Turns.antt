@@ -1,5 +1,5 @@
 -- One turn of a session. Only private functions and proofs need these words.
-use Rattle.std.specs.Prelude.{◌≡◌, ℕ, Bool, true, false, List, Option}
+use Rattle.std.specs.Prelude.{◌≡◌, ℕ, Bool, true, false, IsTrue, List, Option}
 use Rattle.std.specs.Io.KnownBytes.{Appends}
 use Rattle.sqlite.specs.State.{HasCleanDisk, State}
 use Rattle.desk_command.specs.declared.command.Command.{Command}
@@ -14,7 +14,7 @@ use Rattle.desk_line.specs.declared.fault.Fault.{Fault}
 use Rattle.desk_line.specs.declared.fault.Fault.TheVariants as faults
 use Rattle.desk_line.specs.Answers.{IsAnswered}
 use Rattle.desk_line.specs.Reply.{IsReply}
-use Rattle.desk_store.specs.Books.{LeavesEither, MayServe}
+use Rattle.desk_store.specs.Books.{LeavesEither, MayServe, ShowsBook}
 use Rattle.desk_rows.specs.Layout.{Layout}
 use Rattle.desk_session.specs.Service.{IsPart}
 use Rattle.desk_session.specs.Session.{IsCommand}
@@ -24,7 +24,8 @@ abbrev pub fault_answer : Fault → Answer
 fault_answer faults.Syntax = Syntax
 fault_answer faults.NoMemory = NoMemory
 
--- a command was lost: whatever a crash leaves holds the book, or the next one that the command makes
+-- A command was lost: whatever a crash leaves holds the book, or the next one that the command makes, and a connection that is still open
+-- shows the book.
 pub record LeavesLost (l : Layout) (request : List ℕ) (book : Book) (s : State) : Type 0 where
   pub command : Command
   pub made : Book
@@ -32,6 +33,7 @@ pub record LeavesLost (l : Layout) (request : List ℕ) (book : Book) (s : State
   pub accepted : IsAccepted book None command
   pub makes : Makes book command made
   pub leaves : LeavesEither l book made s
+  pub shows : IsTrue s.is_open → ShowsBook l book s
 
 -- what the file is after a request was answered so, and this is the book after it
 abbrev pub LeftBy : Layout → List ℕ → (book next : Book) → Answer → State → Type 0

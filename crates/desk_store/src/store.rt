@@ -5,6 +5,7 @@ ghost use Rattle.desk_book.specs.Changes.{Carries};
 ghost use Rattle.desk_store.specs.Books.{FailsToKeep, HoldsKept, LeavesBook, LeavesEither, MayKeep, MayServe, shown_by, statements_of};
 ghost use Rattle.desk_rows.specs.Layout.{Layout};
 ghost use Rattle.desk_rows.specs.Turns.{AreRun, IsLeftBy};
+ghost use Rattle.sql_tables.specs.States.{ShowsAsBefore};
 ghost use Rattle.sqlite.specs.Held.{state};
 ghost use Rattle.sqlite.specs.State.{HasCleanDisk, Survives};
 
@@ -63,6 +64,8 @@ fn put_change<'a, S: Alter>(
         (λ db. IsLeftBy S.Store (statements_of book.now change.now) conn.old db) }
     ensures told { HasCleanDisk (state S.Store conn.new)
         → IfErr result (FailsToKeep S.Store book.now change.now conn.old (state S.Store conn.new)) }
+    ensures as_before { HasCleanDisk (state S.Store conn.new)
+        → OnErr result (ShowsAsBefore (state S.Store conn.old) (state S.Store conn.new)) }
 {
     write(alloc, conn, change.puts(book))
 }
@@ -85,8 +88,8 @@ impl<S: Alter> Store<S> {
     ///
     /// # Errors
     ///
-    /// [`Lost`] if a call of the database or an allocation failed. From then on nothing is written, and every answer is
-    /// [`Lost`].
+    /// [`Lost`] if a call of the database or an allocation failed. A connection that is still open then shows what it showed
+    /// before. From then on nothing is written, and every answer is [`Lost`].
     pub fn keep(&mut self, alloc: Global, book: &Book, change: &Change) -> Result<(), Lost>
         requires planned { (command : _) × (next : _) × Carries book.now command next change.now }
         ensures kept { HasCleanDisk (shown_by S.Store self.new) → (l : Layout) (next : _)
@@ -112,6 +115,9 @@ impl<S: Alter> Store<S> {
         ensures told { HasCleanDisk (shown_by S.Store self.new) → self.old.lost ≡ false
             → OnErr result ((e : _) × FailsToKeep S.Store book.now change.now
             self.old.connection (shown_by S.Store self.new) e) }
+        // After a loss a connection that is still open shows what it showed before.
+        ensures as_before { HasCleanDisk (shown_by S.Store self.new)
+            → OnErr result (ShowsAsBefore (shown_by S.Store self.old) (shown_by S.Store self.new)) }
         ensures nothing { IsTrue self.old.lost → IsErr result × (self.new ≡ self.old) }
         ensures lost { OnErr result (self.new.lost ≡ true) }
         ensures not_lost { OnOk result (self.new.lost ≡ false) }

@@ -1,5 +1,5 @@
-use Rattle.std.proofs.Common.{◌≡◌, ◌∙◌, ap, not, is_ok, true}
-use Rattle.desk_ends.proofs.Sending.{at_ok}
+use Rattle.std.proofs.Common.{◌≡◌, ◌∙◌, ap, not, is_ok, true, false}
+use Rattle.desk_ends.proofs.Sending.{at_err, at_ok}
 use Rattle.desk_session.proofs.TurnsTaken.{done-turn, lost-turn, refused-turn}
 use Rattle.desk_session.proofs.turn.carry_out.Goals as goal
 
@@ -9,8 +9,10 @@ returns-in-Err-clause-taken g c = λ bytes reads. refused-turn bytes c.args.book
 pub returns-then-is_err-clause-taken : goal.returns-then-is_err-clause-taken
 returns-then-is_err-clause-taken g c =
     let planned = c.in-Ok.ensures.accepted in
+    let broken : is_ok c.keep.result ≡ false = c.is_err.ensures.negation ∙ ap not c.if-is_err.true in
     λ bytes reads.
     lost-turn bytes c.args.book c.args.command.now c.args.expect planned.1.0 c.in-Ok.change _ _ reads planned.0 planned.1.1 _ c.keep.ensures.survives c.keep.ensures.either
+    (λ clean. at_err c.keep.result _ (c.keep.ensures.as_before clean) broken)
 
 pub returns-clause-taken : goal.returns-clause-taken
 returns-clause-taken g c =

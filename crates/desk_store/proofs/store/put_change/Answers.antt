@@ -43,3 +43,6 @@ returns-clause-told g c clean =
       fails = subst (λ (puts : List RowPut). FailsToPut g.S.Store (of_items g.S.Store LendsFirst puts) (with_transaction c.args.conn.now) (state g.S.Store c.write.new.conn) e) c.puts.ensures.these it.fails;
       counts = it.lost;
     }) (c.write.ensures.commits clean)
+
+pub returns-clause-as_before : goal.returns-clause-as_before
+returns-clause-as_before g c clean = on_given_up c.write.result _ _ _ (λ e it. it.as_before) (c.write.ensures.commits clean)
