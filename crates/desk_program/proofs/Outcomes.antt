@@ -30,12 +30,6 @@ module _ {D : Type 0} (at : Place D) (make : Bool) where
   none-unconnected (Ok it) P fault of is = absurd is
   none-unconnected (Err stop) P fault of is = FindsNone.unconnected fault of is
 
-  pub none-unopened : {T : Type 0} (result : Result T Stop) (P : T → Type 0) (first last : Held D) (fault : OpenFault)
-      → at.Connects make first → IsRefusedWith at.store make first (state at.store last) fault
-      → IsErrAnd result (λ stop. stop ≡ stop_of fault) → MatchResult result P (FindsNone at make)
-  none-unopened (Ok it) P first last fault connects refused is = absurd is
-  none-unopened (Err stop) P first last fault connects refused is = FindsNone.unopened first last fault connects refused is
-
 module _ {D K : Type 0} (at : Place D) (sink : Sink K) (old : K) (stop : Stop) where
   pub Makes-none : (outcome : Outcome) → FindsNone at true stop → IsErrAnd outcome (λ told. told ≡ stop)
       → Makes at sink old old outcome

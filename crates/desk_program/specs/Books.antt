@@ -94,11 +94,11 @@ IsClosed {D} at last =
 abbrev pub Finds : {D : Type 0} → Place D → Bool → Book → Type 0
 Finds {D} at make book = (last : Held D) × Opening at make last book × IsClosed at last
 
--- no book was found: no connection was made, or no book was opened on it
+-- no book was found: no connection was made, or no book was opened on it, and its database was closed as it was then
 pub data FindsNone {D : Type 0} (at : Place D) (make : Bool) (stop : Stop) : Type 0 where
   unconnected : (fault : ProgramFault) → at.Refuses make fault → stop ≡ Refused fault → FindsNone at make stop
   unopened : (first last : Held D) (fault : OpenFault) → at.Connects make first
-      → IsRefusedWith at.store make first (state at.store last) fault → stop ≡ stop_of fault
+      → IsRefusedWith at.store make first (state at.store last) fault → IsClosed at last → stop ≡ stop_of fault
       → FindsNone at make stop
 
 -- ---- what goes to the sink

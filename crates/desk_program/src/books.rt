@@ -13,7 +13,7 @@ use desk_store::Store;
 use itoa::Buffer;
 
 /// The book in the file at this path, and the store that keeps it. Where the file has no tables of a book and `make` is
-/// true, it gets those of the empty book.
+/// true, it gets those of the empty book. A database in which no book is opened is closed again.
 fn open_store<F: Databases + AllocGlobal>(
     rt: &F,
     path: &str,
@@ -27,8 +27,14 @@ fn open_store<F: Databases + AllocGlobal>(
         (place_at F.Shelf F.Database.Store F.connects F.closes rt.now path.now)
         make) }
 {
-    let connection = rt.connect(path, make)?;
-    Ok(Store::adopt(rt.alloc(), connection, make)?)
+    let mut connection = rt.connect(path, make)?;
+    match Store::open_on(rt.alloc(), &mut connection, make) {
+        Ok(book) => Ok((Store::over(connection), book)),
+        Err(fault) => {
+            rt.close(connection.into_store());
+            Err(Stop::from(fault))
+        }
+    }
 }
 
 /// The book in the file at this path, which is closed again.

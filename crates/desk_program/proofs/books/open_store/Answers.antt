@@ -1,5 +1,6 @@
-use Rattle.desk_program.specs.Books.{place_at}
-use Rattle.desk_program.proofs.Outcomes.{none-unconnected, none-unopened}
+use Rattle.std.proofs.Common.{refl}
+use Rattle.desk_program.specs.Books.{FindsNone, Opening, place_at}
+use Rattle.desk_program.proofs.Outcomes.{closed-as, none-unconnected}
 use Rattle.desk_program.proofs.books.open_store.Goals as goal
 
 pub returns-in_err-connection : goal.returns-in_err-connection
@@ -8,9 +9,17 @@ returns-in_err-connection g c =
     none-unconnected at c.args.make c.from_residual.result _ c.in_err-connection.field-0.0 c.in_err-connection.ensures.fault
     c.from_residual.ensures.1
 
-pub returns-in_err-adopt : goal.returns-in_err-adopt
-returns-in_err-adopt g c =
+pub returns-in-Ok : goal.returns-in-Ok
+returns-in-Ok g c =
+    let opened = c.in-Ok.ensures in
+    rw c.over.ensures
+    (record { first = c.in_ok-connection.connection; connected = c.in_ok-connection.ensures.named; opens = opened.opens; crash = opened.crash })
+
+pub returns-in-Err : goal.returns-in-Err
+returns-in-Err g c =
     let at = place_at g.F.Shelf g.F.Database.Store g.F.Databases.connects g.F.Databases.closes c.args.rt.now c.args.path.now in
-    none-unopened at c.args.make c.from_residual-in_err-adopt.result _ c.in_ok-connection.connection
-    c.in_err-adopt.ensures.told.0 c.in_err-adopt.field-0.0 c.in_ok-connection.ensures.named
-    c.in_err-adopt.ensures.told.1 c.from_residual-in_err-adopt.ensures.1
+    let refused = c.in-Err.ensures in
+    let last = c.open_on.new.connection in
+    let closed = closed-as at last last c.into_store.result refl c.close.ensures c.into_store.ensures.undone c.into_store.ensures.quiet in
+    FindsNone.unopened c.in_ok-connection.connection last c.in-Err.fault c.in_ok-connection.ensures.named
+    (record { opens = refused.opens; crash = refused.crash; left = refused.left; refused = refused.refused; stopped = refused.stopped }) closed c.from.ensures
