@@ -2,7 +2,7 @@
 //! at a place moves those behind it.
 ghost use Rattle.desk_memory.specs.Room.{Suffices, grown as grown_lem, room_of};
 ghost use Rattle.std.specs.List.{insert};
-ghost use Rattle.std.specs.Prelude.{◌≡◌, ◌+◌, ◌<◌, ◌≤◌, ◌^◌, [], ◌∷◌, ◌++◌, IfOk, IfSome, length};
+ghost use Rattle.std.specs.Prelude.{◌≡◌, ◌+◌, ◌<◌, ◌≤◌, ◌^◌, [], ◌∷◌, ◌++◌, IfOk, length};
 
 use std::alloc::{AllocError, Global};
 use std::marker::Model;
@@ -56,15 +56,17 @@ fn grown(room: usize, count: usize) -> usize
     if count <= room { room } else { 2 * count }
 }
 
-/// The room of a list that grew to so many items, if a list may have so much.
-fn room_for(count: usize) -> Option<usize>
-    ensures { IfSome result (λ room. (room ≡ room_of count) × (count ≤ room)) }
+/// The room of a list that grew to so many items.
+fn room_for(count: usize) -> usize
+    requires { count < 2 ^ 32 }
+    ensures room { result ≡ room_of count }
+    ensures enough { count ≤ result }
 {
     let mut room: usize = 0;
     while room < count {
-        room = room.checked_add(1)?.checked_mul(2)?;
+        room = 2 * (room + 1);
     }
-    Some(room)
+    room
 }
 
 impl<T: Drop> Items<T> {
@@ -85,9 +87,10 @@ impl<T: Drop> Items<T> {
 
     /// The items of a list, with the room of one that grew to them.
     pub fn from_vec(mut items: Vec<T>) -> Result<Self, AllocError>
+        requires { length items.items < 2 ^ 32 }
         ensures { IfOk result (λ kept. kept ≡ items.items) }
     {
-        let room = room_for(items.len()).ok_or(AllocError)?;
+        let room = room_for(items.len());
         items.reserve_exact(room - items.len())?;
         Ok(Items { items, room })
     }

@@ -5,6 +5,7 @@ ghost use Rattle.desk_model.specs.Book.{new_mark};
 ghost use Rattle.desk_model.specs.Limits.{most_print};
 ghost use Rattle.desk_memory.specs.Room.{Suffices};
 ghost use Rattle.std.specs.Option.{option_copied};
+ghost use Rattle.desk_model.specs.Limits.{most_marks};
 ghost use Rattle.std.specs.Prelude.{◌≡◌, ◌+◌, ◌-◌, ◌<◌, ◌≤◌, ◌^◌, [], ◌∷◌, ◌++◌, ℕ, IfOk, None, length};
 
 use super::items::{Items, Room};
@@ -126,6 +127,7 @@ impl Marks {
 
     /// The marks of a list in the order of their ids.
     pub fn from_vec(items: Vec<KeptMark>) -> Result<Self, AllocError>
+        requires { length items.items ≤ most_marks }
         ensures { IfOk result (λ marks. marks ≡ items.items) }
     {
         Ok(Marks {

@@ -8,6 +8,7 @@ ghost use Rattle.std.specs.List.{Contains, filter, flat_map, insert, position, r
 ghost use Rattle.std.specs.List.Sorted.{IsPermutation};
 ghost use Rattle.std.specs.Map.{lookup};
 ghost use Rattle.std.specs.Option.{option_copied, option_map_or};
+ghost use Rattle.desk_model.specs.Limits.{most_paragraphs};
 ghost use Rattle.std.specs.Prelude.{◌≡◌, ◌+◌, ◌<◌, ◌≤◌, ◌^◌, [], ◌∷◌, ◌++◌, ℕ, IfNone, IfOk, IfSome, MatchOption, OnOk, Some, ◌==◌, length, map, nat_eq, not, option_map, slice_get};
 
 use super::history::KeptEntry;
@@ -227,7 +228,8 @@ impl Paragraphs {
 
     /// The paragraphs of a list in the order of their ids, as these ids stand here.
     pub fn from_vecs(items: Vec<Paragraph>, order: Vec<u64>) -> Result<Self, AllocError>
-        requires { IsPermutation (range_with_len 1 (length items.items)) order.items }
+        requires order { IsPermutation (range_with_len 1 (length items.items)) order.items }
+        requires few { length items.items ≤ most_paragraphs }
         ensures { IfOk result (λ paragraphs. paragraphs ≡ flat_map (paragraph_with_id items.items) order.items) }
     {
         Ok(Paragraphs {

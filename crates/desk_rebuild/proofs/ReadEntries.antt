@@ -1,5 +1,5 @@
 -- What an entry that is read from its row does to the print that those before it leave.
-use Rattle.std.proofs.Common.{◌↔◌, IsTrue, Bool, Ordering, Less, Equal, Greater, is_eq, ◌≡◌, ℕ, ◌+◌, ◌-◌, ◌≤◌, ℤ, pos, ◌+ℤ◌, ◌≤ℤ◌, nat_abs, true, false, List, [], ◌∷◌, ◌++◌, length, take, drop, Option, Some, None, refl, sym, ap, ap₂, subst, ◌∙◌, arith, inl, inr}
+use Rattle.std.proofs.Common.{◌↔◌, IsTrue, Bool, Ordering, Less, Equal, Greater, is_eq, ◌≡◌, ℕ, zero, suc, ◌+◌, ◌-◌, ◌≤◌, ℤ, pos, ◌+ℤ◌, ◌≤ℤ◌, nat_abs, true, false, List, [], ◌∷◌, ◌++◌, length, take, drop, Option, Some, None, refl, sym, ap, ap₂, subst, ◌∙◌, arith, inl, inr}
 use Rattle.std.specs.Prelude.{IfSome, nat_eq, not, option_map, slice_range}
 use Rattle.std.specs.List.{position}
 use Rattle.std.specs.Option.{is_some}
@@ -7,15 +7,18 @@ use Rattle.std.specs.Ordering.{nat_cmp, ordering_reverse}
 use Rattle.std.specs.Cmp.Lexicographic.{nat_list_cmp_total, pointwise, slice_cmp}
 use Rattle.std.specs.Str.{chars}
 use Rattle.std.proofs.lemmas.Bool.{both_ways, cases_Bool}
+use Rattle.std.proofs.lemmas.List.{length-map}
 use Rattle.desk_memory.specs.declared.history.Correction.{Correction}
 use Rattle.desk_memory.specs.declared.history.KeptEntry.{KeptEntry}
 use Rattle.desk_memory.specs.declared.history.KeptEntry.TheVariants.{Corrects as KeptCorrects, Undoes as KeptUndoes}
 use Rattle.desk_rebuild.specs.declared.history.Next.{Next}
+use Rattle.desk_rebuild.specs.declared.history.Reading.{Reading}
 use Rattle.desk_model.specs.Book.{Corrects, Entry, Replacement, Undoes}
 use Rattle.desk_memory.specs.Histories.{IsCorrection, replaced_by}
 use Rattle.desk_model.specs.Damage.{IsSoundUndo, entry_of}
 use Rattle.desk_memory.specs.Histories.{IsNewestInForce, LeavePrint, TookFrom, entries_kept, entry_kept}
-use Rattle.desk_rebuild.specs.History.{IsCorrecting, IsNext}
+use Rattle.desk_rebuild.specs.History.{AreSoundRows, IsCorrecting, IsNext, IsRead}
+use Rattle.desk_model.specs.Limits.{most_entries}
 use Rattle.desk_model.specs.Name.{IsProofreaderName}
 use Rattle.desk_model.specs.Print.{corrected_print}
 use Rattle.desk_parts.specs.Rows.{NamedCorr}
@@ -23,6 +26,7 @@ use Rattle.desk_model.specs.Sound.{AreSoundEntries, IsSoundEntry}
 use Rattle.desk_model.specs.NormalForm.{IsUnbarred, is_barred}
 use Rattle.desk_memory.proofs.Callers.{TookFrom-correction, entry-correction, undone-print}
 use Rattle.desk_model.proofs.Books.HistoryLists.{corrected_print-corrects}
+use Rattle.desk_model.proofs.Lists.Items.{slice_get-there}
 use Rattle.desk_model.proofs.Lists.RowNumbers.{pos_le}
 use Rattle.desk_model.proofs.Rows.RowParts.{entry-corrects, entry-undoes}
 use Rattle.desk_model.proofs.Lists.Stable.{le_from, natural}
@@ -150,3 +154,19 @@ same-print one other differs is =
       | inl same ↦ (λ no. (Decides-name one other).0 same, λ so. absurd (both_ways differs (is ∙ ap not same) so))
       | inr apart ↦ (λ no. absurd (both_ways differs no (is ∙ ap not apart)), λ so equal. both_ways (pointwise nat_eq one other) apart ((Decides-name one other).1 equal))
     ]
+
+-- ---- a whole history
+
+few-sound : (original : List ℕ) (rows : List NamedCorr) → AreSoundRows original rows → (n : ℕ) → n ≡ length rows → n ≤ most_entries
+few-sound original rows sound zero is = omega arith
+few-sound original rows sound (suc n) is =
+    let last = slice_get-there rows n (omega arith) in
+    let room = (sound n last.0 last.1).room in
+    omega arith
+
+-- it has no more entries than a history may have
+pub few-read : (original : List ℕ) (rows : List NamedCorr) (reading : Reading) → AreSoundRows original rows → IsRead original rows reading
+    → length reading.entries.items ≤ most_entries
+few-read original rows reading sound read =
+    few-sound original rows sound (length reading.entries.items)
+    (sym (length-map reading.entries.items entry_kept) ∙ (ap length read.entries ∙ length-map rows entry_of))

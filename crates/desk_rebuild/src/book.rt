@@ -12,7 +12,8 @@ ghost use Rattle.desk_model.specs.Shows.{Shows};
 ghost use Rattle.desk_parts.specs.declared.file_table.FileTable.{FileTable};
 ghost use Rattle.std.specs.List.{All, flat_map, range_with_len};
 ghost use Rattle.std.specs.List.Sorted.{IsPermutation};
-ghost use Rattle.std.specs.Prelude.{◌≡◌, List, IfErr, IfOk, MatchOption, OnOk, length, map, option_map, pos};
+ghost use Rattle.desk_model.specs.Limits.{most_marks, most_paragraphs};
+ghost use Rattle.std.specs.Prelude.{◌≡◌, ◌≤◌, List, IfErr, IfOk, MatchOption, OnOk, length, map, option_map, pos};
 
 use super::caches::{made_cells, read_caches};
 use super::damage::of_table;
@@ -130,7 +131,9 @@ fn kept_book(
     order: Vec<u64>,
     marks: Vec<KeptMark>,
 ) -> Result<KeptBook, AllocError>
-    requires { IsPermutation (range_with_len 1 (length items.items)) order.items }
+    requires order { IsPermutation (range_with_len 1 (length items.items)) order.items }
+    requires few_paragraphs { length items.items ≤ most_paragraphs }
+    requires few_marks { length marks.items ≤ most_marks }
     ensures { IfOk result (λ book. book ≡ record {
       version = version;
       tables = tables;

@@ -137,6 +137,7 @@ pub(crate) fn read_marks(
         → IfOk result (λ _. IsWhole (IsDamagedMark paras rows.items)) }
     ensures texts { IfOk result (λ _. All (HasUtf8Texts FileTable.Mark) rows.items) }
     ensures marks { IfOk result (λ marks. AreMarksOf rows.items marks.items) }
+    ensures few { IfOk result (λ marks. length marks.items ≤ most_marks) }
     ensures indexes { IfOk result (λ marks. HaveMarks marks.items items.new.items) }
     ensures same { IfOk result (λ _. map without_marks items.new.items ≡ map without_marks items.old.items) }
     ensures damaged { (paras : List Para) → AreOf paras items.old.items

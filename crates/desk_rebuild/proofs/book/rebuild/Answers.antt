@@ -6,6 +6,7 @@ use Rattle.desk_rebuild.proofs.FirstTables.{IfErr-exit}
 use Rattle.desk_memory.specs.Kept.{IsKept, book_kept}
 use Rattle.desk_rebuild.specs.Rows.{AreOf}
 use Rattle.desk_rebuild.specs.declared.book.KeptBook.{KeptBook}
+use Rattle.desk_rebuild.proofs.CacheRows.{few-items}
 use Rattle.desk_rebuild.proofs.KeptRows.{order-permutes}
 use Rattle.desk_rebuild.proofs.RebuiltBook.{cache-fault, entry-fault, made, mark-fault, of-with_cells, of-with_history, of-with_marks, para-fault, tab-fault, unmarked-with_history, version-read}
 use Rattle.desk_rebuild.proofs.book.rebuild.Goals as goal
@@ -84,13 +85,25 @@ returns-in_err-give_cells-clause-damaged c =
     (cache-fault c.args.parts within c.in_ok-tables.ensures.whole no_para (c.in_ok-give_histories.ensures.whole rows.paras of) (c.in_ok-marks.ensures.whole rows.paras with_history)
     c.in_err-give_cells.field-0.0 (c.in_err-give_cells.ensures.damaged rows.tabs rows.paras tables with_marks no_para))
 
-pub kept_book-requires : goal.kept_book-requires
-kept_book-requires c =
-    let at = goal.at.kept_book-requires c in
+pub kept_book-requires-clause-order : goal.kept_book-requires-clause-order
+kept_book-requires-clause-order c =
+    let at = goal.at.kept_book-requires-clause-order c in
     let rows = rows_in c.args.parts in
     let with_marks = marks_of at.In_ok-marks (history_of at.In_ok-give_histories) in
     let last = of-with_cells rows.paras c.read_marks.new.items.items c.give_cells.new.items.items c.in_ok-give_cells.ensures.same with_marks in
     order-permutes rows.paras c.give_cells.new.items.items c.in_ok-items.field-0.order.items last (c.in_ok-items.ensures.order rows.tabs c.in_ok-tables.ensures.tables)
+
+pub kept_book-requires-clause-few_paragraphs : goal.kept_book-requires-clause-few_paragraphs
+kept_book-requires-clause-few_paragraphs c =
+    let at = goal.at.kept_book-requires-clause-few_paragraphs c in
+    let rows = rows_in c.args.parts in
+    let tables = c.in_ok-tables.ensures.tables in
+    let with_marks = marks_of at.In_ok-marks (history_of at.In_ok-give_histories) in
+    let last = of-with_cells rows.paras c.read_marks.new.items.items c.give_cells.new.items.items c.in_ok-give_cells.ensures.same with_marks in
+    few-items rows.tabs rows.paras c.in_ok-tables.tables c.give_cells.new.items.items tables last (c.in_ok-items.ensures.whole rows.tabs tables)
+
+pub kept_book-requires-clause-few_marks : goal.kept_book-requires-clause-few_marks
+kept_book-requires-clause-few_marks c = c.in_ok-marks.ensures.few
 
 pub returns-clause-made : goal.returns-clause-made
 returns-clause-made c =

@@ -1,4 +1,4 @@
-use Rattle.std.proofs.Common.{◌≡◌, ℕ, List, length, w64, inl, inr, sym, ap, subst, ◌∙◌, rules}
+use Rattle.std.proofs.Common.{◌≡◌, ℕ, List, arith, length, w64, inl, inr, sym, ap, subst, ◌∙◌, rules}
 use Rattle.std.specs.Str.{chars}
 use Rattle.std.proofs.lemmas.Bool.{eqb-true, both_ways}
 use Rattle.std.proofs.lemmas.Int.{to_z-of_z}
@@ -11,7 +11,7 @@ use Rattle.desk_memory.specs.Histories.{HaveTaken, entries_kept}
 use Rattle.desk_rebuild.specs.History.{AreSoundRows, CanBeRead}
 use Rattle.desk_model.specs.Print.{corrected_print}
 use Rattle.desk_parts.specs.Rows.{NamedCorr}
-use Rattle.desk_rebuild.proofs.ReadEntries.{same-print}
+use Rattle.desk_rebuild.proofs.ReadEntries.{few-read, same-print}
 use Rattle.desk_rebuild.proofs.RowOrder.{AreRising-sorted, print-as_sorted, sound-as_sorted}
 use Rattle.desk_rebuild.proofs.history.read_history.Goals as goal
 
@@ -70,3 +70,9 @@ returns-clause-read c =
       taken = subst (λ (t : List ℕ). HaveTaken t c.in_ok-paragraph.field-0) c.as_str-2.ensures (subst (HaveTaken (chars c.as_str-2.result.now)) (sym c.in_ok-paragraph.ensures) read.left.taken);
       print = sym made ∙ (sym c.as_slice-2.ensures.value ∙ (same ∙ c.as_slice-3.ensures));
     }
+
+pub from_vec-requires : goal.from_vec-requires
+from_vec-requires c =
+    let read = c.in_ok-reading.ensures.read in
+    let few = few-read (chars c.as_str-2.result.now) c.sort_by_key.new.self.items c.in_ok-reading.reading read.0 read.1 in
+    omega arith

@@ -55,3 +55,9 @@ returns-clause-marks c =
     let sorted = c.sort.new.rows.items in
     let kept = of-table-rows MarkTable c.marks_of.result (Ok c.in_ok-marks.marks) c.in_ok-marks.ensures (λ marks. AreKeptOf c.deref.result.now sorted marks.items) c.marks_of.ensures.marks in
     are-marks c.deref.result.now c.args.rows.items sorted c.in_ok-marks.marks.items c.sort.ensures.same kept
+
+pub returns-clause-few : goal.returns-clause-few
+returns-clause-few c =
+    let sorted = c.sort.new.rows.items in
+    let kept = of-table-rows MarkTable c.marks_of.result (Ok c.in_ok-marks.marks) c.in_ok-marks.ensures (λ marks. AreKeptOf c.deref.result.now sorted marks.items) c.marks_of.ensures.marks in
+    few-kept c.deref.result.now sorted c.in_ok-marks.marks.items kept
