@@ -128,11 +128,12 @@ class Drafts:
         identity = _identity(self.book)
         try:
             names = self._folder.names() if identity else []
+            missing = {each for each in _BEGUN if self._name(each) not in names}
             for name in names:
                 what = name.partition(".")[2]
-                own = self._name(what)
-                if what in _BEGUN and own not in names and self._is_of(name, identity):
-                    self._folder.rename(name, own)
+                if what in missing and self._is_of(name, identity):
+                    self._folder.rename(name, self._name(what))
+                    missing.discard(what)
         except OSError:
             # what can't be read is said where it is asked for
             pass
@@ -160,7 +161,8 @@ class Drafts:
     def _left(self, name: str, why: str) -> NotKept:
         path = self.book.with_name(name)
         return NotKept(
-            f"{path} isn't taken as a text that waits: {why}. It was left as it is."
+            f"{path} isn't taken as a text that waits for the book: {why}. It was left as it is."
+            " If you don't need it, remove it."
         )
 
     def _clear_left(self) -> None:

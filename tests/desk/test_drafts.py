@@ -7,6 +7,7 @@ import shutil
 import stat
 import tempfile
 from collections.abc import Callable, Iterator
+from dataclasses import replace
 from pathlib import Path
 
 import pytest
@@ -112,6 +113,20 @@ def test_a_draft_goes_with_a_book_that_is_moved_and_not_with_a_copy(
     Drafts(moved).take_in()
     assert Drafts(moved).waiting() == NOTE and Drafts(moved).given_up() == (NOTE,)
     assert Drafts(moon).waiting() is None
+
+
+def test_of_two_drafts_that_a_moved_book_finds_none_is_lost(
+    moon: Path, store: Path
+) -> None:
+    one, two = replace(NOTE, text="One."), replace(NOTE, text="Two.")
+    Drafts(moon).save(one)
+    moved = moon.rename(moon.parent / "moved.braildesk")
+    Drafts(moved).save(two)
+    again = moved.rename(moon.parent / "again.braildesk")
+    Drafts(again).take_in()
+    found = (Drafts(moon), Drafts(moved), Drafts(again))
+    kept = {draft.text for each in found if (draft := each.waiting())}
+    assert kept == {"One.", "Two."} and Drafts(again).waiting()
 
 
 def test_a_draft_stays_with_the_path_where_the_file_of_the_book_is_replaced(
@@ -264,7 +279,8 @@ def test_what_lies_beside_the_book_and_is_no_text_of_ones_own_stays_as_it_is(
     before = beside.lstat()
     sat = sit(moon)
     assert sat.state.message == (
-        f"{beside} isn't taken as a text that waits: {why}. It was left as it is."
+        f"{beside} isn't taken as a text that waits for the book: {why}. It was left as it is."
+        " If you don't need it, remove it."
     )
     sat.press("enter", "O")
     sat.state = sat.desk.save_draft(sat.state)
@@ -325,7 +341,8 @@ def test_nobody_is_offered_what_another_user_left_beside_the_book(
     sat = sit(shared)
     assert sat.state.question is None
     assert sat.state.message == (
-        f"{beside} isn't taken as a text that waits: {why}. It was left as it is."
+        f"{beside} isn't taken as a text that waits for the book: {why}. It was left as it is."
+        " If you don't need it, remove it."
     )
     assert beside.lstat().st_uid == STRANGER
 

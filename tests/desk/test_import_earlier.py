@@ -110,6 +110,12 @@ def test_the_same_import_is_refused_where_it_was_cut_short(killed: Path) -> None
     assert prints(killed) == ["front", *LINES[:5], "end"]
 
 
+def test_an_import_that_goes_on_from_a_line_is_done(killed: Path) -> None:
+    assert again(killed, "--lines", "--after", "7", "--from", "6").status == 0
+    assert prints(killed) == ["front", *LINES, "end"]
+    assert Drafts(killed).imports() == ()
+
+
 def test_an_import_that_was_cut_short_is_done_anew_where_that_is_asked_for(
     killed: Path,
 ) -> None:
