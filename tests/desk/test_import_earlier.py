@@ -227,8 +227,11 @@ def test_the_desk_asks_whether_an_import_that_was_cut_short_goes_on(
     assert sat.state.question and sat.state.question.sentence == (
         f"{where(5)} Shall the rest be typed now?"
     )
-    sat.press("q", "escape")
-    assert sat.state.message == "Nothing was typed." and sat.state.question is None
+    assert " ".join(sat.lines[-2:]).endswith("n is no. l leaves it for later.")
+    sat.press("q", "l")
+    assert sat.state.question is None and sat.state.message == (
+        "Nothing was typed. It is asked again when the book is opened."
+    )
     sat = sit_again(sat, sit)
     sat.press("y")
     sat.state = sat.desk.away(sat.state, lambda line: None)

@@ -81,8 +81,11 @@ def done_aside(
 
 def question_about(asked: Undecided, errand: ImportFrom) -> Question:
     """What is asked before a text is imported that was imported before, in part or whole."""
-    no = None if asked.note is None else LeaveImport(asked.note)
-    return Question(asked.question, yes=replace(errand, way=asked.way), no=no)
+    yes = replace(errand, way=asked.way)
+    if asked.note is None:
+        return Question(asked.question, yes=yes)
+    no = LeaveImport(asked.note)
+    return Question(asked.question, yes=yes, no=no, more="l leaves it for later.")
 
 
 def _export_words(path: Path, errand: ExportTo) -> Namespace:

@@ -40,6 +40,7 @@ _NOTHING_WHILE_TYPING = (
     "That key does nothing here. Enter keeps what is typed, Escape gives it up."
 )
 _NOT_ENTER = "The end of the pasted line was left out. Enter keeps what is typed."
+_ASKED_LATER = "Nothing was typed. It is asked again when the book is opened."
 _STAYS_GIVEN_UP = "Nothing was sent. U asks about it again."
 # what is said before it is done, since the book keeps it
 _OF_MARK = "The book keeps each mark: r resolves it, and nothing takes it out."
@@ -153,6 +154,8 @@ def _about_errand(
         return Step(answered, errand)
     if key == "n" and question.no:
         return Step(answered, question.no)
+    if question.no and key in ("l", "escape"):
+        return Step(answered.saying(_ASKED_LATER))
     if key in ("n", "escape"):
         done = "taken back" if isinstance(errand, TakeBack) else "typed"
         return Step(answered.saying(f"Nothing was {done}."))
