@@ -230,6 +230,30 @@ def test_a_long_refusal_leaves_room_for_the_book() -> None:
     assert "The {moon} is far away." in drawn.texts()
 
 
+@pytest.mark.parametrize("size", [*SIZES, (20, 8)])
+def test_what_is_said_is_seen_whole_beside_the_chosen_paragraph(
+    size: tuple[int, int]
+) -> None:
+    said = "“Moon” stands nowhere as typed; with other capitals it is in paragraph 1: * goes there."
+    for typed in (None, Field(Purpose.NOTE, "why?", 4), Field(Purpose.EDIT, "The", 3)):
+        drawn = draw(replace(STATE, size=Size(*size), message=said, typed=typed))
+        lines = drawn.texts()
+        assert len(lines) == size[1] and all(columns(each) <= size[0] for each in lines)
+        if size == (20, 8) and typed and typed.purpose is Purpose.NOTE:
+            assert lines[2:] == [
+                "The {moon} is far",
+                "“Moon” stands",
+                "nowhere as typed;",
+                "with other capitals",
+                "it is in paragraph…",
+                "Note of… why?",
+            ]
+        else:
+            assert said in " ".join(lines)
+        assert lines[1].startswith(">    1 body")
+        assert any(line.startswith("The") for line in lines[2:])
+
+
 def test_several_marks_at_the_cursor_are_counted_and_a_long_note_is_wrapped() -> None:
     second = Mark(2, 5, 6, False, False, "so? " * 100)
     reading = replace(READING, marks=(second, MARK))

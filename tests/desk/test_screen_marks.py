@@ -100,7 +100,7 @@ def test_each_mark_of_one_character_is_gone_to_shown_and_resolved(
     assert sat.state.message == (
         "Mark 2 is resolved. 1 open mark is left here; r resolves mark 1."
     )
-    assert f"2 marks here. {first}" in sat.lines
+    assert f"2 marks here, 1 open. {first}" in sat.lines
     sat.press("r")
     assert (sat.state.kept, sat.state.message) == ("kept: mark 1 resolved", "")
     sat.press("r")

@@ -36,8 +36,9 @@ PROMPTS = {
 
 
 # what is always seen of the book: the chosen paragraph, the line below the list, a line of the print
-# and one of the braille
+# and one of the braille; beside what is said that is long, the first and the third of these
 _LEAST_OF_BOOK = 4
+_LEAST_BESIDE_SAID = 2
 # as many columns of what is typed are seen after a whole prompt
 _LEAST_TYPED = 16
 
@@ -95,11 +96,10 @@ def _middle(state: State, room: int) -> Area:
         lines: list[Line] = [(Piece(each),) for each in wrap(text, state.size.columns)]
         return Area(filled(lines, room), (0, 0))
     listed = _listed(state, min(state.list_lines, max(1, room - 3)))
-    rule = _rule(state)
-    below = body(state, room - len(listed) - 1)
-    above = len(listed) + 1
-    cursor = below.cursor and (above + below.cursor[0], below.cursor[1])
-    return Area(filled([*listed, rule, *below.lines], room), cursor)
+    above = [*listed, _rule(state)] if room >= _LEAST_OF_BOOK else listed
+    below = body(state, room - len(above))
+    cursor = below.cursor and (len(above) + below.cursor[0], below.cursor[1])
+    return Area(filled([*above, *below.lines], room), cursor)
 
 
 def _listed(state: State, count: int) -> list[Line]:
@@ -156,18 +156,13 @@ def _bottom(state: State) -> Area:
     width = state.size.columns
     if typed and not typed.purpose.is_print:
         text, place = _tail(PROMPTS[typed.purpose], typed, width)
-        lines = _said(state, _most_below(state) - 1)
+        lines = _below(state, state.size.lines - 2)
         return Area([(Piece(line),) for line in [*lines, text]], (len(lines), place))
-    lines = _said(state, _most_below(state))
+    lines = _below(state, state.size.lines - 1)
     # the keys are what is needed least
-    if len(lines) < _most_below(state):
+    if len(lines) < state.size.lines - 1 - _LEAST_OF_BOOK:
         lines.append(opening(_hint(state), width))
     return Area([(Piece(line),) for line in lines])
-
-
-def _most_below(state: State) -> int:
-    """How many lines there are below the book, so that something of it is still seen."""
-    return max(1, state.size.lines - 1 - _LEAST_OF_BOOK)
 
 
 def _asked(state: State, question: Question) -> Area:
@@ -211,17 +206,32 @@ def _tail(prompt: str, typed: Field, width: int) -> tuple[str, int]:
     return line + after, len(line)
 
 
-def _said(state: State, most: int) -> list[str]:
-    """At most so many lines: what the cursor stands on, the marks there, and what is said."""
+def _below(state: State, room: int) -> list[str]:
+    """What the cursor stands on, the marks there, and what is said, where the book leaves room."""
+    said = _said(state, room - _LEAST_BESIDE_SAID)
     if state.pages:
-        return _message(state, most)
-    marks = _marks(state)
-    said = _message(state, most - 1 if marks else most)
-    rest = most - len(said)
+        return said
+    rest = max(0, room - _LEAST_OF_BOOK - len(said))
     # what is said besides leaves room for the book
-    room = max(1, state.size.lines // (8 if said else 4))
-    shown = _mark_lines(state, marks, min(room, rest))
-    return [*_place_lines(state)[: rest - len(shown)], *shown, *said]
+    most = max(1, state.size.lines // 4 - max(0, len(said) - 1))
+    marks = _mark_lines(state, _marks(state), min(most, rest))
+    return [*_place_lines(state)[: rest - len(marks)], *marks, *said]
+
+
+def _said(state: State, most: int) -> list[str]:
+    """What the table lacks of what is typed, and what is said, in at most so many lines."""
+    message = _message(state, most)
+    fault = _fault(state)
+    if not fault or state.pages:
+        return message
+    width = state.size.columns
+    return [*_at_most(wrap(fault, width), most - len(message), width), *message]
+
+
+def _fault(state: State) -> str:
+    """What the table lacks of what is typed."""
+    is_print = state.typed is not None and state.typed.purpose.is_print
+    return state.preview.fault if state.preview and is_print else ""
 
 
 def _message(state: State, most: int) -> list[str]:
@@ -233,14 +243,12 @@ def _message(state: State, most: int) -> list[str]:
 
 
 def _place_lines(state: State) -> list[str]:
-    """In words: what the cursor stands on, or what the table lacks of what is typed."""
-    width = state.size.columns
-    if state.typed and state.typed.purpose.is_print:
-        fault = state.preview.fault if state.preview else ""
-        return wrap(fault, width) if fault else [""]
-    if state.reading is None or state.lit is None:
-        return [""]
-    return [opening(_cursor_in_words(state, state.reading, state.lit), width)]
+    """In words: what the cursor stands on; nothing where something is typed in its place."""
+    is_print = state.typed is not None and state.typed.purpose.is_print
+    if is_print or state.reading is None or state.lit is None:
+        return [] if _fault(state) else [""]
+    line = _cursor_in_words(state, state.reading, state.lit)
+    return [opening(line, state.size.columns)]
 
 
 def _marks(state: State) -> tuple[Mark, ...]:
@@ -255,13 +263,20 @@ def _mark_lines(state: State, marks: tuple[Mark, ...], most: int) -> list[str]:
         return []
     assert state.reading is not None
     text, width = state.reading.text, state.size.columns
-    count = f"{len(marks)} marks here. " if len(marks) > 1 else ""
-    first = wrap(count + mark_line(marks[0], text), width)
+    first = wrap(_how_many(marks) + mark_line(marks[0], text), width)
     others = [wrap(mark_line(mark, text), width) for mark in marks[1:]]
     if len(first) + sum(map(len, others)) > most:
-        others = [_at_most(each, 1, width) for each in others[: most // 2]]
+        others = [_at_most(each, 1, width) for each in others[: most // 3]]
     first = _at_most(first, most - sum(map(len, others)), width)
     return [*first, *(line for each in others for line in each)]
+
+
+def _how_many(marks: tuple[Mark, ...]) -> str:
+    """How many marks there are where there are several, and how many of them are open."""
+    if len(marks) == 1:
+        return ""
+    count = sum(not mark.resolved for mark in marks)
+    return f"{len(marks)} marks here{f', {count} open' if count < len(marks) else ''}. "
 
 
 def _cursor_in_words(state: State, reading: Reading, lit: Lit) -> str:
