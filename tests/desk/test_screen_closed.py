@@ -1,12 +1,15 @@
 """A terminal that is closed, and scribe that is told to end, in the middle of the work."""
 
+import errno
 import os
 import signal
 from pathlib import Path
+from typing import TextIO
 
 import pytest
 
 from scribe.drafts import Drafts
+from scribe.screen.terminal import HungUp, Output, TerminalFailed
 from stand_in import KEPT, READ, WAIT
 from terminal import Open, Terminal, once_free, standing_in
 from tool import ROOT
@@ -194,3 +197,36 @@ def test_a_fault_of_scribe_ends_the_screen_in_words_and_keeps_what_is_typed(
     assert b"Traceback" not in terminal.written
     again = at(moon, XDG_STATE_HOME=str(moon.parent / "state"))
     again.wait("further? y is yes, n is no.")
+
+
+def test_a_text_that_can_not_be_kept_at_the_end_is_said(moon: Path, at: Open) -> None:
+    terminal = at(moon, XDG_STATE_HOME="/proc/nowhere")
+    terminal.wait("? shows all keys.")
+    terminal.keys("enter", "Oh, ")
+    terminal.wait("Oh, The moon is far away.")
+    terminal.send_signal(signal.SIGTERM)
+    assert terminal.ended() == -signal.SIGTERM
+    first, *rest = terminal.said.splitlines()
+    assert first.startswith("What is typed can't be kept in /proc/nowhere/braildesk: ")
+    assert rest == ["This was typed:", "Oh, The moon is far away."]
+
+
+def written(file: TextIO) -> None:
+    """Writes to a terminal, and then has what is left written where nothing is refused."""
+    output = Output.from_pty(file, term="xterm")
+    output.write_raw("x")
+    try:
+        output.flush()
+    finally:
+        with open(os.devnull, "w") as nothing:
+            os.dup2(nothing.fileno(), file.fileno())
+
+
+def test_a_terminal_hung_up_only_where_writing_it_says_so() -> None:
+    master, slave = os.openpty()
+    os.close(master)
+    with open(slave, "w") as closed, pytest.raises(HungUp):
+        written(closed)
+    with open("/dev/full", "w") as full, pytest.raises(TerminalFailed) as failed:
+        written(full)
+    assert failed.value.failure.errno == errno.ENOSPC

@@ -88,7 +88,7 @@ def _end(desk: "Desk", screen: "Screen", name: str, console: Console) -> Status:
         return Status.FAILED
     if screen.state.is_lost:
         lines_said = screen.state.pages.lines if screen.state.pages else ()
-        console.say(*lines_said)
+        console.say(*(screen.unseen or lines_said))
         return Status.FAILED
     console.show(f"{name} is at version {screen.state.version:,}.")
     console.say(*screen.unseen)

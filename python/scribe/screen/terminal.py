@@ -30,6 +30,7 @@ from scribe.screen.encoding import in_encoding
 from scribe.screen.keyboard import Keyboard, Pasted, Stroke
 from scribe.screen.lines import CHOSEN, HEAD, LIT, MARKED, PLAIN
 from scribe.screen.state import Size, State
+from scribe.visible import visible
 
 # no colours: what is lit is reversed, what is marked is underlined
 _STYLE = Style(
@@ -84,10 +85,10 @@ class Output(Vt100_Output):
         except OSError as failure:
             if failure.errno in _CLOSED:
                 raise HungUp from failure
-            raise _TerminalFailed(failure) from failure
+            raise TerminalFailed(failure) from failure
 
 
-class _TerminalFailed(Exception):
+class TerminalFailed(Exception):
     """The terminal is there and can't be written."""
 
     def __init__(self, failure: OSError) -> None:
@@ -114,7 +115,7 @@ class Screen:
         self.is_hung_up = False
         #: The signal that ended scribe, where one did.
         self.ended_by: signal.Signals | None = None
-        #: What was said of the work with the session closed, where that came after the screen.
+        #: What has to be said after the screen is left.
         self.unseen: tuple[str, ...] = ()
         self._worker = ThreadPoolExecutor(max_workers=1)
         self._aside: Future[State] | None = None
@@ -143,11 +144,19 @@ class Screen:
             )
         except (EOFError, HungUp):
             self.is_hung_up = True
-        except _TerminalFailed as failed:
+        except TerminalFailed as failed:
             raise failed.failure from None
         finally:
             self._settle()
-            self.state = self._desk.save_draft(self.state)
+            self._keep_last()
+
+    def _keep_last(self) -> None:
+        """Keeps what is typed at the end, or has it said where it can't be kept."""
+        kept = self._desk.save_draft(self.state)
+        if kept is not self.state and kept.typed is not None:
+            typed = ("This was typed:", visible(kept.typed.text))
+            self.unseen = (*self.unseen, kept.message, *typed)
+        self.state = kept
 
     def _settle(self) -> None:
         """Waits for what is done with the session closed, which ends soon once it is to end."""
