@@ -12,6 +12,7 @@ from braildesk.bring.learning import learn
 from braildesk.bring.making import Made, make
 from braildesk.bring.oracle import Liblouis, NoLiblouis
 from braildesk.bring.reduced import needs, text_without
+from braildesk.bring.report import losses
 from braildesk.bring.shapes import Sample
 from braildesk.bring.source import find_table, read_source
 from braildesk.bring.subject import read_subject
@@ -57,6 +58,29 @@ def lines_of(folder: Path, text: str) -> list[str]:
     """The lines of that, comments aside."""
     lines = made(folder, text).draft.text().splitlines()
     return [line for line in lines if not line.startswith("#")]
+
+
+def test_a_hyphen_that_nothing_else_defines_is_a_mark(tmp_path: Path) -> None:
+    assert "punctuation - 36" in lines_of(tmp_path, LETTERS + "hyphen - 36\n")
+
+
+def test_definitions_that_cannot_be_read_are_named_with_their_lines(
+    tmp_path: Path,
+) -> None:
+    (tmp_path / "sound.utb").write_text(LETTERS)
+    broken = tmp_path / "broken.utb"
+    broken.write_text(
+        "letter a 1\ngrouping row <\nbase uppercase A\nattribute\nmath x\n"
+    )
+    with Liblouis(tmp_path / "sound.utb") as liblouis:
+        subject = read_subject(read_source(broken), liblouis)
+        said = losses(Made(Draft(), (), (), ()), subject)
+    assert said[-4:] == [
+        "Not carried over: grouping, 1 line (broken.utb 2).",
+        "Not carried over: base, 1 line (broken.utb 3).",
+        "Not carried over: attribute, 1 line (broken.utb 4).",
+        "Not carried over: math, 1 line (broken.utb 5).",
+    ]
 
 
 def test_capitals_become_pairs_with_their_signs(tmp_path: Path) -> None:

@@ -6,11 +6,15 @@ import socket
 import stat
 import subprocess
 import sys
+from collections.abc import Callable
 from pathlib import Path
 
 import pytest
 
+import braildesk
+from braildesk import CannotOpen, Why
 from braildesk.named_files import NoFile, TooLarge, open_file, read_file
+from braildesk.profile import text_at
 from strangers import NEEDS_ROOT
 from tool import Ran, environment, scribe
 
@@ -61,6 +65,31 @@ def test_a_socket_is_refused(tmp_path: Path) -> None:
         made.bind(str(tmp_path / "s"))
         with pytest.raises(NoFile, match="it is a socket and no file"):
             open_file(tmp_path / "s")
+
+
+def test_a_client_opens_no_pipe_in_place_of_a_book_or_a_table(
+    book: Path, pipe: Path
+) -> None:
+    attempts: list[Callable[[], object]] = [
+        lambda: braildesk.Session(pipe),
+        lambda: braildesk.new_book(pipe),
+        lambda: braildesk.check(pipe),
+        lambda: braildesk.export(pipe, 1),
+        lambda: braildesk.tables(pipe),
+        lambda: braildesk.copy(pipe, pipe.with_name("copied")),
+        lambda: braildesk.copy(book, pipe, overwrite=True),
+        lambda: braildesk.translate(pipe, ["a"]),
+        lambda: text_at(pipe),
+    ]
+    for attempt in attempts:
+        with pytest.raises(CannotOpen) as caught:
+            attempt()
+        assert caught.value.why is Why.NO_FILE
+        assert caught.value.sentence == (
+            f"“{pipe}” is a pipe, a socket or a device, and no file. It was not opened. Give"
+            " the path of a file."
+        )
+    assert stat.S_ISFIFO(pipe.lstat().st_mode)
 
 
 def test_a_link_to_what_is_handed_over_is_no_way_to_it(tmp_path: Path) -> None:
