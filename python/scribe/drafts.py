@@ -79,6 +79,13 @@ class Drafts:
             values.pop()
         self._write(_GIVEN_UP, {"texts": values})
 
+    def take_out(self, text: str) -> None:
+        """Takes a text out of those given up: it is typed further, and waits until it is sent."""
+        texts = self.given_up()
+        others = [each.values() for each in texts if each.text != text]
+        if len(others) < len(texts):
+            self._write(_GIVEN_UP, {"texts": others})
+
     def given_up(self) -> tuple[Draft, ...]:
         """The texts that were given up, the newest first."""
         return self._read(_GIVEN_UP, _drafts_in) or ()

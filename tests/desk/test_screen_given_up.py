@@ -35,7 +35,7 @@ def test_what_escape_gives_up_comes_back_by_a_key(moon: Path, sit: Sit) -> None:
     assert (sat.state.typed, sat.desk.drafts.waiting()) == (None, None)
     sat.press("c-end", "U")
     assert asked(sat) == (
-        "1 of 1. A text of a new paragraph was typed and not sent: “It rose.”. Shall it be typed"
+        "1 of 1. A text of a new paragraph was set aside: “It rose.”. Shall it be typed"
         " further? y is yes, n is no."
     )
     sat.press("y", "enter")
@@ -57,18 +57,20 @@ def test_what_was_given_up_comes_back_when_the_book_is_opened_again(
         again.press("U")
         sentences.append(asked(again).split(" Shall")[0])
     assert sentences == [
-        "1 of 3. A text of a new paragraph was typed and not sent: “It rose.”.",
-        "2 of 3. A note for a mark in paragraph 2 was typed and not sent: “who?”.",
-        "3 of 3. A text of paragraph 2 was typed and not sent: “Oh, The Tides”.",
-        "1 of 3. A text of a new paragraph was typed and not sent: “It rose.”.",
+        "1 of 3. A text of a new paragraph was set aside: “It rose.”.",
+        "2 of 3. A note for a mark in paragraph 2 was set aside: “who?”.",
+        "3 of 3. A text of paragraph 2 was set aside: “Oh, The Tides”.",
+        "1 of 3. A text of a new paragraph was set aside: “It rose.”.",
     ]
     assert asked(again).endswith("n is no. U asks about the one before.")
     again.press("n")
     assert again.state.message == "Nothing was sent. U asks about it again."
     again.press("U", "U", "y", "enter")
     assert again.state.kept == "kept: mark 2"
-    again.press("U", "U", "U", "y", "enter")
+    # what the book has isn't asked about any more
+    again.press("U", "U", "y", "enter")
     assert again.state.kept == "kept: correction 1 of paragraph 2"
+    assert [each.text for each in again.desk.drafts.given_up()] == ["It rose."]
 
 
 def test_the_last_ten_texts_are_kept(moon: Path, sit: Sit) -> None:
@@ -124,7 +126,7 @@ def test_a_text_that_is_left_for_later_waits_through_other_work(
     again = sit(moon)
     assert "“The Tide”" in asked(again)
     again.press("l", "U")
-    assert asked(again).startswith("1 of 1. A text of paragraph 2 was typed and not")
+    assert asked(again).startswith("1 of 1. A text of paragraph 2 was set aside: ")
     again.press("y", "enter")
     assert again.state.kept == "kept: correction 1 of paragraph 2"
     assert again.desk.drafts.waiting() is None

@@ -116,11 +116,11 @@ class Desk:
 
     def press(self, state: State, key: str) -> State:
         """The state after a key, once what it asks for was answered."""
-        step = keys.step(state, key)
         asked = state.question.draft if state.question else None
-        if asked is not None and step.state.typed is not None:
-            self._unsent.take_up(asked.text)
-        return self._taken(step).after(state)
+        found = self._taken(keys.step(state, key))
+        if asked is not None and found.typed is not None:
+            found = self._taken_up(found, asked)
+        return found.after(state)
 
     def paste(self, state: State, text: str) -> State:
         """The state after text was pasted, with what its table lacks before it is sent."""
@@ -324,7 +324,9 @@ class Desk:
             saved = rest
         return self._asked_about(state, saved)
 
-    def _asked_about(self, state: State, saved: Draft) -> State:
+    def _asked_about(
+        self, state: State, saved: Draft, became: str = "was typed and not sent"
+    ) -> State:
         """Asks whether a text that waits is taken up, at its paragraph."""
         places = [n for n, each in enumerate(state.book) if each.id == saved.paragraph]
         changed = ""
@@ -334,7 +336,7 @@ class Desk:
             if not saved.aim.is_new and now != saved.before:
                 changed = " The print there has been changed since."
         amount = _amount(saved)
-        sentence = f"{saved.what} was typed and not sent: {quoted(saved.joined)}.{amount}{changed}"
+        sentence = f"{saved.what} {became}: {quoted(saved.joined)}.{amount}{changed}"
         field = field_of(saved)
         if saved.aim is Aim.NOTE and places:
             state = self._on_cells(state, saved)
@@ -613,13 +615,24 @@ class Desk:
             return state
         return replace(state, typed=None, preview=None, anchor=None)
 
+    def _taken_up(self, state: State, text: Field) -> State:
+        """The state in which a text is typed further, which waits from now on."""
+        draft = draft_of(state)
+        try:
+            if draft is not None:
+                self._unsent.take_up(draft, text.text)
+        except NotKept as fault:
+            return state.saying(fault.sentence)
+        return state
+
     def _brought_back(self, state: State, place: int) -> State:
         """Asks about a text that was given up, or left for later."""
         texts = self._unsent.texts()
         if not texts:
             return state.saying("No text was given up in this book.")
         place %= len(texts)
-        state = self._asked_about(replace(state, question=None), texts[place])
+        state = replace(state, question=None)
+        state = self._asked_about(state, texts[place], "was set aside")
         assert state.question is not None
         sentence = f"{place + 1} of {len(texts)}. {state.question.sentence}"
         more = "U asks about the one before." if len(texts) > 1 else ""

@@ -51,10 +51,13 @@ class Unsent:
         """Leaves the text that waits for later."""
         self._later = self.waiting
 
-    def take_up(self, text: str) -> None:
-        """Has a text be typed further, so that it isn't left for later any more."""
+    def take_up(self, draft: Draft, text: str) -> None:
+        """Has a text be typed further, which was given up or left for later; may raise `NotKept`."""
         if self._later is not None and self._later.text == text:
             self._later = None
+        self.keep(draft)
+        self._here = [each for each in self._here if each.text != text]
+        self._drafts.take_out(text)
 
     def texts(self) -> tuple[Draft, ...]:
         """The text that is left for later, and those given up, the newest first."""
