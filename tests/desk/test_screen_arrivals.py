@@ -1,11 +1,16 @@
 """Keys that come faster than hands type: by times that are written here, without waiting."""
 
+import os
 import random
+import time
+from pathlib import Path
 
 import pytest
 
 from scribe.screen.arrivals import Arrivals
 from scribe.screen.keyboard import Keyboard, Pasted, Stroke
+from stand_in import READ, WAIT
+from terminal import Open, standing_in
 
 
 def done_with(*came: tuple[float, str]) -> list[Stroke]:
@@ -97,3 +102,21 @@ def test_what_comes_is_done_once_and_in_its_order_however_it_comes() -> None:
             for each in done_with(*came)
         ]
         assert "".join(done) == text
+
+
+def test_keys_that_were_typed_while_a_command_was_under_way_act_one_by_one(
+    moon: Path, at: Open
+) -> None:
+    queue = moon.parent / "queue"
+    os.mkfifo(queue)
+    terminal = at(moon, **standing_in(1, READ, WAIT, str(queue)))
+    terminal.wait("? shows all keys.")
+    terminal.keys("s")
+    queue.read_bytes()
+    for key in "bvbs":
+        terminal.send(key)
+        time.sleep(0.06)
+    queue.write_bytes(b"")
+    terminal.wait("version 12, ")
+    terminal.keys("q")
+    assert terminal.ended() == 0

@@ -11,7 +11,8 @@ from braildesk import Session
 from scribe.draft import Aim, Draft
 from scribe.drafts import Drafts
 from sitting import Sat, Sit
-from terminal import Open
+from stand_in import KEPT, KILL_PROGRAM
+from terminal import Open, standing_in
 
 LONG = "Twice a day the sea comes up, and twice it goes down again."
 
@@ -225,6 +226,23 @@ def test_lines_that_were_pasted_into_an_edit_and_cut_short_go_on(
     sat.press("y", "y")
     prints = [sat.state.openings[each.id].words for each in sat.state.book]
     assert prints[1:4] == ["The Tides of", "the sea.", "They come."]
+
+
+def test_lines_pasted_into_an_edit_go_on_after_the_one_that_is_in_the_book(
+    moon: Path, sit: Sit, monkeypatch: pytest.MonkeyPatch
+) -> None:
+    with monkeypatch.context() as patched:
+        for name, value in standing_in(1, KEPT, KILL_PROGRAM).items():
+            patched.setenv(name, value)
+        sat = sit(moon)
+        sat.press("down", "enter", "end")
+        paste(sat, " of\nthe sea.\nThey come.")
+        sat.press("y")
+    assert sat.state.is_lost
+    sat.press("enter", "y", "y")
+    prints = [sat.state.openings[each.id].words for each in sat.state.book]
+    assert prints[1:4] == ["The Tides of", "the sea.", "They come."]
+    assert sat.state.version == 10
 
 
 def test_an_unbracketed_paste_at_the_terminal_changes_nothing_and_comes_back(
