@@ -8,6 +8,7 @@ import stat
 import tempfile
 from collections.abc import Callable, Iterator
 from dataclasses import replace
+from functools import partial
 from pathlib import Path
 
 import pytest
@@ -309,15 +310,20 @@ def test_a_link_from_a_tar_leads_no_text_into_another_file(
 
 
 @NEEDS_ROOT
-def test_a_link_that_another_user_makes_leads_no_text_into_ones_own_file(
-    shared: Path, sit: Sit, tmp_path: Path
+@pytest.mark.parametrize("kind", ["a link", "a FIFO"])
+def test_what_another_user_puts_beside_a_book_while_it_is_typed_gets_no_text(
+    shared: Path, sit: Sit, tmp_path: Path, kind: str
 ) -> None:
-    mine = tmp_path / ".bash_aliases"
+    mine, beside = tmp_path / ".bash_aliases", Path(f"{shared}-unsent")
     mine.write_text("alias ll='ls -l'\n")
     sat = sit(shared)
     sat.press("enter", "O")
-    beside = shared.with_name("moon.braildesk-unsent")
-    assert as_stranger(lambda: beside.symlink_to(mine)) == ""
+    put = (
+        partial(beside.symlink_to, mine)
+        if kind == "a link"
+        else partial(os.mkfifo, beside)
+    )
+    assert as_stranger(put) == ""
     sat.state = sat.desk.save_draft(sat.state)
     sat.press("enter")
     assert sat.state.kept == "kept: correction 2 of paragraph 1"
