@@ -5,17 +5,20 @@ import os
 import shutil
 import signal
 from collections.abc import Callable
+from io import BytesIO, StringIO
 from pathlib import Path
 
 import pytest
 
 from braildesk import Session
+from scribe.cli import run_words
+from scribe.console import Console
 from scribe.drafts import Drafts
 from scribe.import_note import ImportNote
 from sitting import Sat, Sit
 from stand_in import KEPT, KILL_BOTH, READ
 from terminal import standing_in
-from test_import import TEXT, prints, put, version
+from test_import import TEXT, prints, version
 from tool import Ran, scribe
 
 LINES = [f"Line number {number} of the moon." for number in range(1, 13)]
@@ -49,8 +52,27 @@ def killed(front: Path) -> Path:
     return front
 
 
+@pytest.fixture(autouse=True)
+def folder(tmp_path: Path, monkeypatch: pytest.MonkeyPatch) -> None:
+    """Has the tests work where the text is."""
+    monkeypatch.chdir(tmp_path)
+
+
+def ran(*words: str | Path) -> Ran:
+    """What comes of a command."""
+    console = Console(BytesIO(), shown := StringIO(), said := StringIO())
+    status = run_words(list(map(str, words)), console)
+    return Ran(status, shown.getvalue(), said.getvalue())
+
+
 def again(book: Path, *words: str) -> Ran:
-    return scribe("import", book, "text.txt", *words, folder=book.parent)
+    return ran("import", book, "text.txt", *words)
+
+
+def put(book: Path, text: str, *words: str) -> Ran:
+    """Imports a text that is written beside the book."""
+    (book.parent / "text.txt").write_text(text)
+    return again(book, *words)
 
 
 def ended(
@@ -60,7 +82,8 @@ def ended(
     with patch.context() as patched:
         for name, value in standing_in(number, far, KILL_BOTH).items():
             patched.setenv(name, value)
-        assert again(book, *words).status == -signal.SIGKILL
+        done = scribe("import", book, "text.txt", *words, folder=book.parent)
+    assert done.status == -signal.SIGKILL
 
 
 def test_an_import_is_noted_before_its_first_paragraph_is_typed(
@@ -82,20 +105,19 @@ def where(kept: int) -> str:
 def test_show_says_where_an_import_was_cut_short_and_how_it_goes_on(
     killed: Path,
 ) -> None:
-    folder = killed.parent
-    ran = scribe("show", killed, "--paragraphs", "1", "--print", folder=folder)
-    assert ran == Ran(
+    found = ran("show", killed, "--paragraphs", "1", "--print")
+    assert found == Ran(
         0,
         "Paragraph 1, body\nfront\n",
         f"{where(5)}\n"
-        f"Go on by: scribe import {killed} {folder}/text.txt --continue\n"
-        f"Leave the rest out by: scribe import {killed} {folder}/text.txt --leave\n",
+        f"Go on by: scribe import {killed} {killed.parent}/text.txt --continue\n"
+        f"Leave the rest out by: scribe import {killed} {killed.parent}/text.txt --leave\n",
     )
     assert again(killed, "--continue").shown == (
         "7 paragraphs typed, numbers 8 to 14, by the table en.\n"
     )
     assert prints(killed) == ["front", *LINES, "end"]
-    assert scribe("show", killed, "--paragraphs", "1", folder=folder).said == ""
+    assert ran("show", killed, "--paragraphs", "1").said == ""
 
 
 def test_the_same_import_is_refused_where_it_was_cut_short(killed: Path) -> None:
@@ -106,7 +128,7 @@ def test_the_same_import_is_refused_where_it_was_cut_short(killed: Path) -> None
     assert again(killed) == Ran(2, "", asked)
     assert again(killed, "--lines", "--dry-run") == Ran(2, "", asked)
     shutil.copyfile(killed.parent / "text.txt", killed.parent / "copy.txt")
-    assert scribe("import", killed, "copy.txt", folder=killed.parent).said == asked
+    assert ran("import", killed, "copy.txt").said == asked
     assert prints(killed) == ["front", *LINES[:5], "end"]
 
 
@@ -121,7 +143,7 @@ def test_an_import_that_was_cut_short_is_done_anew_where_that_is_asked_for(
 ) -> None:
     assert again(killed, "--lines", "--again").status == 0
     assert prints(killed) == ["front", *LINES[:5], "end", *LINES]
-    assert scribe("show", killed, folder=killed.parent).said == ""
+    assert ran("show", killed).said == ""
 
 
 def test_the_rest_of_an_import_can_be_left_out(killed: Path) -> None:
@@ -129,7 +151,7 @@ def test_the_rest_of_an_import_can_be_left_out(killed: Path) -> None:
         0, "The rest of text.txt is left out. What is in the book stays there.\n", ""
     )
     assert prints(killed) == ["front", *LINES[:5], "end"]
-    assert scribe("show", killed, folder=killed.parent).said == ""
+    assert ran("show", killed).said == ""
     none = "No import of text.txt is known that was cut short."
     assert again(killed, "--leave") == Ran(2, "", f"{none}\n")
     assert again(killed, "--continue") == Ran(2, "", f"{none} Nothing was typed.\n")
@@ -151,7 +173,7 @@ def test_an_import_that_was_taken_back_is_not_called_cut_short(killed: Path) -> 
     with Session(killed) as session:
         for number in range(3, 8):
             session.strike(number)
-    assert scribe("show", killed, folder=killed.parent).said == ""
+    assert ran("show", killed).said == ""
     assert Drafts(killed).imports() == ()
 
 
@@ -163,7 +185,7 @@ def test_an_import_of_which_nothing_or_all_is_in_the_book_is_not_called_cut_shor
     with Session(front) as session:
         for line in LINES[:kept]:
             session.type("end", "en", line)
-    assert scribe("show", front, folder=front.parent).said == ""
+    assert ran("show", front).said == ""
     assert Drafts(front).imports() == ()
 
 
@@ -188,8 +210,8 @@ def test_a_text_that_is_another_now_shows_nothing_of_where_its_import_stopped(
     killed: Path, change: Callable[[Path], object], why: str
 ) -> None:
     change(killed.parent / "text.txt")
-    ran = scribe("show", killed, "--paragraphs", "1", folder=killed.parent)
-    assert ran.said.startswith(
+    found = ran("show", killed, "--paragraphs", "1")
+    assert found.said.startswith(
         f"The import of text.txt was cut short, and {killed.parent}/text.txt {why}. So how much of"
         " it is in the book can't be seen: the book had 2 paragraphs before, and the text"
         f" 12.\nLeave the rest out by: scribe import {killed} "
@@ -201,8 +223,8 @@ def test_a_text_that_was_changed_since_is_not_imported_before_that_is_decided(
 ) -> None:
     (killed.parent / "text.txt").write_text("Other")
     for words in ("", "--continue"):
-        ran = again(killed, *words.split())
-        assert ran.status == 2 and ran.said.endswith(
+        found = again(killed, *words.split())
+        assert found.status == 2 and found.said.endswith(
             "\n--from goes on at a line of the text, --again types all of it, and --leave leaves"
             " the rest out. Nothing was typed.\n"
         )
@@ -311,11 +333,11 @@ def test_a_text_is_recognized_where_it_would_go(book: Path, place: str) -> None:
     assert put(book, "One.\n\nTwo.\n", "--after", "front").status == 0
     with Session(book) as session:
         assert [each.id for each in session.list()] == [2, 3, 1]
-    ran = put(book, "One.\n\nTwo.\n", "--after", place)
+    found = put(book, "One.\n\nTwo.\n", "--after", place)
     if place == "1":
-        assert ran.status == 0
+        assert found.status == 0
     else:
-        assert ran.said.startswith(
+        assert found.said.startswith(
             "text.txt stands there in the book already, from paragraph 2 to paragraph 3.\n"
         )
 
@@ -352,12 +374,12 @@ def test_the_desk_asks_before_it_imports_a_text_once_more(moon: Path, sit: Sit) 
     assert len(sat.state.book) == 7
 
 
-def test_an_import_is_done_where_it_can_not_be_noted(book: Path) -> None:
-    (book.parent / "text.txt").write_text(TEXT)
-    ran = scribe(
-        "import", book, "text.txt", folder=book.parent, XDG_STATE_HOME=str(book)
-    )
-    assert (ran.status, ran.said) == (
+def test_an_import_is_done_where_it_can_not_be_noted(
+    book: Path, monkeypatch: pytest.MonkeyPatch
+) -> None:
+    monkeypatch.setenv("XDG_STATE_HOME", str(book))
+    found = put(book, TEXT)
+    assert (found.status, found.said) == (
         0,
         f"How far the import comes can't be kept in {book}/braildesk: Not a directory.\n",
     )
