@@ -12,12 +12,14 @@ Nothing is done to a book but by requests to the program. ``docs/CLIENT.md`` des
 """
 
 from braildesk import limits, requests
-from braildesk.files import NotCopied, copy, tables
-from braildesk.program import NoProgram, check, export, find, new_book, translate
+from braildesk.files import tables
+from braildesk.making import NotCopied, NotMade, copy, new_book
+from braildesk.program import NoProgram, check, export, find, translate
 from braildesk.refusals import (
     CannotOpen,
     Damaged,
     DeskError,
+    Displaced,
     Failed,
     Lost,
     NewerFormat,
@@ -49,6 +51,7 @@ __all__ = [
     "Corrected",
     "Damaged",
     "DeskError",
+    "Displaced",
     "Done",
     "Entry",
     "Failed",
@@ -61,6 +64,7 @@ __all__ = [
     "NoProgram",
     "NotABook",
     "NotCopied",
+    "NotMade",
     "Paragraph",
     "Refused",
     "Session",

@@ -19,19 +19,31 @@ _LOCK = struct.Struct("hhqqi0q")
 
 def take_shared(file: BinaryIO) -> bool:
     """Keeps programs from using the file until it is closed, unless one uses it already."""
-    try:
-        fcntl.fcntl(file, fcntl.F_OFD_SETLK, _lock(fcntl.F_RDLCK))
-    except OSError as error:
-        if error.errno in (errno.EACCES, errno.EAGAIN):
-            return False
-        raise
-    return True
+    return _take(file, fcntl.F_RDLCK)
+
+
+def take_alone(file: BinaryIO) -> bool:
+    """Keeps all others from using or reading the file until it is closed, unless one does so.
+
+    The file is open for writing.
+    """
+    return _take(file, fcntl.F_WRLCK)
 
 
 def is_used(file: BinaryIO) -> bool:
     """Whether a program uses the file, or reads it with a shared lock."""
     found: bytes = fcntl.fcntl(file, fcntl.F_OFD_GETLK, _lock(fcntl.F_WRLCK))
     return bool(_LOCK.unpack(found)[0] != fcntl.F_UNLCK)
+
+
+def _take(file: BinaryIO, kind: int) -> bool:
+    try:
+        fcntl.fcntl(file, fcntl.F_OFD_SETLK, _lock(kind))
+    except OSError as error:
+        if error.errno in (errno.EACCES, errno.EAGAIN):
+            return False
+        raise
+    return True
 
 
 def _lock(kind: int) -> bytes:

@@ -7,6 +7,7 @@ from typing import BinaryIO
 
 from braildesk import limits, locks
 from braildesk.asked import AskedOfFile, NewBook, TableFile
+from braildesk.places import log_path
 from braildesk.sentences import Why
 
 _MAGIC = b"SQLite format 3\0"
@@ -85,6 +86,8 @@ def _why_regular(asked: AskedOfFile) -> Why:
                 else Why.UNKNOWN
             )
     with open(asked.path, "rb") as file:
+        if os.fstat(file.fileno()).st_nlink > 1:
+            return Why.LINKED
         if locks.is_used(file):
             return Why.IN_USE
         found = why_contents(file)
@@ -112,10 +115,9 @@ def _size_in(header: bytes) -> int:
 
 
 def _may_write(path: str) -> bool:
-    """Whether the file, the one beside it and its folder may be written."""
-    folder = os.path.dirname(os.path.abspath(path))
-    beside = path + "-wal"
-    files = [path, beside] if os.path.exists(beside) else [path]
-    return os.access(folder, os.W_OK | os.X_OK) and all(
+    """Whether the file, the log beside it and its folder may be read and written."""
+    log = log_path(path)
+    files = [path, log] if os.path.exists(log) else [path]
+    return os.access(os.path.dirname(log), os.R_OK | os.W_OK | os.X_OK) and all(
         os.access(f, os.R_OK | os.W_OK) for f in files
     )

@@ -4,6 +4,7 @@ import os
 import re
 import shutil
 import subprocess
+import tempfile
 from collections.abc import Iterable, Iterator
 from contextlib import contextmanager
 from os import PathLike, fspath
@@ -12,6 +13,7 @@ from pathlib import Path
 from braildesk import limits, opening
 from braildesk.asked import AskedOfFile, BookFile, Line, NewBook, Pages, TableFile
 from braildesk.named_files import read_file
+from braildesk.places import has_work, log_path
 from braildesk.refusals import (
     CannotOpen,
     DeskError,
@@ -23,11 +25,15 @@ from braildesk.refusals import (
 )
 from braildesk.sentences import Why
 from braildesk.values import Table
+from braildesk.waiting import waited
 from braildesk.wording import Refusal
+from braildesk.workshop import copy_bytes
 
 StrPath = str | PathLike[str]
 
 _CHECKOUT = Path(__file__).resolve().parents[2]
+#: By which codes a file is refused that has the log of another beside it.
+_DAMAGED = (92, 93, 98)
 _CODE = re.compile(r"(?:braildesk: )?no ([0-9 ]+)")
 
 
@@ -58,19 +64,24 @@ def find(program: StrPath | None = None) -> str:
     )
 
 
-def new_book(path: StrPath, program: StrPath | None = None) -> None:
-    """Makes an empty book in a file.
+def make_book(
+    path: StrPath, program: StrPath | None = None, named: StrPath | None = None
+) -> None:
+    """Makes an empty book in a file, which is called by another name where it is refused."""
+    asked = NewBook(fspath(path if named is None else named))
+    _run(program, ["new", "--", _word(NewBook(fspath(path)))], asked)
 
-    A file with an empty book is taken as it is; one with another book is refused (99).
+
+def check(
+    path: StrPath, program: StrPath | None = None, *, timeout: float = 0.0
+) -> int:
+    """The version of the book in a file.
+
+    While another program has the book open, this is tried again for ``timeout`` seconds.
     """
-    asked = NewBook(fspath(path))
-    _run(program, ["new", "--", _word(asked)], asked)
-
-
-def check(path: StrPath, program: StrPath | None = None) -> int:
-    """The version of the book in a file."""
     asked = BookFile(fspath(path))
-    answer = _run(program, ["check", "--", _word(asked)], asked)
+    words = ["check", "--", _word(asked)]
+    answer = waited(lambda: _run(program, words, asked), timeout)
     return int(answer.removeprefix(b"ok "))
 
 
@@ -80,15 +91,21 @@ def export(
     width: int = 40,
     lines: int = 25,
     program: StrPath | None = None,
+    *,
+    timeout: float = 0.0,
 ) -> bytes:
-    """The pages of a volume, in Braille Ready Format."""
+    """The pages of a volume, in Braille Ready Format.
+
+    While another program has the book open, this is tried again for ``timeout`` seconds.
+    """
     asked = Pages(fspath(path), volume, width, lines)
     if not 1 <= volume <= limits.PARAGRAPHS:
         raise refused(96, (), asked)
     if not (_is_within(width, limits.WIDTHS) and _is_within(lines, limits.PAGE_LINES)):
         raise refused(97, (), asked)
     sizes = ["--width", str(width), "--lines", str(lines)]
-    return _run(program, ["export", *sizes, "--", _word(asked), str(volume)], asked)
+    words = ["export", *sizes, "--", _word(asked), str(volume)]
+    return waited(lambda: _run(program, words, asked), timeout)
 
 
 def translate(
@@ -122,16 +139,34 @@ def cannot_run(program: str, error: OSError) -> NoProgram:
     return NoProgram(f"The program “{program}” can't be run: {error.strerror}.")
 
 
-def unopened(status: int, errors: str, asked: AskedOfFile) -> DeskError:
+def unopened(status: int, errors: str, asked: AskedOfFile, program: str) -> DeskError:
     """Why the program ended with a status other than 0."""
     if status == 2 and (found := _CODE.search(errors)):
         code, *numbers = map(int, found[1].split())
+        why = opening.why(asked) if code == 98 else Why.UNKNOWN
+        if code in _DAMAGED and why is Why.UNKNOWN and _is_whole_alone(asked, program):
+            return cannot_open(asked, Why.OTHER_LOG)
         if code == 98:
-            return cannot_open(asked, opening.why(asked))
+            return cannot_open(asked, why)
         if code == 8 and isinstance(asked, TableFile):
             asked = TableFile(asked.path, asked.text or _text_at(asked.path))
         return refused(code, tuple(numbers), asked)
     return Failed(_failure(status, errors))
+
+
+def _is_whole_alone(asked: AskedOfFile, program: str) -> bool:
+    """Whether a file that is refused is a book without the log beside it."""
+    if isinstance(asked, TableFile) or not has_work(log_path(asked.path)):
+        return False
+    try:
+        with tempfile.TemporaryDirectory() as folder:
+            alone = Path(folder, "book")
+            with open(asked.path, "rb") as file, open(alone, "xb") as written:
+                copy_bytes(file.fileno(), written.fileno())
+            check(alone, program)
+    except (OSError, DeskError):
+        return False
+    return True
 
 
 def _failure(status: int, errors: str) -> str:
@@ -205,7 +240,9 @@ def _run(
     except OSError as error:
         raise cannot_run(found, error) from error
     if done.returncode:
-        raise unopened(done.returncode, done.stderr.decode(errors="replace"), asked)
+        raise unopened(
+            done.returncode, done.stderr.decode(errors="replace"), asked, found
+        )
     return done.stdout
 
 

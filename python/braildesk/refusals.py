@@ -149,23 +149,37 @@ class Lost(Failed):
 
     ``acknowledged`` is the last command that was reported as kept, ``answered`` how many requests
     of the session were answered, and ``version`` the version that the book was last reported at.
+    ``unanswered`` are the commands that were sent and not reported as kept: each of them may be in
+    the book, in their order. ``cause`` is the front of the sentence, which says what happened.
     """
 
     def __init__(
         self,
-        sentence: str,
+        cause: str,
+        kept: str,
         acknowledged: Request[Any] | None,
         answered: int,
         version: int,
+        unanswered: tuple[Request[Any], ...] = (),
     ) -> None:
-        super().__init__(sentence)
+        super().__init__(f"{cause} {kept}")
+        self.cause = cause
         self.acknowledged = acknowledged
         self.answered = answered
         self.version = version
+        self.unanswered = unanswered
 
 
 class SessionEnded(Lost):
     """The program of a session ended, or was ended, before it answered."""
+
+
+class Displaced(Lost):
+    """The file of a session's book was removed, renamed or replaced while it was open.
+
+    What was acknowledged is in that file, and isn't in what stands at the path. The sentence says
+    where all of it was saved.
+    """
 
 
 _KINDS: Mapping[int, type[Refused]] = {

@@ -21,6 +21,8 @@ class Why(StrEnum):
     READ_ONLY = "read-only"
     NO_ROOM = "no room"
     IN_USE = "in use"
+    LINKED = "linked"
+    OTHER_LOG = "log of another"
     CUT_SHORT = "cut short"
     TOO_LARGE = "too large"
     NO_PATH = "no path"
@@ -57,9 +59,8 @@ SENTENCES = MappingProxyType(
         18: "{who} can't be the name of a proofreader. {nothing} A name has 1 to"
         f" {limits.WHO_CHARACTERS} characters, none of them a blank.",
         90: "There was no memory for this. {nothing} Close other programs, and ask again.",
-        91: "{command} could not be kept, since the file of the book could not be written or"
-        " read. All that was reported as kept before is in the book. See to the disk, and open"
-        " the book again: its version shows whether this is kept too.",
+        91: "{command} was not reported as kept, since the file of the book could not be written or"
+        " read. See to the disk.",
         92: "{path} is no book. Nothing was changed. Check that the path is right.",
         93: "The book {path} is damaged: its file has a wrong row in {part}. Nothing was changed."
         " Keep the file as it is, and go on with an earlier copy.",
@@ -139,6 +140,12 @@ UNOPENED = MappingProxyType(
         Why.NO_DATABASE: "{path} is no book, since it isn't even a database. Nothing was changed."
         " Check that the path is right.",
         Why.IN_USE: "Another program has {path} open. Nothing was changed. End that one first.",
+        Why.LINKED: "The file {path} has another name too (a hard link). By each name its newest"
+        " work would be looked for in another place, so it is opened by none. Nothing was changed."
+        " Remove the other name, and keep the one that has a file ending in -wal beside it.",
+        Why.OTHER_LOG: "The file {log} isn't that of {path} as it is: {path} is whole without it,"
+        " and damaged with it. It may be that an earlier copy was put in the place of the book."
+        " Nothing was changed. Keep both files; to go on with {path} as it is, move {log} away.",
         Why.CUT_SHORT: "The book {path} is cut short: its end is missing. Nothing was changed."
         " Keep the file as it is, and go on with an earlier copy.",
         Why.TOO_LARGE: f"{{path}} is too large for a table, which has at most"

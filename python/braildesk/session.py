@@ -1,7 +1,7 @@
 """A session with a book: requests go to the program, and values come back."""
 
 from collections import deque
-from collections.abc import Callable, Generator, Iterable, Iterator
+from collections.abc import Callable, Generator, Iterable, Iterator, Sequence
 from dataclasses import replace
 from os import fspath
 from types import TracebackType
@@ -11,11 +11,22 @@ from braildesk import program as programs
 from braildesk import requests
 from braildesk.answers import answer
 from braildesk.asked import BookFile
+from braildesk.characters import shortened
+from braildesk.openfile import OpenFile
 from braildesk.pipe import Ending, Pipe
 from braildesk.program import StrPath
-from braildesk.refusals import Failed, Lost, Refused, SessionEnded, refused, refused_as
+from braildesk.refusals import (
+    DeskError,
+    Displaced,
+    Failed,
+    Lost,
+    Refused,
+    SessionEnded,
+    refused,
+    refused_as,
+)
 from braildesk.replies import Reply, Unreadable
-from braildesk.requests import Answer, Request, Unwritable
+from braildesk.requests import Answer, Command, Request, Unwritable
 from braildesk.values import (
     After,
     Corrected,
@@ -27,6 +38,7 @@ from braildesk.values import (
     Style,
     Typed,
 )
+from braildesk.waiting import waited
 from braildesk.wording import Refusal, in_words
 
 #: How many requests are under way at most, and how many bytes of them wait to be written. More
@@ -44,11 +56,20 @@ class Session:
 
     There is a method for each command and query, named as the request. A command is kept in the
     file before its method returns. ``expect`` is the version that the book has to be at.
+
+    While another program has the book open, the session tries again for ``timeout`` seconds.
     """
 
-    def __init__(self, path: StrPath, program: StrPath | None = None) -> None:
+    def __init__(
+        self,
+        path: StrPath,
+        program: StrPath | None = None,
+        *,
+        timeout: float = 0.0,
+    ) -> None:
         self._book = BookFile(fspath(path))
-        self._pipe = _started(programs.session_words(path, program))
+        self._program = program
+        self._pipe, self._file, self._seen = waited(self._open, timeout)
         #: The requests of ``each`` whose answers weren't taken yet, in order.
         self._sent: deque[Request[Any] | Refused] = deque()
         self._is_streaming = False
@@ -56,8 +77,6 @@ class Session:
         self._lost: Lost | None = None
         self._acknowledged: Request[Any] | None = None
         self._answered = 0
-        self._seen = 0
-        self._open()
 
     def __enter__(self) -> Self:
         return self
@@ -86,7 +105,10 @@ class Session:
         self._is_closed = True
         ending = self._pipe.close()
         if ending.status:
-            raise self._lose(SessionEnded, f"{_ended(ending)} {self._kept()}")
+            raise self._lose(SessionEnded, _ended(ending))
+        if self._acknowledged is not None and not self._file.is_at_its_path:
+            raise self._displaced()
+        self._file.close()
 
     @property
     def seen(self) -> int:
@@ -133,21 +155,22 @@ class Session:
         finally:
             self._is_streaming = False
 
-    def _open(self) -> None:
-        """Waits for the first reply, which comes where the book was opened."""
-        version = requests.Version()
-        self._pipe.send(version.encoded())
-        try:
-            reply = self._pipe.reply()
-        except Unreadable as error:
-            self._pipe.kill()
-            self._pipe.close()
-            raise Failed(str(error)) from None
-        if reply is None:
-            ending = self._pipe.close()
-            raise programs.unopened(ending.status, ending.errors, self._book)
-        self._seen = answer(version, reply)
-        self._pipe.mend()
+    def _open(self) -> tuple[Pipe, OpenFile, int]:
+        """The pipes to the program, the file that it has open, and the version of the book."""
+        words = programs.session_words(self._book.path, self._program)
+        while True:
+            file = OpenFile(self._book.path)
+            try:
+                pipe = _started(words)
+                version = _first_version(pipe, self._book, words[0])
+            except BaseException:
+                file.close()
+                raise
+            if file.is_at_its_path:
+                return pipe, file, version
+            # another file was put there while the program opened it
+            pipe.close()
+            file.close()
 
     def _ready(self, request: Request[Any]) -> bytes:
         """The bytes of a request, where the session can take it."""
@@ -195,9 +218,7 @@ class Session:
         if self._lost is not None:
             raise self._lost
         if self._pipe.is_torn:
-            raise self._lose(
-                SessionEnded, f"{_ended(self._pipe.close())} {self._kept()}"
-            )
+            raise self._lose(SessionEnded, _ended(self._pipe.close()))
         if self._is_closed:
             raise RuntimeError("the session is closed")
 
@@ -223,11 +244,13 @@ class Session:
         except Unreadable as error:
             self._pipe.kill()
             self._pipe.close()
-            raise self._lose(SessionEnded, f"{error} {self._kept()}") from None
+            raise self._lose(SessionEnded, str(error)) from None
         if reply is None:
-            raise self._lose(
-                SessionEnded, f"{_ended(self._pipe.close())} {self._kept()}"
-            )
+            raise self._lose(SessionEnded, _ended(self._pipe.close()))
+        if reply.word == "no" and reply.numbers[0] == 91:
+            self._answered += 1
+            self._pipe.close()
+            raise self._lose(Lost, refused(91, (), request).sentence)
         self._sent.popleft()
         self._answered += 1
         if reply.word != "no":
@@ -235,9 +258,8 @@ class Session:
             if reply.word == "ok":
                 self._acknowledged = request
         self._pipe.mend()
-        if reply.word == "no" and reply.numbers[0] == 91:
-            self._pipe.close()
-            raise self._lose(Lost, refused(91, (), request).sentence)
+        if reply.word == "ok" and not self._file.is_at_its_path:
+            raise self._displaced()
         return reply
 
     def _explained(self, refusal: Refused) -> Refused:
@@ -253,20 +275,74 @@ class Session:
             pass
         return refusal
 
-    def _lose(self, kind: type[Lost], sentence: str) -> Lost:
+    def _lose(self, kind: type[Lost], cause: str) -> Lost:
         """The exception of a session that can't go on."""
         self._is_closed = True
-        self._lost = kind(sentence, self._acknowledged, self._answered, self._seen)
+        for _ in range(self._pipe.drop()):
+            # what was never written to the program isn't in the book
+            while isinstance(self._sent.pop(), Refused):
+                pass
+        waiting = tuple(each for each in self._sent if isinstance(each, Command))
+        kept = self._kept(waiting)
+        self._lost = self._lost_as(kind, cause, kept, waiting)
+        self._file.close()
         return self._lost
 
-    def _kept(self) -> str:
-        """What is in the book after all."""
-        if self._acknowledged is None:
-            return "Nothing was changed by this session."
+    def _lost_as(
+        self,
+        kind: type[Lost],
+        cause: str,
+        kept: str,
+        waiting: tuple[Command[Any], ...] = (),
+    ) -> Lost:
+        return kind(
+            cause, kept, self._acknowledged, self._answered, self._seen, waiting
+        )
+
+    def _displaced(self) -> Lost:
+        """The exception of a session whose file isn't at its path any more, with all of it saved."""
+        self._is_closed = True
+        self._pipe.drop()
+        self._pipe.close()
+        shown = shortened(self._book.path, len(self._book.path))
+        cause = (
+            f"The file of the book is no longer at {shown}: it was removed, renamed or replaced"
+            " while it was open."
+        )
+        try:
+            saved = self._file.save(self._program, self._seen)
+            kept = (
+                "What is there now lacks what was kept last. All of the book is in the new file"
+                f" {shortened(saved, len(saved))}: look which of the two is to be gone on with."
+            )
+        except DeskError as failed:
+            kept = (
+                "What is there now lacks what was kept last, and it could not be saved in a new"
+                f" file: {failed.sentence} Copy what you typed last."
+            )
+        self._file.close()
+        self._lost = self._lost_as(Displaced, cause, kept)
+        return self._lost
+
+    def _kept(self, waiting: Sequence[Command[Any]]) -> str:
+        """What is in the book after all, and what may be."""
+        if self._acknowledged is not None:
+            known = (
+                f"The last command that was reported as kept is {in_words(self._acknowledged)}, by"
+                f" which the book came to version {self._seen}. All up to it is in the book."
+            )
+        elif waiting:
+            known = "No command of this session was reported as kept."
+        else:
+            known = "Nothing was changed by this session."
+        if not waiting:
+            return known
+        count = len(waiting) - 1
+        more = f" and {count:,} more commands are" if count else " is"
         return (
-            f"The last command that was reported as kept is {in_words(self._acknowledged)}, by which"
-            f" the book came to version {self._seen}. All up to it is in the book. Open the book"
-            " again, and see whether what was sent after it is there too."
+            f"{known} It is not known whether {in_words(waiting[0])}{more} in the book. Open the book again: if it is at"
+            f" version {self._seen}, nothing more is in it, and each command more makes that greater"
+            " by 1."
         )
 
     def table(self, table: str, text: bytes, *, expect: int | None = None) -> Done:
@@ -396,6 +472,28 @@ def _started(words: list[str]) -> Pipe:
         return Pipe(words)
     except OSError as error:
         raise programs.cannot_run(words[0], error) from error
+
+
+def _first_version(pipe: Pipe, book: BookFile, program: str) -> int:
+    """Waits for the first reply, which comes where the book was opened."""
+    version = requests.Version()
+    try:
+        pipe.send(version.encoded())
+        reply = pipe.reply()
+    except Unreadable as error:
+        pipe.kill()
+        pipe.close()
+        raise Failed(str(error)) from None
+    except BaseException:
+        # by Ctrl-C, while the program looks at a file that may never end
+        pipe.kill()
+        pipe.close()
+        raise
+    if reply is None:
+        ending = pipe.close()
+        raise programs.unopened(ending.status, ending.errors, book, program)
+    pipe.mend()
+    return answer(version, reply)
 
 
 def _encoded(request: Request[Any]) -> bytes:

@@ -8,6 +8,7 @@ from typing import Any
 from braildesk import limits, requests
 from braildesk.asked import Asked, BookFile, Line, NewBook, Pages, TableFile
 from braildesk.characters import around, code_point, named, shortened
+from braildesk.places import log_path
 from braildesk.requests import Request
 from braildesk.sentences import CAUSES, LIMITS, PARTS, SENTENCES, UNOPENED, Why
 
@@ -208,6 +209,15 @@ class _Fields:
             case BookFile(path=path) | NewBook(path=path):
                 return shortened(path, len(path))
         return "This file"
+
+    @property
+    def log(self) -> str:
+        """The path of the log beside the file of a book."""
+        match self._asked:
+            case Pages(path=path) | BookFile(path=path) | NewBook(path=path):
+                log = log_path(path)
+                return shortened(log, len(log))
+        return "beside this file"
 
     @property
     def kind(self) -> str:

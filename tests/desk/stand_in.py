@@ -22,6 +22,7 @@ READ, HALF, KEPT, ANSWERED = "read", "half", "kept", "answered"
 KILL_PROGRAM, KILL_SCRIBE, KILL_BOTH = "kill-program", "kill-scribe", "kill-both"
 SIGNAL = "signal"
 WAIT, REPLY, SEND = "wait", "reply", "send"
+_QUERIES = frozenset(b"print braille history marks where whence list version".split())
 
 
 def stand_in(words: list[str], number: int, far: str, deed: list[str]) -> int:
@@ -30,8 +31,9 @@ def stand_in(words: list[str], number: int, far: str, deed: list[str]) -> int:
     assert program.stdin is not None and program.stdout is not None
     commands = 0
     while line := _request(sys.stdin.buffer):
-        commands += line.startswith(b"@")
-        is_moment = line.startswith(b"@") and commands == number
+        is_command = _is_command(line)
+        commands += is_command
+        is_moment = is_command and commands == number
         passed = line
         if is_moment and far == HALF:
             program.stdin.write(line[: len(line) // 2])
@@ -85,11 +87,18 @@ def _do(program: subprocess.Popen[bytes], deed: list[str]) -> bytes | None:
     return None
 
 
+def _is_command(line: bytes) -> bool:
+    """Whether a request may make a version of the book."""
+    words = line.split(b" ")
+    return words[0].startswith(b"@") or words[0].strip() not in _QUERIES
+
+
 def _request(source: IO[bytes]) -> bytes:
     """The line of a request, with those of its block; nothing at the end."""
     line = source.readline()
     words = line.split(b" ")
-    count = int(words[3]) if words[1:2] == [b"table"] else 0
+    head = words[1:] if words[0].startswith(b"@") else words
+    count = int(head[2]) if head[0] == b"table" else 0
     return line + b"".join(source.readline() for _ in range(count))
 
 

@@ -1,14 +1,17 @@
 """Files of books: their tables, their copies, and what keeps them from being opened."""
 
+import errno
 import os
 import shutil
 import signal
 import sqlite3
+import stat
 import subprocess
 import sys
 import tempfile
+import time
 from collections.abc import Callable, Iterator
-from contextlib import closing
+from contextlib import closing, suppress
 from pathlib import Path
 
 import pytest
@@ -17,15 +20,19 @@ import braildesk
 from braildesk import (
     CannotOpen,
     Damaged,
+    DeskError,
     Failed,
     NotABook,
     NotCopied,
+    NotMade,
+    Refused,
     Session,
     Table,
     Why,
 )
 from braildesk.asked import BookFile
 from braildesk.files import contents
+from braildesk import requests, workshop
 
 ROOT = Path(__file__).parents[2]
 
@@ -195,6 +202,343 @@ def test_a_copy_is_not_put_beside_the_work_of_another_book(
     assert not moved.exists()
 
 
+def meanwhile(monkeypatch: pytest.MonkeyPatch, deed: Callable[[], object]) -> None:
+    """Has something done while the program looks at the next copy."""
+    check, deeds = braildesk.program.check, [deed]
+
+    def checked(path: Path, program: str | None = None) -> int:
+        version = check(path, program)
+        if deeds:
+            deeds.pop()()
+        return version
+
+    monkeypatch.setattr(braildesk.program, "check", checked)
+
+
+def test_no_session_opens_a_book_that_is_being_replaced(
+    book: Path, tmp_path: Path, monkeypatch: pytest.MonkeyPatch
+) -> None:
+    old = Path(shutil.copyfile(book, tmp_path / "old"))
+
+    def try_old() -> None:
+        with pytest.raises(CannotOpen) as caught:
+            Session(old)
+        assert caught.value.why == Why.IN_USE
+
+    meanwhile(monkeypatch, try_old)
+    assert braildesk.copy(book, old, overwrite=True) == 1
+
+
+def test_a_book_that_is_being_replaced_is_not_replaced_by_another_copy(
+    book: Path, tmp_path: Path, monkeypatch: pytest.MonkeyPatch
+) -> None:
+    old = Path(shutil.copyfile(book, tmp_path / "old"))
+
+    def copy_too() -> None:
+        with pytest.raises(CannotOpen) as caught:
+            braildesk.copy(book, old, overwrite=True)
+        assert caught.value.why == Why.IN_USE
+
+    meanwhile(monkeypatch, copy_too)
+    assert braildesk.copy(book, old, overwrite=True) == 1
+
+
+def test_a_file_that_appeared_while_a_book_was_copied_stays(
+    book: Path, tmp_path: Path, monkeypatch: pytest.MonkeyPatch
+) -> None:
+    to = tmp_path / "copied"
+    meanwhile(monkeypatch, lambda: to.write_text("my notes"))
+    with pytest.raises(NotCopied) as caught:
+        braildesk.copy(book, to)
+    assert caught.value.sentence == (
+        f"“{to}” is there already, and was left as it is. Take another path for the copy."
+    )
+    assert to.read_text() == "my notes"
+    assert names(tmp_path) == {book.name, "copied"}
+
+
+def test_of_two_copies_to_one_path_one_is_made(
+    book: Path, tmp_path: Path, monkeypatch: pytest.MonkeyPatch
+) -> None:
+    other = Path(shutil.copyfile(book, tmp_path / "other"))
+    with Session(other) as session:
+        session.type("end", "en", "of the other book")
+    to = tmp_path / "copied"
+    meanwhile(monkeypatch, lambda: braildesk.copy(other, to))
+    with pytest.raises(NotCopied):
+        braildesk.copy(book, to)
+    assert braildesk.check(to) == 2
+
+
+def test_where_a_file_system_has_no_such_renaming_a_copy_is_linked(
+    book: Path, tmp_path: Path, monkeypatch: pytest.MonkeyPatch
+) -> None:
+    def renamed(*_: object) -> None:
+        raise OSError(errno.EINVAL, "Invalid argument")
+
+    monkeypatch.setattr(workshop, "_rename", renamed)
+    to = tmp_path / "copied"
+    assert braildesk.copy(book, to) == 1
+    assert (to.stat().st_nlink, names(tmp_path)) == (1, {book.name, "copied"})
+    other = tmp_path / "other"
+    meanwhile(monkeypatch, lambda: other.write_text("my notes"))
+    with pytest.raises(NotCopied):
+        braildesk.copy(book, other)
+    assert other.read_text() == "my notes"
+
+
+def test_what_a_killed_copy_left_is_cleared_away_by_the_next_one(
+    book: Path, tmp_path: Path
+) -> None:
+    killer = tmp_path / "killer"
+    killer.write_text("#!/bin/sh\nkill -9 $PPID\n")
+    killer.chmod(0o755)
+    code = "import sys, braildesk; braildesk.copy(*sys.argv[1:3], program=sys.argv[3])"
+    done = subprocess.run(
+        [sys.executable, "-c", code, book, tmp_path / "first", killer],
+        env={**os.environ, "PYTHONPATH": str(ROOT / "python")},
+    )
+    assert done.returncode == -signal.SIGKILL
+    left = names(tmp_path) - {book.name, "killer"}
+    assert len(left) == 1 and left != {"first"}
+    mine = tmp_path / f"{left.pop()}-mine"
+    mine.mkdir()
+    (mine / "book").write_text("of my own")
+    (mine / "notes").write_text("of my own")
+    assert braildesk.copy(book, tmp_path / "second") == 1
+    assert names(tmp_path) == {book.name, "killer", "second", mine.name}
+    assert names(mine) == {"book", "notes"}
+
+
+def test_a_copy_that_is_being_made_is_not_cleared_away(
+    book: Path, tmp_path: Path, monkeypatch: pytest.MonkeyPatch
+) -> None:
+    meanwhile(monkeypatch, lambda: braildesk.copy(book, tmp_path / "second"))
+    assert braildesk.copy(book, tmp_path / "first") == 1
+    assert braildesk.check(tmp_path / "first") == 1
+    assert braildesk.check(tmp_path / "second") == 1
+
+
+@pytest.mark.parametrize(
+    ("mode", "of_copy"), [(0o600, 0o600), (0o664, 0o664), (0o4640, 0o640)]
+)
+def test_a_copy_has_the_mode_of_the_book(
+    book: Path, tmp_path: Path, mode: int, of_copy: int
+) -> None:
+    killed_after(book, "not in the file yet")
+    book.chmod(mode)
+    old = Path(shutil.copyfile(book, tmp_path / "old"))
+    old.chmod(0o666)
+    before = os.umask(0o027)
+    try:
+        braildesk.copy(book, tmp_path / "copied")
+        braildesk.copy(book, old, overwrite=True)
+    finally:
+        os.umask(before)
+    for copied in (tmp_path / "copied", old):
+        assert stat.S_IMODE(copied.stat().st_mode) == of_copy
+
+
+@pytest.mark.skipif(os.getuid() != 0, reason="only root gives a file to another")
+def test_a_copy_has_the_owner_of_the_book_where_that_is_permitted(
+    book: Path, tmp_path: Path, open_folder: Path
+) -> None:
+    os.chown(book, 1234, 5678)
+    braildesk.copy(book, tmp_path / "copied")
+    found = (tmp_path / "copied").stat()
+    assert (found.st_uid, found.st_gid) == (1234, 5678)
+    path = Path(shutil.copyfile(book, open_folder / "book"))
+    path.chmod(0o644)
+    as_nobody(ATTEMPTS, path, open_folder / "copied")
+    assert (open_folder / "copied").stat().st_uid == 65534
+
+
+@pytest.mark.parametrize("way", ["of the file", "of its folder"])
+def test_through_a_link_the_work_beside_the_file_is_found(
+    book: Path, tmp_path: Path, way: str
+) -> None:
+    with Session(book) as session:
+        session.table("new", b"letter a 1\n")
+        os.kill(session.pid, signal.SIGKILL)
+        with pytest.raises(braildesk.SessionEnded):
+            session.version()
+    elsewhere = tmp_path / "elsewhere"
+    if way == "of the file":
+        elsewhere.mkdir()
+        (elsewhere / book.name).symlink_to(book)
+    else:
+        elsewhere.symlink_to(tmp_path)
+    linked = elsewhere / book.name
+    assert [table.name for table in braildesk.tables(linked)] == ["en", "new"]
+    assert braildesk.copy(linked, tmp_path / "copied") == 2
+    assert braildesk.check(tmp_path / "copied") == 2
+    assert braildesk.check(linked) == 2
+
+
+def test_a_copy_that_replaces_a_book_through_a_link_leaves_the_link(
+    book: Path, tmp_path: Path
+) -> None:
+    old = Path(shutil.copyfile(book, tmp_path / "old"))
+    killed_after(old, "of the old book")
+    link = tmp_path / "link"
+    link.symlink_to("old")
+    assert braildesk.copy(book, link, overwrite=True) == 1
+    assert os.readlink(link) == "old"
+    with Session(old) as session:
+        assert session.list() == ()
+
+
+def test_a_copy_is_not_put_where_a_link_leads_nowhere(
+    book: Path, tmp_path: Path
+) -> None:
+    link = tmp_path / "link"
+    link.symlink_to("nothing")
+    with pytest.raises(NotCopied):
+        braildesk.copy(book, link)
+    assert names(tmp_path) == {book.name, "link"}
+
+
+def test_a_book_with_two_names_is_opened_by_neither(book: Path, tmp_path: Path) -> None:
+    other = tmp_path / "other"
+    os.link(book, other)
+    for path in (book, other):
+        attempts: list[Callable[[], object]] = [
+            lambda: Session(path),
+            lambda: braildesk.check(path),
+            lambda: braildesk.tables(path),
+            lambda: braildesk.copy(path, tmp_path / "copied"),
+        ]
+        for attempt in attempts:
+            with pytest.raises(CannotOpen) as caught:
+                attempt()
+            assert caught.value.why == Why.LINKED
+            assert caught.value.sentence == (
+                f"The file “{path}” has another name too (a hard link). By each name its newest work"
+                " would be looked for in another place, so it is opened by none. Nothing was"
+                " changed. Remove the other name, and keep the one that has a file ending in -wal"
+                " beside it."
+            )
+    assert names(tmp_path) == {book.name, "other"}
+    other.unlink()
+    assert braildesk.check(book) == 1
+
+
+ENDLESS = (
+    "ALTER TABLE {0} RENAME TO old_{0}; CREATE VIEW {0} AS WITH RECURSIVE more(n) AS (SELECT 1"
+    " UNION ALL SELECT n + 1 FROM more) SELECT old_{0}.* FROM old_{0}, more"
+)
+
+
+def endless(book: Path, name: str) -> None:
+    """Puts a view that never ends in the place of a table."""
+    with closing(sqlite3.connect(book)) as database:
+        database.executescript(ENDLESS.format(name))
+
+
+def trying(deed: str, book: Path, to: Path) -> "subprocess.Popen[str]":
+    """A process that does something with a book."""
+    code = (
+        "import sys, braildesk\n"
+        "path, to = sys.argv[1:3]\n"
+        "try:\n"
+        f"    print({deed})\n"
+        "except braildesk.DeskError as error:\n"
+        "    print(type(error).__name__)\n"
+    )
+    return subprocess.Popen(
+        [sys.executable, "-c", code, book, to],
+        env={**os.environ, "PYTHONPATH": str(ROOT / "python")},
+        stdout=subprocess.PIPE,
+        stderr=subprocess.DEVNULL,
+        text=True,
+    )
+
+
+@pytest.mark.parametrize("deed", ["braildesk.tables(path)", "braildesk.copy(path, to)"])
+def test_a_view_that_never_ends_is_not_read_for_a_table(
+    book: Path, tmp_path: Path, deed: str
+) -> None:
+    endless(book, "tab")
+    before = names(tmp_path)
+    with trying(deed, book, tmp_path / "copied") as process:
+        try:
+            assert process.communicate(timeout=60)[0] == "NotABook\n"
+        finally:
+            process.kill()
+    assert names(tmp_path) == before
+
+
+def children(process: int) -> list[int]:
+    """The processes that a process started and that run still."""
+    try:
+        return [
+            int(child)
+            for child in Path(f"/proc/{process}/task/{process}/children")
+            .read_text()
+            .split()
+        ]
+    except FileNotFoundError:
+        return []
+
+
+def noted(process: int) -> list[str]:
+    """What the system notes of a process after its name; nothing of one that has ended."""
+    try:
+        words = Path(f"/proc/{process}/stat").read_text().rpartition(")")[2].split()
+    except FileNotFoundError:
+        return []
+    return [] if words[0] == "Z" else words
+
+
+def ticks(process: int) -> int:
+    """For how many ticks of the clock a process has run."""
+    return int(([*noted(process)[11:], "0"])[0])
+
+
+@pytest.mark.parametrize(
+    "deed",
+    ["braildesk.copy(path, to)", "braildesk.check(path)", "braildesk.Session(path)"],
+)
+def test_a_book_that_never_ends_is_left_by_ctrl_c(
+    book: Path, tmp_path: Path, deed: str
+) -> None:
+    endless(book, "book")
+    found: list[int] = []
+    with trying(deed, book, tmp_path / "copied") as process:
+        try:
+            # until the program is busy with it
+            while not (found := children(process.pid)) or ticks(found[0]) < 20:
+                assert process.poll() is None
+                time.sleep(0.01)
+            (program,) = found
+            process.send_signal(signal.SIGINT)
+            process.wait(timeout=60)
+            assert not noted(program)
+        finally:
+            process.kill()
+            for left in found:
+                with suppress(ProcessLookupError):
+                    os.kill(left, signal.SIGKILL)
+    assert names(tmp_path) <= {book.name, f"{book.name}-wal"}
+
+
+def test_a_hole_in_a_file_stays_one_in_its_copy(
+    book: Path, tmp_path: Path, monkeypatch: pytest.MonkeyPatch
+) -> None:
+    os.truncate(book, 1 << 34)
+    blocks = []
+    check = braildesk.program.check
+
+    def measured(path: Path, program: str | None = None) -> int:
+        blocks.append(path.stat().st_blocks)
+        return check(path, program)
+
+    monkeypatch.setattr(braildesk.program, "check", measured)
+    with pytest.raises(CannotOpen):
+        braildesk.copy(book, tmp_path / "copied")
+    assert blocks[0] * 512 < 1 << 24
+
+
 def test_a_damaged_book_is_not_copied(book: Path, tmp_path: Path) -> None:
     with closing(sqlite3.connect(book)) as database:
         database.execute("UPDATE book SET version = -1")
@@ -296,6 +640,115 @@ def test_a_new_book_in_a_folder_that_is_not_there_is_refused(tmp_path: Path) -> 
     assert caught.value.sentence == (
         f"There is no folder in which “{path}” could be made. Check that the path is right."
     )
+
+
+def test_an_older_copy_beside_the_log_of_a_newer_book_is_said_to_be_that(
+    book: Path, tmp_path: Path
+) -> None:
+    older = Path(shutil.copyfile(book, tmp_path / "older"))
+    with Session(book) as session:
+        for number in range(60):
+            session.type("end", "en", f"line {number} " + "x" * 500)
+    with Session(book) as session:
+        for number in range(3):
+            session.correct(number + 1, 0, 4, "Line")
+        os.kill(session.pid, signal.SIGKILL)
+        with pytest.raises(braildesk.SessionEnded):
+            session.version()
+    shutil.copyfile(older, book)
+    log = Path(f"{book}-wal")
+    before = book.read_bytes(), log.read_bytes()
+    attempts: list[Callable[[], object]] = [
+        lambda: Session(book),
+        lambda: braildesk.check(book),
+    ]
+    for attempt in attempts:
+        with pytest.raises(CannotOpen) as caught:
+            attempt()
+        assert caught.value.why == Why.OTHER_LOG
+        assert caught.value.sentence == (
+            f"The file “{log}” isn't that of “{book}” as it is: “{book}” is whole without it, and"
+            " damaged with it. It may be that an earlier copy was put in the place of the book."
+            f" Nothing was changed. Keep both files; to go on with “{book}” as it is, move “{log}”"
+            " away."
+        )
+    assert (book.read_bytes(), log.read_bytes()) == before
+    log.unlink()
+    assert braildesk.check(book) == 1
+
+
+def test_a_new_book_is_not_made_beside_the_work_of_another(book: Path) -> None:
+    killed_after(book, "left")
+    log = Path(f"{book}-wal")
+    work = log.read_bytes()
+    book.unlink()
+    with pytest.raises(NotMade) as caught:
+        braildesk.new_book(book)
+    assert caught.value.sentence == (
+        f"“{log}” is there, which belongs to another book that stood at “{book}” and may hold work."
+        " Take another path for the new book, or move that file away."
+    )
+    assert names(book.parent) == {log.name}
+    assert log.read_bytes() == work
+
+
+def test_where_a_book_was_removed_a_new_one_may_be_made(book: Path) -> None:
+    with Session(book) as session:
+        session.type("end", "en", "in the file")
+    assert names(book.parent) == {book.name, f"{book.name}-wal"}
+    book.unlink()
+    braildesk.new_book(book)
+    assert braildesk.check(book) == 0
+
+
+@pytest.mark.parametrize("fault", ["a bad table", "no room"])
+def test_a_new_book_that_fails_leaves_no_file(tmp_path: Path, fault: str) -> None:
+    program, text = None, b"nonsense\n"
+    if fault == "no room":
+        program, text = limited(tmp_path, 600), b"# a comment of a table\n" * 20_000
+    before = names(tmp_path)
+    with pytest.raises(DeskError) as caught:
+        braildesk.new_book(
+            tmp_path / "new", program, holding=[requests.Table("own", text)]
+        )
+    if fault == "no room":
+        assert caught.value.sentence.startswith(
+            f"The new book “{tmp_path}/new” could not be written, and there is none: "
+        )
+    assert names(tmp_path) == before
+
+
+def test_a_new_book_is_not_put_over_one_that_appeared_meanwhile(
+    book: Path, tmp_path: Path, monkeypatch: pytest.MonkeyPatch
+) -> None:
+    make, path = braildesk.program.make_book, tmp_path / "new"
+
+    def made(*words: object, **more: object) -> None:
+        make(*words, **more)  # type: ignore[arg-type]
+        if not path.exists():
+            shutil.copyfile(book, path)
+
+    monkeypatch.setattr(braildesk.program, "make_book", made)
+    with pytest.raises(Refused) as caught:
+        braildesk.new_book(path)
+    assert (caught.value.code, caught.value.version) == (99, 1)
+
+
+@pytest.mark.parametrize(
+    ("umask", "mode"), [(0o002, 0o664), (0o022, 0o644), (0o077, 0o600)]
+)
+def test_a_new_book_has_the_mode_that_the_umask_leaves(
+    tmp_path: Path, umask: int, mode: int
+) -> None:
+    path = tmp_path / "new"
+    before = os.umask(umask)
+    try:
+        braildesk.new_book(path)
+        braildesk.check(path)
+    finally:
+        os.umask(before)
+    for file in (path, Path(f"{path}-wal")):
+        assert stat.S_IMODE(file.stat().st_mode) == mode
 
 
 def test_a_database_without_a_book_has_no_tables(tmp_path: Path) -> None:

@@ -372,7 +372,9 @@ def test_a_command_that_could_not_be_kept_is_named_in_words(
     request_: Request[Any], words: str
 ) -> None:
     sentence = refused(91, (), request_).sentence
-    assert sentence.startswith(f"{words} could not be kept, since the file of the book")
+    assert sentence.startswith(
+        f"{words} was not reported as kept, since the file of the book"
+    )
 
 
 @pytest.mark.parametrize(

@@ -15,15 +15,20 @@ from typing import Any
 import pytest
 
 from braildesk import (
+    CannotOpen,
+    Displaced,
     Done,
     Lost,
     Refused,
     Session,
     SessionEnded,
     Typed,
+    Why,
     requests,
 )
 from braildesk.replies import Reader, Reply, Unreadable
+from stand_in import KEPT, KILL_PROGRAM
+from terminal import standing_in
 
 PYTHON = str(Path(__file__).parents[2] / "python")
 
@@ -236,9 +241,12 @@ def test_of_a_killed_session_all_that_was_reported_as_kept_is_there(
     assert lost.sentence == (
         "The session was ended by signal 9. The last command that was reported as kept is"
         f" the new paragraph “line {len(kept) - 1}”, by which the book came to version {lost.version}."
-        " All up to it is in the book. Open the book again, and see whether what was sent after it"
-        " is there too."
+        f" All up to it is in the book. It is not known whether the new paragraph “line {len(kept)}”"
+        f" and {len(lost.unanswered) - 1} more commands are in the book. Open the book again: if it is"
+        f" at version {lost.version}, nothing more is in it, and each command more makes that greater"
+        " by 1."
     )
+    assert lost.unanswered[0] == requests.Type("end", "en", f"line {len(kept)}")
     with Session(book) as session:
         # at most the command that was being kept is there beside those that were reported
         assert session.version() - lost.version in (0, 1)
@@ -255,8 +263,37 @@ def test_a_killed_session_says_so_at_each_request(book: Path) -> None:
                 session.type("end", "en", "a")
             assert caught.value.acknowledged is None
             assert caught.value.sentence == (
-                "The session was ended by signal 9. Nothing was changed by this session."
+                "The session was ended by signal 9. No command of this session was reported as kept."
+                " It is not known whether the new paragraph “a” is in the book. Open the book again:"
+                " if it is at version 1, nothing more is in it, and each command more makes that"
+                " greater by 1."
             )
+
+
+def test_a_session_that_only_asked_changed_nothing(book: Path) -> None:
+    with Session(book) as session:
+        os.kill(session.pid, signal.SIGKILL)
+        with pytest.raises(SessionEnded) as caught:
+            session.list()
+    assert caught.value.unanswered == ()
+    assert caught.value.sentence == (
+        "The session was ended by signal 9. Nothing was changed by this session."
+    )
+
+
+def test_a_command_that_was_kept_and_not_answered_may_be_in_the_book(
+    book: Path, monkeypatch: pytest.MonkeyPatch
+) -> None:
+    with monkeypatch.context() as patched:
+        for name, value in standing_in(1, KEPT, KILL_PROGRAM).items():
+            patched.setenv(name, value)
+        with Session(book) as session:
+            with pytest.raises(SessionEnded) as caught:
+                session.type("end", "en", "It rose.")
+    assert caught.value.unanswered == (requests.Type("end", "en", "It rose."),)
+    assert "Nothing was changed" not in caught.value.sentence
+    with Session(book) as session:
+        assert (session.seen, session.print(1)) == (2, "It rose.")
 
 
 def test_a_killed_client_leaves_no_request_cut(book: Path) -> None:
@@ -312,10 +349,14 @@ def test_a_command_that_the_file_does_not_take_is_lost(
     assert not isinstance(lost, SessionEnded)
     assert lost.acknowledged == requests.Type("end", "en", "x" * 3_000)
     assert lost.version == kept
+    assert lost.unanswered == (requests.Type("end", "en", "x" * 3_000),)
+    line = f"the new paragraph “{'x' * 60}…”"
     assert lost.sentence == (
-        f"The new paragraph “{'x' * 60}…” could not be kept, since the file of the book could not"
-        " be written or read. All that was reported as kept before is in the book. See to the disk, and open the book"
-        " again: its version shows whether this is kept too."
+        f"{line[:1].upper()}{line[1:]} was not reported as kept, since the file of the book could not"
+        " be written or read. See to the disk. The last command that was reported as kept is"
+        f" {line}, by which the book came to version {kept}. All up to it is in the book. It is not"
+        f" known whether {line} is in the book. Open the book again: if it is at version {kept},"
+        " nothing more is in it, and each command more makes that greater by 1."
     )
     with Session(book) as session:
         assert session.version() in (kept, kept + 1)
@@ -441,3 +482,117 @@ def test_many_requests_are_at_least_half_as_fast_as_by_a_pipe(
         best_pipe = min(best_pipe, seconds(by_pipe))
         best_client = min(best_client, seconds(by_client))
     assert best_client < 2 * best_pipe, (best_client, best_pipe)
+
+
+def removed(book: Path) -> None:
+    book.unlink()
+
+
+def renamed(book: Path) -> None:
+    book.rename(book.with_name("elsewhere"))
+
+
+def replaced(book: Path) -> None:
+    shutil.copyfile(book, book.with_name("older"))
+    book.with_name("older").rename(book)
+
+
+@pytest.mark.parametrize("moved", [removed, renamed, replaced])
+@pytest.mark.parametrize("moment", ["before a command", "before the end"])
+def test_a_book_that_is_gone_from_its_path_is_saved_and_said(
+    book: Path, moved: Callable[[Path], None], moment: str
+) -> None:
+    book.chmod(0o640)
+    with pytest.raises(Displaced) as caught:
+        with Session(book) as session:
+            session.type("end", "en", "One.")
+            if moment == "before a command":
+                moved(book)
+            session.type("end", "en", "Two.")
+            assert moment == "before the end"
+            moved(book)
+    saved = Path(f"{book}-saved-1")
+    assert caught.value.sentence == (
+        f"The file of the book is no longer at “{book}”: it was removed, renamed or replaced while it"
+        " was open. What is there now lacks what was kept last. All of the book is in the new file"
+        f" “{saved}”: look which of the two is to be gone on with."
+    )
+    assert caught.value.version == 3
+    assert saved.stat().st_mode & 0o777 == 0o640
+    with Session(saved) as session:
+        assert [session.print(1), session.print(2)] == ["One.", "Two."]
+
+
+def test_a_book_that_is_gone_with_its_folder_says_that_it_is_not_saved(
+    book: Path, tmp_path: Path
+) -> None:
+    folder = tmp_path / "folder"
+    folder.mkdir()
+    book = book.rename(folder / "book")
+    session = Session(book)
+    shutil.rmtree(folder)
+    with pytest.raises(Displaced) as caught:
+        session.type("end", "en", "One.")
+    assert caught.value.sentence == (
+        f"The file of the book is no longer at “{book}”: it was removed, renamed or replaced while it"
+        " was open. What is there now lacks what was kept last, and it could not be saved in a new"
+        " file: No such file or directory. Copy what you typed last."
+    )
+
+
+def test_a_session_that_asked_alone_does_not_mind_what_became_of_the_file(
+    book: Path,
+) -> None:
+    with Session(book) as session:
+        book.unlink()
+        assert session.list() == ()
+
+
+def test_a_book_that_is_replaced_while_it_is_opened_is_opened_anew(
+    book: Path, script: Callable[[str], Path], program: str
+) -> None:
+    other = book.with_name("other")
+    shutil.copyfile(book, other)
+    with Session(other) as session:
+        session.type("end", "en", "of the other one")
+    moving = script(f"mv '{other}' '{book}' 2> /dev/null; exec '{program}' \"$@\"")
+    with Session(book, moving) as session:
+        assert session.type("end", "en", "One.").version == 3
+
+
+def test_a_session_waits_for_a_book_that_is_in_use(
+    book: Path, monkeypatch: pytest.MonkeyPatch
+) -> None:
+    first, waits = Session(book), []
+
+    def wait(seconds: float) -> None:
+        waits.append(seconds)
+        if len(waits) == 3:
+            first.type("end", "en", "One.")
+            first.close()
+
+    monkeypatch.setattr(time, "sleep", wait)
+    with Session(book, timeout=60) as session:
+        assert (session.seen, len(waits)) == (2, 3)
+
+
+def test_a_session_waits_no_longer_than_it_may(
+    book: Path, monkeypatch: pytest.MonkeyPatch
+) -> None:
+    now, waits = [0.0], []
+
+    def wait(seconds: float) -> None:
+        waits.append(seconds)
+        now[0] += seconds
+
+    monkeypatch.setattr(time, "sleep", wait)
+    monkeypatch.setattr(time, "monotonic", lambda: now[0])
+    with Session(book):
+        with pytest.raises(CannotOpen) as caught:
+            Session(book, timeout=1.5)
+        assert caught.value.why == Why.IN_USE
+        assert sum(waits) == pytest.approx(1.5)
+        waits.clear()
+        with pytest.raises(CannotOpen):
+            Session(book)
+        assert not waits

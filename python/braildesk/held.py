@@ -1,0 +1,61 @@
+"""The file of a closed book, kept from being used by a session while something else is done with it."""
+
+import os
+import stat
+from collections.abc import Iterator
+from contextlib import contextmanager
+from pathlib import Path
+from typing import BinaryIO
+
+from braildesk import locks, opening
+from braildesk.asked import BookFile
+from braildesk.places import has_work, real_path
+from braildesk.refusals import cannot_open
+from braildesk.sentences import Why
+from braildesk.workshop import copy_bytes
+
+
+@contextmanager
+def held(book: BookFile, flags: int = os.O_RDONLY) -> Iterator[BinaryIO]:
+    """The file of a book, open and kept from being used by a session meanwhile.
+
+    Where it is opened for writing, it is kept from all others who hold it so too.
+    """
+    if opening.word(book.path) is None:
+        raise cannot_open(book, Why.NO_PATH)
+    if not opening.is_file_or_free(book.path):
+        raise cannot_open(book, Why.NO_FILE)
+    path = real_path(book.path)
+    try:
+        # a pipe at the path isn't waited for
+        file = open(
+            os.open(path, flags | os.O_NONBLOCK),
+            "r+b" if flags == os.O_RDWR else "rb",
+            buffering=0,
+        )
+    except OSError:
+        raise cannot_open(book, opening.why(book)) from None
+    with file:
+        found = os.fstat(file.fileno())
+        if not stat.S_ISREG(found.st_mode) or found.st_nlink > 1:
+            raise cannot_open(book, opening.why(book))
+        if not (locks.take_alone if flags == os.O_RDWR else locks.take_shared)(file):
+            raise cannot_open(book, Why.IN_USE)
+        try:
+            is_there = os.path.samestat(os.stat(path), found)
+        except OSError:
+            is_there = False
+        if not is_there:
+            # another one was put there in this moment
+            raise cannot_open(book, Why.IN_USE)
+        yield file
+
+
+def copy_held(source: BinaryIO, log: str, made: Path) -> None:
+    """Copies the file of a book that is held, and the work that stands in its log."""
+    with open(made, "xb") as written:
+        os.fchmod(written.fileno(), 0o600)
+        copy_bytes(source.fileno(), written.fileno())
+    if has_work(log):
+        with open(log, "rb") as work, open(f"{made}-wal", "xb") as written:
+            copy_bytes(work.fileno(), written.fileno())

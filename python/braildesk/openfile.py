@@ -1,0 +1,72 @@
+"""The file of a book that a session has open: whether it still is at its path, and what is in it."""
+
+import os
+from pathlib import Path
+
+from braildesk import program as programs
+from braildesk.places import real_path
+from braildesk.program import StrPath
+from braildesk.refusals import Failed
+from braildesk.workshop import copy_bytes, give_access, made_beside, put
+
+
+class OpenFile:
+    """A file that is held open beside the program, so that it is known when its name is taken away."""
+
+    def __init__(self, path: str) -> None:
+        #: Where the path leads.
+        self.path = real_path(path)
+        self._descriptor: int | None = None
+        if os.path.isfile(self.path):
+            try:
+                # a pipe that stands there by now isn't waited for
+                self._descriptor = os.open(self.path, os.O_RDONLY | os.O_NONBLOCK)
+            except OSError:
+                return  # the program says why
+
+    @property
+    def is_at_its_path(self) -> bool:
+        """Whether the file has its name still; True where there was none to be held."""
+        if self._descriptor is None:
+            return True
+        try:
+            return os.path.samestat(os.stat(self.path), os.fstat(self._descriptor))
+        except OSError:
+            return False
+
+    def save(self, program: StrPath | None, version: int) -> str:
+        """Puts what is in the file to a new path beside its own, once no program has it open.
+
+        The version is the least that is in it.
+        """
+        assert self._descriptor is not None
+        try:
+            with made_beside(self.path) as made:
+                with open(made, "xb") as written:
+                    copy_bytes(self._descriptor, written.fileno())
+                    give_access(written.fileno(), os.fstat(self._descriptor))
+                if programs.check(made, program) < version:
+                    raise Failed("The program did not write all of it to its file.")
+                return _put_beside(made, self.path)
+        except OSError as error:
+            raise Failed(f"{error.strerror or error}.") from error
+
+    def close(self) -> None:
+        """Holds the file no longer."""
+        if self._descriptor is not None:
+            os.close(self._descriptor)
+            self._descriptor = None
+
+
+def _put_beside(made: Path, path: str) -> str:
+    """Puts a file beside a path, under a name that nothing has."""
+    number = 1
+    while True:
+        saved = f"{path}-saved-{number}"
+        try:
+            if not os.path.lexists(f"{saved}-wal"):
+                put(made, saved)
+                return saved
+        except FileExistsError:
+            pass
+        number += 1

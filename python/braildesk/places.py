@@ -1,0 +1,24 @@
+"""Where the file of a book lies, and the log beside it, as the program finds them."""
+
+import os
+
+#: The bytes of a log up to the first page in it: its own header, and that of the page.
+_BEFORE_PAGE = 32 + 24
+
+
+def real_path(path: str) -> str:
+    """Where a path leads, with no link in it: the program takes a book's file from there."""
+    return os.path.realpath(path)
+
+
+def log_path(path: str) -> str:
+    """The log of the book at a path, which lies beside the file that the path leads to."""
+    return f"{real_path(path)}-wal"
+
+
+def has_work(log: str) -> bool:
+    """Whether a log is there that may hold what isn't in the book's file."""
+    try:
+        return os.path.getsize(log) > _BEFORE_PAGE
+    except FileNotFoundError:
+        return False
