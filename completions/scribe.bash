@@ -25,6 +25,11 @@ _scribe() {
             bring) words='--list --words --learn --anyway' ;;
             export) words='--width --lines' ;;
         esac
+        # those that open a book
+        case ${COMP_WORDS[1]} in
+            check-table | try | bring) ;;
+            *) words+=' --wait' ;;
+        esac
         words+=' --help'
     elif ((COMP_CWORD == 4)); then
         case ${COMP_WORDS[1]} in

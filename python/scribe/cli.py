@@ -4,8 +4,9 @@ import sys
 from collections.abc import Sequence
 from contextlib import suppress
 
-from braildesk import CannotOpen, DeskError, Failed, NoProgram, Why
+from braildesk import CannotOpen, DeskError, Failed, Lost, NoProgram, Why
 
+from scribe.aftermath import after_loss
 from scribe.commands import COMMANDS
 from scribe.console import Console, OutputFailed
 from scribe.endings import ended
@@ -56,6 +57,9 @@ def run_words(words: Sequence[str], console: Console) -> Status:
     except Stop as stop:
         console.say(*stop.lines)
         return stop.status
+    except Lost as lost:
+        console.say(*after_loss(arguments.file, lost))
+        return Status.FAILED
     except (Failed, NoProgram) as failed:
         console.say(failed.sentence)
         return Status.FAILED

@@ -10,6 +10,9 @@ from braildesk import After
 from scribe.elsewhere import AT_SHELL, hint
 from scribe.version import version
 
+#: How many seconds a command waits for a book that another program has open.
+USUAL_WAIT = 2.0
+
 # The object on which a command calls add_parser.
 Subparsers = Any
 
@@ -86,9 +89,20 @@ def command_parser(
     return parser
 
 
-def add_file(parser: argparse.ArgumentParser) -> None:
-    """Adds the word FILE: the file of a book, as the path `arguments.file`."""
+def add_file(parser: argparse.ArgumentParser, wait: float = USUAL_WAIT) -> None:
+    """Adds the word FILE: the file of a book, as the path `arguments.file`.
+
+    `arguments.wait` is how many seconds it is waited for.
+    """
     parser.add_argument("file", metavar="FILE", type=Path, help="the file of the book")
+    parser.add_argument(
+        "--wait",
+        metavar="SECONDS",
+        type=seconds,
+        default=wait,
+        help="how long to wait for a book that another program has open;"
+        f" {wait:g} where it isn't given",
+    )
 
 
 def add_paragraph(parser: argparse.ArgumentParser) -> None:
@@ -103,6 +117,13 @@ def number(word: str) -> int:
     if not (word.isascii() and word.isdigit() and len(word) <= 16):
         raise argparse.ArgumentTypeError(f"{word!r} is not a number")
     return int(word)
+
+
+def seconds(word: str) -> float:
+    """The seconds that a word is: decimal digits, with a point among them or not."""
+    if not (word.isascii() and word.replace(".", "", 1).isdigit() and len(word) <= 8):
+        raise argparse.ArgumentTypeError(f"{word!r} is no number of seconds")
+    return float(word)
 
 
 def after(word: str) -> After:

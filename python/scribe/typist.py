@@ -33,14 +33,17 @@ def type_all(
     intake: Intake,
     report: Callable[[int], None],
     begin: Callable[[], None] = lambda: None,
+    *,
+    wait: float = 0.0,
 ) -> None:
     """Types all paragraphs, or raises `CutShort`; `Stop` where the book isn't as it was.
 
     What has to be done before the first one is typed is done once nobody else can type.
+    A book that another program has open is waited for so many seconds.
     """
     done = 0
     try:
-        with Session(path) as session:
+        with Session(path, timeout=wait) as session:
             if session.seen != intake.version:
                 raise Stop(
                     f"Somebody else changed the book meanwhile: it is at version"
@@ -57,10 +60,10 @@ def type_all(
         raise CutShort(done, cause.sentence, Status.FAILED) from cause
 
 
-def kept_of(path: Path, intake: Intake) -> int | None:
+def kept_of(path: Path, intake: Intake, wait: float) -> int | None:
     """How many of the paragraphs are in the book, if that can be seen there."""
     try:
-        with Session(path) as session:
+        with Session(path, timeout=wait) as session:
             kept = len(session.list()) - intake.there
             if kept == 0:
                 return 0

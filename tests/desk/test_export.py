@@ -147,7 +147,9 @@ def of_volumes(moon: Path) -> None:
 def exported(moon: Path) -> tuple[list[str], list[str]]:
     """What an export to the folder out shows and says."""
     shown, said = StringIO(), StringIO()
-    words = Namespace(file=moon, folder=moon.with_name("out"), width=24, lines=5)
+    words = Namespace(
+        file=moon, wait=0, folder=moon.with_name("out"), width=24, lines=5
+    )
     assert export.run(words, Console(BytesIO(), shown, said)) is Status.DONE
     return shown.getvalue().splitlines(), said.getvalue().splitlines()
 
@@ -158,7 +160,7 @@ def changed_after(
     """Has another session type a paragraph each time that a volume was read, so many times."""
     left = [times]
 
-    def read(path: Path, number: int, width: int, lines: int) -> bytes:
+    def read(path: Path, number: int, width: int, lines: int, timeout: float) -> bytes:
         pages = braildesk.export(path, number, width, lines)
         if number == volume and left[0]:
             left[0] -= 1

@@ -145,9 +145,9 @@ def test_a_question_about_a_text_stays_where_it_isnt_answered(
     again = at(moon)
     again.wait("further? y is yes, n is no.")
     os.kill(again.program(), signal.SIGKILL)
-    again.wait("The session ended.")
-    again.keys("q")
-    assert again.ended() == 3
+    again.wait("The book was opened again")
+    close(again, HUNG_UP)
+    check_has_ended(again, HUNG_UP)
     waits = Drafts(moon).waiting()
     assert waits and waits.text == "Oh, The moon is far away."
 

@@ -105,10 +105,11 @@ def test_what_the_screen_said_is_kept_where_the_session_is_killed(
 ) -> None:
     terminal = at(moon, **standing_in(number, far, KILL_PROGRAM))
     worked(terminal, number)
-    lines = terminal.wait("The session ended.")
+    lines = terminal.wait("The book was opened again")
     assert lines[0].endswith(SAID[number if far == ANSWERED else number - 1])
-    terminal.keys("q")
-    assert terminal.ended() == 3
+    # what isn't in the book is offered, and given up
+    terminal.keys("n", "q")
+    assert terminal.ended() == 0
     # half of a line is no command, and a command that was answered is kept
     assert shown(moon) == BOOKS[number if far in (KEPT, ANSWERED) else number - 1]
 

@@ -11,7 +11,7 @@ from braildesk import Session
 from scribe.screen import desk as desks
 from sitting import Sat, Sit
 from stand_in import HALF, KEPT, KILL_PROGRAM, READ, REPLY, SEND
-from terminal import Open, standing_in
+from terminal import Open, once_free, standing_in
 
 
 def killed(sat: Sat) -> None:
@@ -20,18 +20,16 @@ def killed(sat: Sat) -> None:
     sat.state = sat.desk.lost(sat.state)
 
 
-def test_enter_opens_the_book_again_with_what_was_typed(moon: Path, sit: Sit) -> None:
+def test_the_book_opens_again_by_itself_with_what_was_typed(
+    moon: Path, sit: Sit
+) -> None:
     sat = sit(moon)
     sat.press("s", "down", "enter")
     sat.write("Oh, ")
     killed(sat)
-    assert sat.lines[1].startswith("The session ended.")
-    assert "This was typed, and was not reported as kept:" in sat.lines
-    assert "Oh, The Tides" in sat.lines
-    assert sat.lines[-1] == "Enter opens the book again  q ends  Up, Down look further"
-    sat.press("enter")
-    assert sat.lines[-3:] == [
-        "The book is open again. It is at version 8, as the screen said last.",
+    assert sat.lines[-4:] == [
+        "The session was ended by signal 9. The book was opened again: it is at version",
+        "8, as before.",
         "A text of paragraph 2 was typed and not sent: “Oh, The Tides”. Shall it be typed",
         "further? y is yes, n is no. l leaves it for later.",
     ]
@@ -80,15 +78,23 @@ def test_a_command_that_was_under_way_is_found_in_the_book_or_offered(
             patched.setenv(name, value)
         sat = sit(moon)
         sat.press(*keys.split())
-    assert sat.state.is_lost
-    sat.press("enter")
     assert (sat.state.version, sat.state.is_lost) == (version, False)
     if far == KEPT:
-        assert sat.state.message == f"What was typed last is in the book, {where}"
+        assert sat.state.message == (
+            "The session was ended by signal 9. The book was opened again: it is at version 8, and"
+            f" what was asked last is in it. What was typed last is in the book, {where}"
+        )
         assert sat.state.question is None and sat.desk.drafts.waiting() is None
         return
-    assert sat.state.question and sat.state.question.sentence.startswith(offered)
-    sat.press("y", "enter")
+    assert sat.state.message == (
+        "The session was ended by signal 9. The book was opened again: it is at version 7, as"
+        " before, and what was asked last is not in it."
+    )
+    # the stand-in is still there once more
+    for _ in range(2):
+        assert sat.state.question
+        assert sat.state.question.sentence.startswith(offered)
+        sat.press("y", "enter")
     assert sat.state.kept == kept
 
 
@@ -102,11 +108,12 @@ def test_lines_that_were_cut_short_go_on_where_the_book_ends(
         sat.press("o")
         sat.state = sat.desk.paste(sat.state, "One.\nTwo.\nThree.\nFour.")
         sat.press("y")
-    assert sat.state.is_lost
-    sat.press("enter", "y")
+    sat.press("y")
     assert sat.state.question and sat.state.question.lines == ("Three.", "Four.")
     sat.press("y")
-    prints = [sat.state.openings[each.id].words for each in sat.state.book]
+    sat.desk.close()
+    with Session(moon) as session:
+        prints = [session.print(each.id) for each in session.list()]
     assert prints[:5] == ["The moon is far away.", "One.", "Two.", "Three.", "Four."]
 
 
@@ -115,11 +122,10 @@ def test_lines_that_were_cut_short_go_on_where_the_book_ends(
     [
         (
             "no 91",
-            "“@7 correct 1 0 0 Oh,” could not be kept, since the file of the book could not be"
-            " written or read. All that was reported as kept before is in the book. See to the"
-            " disk, and open the book again: its version shows whether this is kept too.",
+            "The correction of paragraph 1 was not reported as kept, since the file of the book could"
+            " not be written or read. See to the disk.",
         ),
-        ("what", "by this session"),
+        ("what", "This is no line of a reply of braildesk: b'what'."),
     ],
     ids=["a full disk", "nonsense"],
 )
@@ -131,10 +137,15 @@ def test_a_session_that_fails_or_answers_nonsense_is_left_in_words(
             patched.setenv(name, value)
         sat = sit(moon)
         sat.press("enter", "O", "h", ",", "enter")
-    assert sat.state.is_lost and sat.state.pages
-    assert said in sat.state.pages.lines[0]
-    assert "Oh,The moon is far away." in sat.state.pages.lines
-    sat.press("enter", "y", "enter")
+    assert sat.state.message == (
+        f"{said} The book was opened again: it is at version 7, as before, and what was asked last is"
+        " not in it."
+    )
+    # the stand-in is still there once more
+    for _ in range(2):
+        assert sat.state.question
+        assert "Oh,The moon is far away." in sat.state.question.sentence
+        sat.press("y", "enter")
     assert sat.state.kept == "kept: correction 2 of paragraph 1"
 
 
@@ -146,12 +157,11 @@ def test_what_was_typed_is_offered_where_it_could_not_be_kept_in_a_file(
     sat.press("down", "enter")
     sat.write("Oh, ")
     killed(sat)
-    assert sat.state.pages and sat.state.pages.lines[1:] == (
-        "This was typed, and was not reported as kept:",
-        "Oh, The Tides",
-        f"What is typed can't be kept in {moon}/braildesk: Not a directory.",
+    assert sat.state.message == (
+        "The session was ended by signal 9. The book was opened again: it is at version 7, as before."
+        f" What is typed can't be kept in {moon}/braildesk: Not a directory."
     )
-    sat.press("enter", "y", "enter")
+    sat.press("y", "enter")
     assert sat.state.kept == "kept: correction 1 of paragraph 2"
 
 
@@ -161,16 +171,23 @@ def test_a_book_that_cannot_be_opened_again_says_why_until_it_can(
     sat = sit(moon)
     sat.press("o")
     sat.write("Soon.")
-    killed(sat)
-    with Session(moon):
+    os.kill(sat.desk.pid, signal.SIGKILL)
+    with once_free(moon):
+        sat.state = sat.desk.lost(sat.state)
+        assert sat.state.is_lost and sat.state.pages
+        in_use = f"Another program has “{moon}” open. Nothing was changed. End that one first."
+        assert sat.state.pages.lines[:2] == (
+            "The session was ended by signal 9. Nothing was changed by this session.",
+            in_use,
+        )
         sat.press("enter")
         assert sat.state.is_lost and sat.state.pages
-        assert sat.state.pages.lines[0] == (
-            f"Another program has “{moon}” open. Nothing was changed. End that one first."
-        )
+        assert sat.state.pages.lines[0] == in_use
         assert "Soon." in sat.state.pages.lines
         sat.press("enter")
         assert len(set(sat.state.pages.lines)) == len(sat.state.pages.lines)
+        sat.press("s", "down")
+        assert sat.state.is_lost and not sat.state.is_over
     sat.press("enter", "y", "enter")
     assert sat.state.kept == "kept: paragraph 4"
 
@@ -200,7 +217,7 @@ def test_a_change_while_the_book_is_being_opened_is_said(
 ) -> None:
     checks: list[int] = []
 
-    def check_and_change(path: Path) -> int:
+    def check_and_change(path: Path, timeout: float) -> int:
         version = braildesk.check(path)
         if not checks:
             with Session(path) as session:
@@ -246,9 +263,7 @@ def test_the_book_is_opened_again_at_the_terminal(moon: Path, at: Open) -> None:
     terminal.wait("? shows all keys.")
     for number in (1, 2):
         os.kill(terminal.program(), signal.SIGKILL)
-        terminal.wait("The session ended.")
-        terminal.keys("enter")
-        terminal.wait("The book is open again.")
+        terminal.wait("The book was opened again")
         terminal.keys("s")
         terminal.wait(f"version {7 + number}, ")
     terminal.keys("q")

@@ -7,7 +7,7 @@ from pathlib import Path
 
 from braildesk import Session
 from scribe.drafts import Drafts
-from terminal import Open
+from terminal import Open, once_free
 
 #: What sets a colour of letters or of what is behind them.
 COLOURS = re.compile(rb"\x1b\[(?:[0-9]+;)*(?:3[0-8]|4[0-8]|9[0-7]|10[0-7])[;m]")
@@ -60,10 +60,10 @@ def test_a_killed_session_leaves_what_the_screen_said_was_kept(
     terminal.keys("o", "It rose.")
     terminal.wait("It rose.")
     os.kill(terminal.program(), signal.SIGKILL)
-    terminal.wait("The session ended.")
-    terminal.keys("q")
-    assert terminal.ended() == 3
-    with Session(moon) as session:
+    terminal.wait("Shall it be typed")
+    terminal.hang_up()
+    assert terminal.left() == 3
+    with once_free(moon) as session:
         assert session.seen == 8 and session.list()[1].struck
     waits = Drafts(moon).waiting()
     assert waits and waits.text == "It rose."

@@ -43,7 +43,7 @@ def add_parser(subparsers: Subparsers) -> ArgumentParser:
 
 
 def run(arguments: Namespace, console: Console) -> Status:
-    with Session(arguments.file) as session:
+    with Session(arguments.file, timeout=arguments.wait) as session:
         change = make_change(session, arguments)
     console.show(*change_lines(change, arguments.paragraph, arguments.width))
     return Status.DONE

@@ -31,7 +31,7 @@ def add_parser(subparsers: Subparsers) -> ArgumentParser:
 
 def run(arguments: Namespace, console: Console) -> Status:
     """Copies the book."""
-    version = copy(arguments.file, arguments.to)
+    version = copy(arguments.file, arguments.to, timeout=arguments.wait)
     console.show(
         f"{arguments.to} is a copy of {arguments.file}, at version {version:,}."
     )

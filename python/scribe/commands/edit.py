@@ -33,7 +33,7 @@ def add_parser(subparsers: Subparsers) -> ArgumentParser:
     parser = command_parser(
         subparsers, "edit", "Shows the book on the screen, to work on.", EXAMPLE, MORE
     )
-    add_file(parser)
+    add_file(parser, wait=0)
     parser.add_argument(
         "--by",
         metavar="WHO",
@@ -63,7 +63,7 @@ def run(arguments: Namespace, console: Console) -> Status:
             " python3-prompt-toolkit. scribe talk works without it.",
             Status.FAILED,
         ) from None
-    desk = Desk(arguments.file)
+    desk = Desk(arguments.file, arguments.wait)
     columns, lines = shutil.get_terminal_size()
     environment = first_environment()
     is_ascii = is_plain(environment)

@@ -51,7 +51,7 @@ class Edit:
 
     def run(self, arguments: Namespace, console: Console) -> Status:
         """Sends the request, and shows what it changed."""
-        with Session(arguments.file) as session:
+        with Session(arguments.file, timeout=arguments.wait) as session:
             try:
                 lines = carried_out(session, self.request(arguments), arguments.width)
             except Refused as refused:

@@ -48,7 +48,7 @@ def add_parser(subparsers: Subparsers) -> ArgumentParser:
 
 def run(arguments: Namespace, console: Console) -> Status:
     """Writes each volume, and says what became of it."""
-    job = Job(arguments.file, arguments.folder, sheet_of(arguments))
+    job = Job(arguments.file, arguments.folder, sheet_of(arguments), arguments.wait)
     written: list[int] = []
     volumes: list[bytes | Refused] = []
     try:
@@ -91,6 +91,8 @@ class Job:
     book: Path
     folder: Path
     sheet: Sheet
+    #: How many seconds a book is waited for that another program has open.
+    wait: float
 
     @property
     def name(self) -> str:
@@ -131,10 +133,10 @@ def _cells_with_dots(line: bytes) -> int:
 
 def volumes_of_one_version(job: Job) -> list[bytes | Refused]:
     """The pages of each volume, or why it is refused, all read while the book was at one version."""
-    version = check(job.book)
+    version = check(job.book, timeout=job.wait)
     for _ in range(TRIES):
         volumes = list(_volumes(job))
-        before, version = version, check(job.book)
+        before, version = version, check(job.book, timeout=job.wait)
         if before == version:
             return volumes
     raise Stop(
@@ -150,7 +152,8 @@ def _volumes(job: Job) -> Iterator[bytes | Refused]:
     volume = 1
     while True:
         try:
-            yield export(job.book, volume, job.sheet.width, job.sheet.lines)
+            sheet = job.sheet
+            yield export(job.book, volume, sheet.width, sheet.lines, timeout=job.wait)
         except Refused as refused:
             if refused.code == NO_SUCH_VOLUME:
                 return

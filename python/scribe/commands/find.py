@@ -101,7 +101,7 @@ def run(arguments: Namespace, console: Console) -> Status:
     sought = cells(arguments) if in_braille else arguments.text
     form = alike if arguments.alike else composed
     tally = others = Tally()
-    with Session(arguments.file) as session:
+    with Session(arguments.file, timeout=arguments.wait) as session:
         for hit in found(session, sought, in_braille, form):
             tally = tally.with_hit(hit, sought)
             if in_braille:

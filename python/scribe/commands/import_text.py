@@ -107,7 +107,7 @@ def run(arguments: Namespace, console: Console) -> Status:
     try:
         _type(arguments, intake, lambda: watch.begin(note), console)
     except CutShort as cut:
-        kept = kept_of(arguments.file, intake)
+        kept = kept_of(arguments.file, intake, arguments.wait)
         if kept == 0 and not arguments.line:
             watch.end(note)
         console.say(cut.sentence, *going_on(arguments, intake, cut.done, kept))
@@ -124,7 +124,13 @@ def _type(
     """Types a text, and says so; `CutShort` where a part of it isn't."""
     count = len(intake.passages)
     report = console.progress("paragraphs typed")
-    type_all(arguments.file, intake, lambda done: report(done, count), begin)
+    type_all(
+        arguments.file,
+        intake,
+        lambda done: report(done, count),
+        begin,
+        wait=arguments.wait,
+    )
     first, last = intake.there + 1, intake.there + count
     numbers = f"number {first}" if count == 1 else f"numbers {first} to {last}"
     console.show(f"{_paragraphs(count)} typed, {numbers}, {_by(intake)}.")
@@ -135,16 +141,17 @@ def prepared(arguments: Namespace, data: bytes) -> Intake:
     path, place = arguments.text, arguments.after
     whole = read(path, data, arguments.lines)
     before, rest = parted_at(whole, arguments.line or 1)
-    found = tables(arguments.file)
-    with Session(arguments.file) as session:
+    with Session(arguments.file, timeout=arguments.wait) as session:
         book = session.list()
         anchor = paragraph_before(book, place)
-        table = table_for(found, anchor, arguments.table)
         stored = session.print(anchor.id) if anchor and before else None
         version = session.seen
         check_goes_on(stored, before, rest)
         if arguments.way is not Way.AGAIN:
             check_is_new(path, standing(session, book, place, rest))
+    # only once the program has judged the file
+    found = tables(arguments.file, timeout=arguments.wait)
+    table = table_for(found, anchor, arguments.table)
     judge(path, rest, table, len(book))
     return Intake(version, len(book), rest, place, table)
 

@@ -40,7 +40,7 @@ def add_parser(subparsers: Subparsers) -> ArgumentParser:
 
 def run(arguments: Namespace, console: Console) -> Status:
     number, width = arguments.paragraph, arguments.width
-    with Session(arguments.file) as session:
+    with Session(arguments.file, timeout=arguments.wait) as session:
         print_text = session.print(number)
         version = session.seen
         place = chosen(print_text, arguments.words, arguments.nth, number, width)

@@ -30,7 +30,7 @@ def add_parser(subparsers: Subparsers) -> ArgumentParser:
 
 
 def run(arguments: Namespace, console: Console) -> Status:
-    with Session(arguments.file) as session:
+    with Session(arguments.file, timeout=arguments.wait) as session:
         book = session.list()
         marks = list(answers(session, (Marks(each.id) for each in book)))
         marked = [each for each, its in zip(book, marks) if its]

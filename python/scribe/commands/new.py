@@ -2,7 +2,7 @@
 
 from argparse import ArgumentParser, Namespace
 
-from braildesk import Session, new_book, requests
+from braildesk import new_book, requests
 
 from scribe.console import Console
 from scribe.parser import Subparsers, add_file, command_parser
@@ -13,7 +13,8 @@ from scribe.tables import SUPPLIED, table_request
 EVERYDAY = "ueb"
 MORE = """\
 Its table is ueb where that is installed with scribe, else en, the one that the program
-supplies. A file that has a book already is left as it is."""
+supplies. A file that has a book already is left as it is, and where anything fails no
+file is made."""
 
 
 def add_parser(subparsers: Subparsers) -> ArgumentParser:
@@ -32,9 +33,7 @@ def add_parser(subparsers: Subparsers) -> ArgumentParser:
 def run(arguments: Namespace, console: Console) -> Status:
     """Makes a book, and puts a table into it."""
     request = first_table()
-    new_book(arguments.file)
-    with Session(arguments.file) as session:
-        session.ask(request)
+    new_book(arguments.file, holding=[request])
     console.show(f"{arguments.file} is a new book with the table {request.table}.")
     return Status.DONE
 

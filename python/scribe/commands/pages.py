@@ -49,32 +49,36 @@ def add_parser(subparsers: Subparsers) -> ArgumentParser:
 
 def run(arguments: Namespace, console: Console) -> Status:
     sheet = sheet_of(arguments)
-    with Session(arguments.file) as session:
+    with Session(arguments.file, timeout=arguments.wait) as session:
         volumes = laid_out(session, arguments.volume, sheet)
         lines = shown(session, volumes, arguments.page, arguments.paragraph)
         version = session.seen
     for each in volumes:
-        if not _is_exported(arguments.file, each):
-            raise Stop(_why_otherwise(arguments.file, each, version), Status.FAILED)
+        if not _is_exported(arguments.file, each, arguments.wait):
+            raise Stop(
+                _why_otherwise(arguments.file, each, version, arguments.wait),
+                Status.FAILED,
+            )
     console.show(*lines)
     return Status.DONE
 
 
-def _is_exported(book: Path, its: Volume) -> bool:
+def _is_exported(book: Path, its: Volume, wait: float) -> bool:
     """Whether export writes the pages of a volume as they were laid out."""
     sheet = its.layout.sheet
     try:
-        return export(book, its.number, sheet.width, sheet.lines) == its.layout.brf()
+        pages = export(book, its.number, sheet.width, sheet.lines, timeout=wait)
     except Refused as refused:
         # another program may have struck all of it
         if refused.code != NO_SUCH_VOLUME:
             raise
         return False
+    return pages == its.layout.brf()
 
 
-def _why_otherwise(book: Path, its: Volume, version: int) -> str:
+def _why_otherwise(book: Path, its: Volume, version: int, wait: float) -> str:
     """Why the pages of a volume aren't those that were laid out from a version of the book."""
-    now = check(book)
+    now = check(book, timeout=wait)
     if now != version:
         return (
             f"Another program changed the book meanwhile: it was at version {version:,} and is at"

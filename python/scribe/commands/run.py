@@ -44,7 +44,7 @@ def run(arguments: Namespace, console: Console) -> Status:
     """Answers requests up to the first refusal, or all of them."""
     requests = RequestLines(console)
     status = Status.DONE
-    with Session(arguments.file) as session:
+    with Session(arguments.file, timeout=arguments.wait) as session:
         while (head := requests.next_head()) is not None:
             refusal = answered(session, requests, head, console)
             if refusal is None:

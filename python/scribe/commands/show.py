@@ -44,7 +44,7 @@ def add_parser(subparsers: Subparsers) -> ArgumentParser:
 
 
 def run(arguments: Namespace, console: Console) -> Status:
-    with Session(arguments.file) as session:
+    with Session(arguments.file, timeout=arguments.wait) as session:
         book = session.list()
         parts = [stretch.of(book) for stretch in arguments.paragraphs]
         view = View(

@@ -42,7 +42,7 @@ def add_parser(subparsers: Subparsers) -> ArgumentParser:
 def run(arguments: Namespace, console: Console) -> Status:
     """Puts the table into the book, or says which line of it is wrong."""
     request = table_request(arguments.name, arguments.text)
-    with Session(arguments.file) as session:
+    with Session(arguments.file, timeout=arguments.wait) as session:
         lines = carried_out(session, request, arguments.width)
     console.show(*lines)
     return Status.DONE

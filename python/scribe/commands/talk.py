@@ -7,6 +7,7 @@ from contextlib import AbstractContextManager, nullcontext
 from braildesk import Lost, Refused, Session
 
 from scribe import help
+from scribe.aftermath import after_loss
 from scribe.console import Console
 from scribe.conversation import Conversation, Ended, request_line
 from scribe.dialogues import DIALOGUES
@@ -36,7 +37,7 @@ def add_parser(subparsers: Subparsers) -> ArgumentParser:
     parser = command_parser(
         subparsers, "talk", "Works on a book at a prompt, in words.", EXAMPLE, MORE
     )
-    add_file(parser)
+    add_file(parser, wait=0)
     parser.add_argument(
         "--by",
         metavar="WHO",
@@ -56,7 +57,9 @@ def add_parser(subparsers: Subparsers) -> ArgumentParser:
 
 def run(arguments: Namespace, console: Console) -> Status:
     """Talks until the person ends it."""
-    with Session(arguments.file) as session, _lines(console) as lines:
+    with Session(arguments.file, timeout=arguments.wait) as session, _lines(
+        console
+    ) as lines:
         conversation = Conversation(
             session, lines, console, arguments.width, arguments.by
         )
@@ -68,7 +71,7 @@ def run(arguments: Namespace, console: Console) -> Status:
         try:
             _talk(conversation)
         except Lost as lost:
-            conversation.say(lost.sentence)
+            conversation.say(*after_loss(arguments.file, lost))
             return Status.FAILED
         conversation.show(f"The book is at version {session.seen:,}.")
     return Status.DONE

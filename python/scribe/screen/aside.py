@@ -12,6 +12,7 @@ from scribe.commands import export, import_text
 from scribe.console import Console
 from scribe.earlier import Undecided
 from scribe.failures import of_system
+from scribe.parser import USUAL_WAIT
 from scribe.screen.errands import ExportTo, ImportFrom, LeaveImport
 from scribe.screen.state import Question
 from scribe.status import Interrupted, Stop
@@ -91,13 +92,18 @@ def question_about(asked: Undecided, errand: ImportFrom) -> Question:
 def _export_words(path: Path, errand: ExportTo) -> Namespace:
     sheet = errand.sheet
     return Namespace(
-        file=path, folder=errand.folder, width=sheet.width, lines=sheet.lines
+        file=path,
+        wait=USUAL_WAIT,
+        folder=errand.folder,
+        width=sheet.width,
+        lines=sheet.lines,
     )
 
 
 def _import_words(path: Path, errand: ImportFrom) -> Namespace:
     return Namespace(
         file=path,
+        wait=USUAL_WAIT,
         text=errand.path,
         lines=False,
         table=errand.table,

@@ -6,9 +6,19 @@ from dataclasses import replace
 from pathlib import Path
 from typing import Any
 
-from braildesk import DeskError, Lost, Refused, Session, check, requests, tables
+from braildesk import (
+    DeskError,
+    Displaced,
+    Lost,
+    Refused,
+    Session,
+    check,
+    requests,
+    tables,
+)
 from braildesk.requests import Command, Request
 
+from scribe.aftermath import found_again
 from scribe.cells import braille_patterns
 from scribe.draft import Aim, Draft
 from scribe.drafts import Drafts, NotKept
@@ -79,8 +89,10 @@ class _Interrupted(Exception):
 class Desk:
     """The session with a book, and the texts of its tables."""
 
-    def __init__(self, path: Path) -> None:
+    def __init__(self, path: Path, wait: float = 0.0) -> None:
         self.path = path
+        #: How many seconds the book is waited for where another program has it open.
+        self._wait = wait
         self.drafts = Drafts(path)
         self.tables = Tables()
         self._session: Session
@@ -280,9 +292,9 @@ class Desk:
         """
         was_changed = False
         while True:
-            version = check(self.path)
-            found = tables(self.path)
-            session = Session(self.path)
+            version = check(self.path, timeout=self._wait)
+            found = tables(self.path, timeout=self._wait)
+            session = Session(self.path, timeout=self._wait)
             if session.seen == version:
                 break
             session.close()
@@ -320,6 +332,7 @@ class Desk:
             rest = saved.after_first_line((is_edit and saved.paragraph) or newest)
             if rest is None:
                 said = f"What was typed last is in the book, {where}: {quoted(saved.text)}."
+                said = f"{state.message} {said}" if state.message else said
                 return self.save_draft(state.saying(said))
             saved = rest
         return self._asked_about(state, saved)
@@ -433,16 +446,34 @@ class Desk:
             )
             return self._offered(found.saying(f"{said} {now}"), waits)
         except Lost as lost:
-            return self._after_loss(state, lost)
+            return self._ended(state, lost.sentence)
         except DeskError as failed:
             return _closed(state, failed.sentence)
         except OSError as failure:
             return _closed(state, of_system(failure))
 
     def _after_loss(self, state: State, lost: Lost) -> State:
-        """What the screen says when the session ended by itself."""
+        """The book opened again after its session ended by itself, and what it has is said."""
         state = self.save_draft(state)
-        lines = [lost.sentence]
+        if isinstance(lost, Displaced):
+            return self._ended(state, lost.sentence)
+        waits = draft_of(state) or self._unsent.waiting
+        unsaved = state.message if waits != self._unsent.waiting else ""
+        try:
+            self._open()
+            found_words = found_again(self._session, lost)
+            said = f"{lost.cause} {found_words} {unsaved}".strip()
+            found = replace(state, typed=None, preview=None, question=None, pages=None)
+            found = self._opened_again(found).saying(said)
+            return self.refreshed(self._offered(found, waits))
+        except DeskError as failed:
+            return self._ended(state, lost.sentence, failed.sentence)
+        except OSError as failure:
+            return self._ended(state, lost.sentence, of_system(failure))
+
+    def _ended(self, state: State, *sentences: str) -> State:
+        """What the screen says where the session ended and the book could not be opened again."""
+        lines = list(sentences)
         if state.typed is not None and state.typed.text:
             lines += [
                 "This was typed, and was not reported as kept:",

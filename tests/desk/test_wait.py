@@ -1,0 +1,98 @@
+"""A book that another program has open: how long each command of the shell waits for it."""
+
+import io
+import time
+from pathlib import Path
+
+import pytest
+
+from braildesk import Session
+from scribe.cli import run_words
+from scribe.console import Console
+
+
+class Clock:
+    """A clock that goes on when somebody sleeps, and closes a book at a time."""
+
+    def __init__(self, first: Session, closes_at: float) -> None:
+        self.now = 0.0
+        self._first, self._closes_at = first, closes_at
+
+    def sleep(self, seconds: float) -> None:
+        self.now += seconds
+        if self.now >= self._closes_at:
+            self._first.close()
+
+    def monotonic(self) -> float:
+        return self.now
+
+
+def run_beside(
+    monkeypatch: pytest.MonkeyPatch, moon: Path, closes_at: float, *words: str
+) -> tuple[int, str, str]:
+    """The status of a command, what it shows and what it says, while the book is in use at first."""
+    shown, said = io.StringIO(), io.StringIO()
+    with Session(moon) as first:
+        first.strike(2)
+        clock = Clock(first, closes_at)
+        with monkeypatch.context() as patched:
+            patched.setattr(time, "sleep", clock.sleep)
+            patched.setattr(time, "monotonic", clock.monotonic)
+            status = run_words(words, Console(io.BytesIO(), shown, said))
+    return status, shown.getvalue(), said.getvalue()
+
+
+def test_two_who_mark_at_once_both_have_their_marks(
+    moon: Path, monkeypatch: pytest.MonkeyPatch
+) -> None:
+    words = ("mark", str(moon), "1", "far", "how far?")
+    status, shown, said = run_beside(monkeypatch, moon, 1.5, *words)
+    assert (status, said) == (0, "")
+    assert shown.splitlines()[0] == "Mark 2, open, on “far”: how far?"
+    assert shown.splitlines()[-1] == "The book is at version 9."
+
+
+@pytest.mark.parametrize(
+    "words",
+    ["talk {}", "mark {} 1 far why? --wait 0", "copy {} {}-copy --wait 1.2"],
+)
+def test_a_book_that_is_not_free_in_time_is_said_to_be_in_use(
+    moon: Path, monkeypatch: pytest.MonkeyPatch, words: str
+) -> None:
+    words = words.format(moon, moon)
+    found = run_beside(monkeypatch, moon, 1.5, *words.split())
+    assert found == (
+        2,
+        "",
+        f"Another program has “{moon}” open. Nothing was changed. End that one first.\n",
+    )
+
+
+@pytest.mark.parametrize(
+    "words",
+    [
+        "copy {} {}-copy --wait 60",
+        "export {} {}-pages --wait 60",
+        "import {} {} --dry-run --wait 60",
+        "pages {} --wait 60",
+        "show {} --wait 60",
+        "talk {} --wait 60",
+        "heading {} 1 --wait 60",
+    ],
+)
+def test_a_command_waits_for_as_long_as_it_is_told(
+    moon: Path, monkeypatch: pytest.MonkeyPatch, words: str
+) -> None:
+    text = moon.parent / "text"
+    text.write_text("The moon.\n")
+    second = text if words.startswith("import") else moon
+    told = words.format(moon, second).split()
+    assert run_beside(monkeypatch, moon, 50, *told)[0] == 0
+
+
+def test_seconds_are_numbers() -> None:
+    console = Console(io.BytesIO(), io.StringIO(), errors := io.StringIO())
+    assert run_words(["show", "moon", "--wait", "soon"], console) == 1
+    assert errors.getvalue().startswith(
+        "Argument --wait: 'soon' is no number of seconds."
+    )
