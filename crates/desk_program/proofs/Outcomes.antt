@@ -110,7 +110,7 @@ module _ {K : Type 0} (sink : Sink K) (old new : K) where
         → Holds at source old_source new_source sink old new (Err (Refused fault))
         → (new_source ≡ old_source) × (new ≡ old)
     Holds-refused source old_source new_source (Holds.none stop none same_source same is) = (same_source, same)
-    Holds-refused source old_source new_source (Holds.held book last opened left how opens served closed is) =
+    Holds-refused source old_source new_source (Holds.held book last opened left how opens served cause closed is) =
         absurd (ends how is)
       where
         ends : (how : Ended) → Err (Refused fault) ≡ after_session how → ⊥

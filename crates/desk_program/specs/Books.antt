@@ -15,7 +15,7 @@ use Rattle.desk_brf.specs.declared.volume.ExportFault.TheVariants as export
 use Rattle.desk_ends.specs.declared.ends.Sink.{Ghosts as Sink}
 use Rattle.desk_ends.specs.declared.ends.Source.{Ghosts as Source}
 use Rattle.desk_ends.specs.Sending.{HasFlushed, Sends}
-use Rattle.desk_session.specs.Service.{Serves, ends_of}
+use Rattle.desk_session.specs.Service.{LosesCommand, Serves, ends_of}
 use Rattle.desk_session.specs.declared.session.Ended.{Ended}
 use Rattle.desk_session.specs.declared.session.Ended.TheVariants.{Done, Input, Output, Lost as LostChange}
 use Rattle.desk_store.specs.Opened.{IsRefusedWith, MayBring, OpensBook}
@@ -134,7 +134,8 @@ pub data Checks {D K : Type 0} (at : Place D) (sink : Sink K) (old new : K)
   found : (book : Book) → Finds at false book
       → Says sink old new (version_line book.version) outcome → Checks at sink old new outcome
 
--- a session is held on the book, from the connection as it was opened to what the session left, which is closed
+-- A session is held on the book, from the connection as it was opened to what the session left, which is closed. A command is lost only with
+-- a cause.
 pub data Holds {D S K : Type 0} (at : Place D) (source : Source S) (old_source new_source : S)
     (sink : Sink K) (old new : K) (outcome : Outcome) : Type 0 where
   none : (stop : Stop) → FindsNone at false stop → new_source ≡ old_source → new ≡ old
@@ -143,6 +144,8 @@ pub data Holds {D S K : Type 0} (at : Place D) (source : Source S) (old_source n
       → Opening at false opened book
       → Serves book last ended (ends_of source old_source new_source sink old new
       (state at.store opened) (state at.store left))
+      → (HasCleanDisk (state at.store left) → ended ≡ LostChange
+      → LosesCommand at.store book last (state at.store opened) (state at.store left))
       → IsClosed at left
       → outcome ≡ after_session ended → Holds at source old_source new_source sink old new outcome
 

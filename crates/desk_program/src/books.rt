@@ -1,6 +1,6 @@
 //! What the program does with the book in a file.
 ghost use Rattle.desk_program.specs.Books.{Checks, Exports, ExportsFrom, Finds, FindsNone, Holds, Makes, Opening, Says, place_at, version_line};
-ghost use Rattle.std.specs.Prelude.{MatchResult};
+ghost use Rattle.std.specs.Prelude.{MatchResult, false, ◌≡◌};
 
 use super::fault::ProgramFault;
 use super::shelf::Databases;
@@ -22,7 +22,7 @@ fn open_store<F: Databases + AllocGlobal>(
     ensures { MatchResult result
         (λ it. Opening
         (place_at F.Shelf F.Database.Store F.connects F.closes rt.now path.now)
-        make it.0.connection it.1)
+        make it.0.connection it.1 × (it.0.lost ≡ false))
         (FindsNone
         (place_at F.Shelf F.Database.Store F.connects F.closes rt.now path.now)
         make) }

@@ -8,3 +8,4 @@ pub mod TurnsTaken
 pub mod RequestCuts
 pub mod MoreTurns
 pub mod Serving
+pub mod Losses

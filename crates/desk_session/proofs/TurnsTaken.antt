@@ -5,7 +5,6 @@ use Rattle.std.specs.Io.KnownBytes.{Appends, Keeps}
 use Rattle.std.proofs.KnownBytes.{Appends-kept}
 use Rattle.std.proofs.lemmas.List.{append-nil}
 use Rattle.sqlite_trees.specs.Tree.{Trees}
-use Rattle.sqlite.specs.Effect.{Database}
 use Rattle.sqlite.specs.State.{HasCleanDisk, State, Survives}
 use Rattle.sql_tables.specs.States.{ShowsAsBefore}
 use Rattle.desk_command.specs.declared.command.Command.{Command}
@@ -28,7 +27,7 @@ use Rattle.desk_line.specs.Reply.{IsReplied}
 use Rattle.desk_line.specs.Request.{Reads}
 use Rattle.desk_store.specs.Books.{LeavesBook, LeavesEither, MayKeep, MayServe, ShowsBook}
 use Rattle.desk_rows.specs.Layout.{Layout}
-use Rattle.desk_rows.specs.States.{IsFile}
+use Rattle.desk_rows.proofs.Transactions.Committing.{shows_on}
 use Rattle.desk_session.specs.Requests.{IsFaultOf}
 use Rattle.desk_session.specs.Service.{IsPart}
 use Rattle.desk_session.specs.Turns.{SendsReply, TakesTurn, fault_answer}
@@ -61,14 +60,7 @@ refused-turn bytes book command expect refusal s reads is =
 
 -- a connection that shows what another showed shows its book
 pub shows-still : (l : Layout) (book : Book) (old new : State) → new.now ≡ old.now → ShowsBook l book old → ShowsBook l book new
-shows-still l book old new same (c, shows, rows) = (
-  c,
-  record {
-    schema = ap (λ (d : Database). d.schema) same ∙ shows.schema;
-    is = subst (λ (d : Database). IsFile l c d.trees) (sym same) shows.is;
-  },
-  rows,
-)
+shows-still l book old new same (c, shows, rows) = (c, shows_on old new l c same shows, rows)
 
 module _ (bytes : List ℕ) (book : Book) (command : Command) (expect : Option ℕ) (next : Book) (change : Change) (old new : State)
     (reads : Reads bytes (Do command expect)) (is : IsAccepted book expect command) (carries : Carries book command next change)

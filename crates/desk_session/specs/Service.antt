@@ -3,7 +3,11 @@ use Rattle.std.specs.Prelude.{◌≡◌, ◌≢◌, ◌⊎◌, ℕ, ◌≤◌, B
 use Rattle.std.specs.Io.KnownBytes.{Appends, Consumes, IsAtEnd}
 use Rattle.std.specs.List.{AllByRecursion}
 use Rattle.sqlite_trees.specs.Tree.{Trees}
-use Rattle.sqlite.specs.State.{HasCleanDisk, State}
+use Rattle.sqlite_trees.specs.declared.error.StoreError.TheVariants.{OutOfMemory}
+use Rattle.sqlite_trees.specs.declared.store.Store.{Ghosts}
+use Rattle.sqlite.specs.declared.error.Error.{Error}
+use Rattle.sqlite.specs.Held.{Held, state}
+use Rattle.sqlite.specs.State.{Fails, HasCleanDisk, State, store_error}
 use Rattle.sql_tables.specs.States.{Leaves}
 use Rattle.desk_model.specs.After.{After}
 use Rattle.desk_model.specs.Book.{Book}
@@ -15,6 +19,7 @@ use Rattle.desk_line.specs.Reply.{IsReply}
 use Rattle.desk_line.specs.Request.{Requests, WholeRequests}
 use Rattle.desk_store.specs.Books.{HoldsBook, MayServe, ShowsBook}
 use Rattle.desk_rows.specs.Layout.{Layout}
+use Rattle.desk_rows.specs.Turns.{FailsWith, RunInTurn, Statement, with_transaction}
 use Rattle.desk_store.specs.Opened.{Stands}
 use Rattle.desk_session.specs.declared.session.Ended.{Ended}
 use Rattle.desk_session.specs.declared.session.Ended.TheVariants.{Done, Input, Output, Lost}
@@ -128,6 +133,20 @@ pub record IsLeft (l : Layout) (book last : Book) (ended : Ended) (given : List 
     : Type 0 where
   pub shows : (ended ≢ Lost) ⊎ IsTrue s.is_open → ShowsBook l last s
   pub leaves : Leaves (HoldsGiven l book ended given) s
+
+-- ---- why a command is lost
+
+-- In a transaction that began on a connection some statements ran in turn, and the database answered the error to the next one or to the
+-- commit, or an allocation failed. If the file showed the book and kept it before the session, it showed and kept the last book there.
+pub record LosesCommand {S : Type 0} (g : Ghosts S) (book last : Book) (old : State) (new : State) : Type 0 where
+  pub before : Held S
+  pub serves : (l : Layout) → MayServe l book old → MayServe l last (state g before)
+  pub done : List Statement
+  pub inside : Held S
+  pub ran : RunInTurn g done (with_transaction before) inside
+  pub error : Error
+  pub fails : ((it : Statement) × (after : Held S) × FailsWith it (state g inside) (state g after) error)
+      ⊎ (Fails (state g inside) new ⊥ error ⊎ (error ≡ store_error OutOfMemory))
 
 -- ---- the whole
 

@@ -1,6 +1,9 @@
 -- One turn of a session. Only private functions and proofs need these words.
 use Rattle.std.specs.Prelude.{◌≡◌, ℕ, Bool, true, false, IsTrue, List, Option}
 use Rattle.std.specs.Io.KnownBytes.{Appends}
+use Rattle.sqlite_trees.specs.declared.store.Store.{Ghosts}
+use Rattle.sqlite.specs.declared.error.Error.{Error}
+use Rattle.sqlite.specs.Held.{Held}
 use Rattle.sqlite.specs.State.{HasCleanDisk, State}
 use Rattle.desk_command.specs.declared.command.Command.{Command}
 use Rattle.desk_model.specs.Book.{Book}
@@ -14,7 +17,8 @@ use Rattle.desk_line.specs.declared.fault.Fault.{Fault}
 use Rattle.desk_line.specs.declared.fault.Fault.TheVariants as faults
 use Rattle.desk_line.specs.Answers.{IsAnswered}
 use Rattle.desk_line.specs.Reply.{IsReply}
-use Rattle.desk_store.specs.Books.{LeavesEither, MayServe, ShowsBook}
+use Rattle.desk_book.specs.Changes.{Change}
+use Rattle.desk_store.specs.Books.{FailsToKeep, LeadsTo, LeavesEither, MayServe, ShowsBook}
 use Rattle.desk_rows.specs.Layout.{Layout}
 use Rattle.desk_session.specs.Service.{IsPart}
 use Rattle.desk_session.specs.Session.{IsCommand}
@@ -34,6 +38,14 @@ pub record LeavesLost (l : Layout) (request : List ℕ) (book : Book) (s : State
   pub makes : Makes book command made
   pub leaves : LeavesEither l book made s
   pub shows : IsTrue s.is_open → ShowsBook l book s
+
+-- Why a command was lost: keeping a change that leads on from the book failed.
+pub record LosesChange {S : Type 0} (g : Ghosts S) (book : Book) (old : Held S) (new : State) : Type 0 where
+  pub change : Change
+  pub next : Book
+  pub leads : LeadsTo book change next
+  pub error : Error
+  pub fails : FailsToKeep g book change old new error
 
 -- what the file is after a request was answered so, and this is the book after it
 abbrev pub LeftBy : Layout → List ℕ → (book next : Book) → Answer → State → Type 0

@@ -1,8 +1,9 @@
 //! A session over two ends.
-ghost use Rattle.desk_session.specs.Service.{Serves, ends_of};
+ghost use Rattle.desk_session.specs.Service.{LosesCommand, Serves, ends_of};
 ghost use Rattle.desk_model.specs.Book.{Book};
 ghost use Rattle.desk_store.specs.Books.{Store as Shown, shown_by};
-ghost use Rattle.std.specs.Prelude.{true, ◌≡◌};
+ghost use Rattle.sqlite.specs.State.{HasCleanDisk};
+ghost use Rattle.std.specs.Prelude.{false, true, ◌≡◌};
 
 use super::reader::Reader;
 use super::turn::{answer_found, is_lost, reply};
@@ -41,8 +42,11 @@ pub fn serve<R: Source, W: Sink, S: Alter>(
 ) -> (Ended, Book)
     ensures served { Serves book result.1 result.0 (ends_of R.Source source.old source.new
         W.Sink sink.old sink.new (shown_by S.Store store.old) (shown_by S.Store store.new)) }
-    // Only a store on which a change was lost ends it so.
+    // Only a store on which a change was lost ends it so. The first loss has a cause.
     ensures lost { result.0 ≡ Ended.Lost → store.new.lost ≡ true }
+    ensures cause { HasCleanDisk (shown_by S.Store store.new) → store.old.lost ≡ false
+        → result.0 ≡ Ended.Lost → LosesCommand S.Store book result.1
+        (shown_by S.Store store.old) (shown_by S.Store store.new) }
 {
     let mut reader = Reader::new();
     let mut book = book;
@@ -76,7 +80,9 @@ pub fn run<R: Source, W: Sink, S: Alter + Drop>(
     // What became of the book and of the file is known of `serve`; here it is a book and a state that fit.
     ensures { (last : Book) × (left : Shown S)
         × Serves book last result (ends_of R.Source source.old source.new
-        W.Sink sink.old sink.new (shown_by S.Store store) (shown_by S.Store left)) }
+        W.Sink sink.old sink.new (shown_by S.Store store) (shown_by S.Store left))
+        × (HasCleanDisk (shown_by S.Store left) → store.lost ≡ false → result ≡ Ended.Lost
+        → LosesCommand S.Store book last (shown_by S.Store store) (shown_by S.Store left)) }
 {
     let mut store = store;
     let (ended, _) = serve(alloc, source, sink, &mut store, book);

@@ -1,9 +1,10 @@
 //! One request to a book and its file, from its bytes to its reply.
 ghost use Rattle.desk_line.specs.Request.{Reads};
 ghost use Rattle.desk_session.specs.Requests.{IsFaultOf};
-ghost use Rattle.desk_session.specs.Turns.{SendsReply, TakesTurn, fault_answer};
+ghost use Rattle.desk_session.specs.Turns.{LosesChange, SendsReply, TakesTurn, fault_answer};
+ghost use Rattle.sqlite.specs.State.{HasCleanDisk};
 ghost use Rattle.desk_store.specs.Books.{shown_by};
-ghost use Rattle.std.specs.Prelude.{IsTrue, List, MatchResult, is_ok, true, ◌≡◌, ◌≢◌, ◌↔◌, ℕ};
+ghost use Rattle.std.specs.Prelude.{IsTrue, List, MatchResult, false, is_ok, true, ◌≡◌, ◌≢◌, ◌↔◌, ℕ};
 
 use desk_book::Book;
 use desk_command::Command;
@@ -24,6 +25,11 @@ pub(crate) fn answer_found<S: Alter>(
         → TakesTurn bytes book result.1 result.0
         (shown_by S.Store store.old) (shown_by S.Store store.new) }
     ensures lost { result.0 ≡ Answer.Lost → store.new.lost ≡ true }
+    // The first loss has a cause.
+    ensures cause { HasCleanDisk (shown_by S.Store store.new) → store.old.lost ≡ false
+        → result.0 ≡ Answer.Lost
+        → LosesChange S.Store book store.old.connection (shown_by S.Store store.new) }
+    ensures held { store.old.lost ≡ false → result.0 ≢ Answer.Lost → store.new.lost ≡ false }
 {
     match found {
         Ok(Request::Do { command, expect }) => carry_out(alloc, store, book, &command, expect),
@@ -55,6 +61,11 @@ fn carry_out<S: Alter>(
         → TakesTurn bytes book result.1 result.0
         (shown_by S.Store store.old) (shown_by S.Store store.new) }
     ensures lost { result.0 ≡ Answer.Lost → store.new.lost ≡ true }
+    // The first loss has a cause.
+    ensures cause { HasCleanDisk (shown_by S.Store store.new) → store.old.lost ≡ false
+        → result.0 ≡ Answer.Lost
+        → LosesChange S.Store book store.old.connection (shown_by S.Store store.new) }
+    ensures held { store.old.lost ≡ false → result.0 ≢ Answer.Lost → store.new.lost ≡ false }
 {
     let change = match book.plan(alloc, command, expect) {
         Ok(change) => change,

@@ -1,3 +1,4 @@
+use Rattle.std.proofs.Common.{◌≡◌, false}
 use Rattle.desk_store.specs.Books.{shown_by}
 use Rattle.desk_ends.proofs.UsedInput.{left_to_use}
 use Rattle.desk_session.specs.Service.{ends_of}
@@ -9,6 +10,7 @@ invariant-loop-found g l =
     IsServing l.fn.book l.book
     (ends_of g.R.Source l.fn.source l.source g.W.Sink l.fn.sink l.sink (shown_by g.S.Store l.fn.store) (shown_by g.S.Store l.store))
     l.reader.input
+    × (l.fn.store.lost ≡ false → l.store.lost ≡ false)
 
 abbrev pub decreases-loop-found : goal.decreases-loop-found
 decreases-loop-found g l = left_to_use l.reader.input
