@@ -224,6 +224,21 @@ def test_pages_are_looked_at_from_their_top_on() -> None:
     assert drawn.texts()[1:3] == ["All keys. Lines 11 to 31 of 40.", "line 11"]
 
 
+def test_what_is_said_below_lines_that_are_looked_at_leaves_them_the_rest() -> None:
+    lines = tuple(f"line {n}" for n in range(1, 41))
+    said = "That key does nothing here. Escape goes back."
+    state = replace(STATE, size=Size(40, 12), pages=Pages("All keys.", lines, 10, 18))
+    assert draw(state).texts()[10] == "line 19" and draw(state).cursor == (10, 0)
+    drawn = draw(replace(state, message=said))
+    assert drawn.texts()[1:3] == ["All keys. Lines 13 to 19 of 40.", "line 13"]
+    assert drawn.texts()[8:11] == [
+        "line 19",
+        "That key does nothing here. Escape goes",
+        "back.",
+    ]
+    assert drawn.cursor == (8, 0)
+
+
 def test_a_long_refusal_leaves_room_for_the_book() -> None:
     drawn = draw(replace(STATE, size=Size(40, 12), message="No, never again. " * 40))
     assert len(drawn.lines) == 12

@@ -178,6 +178,11 @@ ASKED = {
 }
 SAID = {
     "an unknown key": (STATE, "z", "That key does nothing here. ? shows all keys."),
+    "a key of the book while other lines are looked at": (
+        replace(STATE, pages=Pages("All keys.", ("Up: to the paragraph before",))),
+        "s",
+        "That key does nothing here. Escape goes back.",
+    ),
     "r without a mark": (
         replace(STATE, lit=Lit(Occurrence(0, 1), Occurrence(0, 2))),
         "r",

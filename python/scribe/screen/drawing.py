@@ -15,7 +15,7 @@ from scribe.screen.body import body
 from scribe.screen.encoding import has
 from scribe.screen.lines import CHOSEN, HEAD, PLAIN, Area, Line, Piece, filled
 from scribe.screen.rows import shown
-from scribe.screen.state import Lit, Pages, Pane, Question, State
+from scribe.screen.state import Lit, Pages, Pane, Question, Size, State
 from scribe.visible import named, visible
 from scribe.wrapping import columns, wrap
 
@@ -139,8 +139,9 @@ def _rule(state: State) -> Line:
 
 
 def _pages(state: State, pages: Pages, room: int) -> Area:
-    """Lines that are looked at in place of the book."""
-    found = pager.seen(pages, state.size)
+    """Lines that are looked at in place of the book, in the room that is left by what is said."""
+    size = Size(state.size.columns, room + pager.OTHERS)
+    found = pager.seen(pager.fitted(pages, size), size)
     lines: list[Line] = [
         (Piece(line, CHOSEN if place == found.cursor else PLAIN),)
         for place, line in enumerate([*found.head, *found.lines])

@@ -196,8 +196,11 @@ def _looking(state: State, pages: Pages, key: str) -> State:
     moved = pager.moved(pages, state.size, key)
     if moved is not None:
         return replace(state, pages=moved)
-    is_left = key in ("escape", "q", "enter") and not state.is_lost
-    return replace(state, pages=None) if is_left else state
+    if state.is_lost:
+        return state
+    if key in ("escape", "q", "enter"):
+        return replace(state, pages=None)
+    return state.saying("That key does nothing here. Escape goes back.")
 
 
 def _typing(state: State, typed: Field, key: str) -> Step:

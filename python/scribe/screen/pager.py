@@ -8,7 +8,7 @@ from scribe.visible import visible
 from scribe.wrapping import wrap
 
 # the lines of the screen that aren't the pager's: the first has the book's name, the last keys
-_OTHERS = 2
+OTHERS = 2
 
 
 @dataclass(frozen=True)
@@ -38,6 +38,11 @@ def at_line(pages: Pages, size: Size, number: int) -> Pages:
     """The lines with the cursor on one of them, counted from 0, which is seen."""
     before = replace(pages, lines=pages.lines[:number])
     return _at(pages, size, len(_wrapped(before, size)))
+
+
+def fitted(pages: Pages, size: Size) -> Pages:
+    """The lines with that of the cursor still seen on a screen of another size."""
+    return _at(pages, size, pages.place) if pages.place != HEAD_LINE else pages
 
 
 def moved(pages: Pages, size: Size, key: str) -> Pages | None:
@@ -86,4 +91,4 @@ def _most(pages: Pages, size: Size) -> int:
     head = wrap(
         f"{visible(pages.title)} Lines {count} to {count} of {count}.", size.columns
     )
-    return max(1, size.lines - _OTHERS - len(head))
+    return max(1, size.lines - OTHERS - len(head))
