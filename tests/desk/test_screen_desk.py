@@ -15,10 +15,12 @@ from braildesk import Kind, Session, requests
 from scribe.cells import braille_patterns
 from scribe.draft import Aim, Draft
 from scribe.drafts import Drafts
+from scribe.screen.aside import Ending
 from scribe.screen.desk import Desk
 from scribe.screen.preview import Tables
 from scribe.screen.state import Preview, Size
 from sitting import Sat, Sit
+from tool import ROOT
 
 SMALL = (
     "space \\s 0\nletter a 1\nletter b 12\nuplow Tt 2345\nletter h 125\nletter e 15\n"
@@ -399,6 +401,38 @@ def test_an_export_and_an_import_are_done_and_the_book_is_open_again(
         "     4 body: The sun",
         "     5 body: The stars.",
     ]
+
+
+def test_an_import_into_an_empty_book_has_the_table_that_was_chosen(
+    book: Path, sit: Sit
+) -> None:
+    with Session(book) as session:
+        session.table("plain", (ROOT / "sample" / "plain.utb").read_bytes())
+    (book.parent / "text.txt").write_text("The sun\n")
+    sat = sit(book)
+    sat.press("i")
+    assert sat.state.message == "The book has the tables en, plain. t chooses one."
+    sat.press("t", *"plain", "enter", "i", *str(book.parent / "text.txt"), "enter")
+    sat.state = sat.desk.away(sat.state, lambda line: None)
+    assert sat.state.kept == "kept: 1 paragraph typed, number 1, by the table plain"
+
+
+def test_an_import_that_is_cut_short_is_kept_as_far_as_it_came(
+    moon: Path, sit: Sit, monkeypatch: pytest.MonkeyPatch
+) -> None:
+    def cut_short(path: Path, *_: object) -> Ending:
+        with Session(path) as session:
+            session.type("end", "en", "The sun")
+        return Ending("Import.", ("The session ended.",))
+
+    monkeypatch.setattr("scribe.screen.desk.done_aside", cut_short)
+    sat = sit(moon)
+    sat.press("s", "i", "x", "enter")
+    assert sat.lines[0].endswith("last kept: paragraph 1 struck")
+    sat.state = sat.desk.away(sat.state, lambda line: None)
+    assert sat.lines[0].endswith(
+        "version 9, table en, last kept: 1 paragraph of the import"
+    )
 
 
 def test_only_the_listed_paragraphs_are_asked_for(
