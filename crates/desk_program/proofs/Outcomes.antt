@@ -2,18 +2,16 @@
 use Rattle.std.proofs.Common.{◌≡◌, ◌⊎◌, ℕ, Bool, true, false, List, refl, ap, subst, inl, inr}
 use Rattle.std.specs.Prelude.{IsErrAnd, MatchResult, Result, Ok, Err}
 use Rattle.sqlite_trees.specs.View.{IsQuiet, IsRolledBack}
-use Rattle.sqlite.specs.Held.{Held, state}
+use Rattle.sqlite.specs.Held.{Held}
 use Rattle.desk_model.specs.Book.{Book}
 use Rattle.desk_brf.specs.Layout.{Layout}
 use Rattle.desk_ends.specs.declared.ends.Sink.{Ghosts as Sink}
 use Rattle.desk_ends.specs.declared.ends.Source.{Ghosts as Source}
 use Rattle.desk_session.specs.declared.session.Ended.{Ended}
 use Rattle.desk_session.specs.declared.session.Ended.TheVariants as ended
-use Rattle.desk_store.specs.Opened.{IsRefusedWith}
-use Rattle.desk_store.specs.declared.fault.OpenFault.{OpenFault}
 use Rattle.desk_words.specs.declared.action.Action.{Action}
 use Rattle.desk_words.specs.declared.action.Action.TheVariants.{New, Session, Export, Translate, Check}
-use Rattle.desk_program.specs.Books.{Checks, Exports, ExportsFrom, FindsNone, Holds, IsClosed, Makes, Outcome, Place, after_session, stop_of}
+use Rattle.desk_program.specs.Books.{Checks, Exports, ExportsFrom, FindsNone, Holds, IsClosed, Makes, Outcome, Place, after_session}
 use Rattle.desk_program.specs.Fault.{FaultAt}
 use Rattle.desk_program.specs.Program.{CarriesOut, Files, Translates, place_of}
 use Rattle.desk_program.specs.Shelf.{FileState}

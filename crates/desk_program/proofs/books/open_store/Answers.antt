@@ -1,5 +1,5 @@
 use Rattle.std.proofs.Common.{refl}
-use Rattle.desk_program.specs.Books.{FindsNone, Opening, place_at}
+use Rattle.desk_program.specs.Books.{FindsNone, place_at}
 use Rattle.desk_program.proofs.Outcomes.{closed-as, none-unconnected}
 use Rattle.desk_program.proofs.books.open_store.Goals as goal
 
