@@ -65,6 +65,7 @@ def test_u_takes_back_one_thing_after_the_other(moon: Path, sit: Sit) -> None:
     sat.press("u")
     assert sat.state.kept == "kept: undo in paragraph 1"
     assert sat.lines[8].startswith("The {mon} is far away.")
+    assert sat.state.message == "Taken back: the newest correction of paragraph 1."
 
 
 def test_a_typed_paragraph_is_taken_back_by_striking_it(moon: Path, sit: Sit) -> None:

@@ -412,6 +412,9 @@ class Desk:
         return state if state.typed else self.save_draft(state)
 
     def _done(self, state: State, asked: Command[Any] | Errand | None) -> State:
+        if isinstance(asked, requests.Undo):
+            taken = f"Taken back: the newest correction of paragraph {asked.paragraph}."
+            return _saying_first(taken, self._sent(state, asked))
         if isinstance(asked, Command):
             return self._sent(state, asked)
         return state if asked is None else self._run(state, asked)
@@ -541,7 +544,7 @@ class Desk:
             state = self.refreshed(_at_paragraph(state, deed.paragraph))
         state = self._sent(state, replace(deed.back[0], expect=state.version))
         left = deeds.without(deed, earlier, state.deeds[-1])
-        return replace(state, deeds=left).saying(deed.sentence)
+        return _saying_first(deed.sentence, replace(state, deeds=left))
 
     def _all_taken_back(self, state: State, report: Callable[[str], None]) -> State:
         """Takes back what a key did by many commands, as far as none is refused."""
@@ -775,6 +778,11 @@ def _with_imported(before: State, after: State) -> State:
     if not new or after.version - before.version != len(new):
         return after
     return replace(after, deeds=(*before.deeds, deeds.typed(new, "imported")))
+
+
+def _saying_first(sentence: str, state: State) -> State:
+    """The state in which a sentence is said before what has to be said anyway."""
+    return state.saying(f"{sentence} {state.message}".rstrip())
 
 
 def _at_paragraph(state: State, number: int) -> State:
