@@ -221,7 +221,7 @@ def test_lines_that_were_pasted_into_an_edit_and_cut_short_go_on(
     sat.press("down", "enter", "end")
     paste(sat, " of\nthe sea.\nThey come.")
     os.kill(sat.desk.pid, signal.SIGKILL)
-    sat.press("y", "enter")
+    sat.press("y")
     assert sat.state.question and sat.state.question.draft
     sat.press("y", "y")
     prints = [sat.state.openings[each.id].words for each in sat.state.book]
@@ -238,8 +238,11 @@ def test_lines_pasted_into_an_edit_go_on_after_the_one_that_is_in_the_book(
         sat.press("down", "enter", "end")
         paste(sat, " of\nthe sea.\nThey come.")
         sat.press("y")
-    assert sat.state.is_lost
-    sat.press("enter", "y", "y")
+    assert "what was asked last is in it" in sat.state.message
+    sat.press("y")
+    assert sat.state.question and sat.state.question.lines == ("the sea.", "They come.")
+    # the stand-in is still there once more
+    sat.press("y", "y", "enter")
     prints = [sat.state.openings[each.id].words for each in sat.state.book]
     assert prints[1:4] == ["The Tides of", "the sea.", "They come."]
     assert sat.state.version == 10

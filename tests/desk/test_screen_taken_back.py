@@ -6,7 +6,7 @@ import pytest
 
 from braildesk import Session
 from sitting import Sat, Sit
-from stand_in import READ, REPLY
+from stand_in import KILL_PROGRAM, READ, REPLY
 from terminal import standing_in
 
 #: Keys, what `u` says after them, and what the chosen paragraph or the book is then as before.
@@ -213,6 +213,24 @@ def test_what_is_refused_midway_is_said_and_the_rest_is_taken_back_later(
     sat.state = sat.desk.away(sat.state, print)
     assert [each.struck for each in sat.state.book[1:4]] == [True, True, True]
     assert (sat.state.version, sat.state.deeds) == (13, ())
+
+
+def test_what_a_lost_session_left_is_taken_back_later(
+    moon: Path, sit: Sit, monkeypatch: pytest.MonkeyPatch
+) -> None:
+    # the session ends before the second of three paragraphs is struck
+    for name, value in standing_in(5, READ, KILL_PROGRAM).items():
+        monkeypatch.setenv(name, value)
+    sat = sit(moon)
+    sat.press("o")
+    paste(sat, "One.\nTwo.\nThree.")
+    sat.press("y", "u", "y")
+    sat.state = sat.desk.away(sat.state, print)
+    assert "what was asked last is not in it" in sat.state.message
+    assert [each.struck for each in sat.state.book[1:4]] == [False, False, True]
+    sat.press("u", "y")
+    sat.state = sat.desk.away(sat.state, print)
+    assert [each.struck for each in sat.state.book[1:4]] == [True, True, True]
 
 
 def test_a_refusal_leaves_what_can_be_taken_back(

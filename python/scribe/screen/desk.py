@@ -549,27 +549,28 @@ class Desk:
     def _all_taken_back(self, state: State, report: Callable[[str], None]) -> State:
         """Takes back what a key did by many commands, as far as none is refused."""
         *earlier, deed = state.deeds
-        said, done, count = deed.sentence, 0, len(deed.back)
-        left = tuple(earlier)
-        try:
-            for done, command in enumerate(deed.back):
+        said, count = deed.sentence, len(deed.back)
+        for done, command in enumerate(deed.back, 1):
+            try:
                 self._check()
                 asked = replace(command, expect=state.version)
                 answer = self._session.ask(asked)
-                version = self._session.seen
-                state = replace(state, version=version, kept=kept(asked, answer))
-                report(f"{done + 1:,} of {count:,} done.")
-        except Lost as lost:
-            return self._after_loss(state, lost)
-        except Refused as refused:
-            said = f"{done:,} of {count:,} done. {refused.sentence}"
-            left = (*earlier, replace(deed, back=deed.back[done:]))
-        except Interrupted:
-            said = f"{done:,} of {count:,} done."
-            left = (*earlier, replace(deed, back=deed.back[done:]))
+            except Lost as lost:
+                return self._after_loss(state, lost)
+            except (Refused, Interrupted) as ended:
+                why = ended.sentence if isinstance(ended, Refused) else ""
+                said = f"{done - 1:,} of {count:,} done. {why}".rstrip()
+                break
+            rest = deed.back[done:]
+            left = (*earlier, replace(deed, back=rest)) if rest else tuple(earlier)
+            version = self._session.seen
+            state = replace(
+                state, version=version, deeds=left, kept=kept(asked, answer)
+            )
+            report(f"{done:,} of {count:,} done.")
         book = self._session.list()
-        state = replace(state, deeds=left, book=book, openings={}, reading=None)
-        return self._drawn(replace(state, lit=None).saying(said))
+        state = replace(state, book=book, openings={}, reading=None, lit=None)
+        return self._drawn(state.saying(said))
 
     def _changed(self, state: State, number: int | None, before: State) -> State:
         """The state after a paragraph was changed, with that one chosen."""
