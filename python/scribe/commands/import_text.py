@@ -35,7 +35,7 @@ and column. If the typing is cut short, also by a terminal that is closed, --con
 the rest; --from goes on at a line of the text. A text that stands there already, or of
 which a part does, isn't typed once more without --again."""
 EXAMPLE = """\
-echo 'Twice a day the sea comes up.' > tides.txt && scribe import moon.braildesk tides.txt"""
+echo 'The sun is farther away.' > sun.txt && scribe import moon.braildesk sun.txt"""
 
 
 def add_parser(subparsers: Subparsers) -> ArgumentParser:
