@@ -8,6 +8,10 @@ to the one before it. The places between sequences are the seams of a text.
 import unicodedata
 from functools import lru_cache
 
+from braildesk import limits
+
+# a sequence gets shorter by three characters at most
+_LONGEST = limits.PRINT_CHARACTERS + 3
 _JOINING_JAMO = range(0x1160, 0x1200)
 _MORE_JOINING_JAMO = range(0xD7B0, 0xD800)
 
@@ -42,5 +46,14 @@ def sequences(text: str) -> list[str]:
 
 
 def composed(text: str) -> str:
-    """A text in normal form C."""
-    return unicodedata.normalize("NFC", text)
+    """A text in normal form C.
+
+    A sequence that no print can have stays as it is: its marks would be put into their order in a
+    time that grows with the square of their number.
+    """
+    if len(text) <= _LONGEST:
+        return unicodedata.normalize("NFC", text)
+    return "".join(
+        part if len(part) > _LONGEST else unicodedata.normalize("NFC", part)
+        for part in sequences(text)
+    )

@@ -1,16 +1,19 @@
 """What takes time that grows with a file, and not with its square: steps are counted."""
 
 import time
+import unicodedata
 from collections.abc import ItemsView, ValuesView
 from dataclasses import replace
 from pathlib import Path
+
+import pytest
 
 from braildesk import Table
 from braildesk.bring.shipped import head_of
 from braildesk.profile import read, warnings
 from scribe.judgement import faults
 from scribe.manuscript import Position, passages
-from scribe.sequences import belongs
+from scribe.sequences import belongs, composed
 from scribe.wrapping import wrap
 
 # far more than the least that is wanted takes on a slow machine, and far less than its square
@@ -40,6 +43,22 @@ def test_places_are_found_in_combining_sequences_over_lines() -> None:
         Position(2, 2),
         Position(2, 4),
     ]
+
+
+def test_marks_without_end_on_one_letter_are_judged_in_one_walk() -> None:
+    marks = "a" + "\u0301\u0323" * 200_000
+    began = time.process_time()
+    (passage,) = passages(f"the moon\n{marks}\n".encode(), False)
+    assert len(passage.text) == len("the moon ") + len(marks)
+    assert passage.position(4_000) == Position(2, 1)
+    assert time.process_time() - began < SECONDS
+
+
+@pytest.mark.parametrize("length", [3_990, 4_010])
+def test_a_long_text_is_composed_as_a_short_one(length: int) -> None:
+    text = "e\u0301 a\u0301\u0323 \u1100\u1161\u11a8 " * (length // 10)
+    assert len(text) > length - 10
+    assert composed(text) == unicodedata.normalize("NFC", text)
 
 
 class Counted(dict[str, str]):
