@@ -11,7 +11,7 @@ TABLE_LINE_CHARACTERS = 1_000
 #: The bytes of a table's file for ``translate``.
 TABLE_BYTES = 2**27
 #: The bytes of a text file that is imported, or of a table of liblouis.
-TEXT_BYTES = 2**27
+TEXT_BYTES = 2**25
 #: The characters of a print, in normal form C.
 PRINT_CHARACTERS = 4_000
 #: The characters of the note of a mark.

@@ -9,24 +9,29 @@ from bisect import bisect_right
 from collections.abc import Iterable, Iterator, Sequence
 from dataclasses import dataclass
 from functools import cached_property
-from itertools import groupby
+from io import StringIO
+from itertools import groupby, islice
+
+from braildesk import limits
 
 from scribe.sequences import composed, sequences
 
 _MARK = b"\xef\xbb\xbf"
 _OTHER_MARKS = (b"\xff\xfe", b"\xfe\xff")
+# what is over the paragraphs of a book is counted up to here, so that it can be said how many
+_MOST = 5 * limits.PARAGRAPHS
 _BLANKS = str.maketrans("\t\f", "  ")
 
 
 class Unreadable(Exception):
-    """A text file isn't UTF-8."""
+    """A text file isn't UTF-8, or has more paragraphs than any book."""
 
     def __init__(self, sentence: str) -> None:
         super().__init__(sentence)
         self.sentence = sentence
 
 
-@dataclass(frozen=True, order=True)
+@dataclass(frozen=True, order=True, slots=True)
 class Position:
     """A line of a file and a column in it, both from 1."""
 
@@ -34,7 +39,7 @@ class Position:
     column: int
 
 
-@dataclass(frozen=True)
+@dataclass(frozen=True, slots=True)
 class Line:
     """What a line of a file has between the blanks around it, and the position of its front."""
 
@@ -104,16 +109,26 @@ class Passage:
 
 def passages(data: bytes, by_lines: bool) -> tuple[Passage, ...]:
     """The paragraphs of a text: its lines, or what stands between its blank lines."""
-    found = list(_lines(_decoded(data.removeprefix(_MARK))))
+    lines = _lines(_decoded(data.removeprefix(_MARK)))
+    found = tuple(islice(_parted(lines, by_lines), _MOST + 1))
+    if len(found) > _MOST:
+        raise Unreadable(
+            f"has over {_MOST:,} paragraphs, and a book has at most {limits.PARAGRAPHS:,}"
+        )
+    return found
+
+
+def _parted(lines: Iterator[Line], by_lines: bool) -> Iterator[Passage]:
     if by_lines:
-        return tuple(Passage((line,)) for line in found if line.text)
-    groups = groupby(found, key=lambda line: bool(line.text))
-    return tuple(Passage(tuple(lines)) for has_text, lines in groups if has_text)
+        return (Passage((line,)) for line in lines if line.text)
+    groups = groupby(lines, key=lambda line: bool(line.text))
+    return (Passage(tuple(group)) for has_text, group in groups if has_text)
 
 
 def _lines(text: str) -> Iterator[Line]:
-    for number, whole in enumerate(text.split("\n"), start=1):
-        shown = whole.removesuffix("\r").translate(_BLANKS)
+    # lines are taken one by one, since a text may have millions that are blank
+    for number, whole in enumerate(StringIO(text, newline="\n"), start=1):
+        shown = whole.removesuffix("\n").removesuffix("\r").translate(_BLANKS)
         front = len(shown) - len(shown.lstrip(" "))
         yield Line(shown.strip(" "), Position(number, front + 1))
 

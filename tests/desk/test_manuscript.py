@@ -1,5 +1,7 @@
 """The paragraphs of a text file, and where their characters stand in it."""
 
+import tracemalloc
+
 import pytest
 
 from scribe.manuscript import Position, Unreadable, passages
@@ -23,6 +25,27 @@ def test_each_line_is_a_paragraph_by_lines_and_blank_ones_are_passed_over() -> N
         ("is far", 2, 2),
         ("away.", 4, 4),
     ]
+
+
+@pytest.mark.parametrize("by_lines", [False, True])
+def test_blank_lines_take_no_memory(by_lines: bool) -> None:
+    data = b"\n" * 300_000 + b"The moon\n"
+    tracemalloc.start()
+    try:
+        assert texts(data, by_lines) == [("The moon", 300_001, 300_001)]
+        _, most = tracemalloc.get_traced_memory()
+    finally:
+        tracemalloc.stop()
+    assert most < 20 * len(data)
+
+
+def test_a_text_of_more_paragraphs_than_five_books_is_refused() -> None:
+    assert len(passages(b"a\n" * 100_000, True)) == 100_000
+    with pytest.raises(Unreadable) as refused:
+        passages(b"a\n" * 100_001, True)
+    assert refused.value.sentence == (
+        "has over 100,000 paragraphs, and a book has at most 20,000"
+    )
 
 
 @pytest.mark.parametrize("by_lines", [False, True])

@@ -204,5 +204,5 @@ def test_requests_from_a_device_without_an_end_are_given_up(moon: Path) -> None:
         )
     assert (done.returncode, done.stdout) == (3, b"")
     assert done.stderr.decode() == (
-        "A line of standard input has over 134,217,728 bytes. No more is read.\n"
+        "A line of standard input has over 33,554,432 bytes. No more is read.\n"
     )
