@@ -6,6 +6,7 @@ from collections.abc import Iterator
 from contextlib import closing, contextmanager
 from os import fsencode, fspath
 from pathlib import Path
+from typing import BinaryIO
 from urllib.parse import quote
 
 from braildesk import limits, opening
@@ -13,7 +14,7 @@ from braildesk.asked import BookFile
 from braildesk.held import copy_held, held
 from braildesk.places import has_work, log_path, real_path
 from braildesk.program import StrPath
-from braildesk.refusals import cannot_open, refused
+from braildesk.refusals import Failed, cannot_open, refused
 from braildesk.values import Table
 from braildesk.waiting import waited
 
@@ -65,12 +66,34 @@ def contents(book: BookFile) -> Iterator[sqlite3.Connection]:
             with closing(_reader(f"file:{name}?immutable=1")) as database:
                 yield database
             return
-        with tempfile.TemporaryDirectory() as folder:
-            copied = Path(folder, "book")
-            # from the file that is locked, whatever stands at its path by now
-            copy_held(file, log, copied)
+        with _copied(book, file, log) as copied:
             with closing(_reader(f"file:{quote(fsencode(copied))}")) as database:
                 yield database
+
+
+@contextmanager
+def _copied(book: BookFile, file: BinaryIO, log: str) -> Iterator[Path]:
+    """A copy of a book with the work in its log, in a temporary folder."""
+    try:
+        folder = tempfile.TemporaryDirectory()
+    except OSError as error:
+        raise _no_copy(book, error) from error
+    with folder:
+        copied = Path(folder.name, "book")
+        try:
+            # from the file that is locked, whatever stands at its path by now
+            copy_held(file, log, copied)
+        except OSError as error:
+            raise _no_copy(book, error) from error
+        yield copied
+
+
+def _no_copy(book: BookFile, error: OSError) -> Failed:
+    return Failed(
+        f"The book “{book.path}” could not be copied to a temporary folder, in which its tables are"
+        f" read with the work in its log: {error.strerror}. Nothing was changed. Let TMPDIR name a"
+        " folder with room for the book."
+    )
 
 
 def _reader(address: str) -> sqlite3.Connection:

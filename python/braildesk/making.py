@@ -126,7 +126,7 @@ def _copied(
                 _finish(source, made)
                 _put(made, target)
         except (OSError, ValueError) as error:
-            raise _not_written(named, str(error)) from error
+            raise _not_written(named, _why(error)) from error
     return version
 
 
@@ -188,6 +188,11 @@ def _checked(made: Path, book: BookFile, named: str, program: StrPath | None) ->
     if has_work(f"{made}-wal"):
         raise _not_written(named, "the program could not write all of it")
     return version
+
+
+def _why(error: OSError | ValueError) -> str:
+    """Why something failed, without the number of it and the path that was made beside the copy."""
+    return (isinstance(error, OSError) and error.strerror) or str(error)
 
 
 def _not_written(named: str, why: str) -> Failed:

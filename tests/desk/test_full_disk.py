@@ -130,7 +130,7 @@ READING = ("check-table", "try", "show", "find", "marks", "pages", "bring")
 #: How that which could not be kept is named by the commands that change the book.
 CHANGING = {
     "run": "The striking of paragraph 2",
-    "talk": "What was typed last may not be in the book:\nstrike 2\nThe striking of paragraph 2",
+    "talk": "What was typed last may not be in the book: strike 2 The striking of paragraph 2",
     "table": "The table own",
     "import": "The new paragraph “The sun”",
     "change": "The correction of paragraph 1",
@@ -173,7 +173,11 @@ def test_a_change_that_finds_no_room_is_said_not_to_be_kept_and_is_not(
 ) -> None:
     found = on_full[name]
     assert (found.status, found.version) == (3, 8)
-    assert found.said.startswith(f"{CHANGING[name]} could not be kept")
+    said = " ".join(found.said.split())
+    assert said.startswith(
+        f"{CHANGING[name]} was not reported as kept, since the file of the book could not be"
+        " written or read. See to the disk."
+    )
     assert "kept" not in found.shown and "now" not in found.shown
 
 
@@ -185,7 +189,7 @@ def test_a_file_that_finds_no_room_is_said_not_to_be_made_and_is_not(
     assert (found.status, found.shown) == (3, "")
     assert found.said.startswith(MAKING[name])
     left = {"export": ["pages"]}.get(name, [])
-    assert found.files == left or name == "new"
+    assert found.files == left
 
 
 #: Commands that open no book.
@@ -201,7 +205,9 @@ def test_a_disk_that_can_only_be_read_is_said(
     if name in WITHOUT_BOOK:
         assert found.status == 0
     elif name == "copy":
-        assert found.said.startswith("The copy “copy.braildesk” could not be written")
+        assert found.said == (
+            "The copy “copy.braildesk” could not be written: Read-only file system.\n"
+        )
         assert found.status == 3
     else:
         file = "other.braildesk" if name == "new" else "moon.braildesk"

@@ -3,6 +3,7 @@
 import json
 import os
 import shutil
+import signal
 import subprocess
 import sys
 import tempfile
@@ -14,6 +15,7 @@ from pathlib import Path
 import pytest
 
 import braildesk
+from braildesk import Failed, Lost, Session
 from scribe.cli import run_words
 from scribe.commands import export, import_text
 from scribe.console import Console
@@ -27,7 +29,6 @@ NOBODY = 65_534
 ALL = {**WORDS, "bring": ["plain.utb", "other.utb"]}
 PLACES = {*PATHS, "other.utb"}
 del ALL["edit"]  # which looks for a terminal first
-del ALL["copy"]
 
 
 def ran(words: Sequence[str]) -> Ran:
@@ -109,8 +110,10 @@ def test_a_path_that_is_typed_with_nul_is_refused_in_a_sentence(sample: Path) ->
     assert stop.value.sentence == (
         "mo\0on can't be read: no path has the character U+0000. Nothing was typed."
     )
-    words = Namespace(file=Path("moon.braildesk"), folder=Path("mo\0on"), width=40)
-    words.lines = 25
+    words = Namespace(
+        **{"file": Path("moon.braildesk"), "folder": Path("mo\0on"), "wait": 0.0},
+        **{"width": 40, "lines": 25},
+    )
     with pytest.raises(Stop) as stop:
         export.run(words, Console(BytesIO(), StringIO(), StringIO()))
     assert stop.value.sentence == (
@@ -148,6 +151,24 @@ def test_a_path_that_can_not_be_looked_at_ends_no_talk_and_no_trial(
     )
     assert status == 3
     assert said.getvalue().count("“plain.utb” could not be read or written:") == 2
+
+
+def test_a_temporary_folder_without_room_is_said_where_a_book_has_a_log(
+    sample: Path, monkeypatch: pytest.MonkeyPatch
+) -> None:
+    session = Session("moon.braildesk")
+    session.strike(1)
+    os.kill(session.pid, signal.SIGKILL)
+    with pytest.raises(Lost):
+        session.close()
+    monkeypatch.setattr(tempfile, "tempdir", str(sample / "missing"))
+    with pytest.raises(Failed) as failed:
+        braildesk.tables("moon.braildesk")
+    assert failed.value.sentence == (
+        "The book “moon.braildesk” could not be copied to a temporary folder, in which its tables"
+        " are read with the work in its log: No such file or directory. Nothing was changed. Let"
+        " TMPDIR name a folder with room for the book."
+    )
 
 
 def test_a_folder_that_is_gone_ends_each_command_in_a_sentence(
@@ -229,17 +250,19 @@ MODES = {
 }
 
 
+#: The commands that do what they are asked to there.
+ALLOWED = {
+    "a folder that may not be read": ("new",),
+    "a folder that may only be read": ("check-table", "try"),
+}
+
+
 @pytest.mark.parametrize("kind", MODES)
 def test_what_may_not_be_opened_ends_each_command_in_a_sentence(
     kind: str, locked: Path, installed: Path
 ) -> None:
     folder_mode, mode = MODES[kind]
-    names = [
-        name
-        for name in ALL
-        if kind != "a folder that may only be read"
-        or name not in ("check-table", "try")
-    ]
+    names = [name for name in ALL if name not in ALLOWED.get(kind, ())]
     for file in locked.iterdir():
         file.chmod(mode)
     locked.chmod(folder_mode)

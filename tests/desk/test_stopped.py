@@ -168,7 +168,7 @@ def test_an_export_that_is_told_to_end_while_it_writes_says_which_files_are_new(
     monkeypatch.setattr(os, "replace", replaced)
     said = StringIO()
     folder = volumes.with_name("pages")
-    words = Namespace(file=volumes, folder=folder, width=40, lines=25)
+    words = Namespace(file=volumes, folder=folder, width=40, lines=25, wait=0.0)
     with pytest.raises(Interrupted) as stopped:
         export.run(words, Console(BytesIO(), StringIO(), said))
     assert stopped.value.is_said
@@ -197,6 +197,19 @@ def test_work_beside_the_screen_ends_before_its_next_step(
     assert found is not None
     count = (int(found[1]) + 1) // 2
     assert 1 <= count < len(LINES) and len(sat.state.book) == count
+
+
+def test_an_export_beside_the_screen_ends_before_it_reads_the_next_volume(
+    volumes: Path, sit: Sit
+) -> None:
+    sat = sit(volumes)
+    sat.press("x")
+    sat.write(str(volumes.with_name("pages")))
+    sat.press("enter")
+    sat.desk.stop(signal.SIGTERM)
+    sat.state = sat.desk.away(sat.state, lambda line: None)
+    assert sat.state.pages is not None
+    assert sat.state.pages.lines == ("Stopped by SIGTERM. Nothing was exported.",)
 
 
 @pytest.mark.parametrize("name", ["SIGTERM", "SIGINT"])

@@ -52,7 +52,7 @@ def run(arguments: Namespace, console: Console) -> Status:
     written: list[int] = []
     volumes: list[bytes | Refused] = []
     try:
-        volumes = volumes_of_one_version(job)
+        volumes = volumes_of_one_version(job, console)
         _make_folder(job.folder)
         _write_all(job, volumes, written, console)
     except KeyboardInterrupt as cause:
@@ -131,11 +131,11 @@ def _cells_with_dots(line: bytes) -> int:
     return len(line) - line.count(b" ")
 
 
-def volumes_of_one_version(job: Job) -> list[bytes | Refused]:
+def volumes_of_one_version(job: Job, console: Console) -> list[bytes | Refused]:
     """The pages of each volume, or why it is refused, all read while the book was at one version."""
     version = check(job.book, timeout=job.wait)
     for _ in range(TRIES):
-        volumes = list(_volumes(job))
+        volumes = list(_volumes(job, console))
         before, version = version, check(job.book, timeout=job.wait)
         if before == version:
             return volumes
@@ -147,10 +147,11 @@ def volumes_of_one_version(job: Job) -> list[bytes | Refused]:
     )
 
 
-def _volumes(job: Job) -> Iterator[bytes | Refused]:
+def _volumes(job: Job, console: Console) -> Iterator[bytes | Refused]:
     """The pages of each volume, or why it is refused."""
     volume = 1
     while True:
+        console.check()
         try:
             sheet = job.sheet
             yield export(job.book, volume, sheet.width, sheet.lines, timeout=job.wait)
