@@ -266,7 +266,7 @@ SAID = {
         " blank between them, as in 40 25.",
     ),
     "x": (STATE, "x", "Pages of 25 lines of 40 cells. Escape, then w, changes it."),
-    "* at first": (STATE, "*", "Nothing was looked for yet. / looks for words."),
+    "* at first": (STATE, "*", "Nothing was looked for yet: / asks for it."),
     "bytes that aren't UTF-8": (
         typed(Purpose.EDIT, "x"),
         "\udcff",

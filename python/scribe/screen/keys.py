@@ -537,7 +537,7 @@ def _carried(by: int) -> Callable[[State], Step]:
 
 def _again(state: State) -> Step:
     if not state.sought:
-        return Step(state.saying("Nothing was looked for yet. / looks for words."))
+        return Step(state.saying("Nothing was looked for yet: / asks for it."))
     return Step(state, ToFound(state.sought, True))
 
 
@@ -622,7 +622,7 @@ KEYS = {
     "m": Bound("puts a mark on the cells, with a note", _mark),
     "n": Bound("to the next open mark", lambda s: Step(s, ToMark(False))),
     "N": Bound("to the open mark before", lambda s: Step(s, ToMark(True))),
-    "r": Bound("says that the mark here is dealt with", _resolve),
+    "r": Bound("says that the mark shown first is dealt with", _resolve),
     "s": Bound("strikes the paragraph, or restores it", _strike),
     "b": Bound("makes it a heading, or body text", _style),
     "v": Bound("has it begin a volume, or not", _volume),
