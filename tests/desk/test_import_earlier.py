@@ -218,6 +218,18 @@ def test_a_text_that_is_another_now_shows_nothing_of_where_its_import_stopped(
     )
 
 
+def test_the_desk_says_that_nothing_shows_where_an_import_stopped(
+    killed: Path, sit: Sit
+) -> None:
+    (killed.parent / "text.txt").write_text("Other")
+    sat = sit(killed)
+    assert sat.state.question is None
+    assert "text.txt was changed since. So how much of" in sat.state.message
+    assert sat.state.message.endswith(
+        " scribe import with --leave leaves the rest out."
+    )
+
+
 def test_a_text_that_was_changed_since_is_not_imported_before_that_is_decided(
     killed: Path,
 ) -> None:
@@ -274,6 +286,15 @@ def sit_again(sat: Sat, sit: Sit) -> Sat:
 def prints_of(sat: Sat) -> list[str]:
     sat.desk.close()
     return prints(sat.desk.path)
+
+
+def test_what_is_said_at_the_opening_stays_beside_the_question_about_an_import(
+    killed: Path, sit: Sit
+) -> None:
+    Path(f"{killed}-unsent").mkdir()
+    sat = sit(killed)
+    assert sat.state.question and "cut short" in sat.state.question.sentence
+    assert "isn't taken as a text that waits" in sat.state.message
 
 
 def test_the_desk_leaves_the_rest_of_an_import_out(killed: Path, sit: Sit) -> None:

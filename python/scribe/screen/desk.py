@@ -63,9 +63,10 @@ from scribe.screen.state import Opening, Pages, Pane, Question, Size, State
 from scribe.sequences import composed
 from scribe.status import Interrupted, Stop
 from scribe.tables import table_request
-from scribe.unfinished import Unfinished
+from scribe.unfinished import NotSeen, Unfinished
 from scribe.visible import visible
 
+_SHOWS_KEYS = "? shows all keys."
 _WHILE_OPENED = "Another program changed the book while it was being opened, so it was read once more."
 _PASTED = (
     "Pasted text goes in after Enter or o. No key of it was obeyed. U brings it back, for a new"
@@ -261,17 +262,20 @@ class Desk:
             if isinstance(found, Unfinished) and state.question is None:
                 errand = ImportFrom(Path(found.note.text), found.after)
                 question = question_about(cut_short(found), errand)
-                state = replace(state, message="", question=question)
+                said = "" if state.message == _SHOWS_KEYS else state.message
+                state = replace(state, message=said, question=question)
                 continue
             sentences = [state.message, found.sentence]
             if isinstance(found, Unfinished):
                 sentences.append("i and the name of that file go on.")
+            elif isinstance(found, NotSeen):
+                sentences.append("scribe import with --leave leaves the rest out.")
             state = state.saying(" ".join(filter(None, sentences)))
         return state
 
     def _greeting(self) -> str:
         found = " ".join(self._notices)
-        return found or ("" if self._unsent.waiting else "? shows all keys.")
+        return found or ("" if self._unsent.waiting else _SHOWS_KEYS)
 
     def _openings(self, numbers: list[int]) -> dict[int, Opening]:
         asked: list[Request[Any]] = []
