@@ -172,7 +172,9 @@ def test_a_key_that_isnt_bound_does_nothing_and_says_so(key: str) -> None:
         ("\x1b[97;5u", ["unknown"]),
         ("\x1b[?62;1;4c", ["unknown"]),
         ("\x1b[12\x1b[A", ["unknown", "up"]),
+        (f"\x1b[{'9' * 5_000}~", ["unknown"]),
         ("a\x1b[Ab", ["a", "up", "b"]),
+        ("\x1b\x1b[200~one\x1b[201~", ["escape", Pasted("one")]),
         ("\x1b[200~one\x1b[Atwo\x1b[201~x", [Pasted("one\x1b[Atwo"), "x"]),
     ],
 )

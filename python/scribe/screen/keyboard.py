@@ -21,7 +21,7 @@ _KEY = re.compile(
 # what may go on: a sequence of which the last character isn't there yet
 _FRONT = re.compile(r"\x1b+(?:\[\[?|\[[0-?]+[ -#%-/]*|O[0-9;]*)?")
 # the parts of a sequence: a number, another one or a modifier, and its last character
-_PARTS = re.compile(r"([\[O]\[?)(\d*)(?:;(\d+))?([^\d;])", re.DOTALL)
+_PARTS = re.compile(r"([\[O]\[?)(\d{0,4})(?:;(\d{1,4}))?([^\d;])", re.DOTALL)
 _LETTERED = {
     "A": "up",
     "B": "down",
@@ -91,6 +91,9 @@ class Keyboard:
         if rest[0] != _ESCAPE:
             self._rest = rest[1:]
             return _character(rest[0])
+        if rest.lstrip(_ESCAPE).startswith(_PASTE[1:]):
+            self._rest = _PASTE + rest.partition(_PASTE)[2]
+            return "escape"
         found = _KEY.match(rest)
         if found is None or _FRONT.fullmatch(rest):
             return None
