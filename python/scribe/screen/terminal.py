@@ -44,8 +44,6 @@ _CLASSES = {
 _SAVE_SECONDS = 1.0
 # how long Escape waits for a key that would make it Alt
 _ESCAPE_SECONDS = 0.1
-# how soon what was sent meanwhile is read once the screen is drawn
-_AT_ONCE_SECONDS = 0.005
 
 
 class _Input(Vt100Input):
@@ -109,8 +107,9 @@ class Screen:
         self._arrivals = Arrivals()
         self._timer: asyncio.TimerHandle | None = None
         self._waiting: list[Pasted] = []
-        # since when there is no time for keys, until when there was none, and when they were read
-        self._busy_from = self._busy_to = self._read_at = clock()
+        # since when there was no time for keys, and when they were read last
+        self._busy_from = self._read_at = clock()
+        self._is_idle, self._works = True, 0
         #: Whether the terminal was closed, so that nobody reads what is said.
         self.is_hung_up = False
         #: The signal that ended scribe, where one did.
@@ -132,7 +131,7 @@ class Screen:
             full_screen=True,
             output=Output.from_pty(sys.stdout, term=os.environ.get("TERM")),
             before_render=lambda app: self._fit(),
-            after_render=lambda app: self._rest(),
+            after_render=lambda app: self._end_work(),
         )
         self._app.ttimeoutlen = _ESCAPE_SECONDS
 
@@ -218,20 +217,23 @@ class Screen:
 
     def _begin_work(self) -> None:
         """From here on keys wait, if they don't already."""
-        now = self._clock()
-        if now - self._busy_to > _AT_ONCE_SECONDS:
-            self._busy_from = now
+        if self._is_idle:
+            self._is_idle, self._busy_from = False, self._clock()
 
-    def _rest(self) -> None:
-        """Up to here keys waited."""
-        self._busy_to = self._clock()
+    def _end_work(self) -> None:
+        """What waits is read within the next two rounds of the loop, and after these none does."""
+        self._works += 1
+        loop = asyncio.get_running_loop()
+        loop.call_soon(loop.call_soon, self._rest, self._works)
+
+    def _rest(self, works: int) -> None:
+        self._is_idle = works == self._works
 
     def _came(self, text: str) -> None:
         """Characters came: keys that may have waited while there was no time for them."""
         now, read_at = self._clock(), self._read_at
         self._read_at = now
-        has_waited = now - self._busy_to <= _AT_ONCE_SECONDS
-        since = max(self._busy_from, read_at) if has_waited else None
+        since = None if self._is_idle else max(self._busy_from, read_at)
         self._do(self._arrivals.came(self._keyboard.strokes(text), now, since))
 
     def _paused(self) -> None:
@@ -248,7 +250,7 @@ class Screen:
             for stroke in strokes:
                 self._carry_out(stroke)
         finally:
-            self._rest()
+            self._end_work()
             self._wait_for_held()
 
     def _carry_out(self, stroke: Stroke) -> None:
@@ -332,7 +334,7 @@ class Screen:
             if self.state.typed:
                 self._begin_work()
                 self.state = self._desk.save_draft(self.state)
-                self._rest()
+                self._end_work()
 
     def _fail(self, loop: asyncio.AbstractEventLoop, context: dict[str, Any]) -> None:
         """What a key, or what goes on beside the keys, failed by.
