@@ -1,6 +1,7 @@
 """Another person at the same machine, whom only root can play."""
 
 import os
+import signal
 from collections.abc import Callable
 from pathlib import Path
 
@@ -11,6 +12,11 @@ STRANGER = 65_534
 NEEDS_ROOT = pytest.mark.skipif(
     os.geteuid() != 0, reason="only root can act as two persons"
 )
+
+
+def in_time() -> None:
+    """Has this process end where it would wait for ever."""
+    signal.alarm(50)
 
 
 def become_stranger() -> None:

@@ -14,6 +14,7 @@ from braildesk import Failed, Session
 from scribe.commands import export
 from scribe.console import Console
 from scribe.status import Status, Stop
+from strangers import NEEDS_ROOT, as_stranger, in_time, lead_to
 from tool import Ran, scribe
 
 MOON = b"""\
@@ -225,6 +226,42 @@ def test_a_link_in_a_shared_folder_leads_an_export_nowhere(moon: Path) -> None:
     assert ran.status == 0
     assert (moon.parent / "profile").read_bytes() == b"mine"
     assert not (out / "moon-1.brf").is_symlink()
+
+
+@NEEDS_ROOT
+def test_nothing_that_a_stranger_puts_in_a_shared_folder_is_written_to(
+    moon: Path,
+) -> None:
+    of_volumes(moon)
+    out, mine = moon.with_name("out"), moon.with_name("profile")
+    out.mkdir()
+    out.chmod(0o777)
+    lead_to(out)
+    mine.write_bytes(b"mine")
+    link, pipe, theirs = (out / f"moon-{volume}.brf" for volume in (1, 2, 3))
+
+    def plant() -> None:
+        link.symlink_to("../profile")
+        os.mkfifo(pipe)
+        theirs.write_bytes(b"theirs")
+        theirs.chmod(0o4777)
+
+    def begin() -> None:
+        os.umask(0o022)
+        in_time()
+
+    assert as_stranger(plant) == ""
+    held = os.open(theirs, os.O_RDWR)
+    ran = scribe("export", moon, "out", folder=moon.parent, before=begin)
+    assert (ran.status, ran.said) == (0, "")
+    for file in (link, pipe, theirs):
+        found = file.lstat()
+        assert stat.S_ISREG(found.st_mode) and found.st_uid == 0
+        assert stat.S_IMODE(found.st_mode) == 0o644
+    assert mine.read_bytes() == b"mine"
+    # whoever held the older file open has that one
+    assert os.pread(held, 99, 0) == b"theirs"
+    os.close(held)
 
 
 def test_an_export_opens_no_pipe_of_a_volumes_name(moon: Path) -> None:

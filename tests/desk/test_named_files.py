@@ -1,7 +1,6 @@
 """What stands at a path that a person names, and is no file, or more than a machine holds."""
 
 import os
-import signal
 import socket
 import stat
 import subprocess
@@ -15,15 +14,10 @@ import braildesk
 from braildesk import CannotOpen, Why
 from braildesk.named_files import NoFile, TooLarge, open_file, read_file
 from braildesk.profile import text_at
-from strangers import NEEDS_ROOT
+from strangers import NEEDS_ROOT, in_time
 from tool import Ran, environment, scribe
 
 PIPE = "it is a pipe and no file"
-
-
-def in_time() -> None:
-    """Has a process end where it would wait for ever."""
-    signal.alarm(50)
 
 
 @pytest.fixture
