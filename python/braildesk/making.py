@@ -41,13 +41,21 @@ def new_book(
     program: StrPath | None = None,
     *,
     holding: Sequence[Command[Any]] = (),
+    timeout: float = 0.0,
 ) -> None:
     """Makes a book in a file: an empty one, or one in which some commands are carried out.
 
     A new file gets its name when all of that is in it, so that where anything fails there is none.
-    A file with an empty book is taken as it is; one with another book is refused (99).
+    A file with an empty book is taken as it is; one with another book is refused (99). While another
+    program has it open, this is tried again for ``timeout`` seconds.
     """
     asked = NewBook(fspath(path))
+    waited(lambda: _new_book(asked, program, holding), timeout)
+
+
+def _new_book(
+    asked: NewBook, program: StrPath | None, holding: Sequence[Command[Any]]
+) -> None:
     if opening.word(asked.path) is None:
         raise cannot_open(asked, Why.NO_PATH)
     try:

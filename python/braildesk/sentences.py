@@ -142,7 +142,7 @@ UNOPENED = MappingProxyType(
         Why.IN_USE: "Another program has {path} open. Nothing was changed. End that one first.",
         Why.LINKED: "The file {path} has another name too (a hard link). By each name its newest"
         " work would be looked for in another place, so it is opened by none. Nothing was changed."
-        " Remove the other name, and keep the one that has a file ending in -wal beside it.",
+        " Remove the other name; if one of them has a file ending in -wal beside it, keep that one.",
         Why.OTHER_LOG: "The file {log} isn't that of {path} as it is: {path} is whole without it,"
         " and damaged with it. It may be that an earlier copy was put in the place of the book."
         " Nothing was changed. Keep both files; to go on with {path} as it is, move {log} away.",

@@ -415,8 +415,8 @@ def test_a_book_with_two_names_is_opened_by_neither(book: Path, tmp_path: Path) 
             assert caught.value.sentence == (
                 f"The file “{path}” has another name too (a hard link). By each name its newest work"
                 " would be looked for in another place, so it is opened by none. Nothing was"
-                " changed. Remove the other name, and keep the one that has a file ending in -wal"
-                " beside it."
+                " changed. Remove the other name; if one of them has a file ending in -wal beside it,"
+                " keep that one."
             )
     assert names(tmp_path) == {book.name, "other"}
     other.unlink()

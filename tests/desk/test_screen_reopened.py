@@ -192,6 +192,30 @@ def test_a_book_that_cannot_be_opened_again_says_why_until_it_can(
     assert sat.state.kept == "kept: paragraph 4"
 
 
+def test_a_command_to_a_book_that_is_gone_from_its_path_is_not_shown_as_kept(
+    moon: Path, sit: Sit
+) -> None:
+    sat = sit(moon)
+    sat.press("s")
+    assert sat.state.kept == "kept: paragraph 1 struck"
+    moon.unlink()
+    sat.press("O")
+    sat.write("Soon.")
+    sat.press("enter")
+    assert sat.state.kept == "kept: paragraph 1 struck"
+    saved = moon.with_name("moon.braildesk-saved-1")
+    assert sat.state.is_lost and sat.state.pages
+    assert sat.state.pages.lines[:3] == (
+        f"The file of the book is no longer at “{moon}”: it was removed, renamed or replaced while it"
+        " was open. What is there now lacks what was kept last. All of the book is in the new file"
+        f" “{saved}”: look which of the two is to be gone on with.",
+        "This was typed, and was not reported as kept:",
+        "Soon.",
+    )
+    with Session(saved) as session:
+        assert session.print(4) == "Soon."
+
+
 def test_a_change_by_another_program_meanwhile_is_said(moon: Path, sit: Sit) -> None:
     sat = sit(moon)
 

@@ -72,6 +72,7 @@ def test_a_book_that_is_not_free_in_time_is_said_to_be_in_use(
     "words",
     [
         "copy {} {}-copy --wait 60",
+        "run {} --wait 60",
         "export {} {}-pages --wait 60",
         "import {} {} --dry-run --wait 60",
         "pages {} --wait 60",

@@ -33,7 +33,7 @@ def add_parser(subparsers: Subparsers) -> ArgumentParser:
 def run(arguments: Namespace, console: Console) -> Status:
     """Makes a book, and puts a table into it."""
     request = first_table()
-    new_book(arguments.file, holding=[request])
+    new_book(arguments.file, holding=[request], timeout=arguments.wait)
     console.show(f"{arguments.file} is a new book with the table {request.table}.")
     return Status.DONE
 
