@@ -555,7 +555,9 @@ def test_a_copy_into_a_folder_that_is_not_there_says_so(
 ) -> None:
     with pytest.raises(Failed) as caught:
         braildesk.copy(book, tmp_path / "none" / "copied")
-    assert "could not be written" in caught.value.sentence
+    assert caught.value.sentence == (
+        f"The copy “{tmp_path}/none/copied” could not be written: No such file or directory."
+    )
 
 
 @pytest.mark.parametrize(
