@@ -1,6 +1,7 @@
 """Tables of strangers: none takes more time and memory than the best of liblouis's own."""
 
 import os
+import resource
 import signal
 import subprocess
 import sys
@@ -124,6 +125,22 @@ def test_a_worker_whose_starter_has_ended_asks_nothing() -> None:
         timeout=SECONDS,
     )
     assert (done.returncode, done.stdout) == (0, b"")
+
+
+def test_a_worker_that_may_have_less_already_answers() -> None:
+    def limit_itself() -> None:
+        resource.setrlimit(resource.RLIMIT_AS, (600 << 20, 600 << 20))
+        resource.setrlimit(resource.RLIMIT_CPU, (2, 2))
+
+    worker = Path(oracle.__file__).with_name("worker.py")
+    done = subprocess.run(
+        [sys.executable, "-I", str(worker), str(os.getpid())],
+        input=b'{"table": "none.utb"}\n',
+        capture_output=True,
+        preexec_fn=limit_itself,
+        timeout=SECONDS,
+    )
+    assert done.stdout == b'{"fault": "liblouis refuses the table none.utb."}\n'
 
 
 @pytest.mark.parametrize("cause", [KeyboardInterrupt, SystemExit, MemoryError])

@@ -39,8 +39,8 @@ _PR_SET_PDEATHSIG: Final = 1
 def main() -> None:
     if not ends_with(int(sys.argv[1])):
         return
-    resource.setrlimit(resource.RLIMIT_AS, (MEMORY, MEMORY))
-    resource.setrlimit(resource.RLIMIT_CORE, (0, 0))
+    allow_no_more(resource.RLIMIT_AS, MEMORY)
+    allow_no_more(resource.RLIMIT_CORE, 0)
     answers = os.fdopen(os.dup(1), "w", encoding="utf-8")
     os.dup2(2, 1)
     try:
@@ -64,6 +64,13 @@ def ends_with(starter: int) -> bool:
     if sys.platform == "linux":
         ctypes.CDLL(None).prctl(_PR_SET_PDEATHSIG, signal.SIGKILL, 0, 0, 0)
     return os.getppid() == starter
+
+
+def allow_no_more(what: int, most: int) -> None:
+    """Has the system give this process no more of something, which may be limited to less already."""
+    _, limit = resource.getrlimit(what)
+    found = most if limit == resource.RLIM_INFINITY else min(most, limit)
+    resource.setrlimit(what, (found, found))
 
 
 def allow_time(question: dict[str, Any]) -> None:
