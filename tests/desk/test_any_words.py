@@ -11,6 +11,7 @@ import pytest
 from hypothesis import HealthCheck, given, settings
 from hypothesis import strategies as st
 
+from scribe import help
 from scribe.cli import make_parser, run_words
 from scribe.console import Console
 
@@ -22,6 +23,7 @@ PATHS = [
     "other.braildesk",
     "link",
     "hanging",
+    "pipe",
     "missing/moon.braildesk",
     "folder",
     "plain.utb",
@@ -79,17 +81,13 @@ TEXTS = [
 WORD = st.one_of(
     st.sampled_from(PATHS), st.sampled_from(TEXTS), st.sampled_from(OPTIONS)
 )
-#: What is typed for the commands that read input.
-INPUT = st.sampled_from(
-    [
-        b"",
-        b"strike 1\nprint 1\nlist\n",
-        b"change-text\n1\nmoon\nsun\n",
-        b"table own 2\nletter a 1\n",
-        b"\xff\n\x00\n@1 undo 1\n@\nhistory 1\nhelp mark\n",
-        b"table-file\nown\n" + b"y/" * 2_100 + b"\nshow all\nmark-text 1\n",
-        b"quit\n",
-    ]
+#: What a line may begin with for the commands that read input.
+BEGUN = [*help.names(), "@1", "@", "@3 correct", "import", "histroy"]
+LINE = st.one_of(
+    WORD, st.builds(" ".join, st.tuples(st.sampled_from(BEGUN), st.sampled_from(TEXTS)))
+)
+INPUT = st.lists(LINE, max_size=6).map(
+    lambda lines: "\n".join(lines).encode("utf-8", "surrogateescape")
 )
 
 
@@ -105,6 +103,7 @@ def folder(moon_once: Path) -> Iterator[Path]:
         (path / "folder").mkdir()
         (path / "link").symlink_to("moon.braildesk")
         (path / "hanging").symlink_to("nowhere")
+        os.mkfifo(path / "pipe")
         (path / "text.txt").write_text("The sun\n\nThe stars.\n")
         (path / "empty").touch()
         (path / "noise").write_bytes(bytes(range(256)) * 20)
