@@ -133,6 +133,20 @@ def test_a_text_that_is_left_for_later_waits_through_other_work(
     assert again.desk.drafts.waiting() is None
 
 
+def test_a_text_that_was_left_for_later_can_be_given_up_when_it_is_asked_about_again(
+    moon: Path, sit: Sit
+) -> None:
+    Drafts(moon).save(Draft(Aim.EDIT, 2, "en", "The Tides", "The Tide"))
+    sat = sit(moon)
+    sat.press("l")
+    os.kill(sat.desk.pid, signal.SIGKILL)
+    sat.state = sat.desk.lost(sat.state)
+    assert "“The Tide”" in asked(sat)
+    sat.press("n")
+    assert sat.desk.drafts.waiting() is None
+    assert [each.text for each in sat.desk.drafts.given_up()] == ["The Tide"]
+
+
 def test_where_nothing_was_given_up_the_key_says_so(empty_book: Path, sit: Sit) -> None:
     sat = sit(empty_book)
     sat.press("U")

@@ -40,6 +40,7 @@ class Unsent:
 
     def put_by(self, draft: Draft) -> str:
         """Keeps a text as the newest of those given up, and says what is in the way of that."""
+        self._forget(draft.text)
         try:
             self._drafts.put_by(draft)
         except NotKept as fault:
@@ -53,11 +54,15 @@ class Unsent:
 
     def take_up(self, draft: Draft, text: str) -> None:
         """Has a text be typed further, which was given up or left for later; may raise `NotKept`."""
-        if self._later is not None and self._later.text == text:
-            self._later = None
+        self._forget(text)
         self.keep(draft)
         self._here = [each for each in self._here if each.text != text]
         self._drafts.take_out(text)
+
+    def _forget(self, text: str) -> None:
+        """A text that was left for later isn't any more."""
+        if self._later is not None and self._later.text == text:
+            self._later = None
 
     def texts(self) -> tuple[Draft, ...]:
         """The text that is left for later, and those given up, the newest first."""
