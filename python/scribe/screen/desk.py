@@ -552,29 +552,26 @@ class Desk:
 
     def _all_taken_back(self, state: State, report: Callable[[str], None]) -> State:
         """Takes back what a key did by many commands, as far as none is refused."""
-        *earlier, deed = state.deeds
-        said, count = deed.sentence, len(deed.back)
-        for done, command in enumerate(deed.back, 1):
-            try:
+        deed = state.deeds[-1]
+        said, done, count = deed.sentence, 0, len(deed.back)
+        try:
+            for command in deed.back:
                 self._check()
                 asked = replace(command, expect=state.version)
                 answer = self._session.ask(asked)
-            except Lost as lost:
-                return self._after_loss(state, lost)
-            except (Refused, Interrupted) as ended:
-                why = ended.sentence if isinstance(ended, Refused) else ""
-                said = f"{done - 1:,} of {count:,} done. {why}".rstrip()
-                break
-            rest = deed.back[done:]
-            left = (*earlier, replace(deed, back=rest)) if rest else tuple(earlier)
-            version = self._session.seen
-            state = replace(
-                state, version=version, deeds=left, kept=kept(asked, answer)
-            )
-            report(f"{done:,} of {count:,} done.")
+                done += 1
+                version = self._session.seen
+                state = replace(state, version=version, kept=kept(asked, answer))
+                report(f"{done:,} of {count:,} done.")
+        except Lost as lost:
+            return self._after_loss(_taken_back_so_far(state, done), lost)
+        except Refused as refused:
+            said = f"{done:,} of {count:,} done. {refused.sentence}"
+        except Interrupted:
+            said = f"{done:,} of {count:,} done."
         book = self._session.list()
         state = replace(state, book=book, openings={}, reading=None, lit=None)
-        return self._drawn(state.saying(said))
+        return self._drawn(_taken_back_so_far(state, done).saying(said))
 
     def _changed(self, state: State, number: int | None, before: State) -> State:
         """The state after a paragraph was changed, with that one chosen."""
@@ -783,6 +780,14 @@ def _with_imported(before: State, after: State) -> State:
     if not new or after.version - before.version != len(new):
         return after
     return replace(after, deeds=(*before.deeds, deeds.typed(new, "imported")))
+
+
+def _taken_back_so_far(state: State, done: int) -> State:
+    """The state after so many commands that take back what a key last did."""
+    *earlier, deed = state.deeds
+    rest = deed.back[done:]
+    left = [replace(deed, back=rest)] if rest else []
+    return replace(state, deeds=(*earlier, *left))
 
 
 def _saying_first(sentence: str, state: State) -> State:
