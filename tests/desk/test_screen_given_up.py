@@ -195,7 +195,7 @@ def test_pasted_lines_that_are_left_out_come_back(moon: Path, sit: Sit) -> None:
     paste(sat, ", it rose.\nIt set.")
     sat.press("escape")
     assert sat.state.message == (
-        "The pasted text was left out. Nothing was sent. U brings it back."
+        "The pasted text was left out. Nothing was sent. After Enter or Escape, U brings it back."
     )
     assert sat.state.typed and sat.state.typed.text == "Oh"
     sat.press("escape", "U", "U", "y")

@@ -638,18 +638,20 @@ class Desk:
 
     def _given_up(self, state: State) -> State:
         """Gives up the lines that were pasted, what is typed, or the text that waits."""
-        asked, was_pasted = state.question, False
+        asked = state.question
         if asked is not None and asked.draft is not None:
             state = replace(state, typed=asked.draft, question=None)
-        draft, said = draft_of(state), "Given up. Nothing was sent."
+        draft = draft_of(state)
+        fault = self._unsent.put_by(draft) if draft else ""
         if asked is not None and asked.lines:
-            was_pasted, said = True, "The pasted text was left out. Nothing was sent."
+            how = fault or "After Enter or Escape, U brings it back."
+            said = f"The pasted text was left out. Nothing was sent. {how}"
+            return replace(state, question=None).saying(said)
+        said = "Given up. Nothing was sent."
         if draft is not None:
-            said = f"{said} {self._unsent.put_by(draft) or 'U brings it back.'}"
-        state = replace(state, question=None).saying(said)
-        if was_pasted:
-            return state
-        return replace(state, typed=None, preview=None, anchor=None)
+            said = f"{said} {fault or 'U brings it back.'}"
+        given_up = replace(state, typed=None, preview=None, question=None, anchor=None)
+        return given_up.saying(said)
 
     def _taken_up(self, state: State, text: Field) -> State:
         """The state in which a text is typed further, which waits from now on."""
