@@ -11,7 +11,7 @@ from collections.abc import Iterator
 from contextlib import contextmanager
 from pathlib import Path
 
-from scribe.whole_file import remove_from, replace_in, sync_names
+from scribe.whole_file import Access, remove_from, replace_in, sync_names
 
 #: The bytes of a file at most.
 MOST_BYTES = 4 * 2**20
@@ -20,6 +20,7 @@ _READ = os.O_RDONLY | os.O_NOFOLLOW | os.O_NONBLOCK | os.O_NOCTTY | os.O_CLOEXEC
 _FOLDER = os.O_RDONLY | os.O_DIRECTORY | os.O_NOFOLLOW | os.O_CLOEXEC
 # a file in place of a folder has no files
 _ABSENT = (FileNotFoundError, NotADirectoryError)
+_OWN = Access(0o600)
 # what a writer that was killed left is taken away after this time
 _LEFT_SECONDS = 3_600
 
@@ -53,7 +54,7 @@ class OwnFolder:
             raise Unfit("no home folder is known")
         _make(self.path)
         with self._opened() as folder:
-            replace_in(folder, name, data, 0o600)
+            replace_in(folder, name, data, _OWN)
 
     def rename(self, name: str, other: str) -> None:
         """Gives a file another name, also one that can't be read."""

@@ -7,7 +7,7 @@ from pathlib import Path
 
 import pytest
 
-from scribe.whole_file import MayNotLast, NoPlaceForAFile, write_whole
+from scribe.whole_file import Access, MayNotLast, NoPlaceForAFile, write_whole
 from strangers import NEEDS_ROOT, STRANGER, as_stranger, lead_to
 
 
@@ -63,10 +63,49 @@ def test_a_new_file_has_what_both_the_book_and_the_umask_allow(
 ) -> None:
     before = os.umask(umask)
     try:
-        write_whole(tmp_path / "pages.brf", b"new", book)
+        write_whole(tmp_path / "pages.brf", b"new", Access(book))
     finally:
         os.umask(before)
     assert mode(tmp_path / "pages.brf") == wanted
+
+
+@NEEDS_ROOT
+@pytest.mark.parametrize("folder, group", [(0o755, STRANGER), (0o2755, 7)])
+def test_a_new_file_is_for_the_group_of_the_book_or_that_of_the_folder(
+    folder: int, group: int, tmp_path: Path
+) -> None:
+    out, book = tmp_path / "out", tmp_path / "book"
+    out.mkdir()
+    os.chown(out, -1, 7)
+    out.chmod(folder)
+    book.touch()
+    os.chown(book, -1, STRANGER)
+    book.chmod(0o660)
+    before = os.umask(0o002)
+    try:
+        write_whole(out / "pages.brf", b"new", Access.of(book))
+    finally:
+        os.umask(before)
+    assert (out / "pages.brf").stat().st_gid == group
+    assert mode(out / "pages.brf") == 0o660
+
+
+@NEEDS_ROOT
+@pytest.mark.parametrize("book, wanted", [(0o660, 0o600), (0o664, 0o644)])
+def test_a_group_that_is_not_the_books_gets_no_more_than_others(
+    book: int, wanted: int, tmp_path: Path
+) -> None:
+    out = tmp_path / "out"
+    out.mkdir()
+    out.chmod(0o777)
+    lead_to(out)
+
+    def write() -> None:
+        os.umask(0o002)
+        write_whole(out / "pages.brf", b"new", Access(book, 7))
+
+    assert as_stranger(write) == ""
+    assert mode(out / "pages.brf") == wanted
 
 
 @pytest.mark.parametrize("target", ["there.txt", "missing.txt", "."])

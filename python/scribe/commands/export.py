@@ -15,7 +15,7 @@ from scribe.layout import Sheet
 from scribe.page_size import add_page_size, sheet_of
 from scribe.parser import Subparsers, add_file, command_parser
 from scribe.status import Interrupted, Status, Stop, stopped_by
-from scribe.whole_file import MayNotLast, write_whole
+from scribe.whole_file import Access, MayNotLast, write_whole
 
 NO_SUCH_VOLUME = 96
 CELL_NOT_FOR_EMBOSSER = 95
@@ -186,7 +186,7 @@ def _write(
     file = job.file(volume)
     older = os.path.lexists(file)
     try:
-        write_whole(file, pages, job.book.stat().st_mode)
+        write_whole(file, pages, Access.of(job.book))
     except MayNotLast as error:
         others = _others([*written, volume], range(volume + 1, count + 1))
         raise Failed(error.sentence_about(file) + others) from error
