@@ -17,7 +17,7 @@ from scribe.wrapping import columns
 from sitting import Sat, Sit
 
 PROMPTS = ["enter", "o", "O", "m", "g", "t", "/", "x", "i"]
-SIZES = [Size(80, 24), Size(40, 12), Size(200, 60)]
+SIZES = [Size(80, 24), Size(40, 12), Size(200, 60), Size(20, 8)]
 
 
 def check(sat: Sat) -> None:
