@@ -208,7 +208,7 @@ def test_keys_with_alt_at_the_terminal_leave_the_text_and_escape_alone_ends_it(
     terminal.wait("The moon is far Ohaway.")
     terminal.keys("a-s", "a-u", "a-q", "a-enter", "a-1", "f5")
     terminal.send("\x1b[1;4Z")
-    terminal.wait("That key does nothing here. Enter keeps what is typed")
+    terminal.wait("That key does nothing here. Enter ends what is typed")
     terminal.keys("c-w", "c-y", "c-y")
     terminal.wait("The moon is far OhOhaway.")
     terminal.keys("escape")

@@ -247,7 +247,7 @@ SAID = {
     "Ctrl-C while typing": (
         typed(Purpose.EDIT, "x"),
         "c-c",
-        "That key does nothing here. Enter keeps what is typed, Escape gives it up.",
+        "That key does nothing here. Enter ends what is typed, Escape gives it up.",
     ),
     "a number that isn't there": (
         typed(Purpose.NUMBER, "9"),

@@ -58,6 +58,20 @@ def test_the_note_of_a_mark_is_seen_while_its_words_are_edited(
         assert "Mark 1, open, on “moon”: spelled so?" in sat.lines
 
 
+def test_a_mark_that_is_put_again_by_u_is_in_hand(moon: Path, sit: Sit) -> None:
+    sat = sit(moon)
+    sat.press("n", "enter", *["right"] * 4, "s", "enter", "r", "u")
+    assert sat.state.message == (
+        "Taken back: mark 1 was resolved. It stays resolved, and a new mark stands in its"
+        " place."
+    )
+    assert any(
+        line.endswith("Mark 2, open, on “moon”: spelled so?") for line in sat.lines
+    )
+    sat.press("r")
+    assert sat.state.kept == "kept: mark 2 resolved"
+
+
 def test_the_mark_in_hand_is_left_once_the_cursor_moves(moon: Path, sit: Sit) -> None:
     sat = sit(moon)
     sat.press("n", "enter", "end", "!", "enter", "left", "r")

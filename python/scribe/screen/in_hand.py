@@ -30,19 +30,23 @@ def with_mark_in_hand(state: State, before: State) -> State:
     """The state after a command, with the mark in hand that was worked on before it.
 
     That is the open mark on which an edit began, so that r resolves it wherever in its paragraph
-    the edit ended; or else one that the command touched. Other marks that were touched are said.
+    the edit ended; or else one that the command put or touched. Other marks that were touched are
+    said.
     """
     if state.reading is None or before.reading is None:
         return state
-    old = {mark.id for mark in before.reading.marks if not mark.touched}
-    touched = [m for m in state.reading.marks if m.touched and m.id in old]
+    if state.reading.paragraph.id != before.reading.paragraph.id:
+        return state
+    old = {mark.id: mark.touched for mark in before.reading.marks}
+    touched = [m for m in state.reading.marks if m.touched and old.get(m.id) is False]
+    changed = touched or [m for m in state.reading.marks if m.id not in old]
     begun = None
     if before.typed is not None and before.typed.purpose is Purpose.EDIT:
         begun = next((m for m in before.marks_here if not m.resolved), None)
     if begun is not None:
         state = _holding(state, begun.id)
-    elif touched and not set(touched) & set(state.marks_here):
-        state = _holding(state, touched[0].id)
+    elif changed and not set(changed) & set(state.marks_here):
+        state = _holding(state, changed[0].id)
     others = [mark for mark in touched if mark not in state.marks_here]
     return state.saying(_touched(others)) if others else state
 

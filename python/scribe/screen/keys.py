@@ -37,9 +37,9 @@ from scribe.sequences import composed, seams
 from scribe.visible import control_refused
 
 _NOTHING_WHILE_TYPING = (
-    "That key does nothing here. Enter keeps what is typed, Escape gives it up."
+    "That key does nothing here. Enter ends what is typed, Escape gives it up."
 )
-_NOT_ENTER = "The end of the pasted line was left out. Enter keeps what is typed."
+_NOT_ENTER = "The end of the pasted line was left out. Enter ends what is typed."
 _ASKED_LATER = "Nothing was typed. It is asked again when the book is opened."
 _STAYS_GIVEN_UP = "Nothing was sent. U asks about it again."
 # what is said before it is done, since the book keeps it
