@@ -35,7 +35,9 @@ def test_lines_that_come_in_pieces_are_one_pasted_text() -> None:
     assert done_with((0.0, text[:20]), (0.03, text[20:30]), (0.07, text[30:])) == wanted
 
 
-@pytest.mark.parametrize("text", ["s", "sb", "sbv", "nnnnnnnn", "\r\r\r\r\r", "    "])
+@pytest.mark.parametrize(
+    "text", ["s", "sb", "sbv", "nnnnnnnn", "nnnnnnr", "\r\r\r\r\r", "    "]
+)
 def test_three_keys_and_a_key_that_is_held_down_are_typed(text: str) -> None:
     keys = ["enter" if each == "\r" else each for each in text]
     assert done_with((0.0, text)) == keys
@@ -68,7 +70,12 @@ def test_a_key_acts_within_a_fiftieth_of_a_second() -> None:
 
 @pytest.mark.parametrize(
     "busy, keys, is_text",
-    [(1.0, "snbr", False), (1.0, "snbrtv", False), (0.05, "snbr", True)],
+    [
+        (1.0, "snbr", False),
+        (1.0, "snbrtv", False),
+        (0.05, "snbr", True),
+        (0.3, "snnnnnnnnnnnrb", False),
+    ],
 )
 def test_keys_that_waited_while_the_desk_was_busy_were_typed_if_there_was_time(
     busy: float, keys: str, is_text: bool

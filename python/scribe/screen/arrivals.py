@@ -4,8 +4,9 @@ A terminal that doesn't say what is pasted sends it as keys, all at once. If the
 pasted line would strike paragraphs and move them.
 """
 
-from collections.abc import Sequence
+from collections.abc import Iterator, Sequence
 from dataclasses import dataclass, field
+from itertools import groupby, islice
 
 from scribe.screen.keyboard import Pasted, Stroke
 
@@ -35,8 +36,8 @@ class Arrivals:
         """The time at which nothing more comes with what is held; None where nothing is."""
         if not self._held:
             return None
-        is_many = len(self._held) > _FEW
-        return self._latest + (_PASTE_SECONDS if is_many else _TOGETHER_SECONDS)
+        is_text = _is_pasted(self._held)
+        return self._latest + (_PASTE_SECONDS if is_text else _TOGETHER_SECONDS)
 
     def came(
         self, strokes: Sequence[Stroke], now: float, busy_since: float | None = None
@@ -47,8 +48,8 @@ class Arrivals:
         type each of them, they were typed.
         """
         done = self.let_go(now if busy_since is None else busy_since)
-        waited = 0.0 if busy_since is None else now - busy_since
-        is_typed = busy_since is not None and waited >= _TYPED_SECONDS * len(strokes)
+        least = _TYPED_SECONDS * len(list(_presses(strokes)))
+        is_typed = busy_since is not None and now - busy_since >= least
         for stroke in strokes:
             if isinstance(stroke, Pasted) or not _is_text(stroke):
                 done += [*self._judged(), stroke]
@@ -66,10 +67,19 @@ class Arrivals:
 
     def _judged(self) -> list[Stroke]:
         held, self._held = self._held, []
-        # one key that is held down is no text
-        if len(held) <= _FEW or len(set(held)) == 1:
+        if not _is_pasted(held):
             return list(held)
         return [Pasted("".join(_TEXT.get(key, key) for key in held))]
+
+
+def _is_pasted(held: Sequence[str]) -> bool:
+    """Whether keys that came together are more than hands press at once."""
+    return len(list(islice(_presses(held), _FEW + 1))) > _FEW
+
+
+def _presses(strokes: Sequence[Stroke]) -> Iterator[Stroke]:
+    """The keys that were pressed: one that is held down comes again and again."""
+    return (key for key, _ in groupby(strokes))
 
 
 def _is_text(key: str) -> bool:
