@@ -249,6 +249,7 @@ class Session:
             raise self._lose(SessionEnded, _ended(self._pipe.close()))
         if reply.word == "no" and reply.numbers[0] == 91:
             self._answered += 1
+            self._pipe.mend()
             self._pipe.close()
             raise self._lose(Lost, refused(91, (), request).sentence)
         self._sent.popleft()
@@ -312,13 +313,14 @@ class Session:
         try:
             saved = self._file.save(self._program, self._seen)
             kept = (
-                "What is there now lacks what was kept last. All of the book is in the new file"
-                f" {shortened(saved, len(saved))}: look which of the two is to be gone on with."
+                "All of the book, with what was kept last, is in the new file"
+                f" {shortened(saved, len(saved))}. Go on with that one, or look first what is at the"
+                " old path by now."
             )
         except DeskError as failed:
             kept = (
-                "What is there now lacks what was kept last, and it could not be saved in a new"
-                f" file: {failed.sentence} Copy what you typed last."
+                "What was kept last isn't at that path, and it could not be saved in a new file:"
+                f" {failed.sentence} Copy what you typed last."
             )
         self._file.close()
         self._lost = self._lost_as(Displaced, cause, kept)

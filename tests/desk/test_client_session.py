@@ -514,8 +514,8 @@ def test_a_book_that_is_gone_from_its_path_is_saved_and_said(
     saved = Path(f"{book}-saved-1")
     assert caught.value.sentence == (
         f"The file of the book is no longer at “{book}”: it was removed, renamed or replaced while it"
-        " was open. What is there now lacks what was kept last. All of the book is in the new file"
-        f" “{saved}”: look which of the two is to be gone on with."
+        " was open. All of the book, with what was kept last, is in the new file"
+        f" “{saved}”. Go on with that one, or look first what is at the old path by now."
     )
     assert caught.value.version == 3
     assert saved.stat().st_mode & 0o777 == 0o640
@@ -535,8 +535,8 @@ def test_a_book_that_is_gone_with_its_folder_says_that_it_is_not_saved(
         session.type("end", "en", "One.")
     assert caught.value.sentence == (
         f"The file of the book is no longer at “{book}”: it was removed, renamed or replaced while it"
-        " was open. What is there now lacks what was kept last, and it could not be saved in a new"
-        " file: No such file or directory. Copy what you typed last."
+        " was open. What was kept last isn't at that path, and it could not be saved in a new file:"
+        " No such file or directory. Copy what you typed last."
     )
 
 
