@@ -59,6 +59,9 @@ def read_file(path: StrPath, most: int) -> bytes:
     """The bytes of a file, or of what the shell hands over; ``TooLarge`` where they are too many."""
     is_handed_over = _HANDED_OVER.fullmatch(fspath(path))
     with open(path, "rb") if is_handed_over else open_file(path) as file:
+        if file.isatty():
+            # its keys may be those of a screen, on which nothing ends a text
+            raise NoFile("it is a terminal and no file")
         if os.fstat(file.fileno()).st_size > most:
             raise TooLarge(most)
         data = file.read(most + 1)

@@ -61,6 +61,16 @@ def test_a_socket_is_refused(tmp_path: Path) -> None:
             open_file(tmp_path / "s")
 
 
+def test_a_terminal_is_refused_also_by_the_name_of_what_is_handed_over() -> None:
+    keys, terminal = os.openpty()
+    try:
+        with pytest.raises(NoFile, match="it is a terminal and no file"):
+            read_file(f"/dev/fd/{terminal}", 9)
+    finally:
+        os.close(keys)
+        os.close(terminal)
+
+
 def test_a_client_opens_no_pipe_in_place_of_a_book_or_a_table(
     book: Path, pipe: Path
 ) -> None:

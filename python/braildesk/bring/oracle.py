@@ -117,7 +117,10 @@ class Liblouis:
 
 
 class _Process:
-    """The process, which is started when it is needed and has ended."""
+    """The process, which is started when it is needed and has ended.
+
+    It ends with the thread that started it, at the latest.
+    """
 
     def __init__(self) -> None:
         self._running: subprocess.Popen[bytes] | None = None
