@@ -9,7 +9,7 @@ from typing import BinaryIO
 
 from braildesk import locks, opening
 from braildesk.asked import BookFile
-from braildesk.places import has_work, real_path
+from braildesk.places import has_work, is_log, log_path, real_path
 from braildesk.refusals import cannot_open
 from braildesk.sentences import Why
 from braildesk.workshop import copy_bytes
@@ -48,6 +48,8 @@ def held(book: BookFile, flags: int = os.O_RDONLY) -> Iterator[BinaryIO]:
         if not is_there:
             # another one was put there in this moment
             raise cannot_open(book, Why.IN_USE)
+        if not is_log(log_path(path)):
+            raise cannot_open(book, Why.UNKNOWN)
         yield file
 
 

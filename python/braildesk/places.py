@@ -1,6 +1,7 @@
 """Where the file of a book lies, and the log beside it, as the program finds them."""
 
 import os
+import stat
 
 #: The bytes of a log up to the first page in it: its own header, and that of the page.
 _BEFORE_PAGE = 32 + 24
@@ -14,6 +15,15 @@ def real_path(path: str) -> str:
 def log_path(path: str) -> str:
     """The log of the book at a path, which lies beside the file that the path leads to."""
     return f"{real_path(path)}-wal"
+
+
+def is_log(log: str) -> bool:
+    """Whether a log is one that the program opens, or isn't there: a link is none."""
+    try:
+        found = os.lstat(log)
+    except FileNotFoundError:
+        return True
+    return stat.S_ISREG(found.st_mode) and found.st_nlink == 1
 
 
 def has_work(log: str) -> bool:

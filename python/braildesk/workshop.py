@@ -59,9 +59,9 @@ def put_over(made: Path, target: str) -> None:
 def give_access(file: int, like: os.stat_result) -> None:
     """Gives a file the mode of another, and its group and owner where this process may."""
     for owner, group in ((-1, like.st_gid), (like.st_uid, -1)):
-        with suppress(PermissionError):
+        with suppress(OSError):
             os.fchown(file, owner, group)
-    with suppress(PermissionError):
+    with suppress(OSError):
         os.fchmod(file, like.st_mode & 0o777)
 
 

@@ -375,6 +375,32 @@ def test_through_a_link_the_work_beside_the_file_is_found(
     assert braildesk.check(linked) == 2
 
 
+@pytest.mark.parametrize("kind", ["a link", "another name", "a pipe"])
+def test_a_log_that_is_no_file_of_its_own_is_not_read(
+    book: Path, tmp_path: Path, kind: str
+) -> None:
+    other = tmp_path / "other"
+    other.write_bytes(b"of another user" * 1_000)
+    log = Path(f"{book}-wal")
+    match kind:
+        case "a link":
+            log.symlink_to(other)
+        case "another name":
+            os.link(other, log)
+        case "a pipe":
+            os.mkfifo(log)
+    attempts: list[Callable[[], object]] = [
+        lambda: braildesk.check(book),
+        lambda: braildesk.tables(book),
+        lambda: braildesk.copy(book, tmp_path / "copied"),
+    ]
+    for attempt in attempts:
+        with pytest.raises(CannotOpen) as caught:
+            attempt()
+        assert caught.value.why in (Why.UNKNOWN, Why.OTHER_LOG)
+    assert names(tmp_path) == {book.name, log.name, "other"}
+
+
 def test_a_copy_that_replaces_a_book_through_a_link_leaves_the_link(
     book: Path, tmp_path: Path
 ) -> None:
