@@ -236,3 +236,31 @@ def test_an_import_of_the_screen_ends_at_a_signal_and_says_what_is_in_the_book(
         prints = [session.print(each.id) for each in session.list()]
     assert prints == LINES[: (int(found[1]) + 1) // 2]
     assert 3 <= len(prints) < len(LINES)
+
+
+def test_a_taking_back_of_the_screen_ends_at_a_signal_and_says_how_far_it_came(
+    book: Path, at: Open
+) -> None:
+    queue = book.with_name("queue")
+    os.mkfifo(queue)
+    book.with_name("text.txt").write_text("One\n\nTwo\n\nThree\n")
+    terminal = at(book, **standing_in(2, KEPT, WAIT, str(queue)))
+    terminal.wait("? shows all keys.")
+    terminal.keys("i", str(book.with_name("text.txt")), "enter")
+    # the second paragraph that the import types, and then the second that is struck
+    queue.read_bytes()
+    queue.write_bytes(b"")
+    terminal.wait("Escape goes back")
+    terminal.keys("escape")
+    terminal.wait("u undo")
+    terminal.keys("u")
+    terminal.wait("taken back? y is yes")
+    terminal.keys("y")
+    queue.read_bytes()
+    terminal.send_signal(signal.SIGTERM)
+    terminal.wait_left()
+    queue.write_bytes(b"")
+    assert terminal.ended() == -signal.SIGTERM
+    assert terminal.said == "2 of 3 done.\n"
+    with once_free(book) as session:
+        assert [each.struck for each in session.list()].count(True) == 2

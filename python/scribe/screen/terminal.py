@@ -162,7 +162,9 @@ class Screen:
         if self.state.away and self._aside is not None:
             self._stop_aside()
             self.state = self._aside.result()
-            self.unseen = self.state.pages.lines if self.state.pages else ()
+            pages, message = self.state.pages, self.state.message
+            said = pages.lines if pages else (message,)
+            self.unseen = tuple(line for line in said if line)
 
     def _begin(self) -> None:
         loop = asyncio.get_running_loop()
