@@ -3,7 +3,7 @@
 from collections.abc import Callable
 from pathlib import Path
 
-from braildesk import DeskError, Refused, Session
+from braildesk import DeskError, Displaced, Lost, Refused, Session
 
 from scribe.intake import Intake
 from scribe.readings import answers
@@ -56,6 +56,11 @@ def type_all(
         raise CutShort(done, stopped_by(cause), Status.FAILED, cause) from cause
     except Refused as cause:
         raise CutShort(done, cause.sentence, Status.REFUSED) from cause
+    except Displaced as cause:
+        raise CutShort(done, cause.sentence, Status.FAILED) from cause
+    except Lost as cause:
+        # the book is looked at again, so that no more than the cause is to be said
+        raise CutShort(done, cause.cause, Status.FAILED) from cause
     except DeskError as cause:
         raise CutShort(done, cause.sentence, Status.FAILED) from cause
 

@@ -354,6 +354,7 @@ def test_an_import_that_is_cut_short_says_what_is_in_the_book(
     )
     assert (ran.status, ran.shown) == (status, "")
     assert ran.said.startswith(sentence)
+    assert "Open the book again" not in ran.said
     found = re.search(r"--lines --after (\d+) --from (\d+)\n$", ran.said)
     assert found is not None
     paragraph, following = map(int, found.groups())
