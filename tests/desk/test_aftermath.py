@@ -1,5 +1,6 @@
 """A command that was not answered, since the program was stopped: scribe says what is in the book."""
 
+import io
 from collections.abc import Iterator
 from contextlib import contextmanager
 from pathlib import Path
@@ -9,21 +10,23 @@ import pytest
 from braildesk import Lost, Session, requests
 from braildesk.requests import Request
 from scribe.aftermath import found_again
+from scribe.cli import run_words
+from scribe.console import Console
 from stand_in import KEPT, KILL_PROGRAM, READ, REPLY
 from terminal import standing_in
 from tool import scribe
 
 COMMANDS = (
-    "change moon.braildesk 1 far near",
-    "mark moon.braildesk 1 far why?",
-    "undo moon.braildesk 1",
-    "resolve moon.braildesk 1",
-    "strike moon.braildesk 2",
-    "heading moon.braildesk 2",
-    "volume moon.braildesk 3 on",
-    "move moon.braildesk 3 front",
-    "retable moon.braildesk 1 plain",
-    "table moon.braildesk en",
+    "change 1 far near",
+    "mark 1 far why?",
+    "undo 1",
+    "resolve 1",
+    "strike 2",
+    "heading 2",
+    "volume 3 on",
+    "move 3 front",
+    "retable 1 plain",
+    "table en",
 )
 
 
@@ -64,10 +67,12 @@ def test_a_command_of_the_shell_says_whether_it_is_in_the_book_after_all(
     version: int,
     found: str,
 ) -> None:
+    name, *rest = words.split()
+    shown, said = io.StringIO(), io.StringIO()
     with stopped(monkeypatch, 1, far, KILL_PROGRAM):
-        ran = scribe(*words.split(), folder=moon.parent)
-    assert ran.said.splitlines() == ["The session was ended by signal 9.", found]
-    assert (ran.status, ran.shown) == (3, "")
+        status = run_words([name, str(moon), *rest], Console(io.BytesIO(), shown, said))
+    assert said.getvalue().splitlines() == ["The session was ended by signal 9.", found]
+    assert (status, shown.getvalue()) == (3, "")
     with Session(moon) as session:
         assert session.seen == version
 
