@@ -72,6 +72,19 @@ def test_a_mark_that_is_put_again_by_u_is_in_hand(moon: Path, sit: Sit) -> None:
     assert sat.state.kept == "kept: mark 2 resolved"
 
 
+@pytest.mark.parametrize("size", SIZES, ids=str)
+def test_a_mark_that_was_just_put_is_shown_before_others(
+    moon: Path, sit: Sit, size: Size
+) -> None:
+    sat = sit(moon, size=size)
+    for keys in ((), ("tab",)):
+        sat.press("n", *keys, "m", *"why?", "enter")
+        number = sat.state.kept.removeprefix("kept: mark ")
+        assert f" marks here. Mark {number}, " in said(sat)
+    sat.press("r")
+    assert sat.state.kept == f"kept: mark {number} resolved"
+
+
 def test_the_mark_in_hand_is_left_once_the_cursor_moves(moon: Path, sit: Sit) -> None:
     sat = sit(moon)
     sat.press("n", "enter", "end", "!", "enter", "left", "r")

@@ -30,8 +30,8 @@ def with_mark_in_hand(state: State, before: State) -> State:
     """The state after a command, with the mark in hand that was worked on before it.
 
     That is the open mark on which an edit began, so that r resolves it wherever in its paragraph
-    the edit ended; or else one that the command put or touched. Other marks that were touched are
-    said.
+    the edit ended; or else one that the command put, or one that it touched elsewhere. Other marks
+    that were touched are said.
     """
     if state.reading is None or before.reading is None:
         return state
@@ -39,14 +39,16 @@ def with_mark_in_hand(state: State, before: State) -> State:
         return state
     old = {mark.id: mark.touched for mark in before.reading.marks}
     touched = [m for m in state.reading.marks if m.touched and old.get(m.id) is False]
-    changed = touched or [m for m in state.reading.marks if m.id not in old]
+    put = [mark for mark in state.reading.marks if mark.id not in old]
     begun = None
     if before.typed is not None and before.typed.purpose is Purpose.EDIT:
         begun = next((m for m in before.marks_here if not m.resolved), None)
     if begun is not None:
         state = _holding(state, begun.id)
-    elif changed and not set(changed) & set(state.marks_here):
-        state = _holding(state, changed[0].id)
+    elif put:
+        state = _holding(state, put[-1].id)
+    elif touched and not set(touched) & set(state.marks_here):
+        state = _holding(state, touched[0].id)
     others = [mark for mark in touched if mark not in state.marks_here]
     return state.saying(_touched(others)) if others else state
 
@@ -65,7 +67,8 @@ def left_here(state: State, resolved: int) -> State:
 
 def _holding(state: State, mark: int) -> State:
     assert state.paragraph is not None
-    return replace(state, in_hand=InHand(mark, state.paragraph.id, state.place))
+    held = InHand(mark, state.paragraph.id, state.pane, state.place)
+    return replace(state, in_hand=held)
 
 
 def _touched(marks: list[Mark]) -> str:

@@ -90,14 +90,15 @@ class Pages:
 
 @dataclass(frozen=True)
 class InHand:
-    """The mark that is worked on: the one that n or N went to, or that an edit began on or touched.
+    """The mark that is worked on: one that n or N went to, that was put, or that an edit began on.
 
-    It is in hand while the cursor stays where it was then, at a place of a paragraph's print, also
-    where an edit took the cursor past the words of the mark.
+    It is in hand while the cursor stays where it was then, also where an edit took the cursor past
+    the words of the mark.
     """
 
     mark: int
     paragraph: int
+    pane: Pane
     place: int
 
 
@@ -180,9 +181,10 @@ class State:
     def mark_in_hand(self) -> Mark | None:
         """The mark that is worked on, as long as the cursor hasn't moved since."""
         held, reading = self.in_hand, self.reading
-        if held is None or reading is None or self.pane is not Pane.PRINT:
+        if held is None or reading is None:
             return None
-        if (held.paragraph, held.place) != (reading.paragraph.id, self.place):
+        here = InHand(held.mark, reading.paragraph.id, self.pane, self.place)
+        if held != here:
             return None
         return next((mark for mark in reading.marks if mark.id == held.mark), None)
 
