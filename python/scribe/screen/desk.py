@@ -29,10 +29,10 @@ from scribe.occurrences import Occurrence
 from scribe.paragraph import quoted
 from scribe.queries import shown
 from scribe.readings import Reading, answers
-from scribe.screen import deeds, finding, keys, pagelook, pager
+from scribe.screen import deeds, finding, keys, pagelook, pager, taking_back
 from scribe.screen.aside import done_aside, question_about
 from scribe.screen.deeds import Deed
-from scribe.screen.draft import draft_of, field_of
+from scribe.screen.draft import draft_of, draft_of_pasted, field_of
 from scribe.screen.errands import (
     BringBack,
     Errand,
@@ -206,7 +206,7 @@ class Desk:
             state = replace(state, kept=f"kept: {what} of the import")
         if ending.question:
             state = replace(state, question=ending.question)
-        state = _with_imported(before, state)
+        state = taking_back.with_imported(before, state)
         lines = (*_changed_between(before, state), *ending.lines)
         if lines:
             state = replace(state, pages=Pages(ending.title, lines))
@@ -418,7 +418,7 @@ class Desk:
     def _done(self, state: State, asked: Command[Any] | Errand | None) -> State:
         if isinstance(asked, requests.Undo):
             taken = f"Taken back: the newest correction of paragraph {asked.paragraph}."
-            return _saying_first(taken, self._sent(state, asked))
+            return taking_back.saying_first(taken, self._sent(state, asked))
         if isinstance(asked, Command):
             return self._sent(state, asked)
         return state if asked is None else self._run(state, asked)
@@ -545,10 +545,10 @@ class Desk:
         if len(deed.back) > 1:
             return replace(state, away=errand, message="Please wait.")
         if deed.paragraph is not None:
-            state = self.refreshed(_at_paragraph(state, deed.paragraph))
+            state = self.refreshed(taking_back.at_paragraph(state, deed.paragraph))
         state = self._sent(state, replace(deed.back[0], expect=state.version))
         left = deeds.without(deed, earlier, state.deeds[-1])
-        return _saying_first(deed.sentence, replace(state, deeds=left))
+        return taking_back.saying_first(deed.sentence, replace(state, deeds=left))
 
     def _all_taken_back(self, state: State, report: Callable[[str], None]) -> State:
         """Takes back what a key did by many commands, as far as none is refused."""
@@ -564,14 +564,14 @@ class Desk:
                 state = replace(state, version=version, kept=kept(asked, answer))
                 report(f"{done:,} of {count:,} done.")
         except Lost as lost:
-            return self._after_loss(_taken_back_so_far(state, done), lost)
+            return self._after_loss(taking_back.so_far(state, done), lost)
         except Refused as refused:
             said = f"{done:,} of {count:,} done. {refused.sentence}"
         except Interrupted:
             said = f"{done:,} of {count:,} done."
         book = self._session.list()
         state = replace(state, book=book, openings={}, reading=None, lit=None)
-        return self._drawn(_taken_back_so_far(state, done).saying(said))
+        return self._drawn(taking_back.so_far(state, done).saying(said))
 
     def _changed(self, state: State, number: int | None, before: State) -> State:
         """The state after a paragraph was changed, with that one chosen."""
@@ -679,13 +679,7 @@ class Desk:
 
     def _put_by(self, state: State, text: str) -> State:
         """Keeps a text that was pasted where nothing is typed, so that it can be typed."""
-        lines = [line.strip() for line in text.replace("\r", "\n").split("\n")]
-        text = "\n".join(line.replace("\t", " ") for line in lines if line)
-        its = state.paragraph
-        table = its.table if its else state.table
-        number = its.id if its else None
-        put = Draft(Aim.AFTER, number, table, "", text, None, state.version)
-        fault = self._unsent.put_by(put)
+        fault = self._unsent.put_by(draft_of_pasted(state, text))
         return state.saying(f"{_PASTED} {fault}".rstrip())
 
     def _to_page(self, state: State) -> State:
@@ -746,8 +740,10 @@ class Desk:
                     raise
                 said = f"{count} typed. {interrupted.cause.sentence}"
                 state = replace(interrupted.state, question=None).saying(said)
-                return _done_by_one_key(state, before)
-        return _done_by_one_key(replace(state, typed=None, preview=None), before)
+                return taking_back.done_by_one_key(state, before)
+        return taking_back.done_by_one_key(
+            replace(state, typed=None, preview=None), before
+        )
 
 
 def preview_of(state: State, typed: Field) -> tuple[str, str, str]:
@@ -765,44 +761,6 @@ def _amount(saved: Draft) -> str:
         return ""
     of_lines = f", {lines:,} lines" if lines > 1 else ""
     return f" It has {len(saved.text):,} characters{of_lines}."
-
-
-def _done_by_one_key(state: State, before: int) -> State:
-    """The state in which what was done since there were so many deeds is one deed."""
-    done = state.deeds[before:]
-    if len(done) < 2:
-        return state
-    return replace(state, deeds=(*state.deeds[:before], deeds.together(done)))
-
-
-def _with_imported(before: State, after: State) -> State:
-    """The state with an import as a deed, where nothing else changed the book."""
-    there = {each.id for each in before.book}
-    new = sorted(each.id for each in after.book if each.id not in there)
-    if not new or after.version - before.version != len(new):
-        return after
-    return replace(after, deeds=(*before.deeds, deeds.typed(new, "imported")))
-
-
-def _taken_back_so_far(state: State, done: int) -> State:
-    """The state after so many commands that take back what a key last did."""
-    *earlier, deed = state.deeds
-    rest = deed.back[done:]
-    left = [replace(deed, back=rest)] if rest else []
-    return replace(state, deeds=(*earlier, *left))
-
-
-def _saying_first(sentence: str, state: State) -> State:
-    """The state in which a sentence is said before what has to be said anyway."""
-    return state.saying(f"{sentence} {state.message}".rstrip())
-
-
-def _at_paragraph(state: State, number: int) -> State:
-    """The state with a paragraph chosen, where the book has it."""
-    if state.paragraph and state.paragraph.id == number:
-        return state
-    places = [n for n, each in enumerate(state.book) if each.id == number]
-    return state.at(places[0]) if places else state
 
 
 def _of(number: int) -> list[Request[Any]]:

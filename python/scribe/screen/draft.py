@@ -21,6 +21,16 @@ def draft_of(state: State) -> Draft | None:
     return Draft(aim, number, state.table, before, text, cells, state.version)
 
 
+def draft_of_pasted(state: State, text: str) -> Draft:
+    """A text that was pasted where nothing is typed, as one of a new paragraph."""
+    lines = [line.strip() for line in text.replace("\r", "\n").split("\n")]
+    text = "\n".join(line.replace("\t", " ") for line in lines if line)
+    its = state.paragraph
+    table = its.table if its else state.table
+    number = its.id if its else None
+    return Draft(Aim.AFTER, number, table, "", text, None, state.version)
+
+
 def field_of(draft: Draft) -> Field:
     """The text of a draft as it is typed further."""
     return Field(Purpose[draft.aim.name], draft.text, len(draft.text))
