@@ -64,7 +64,7 @@ Reorders command = IsSome (named_by command).place_given
 abbrev pub StandsAt : Book → (id index : ℕ) → Type 0
 StandsAt book id index = slice_get (map (λ paragraph. paragraph.id) book.paragraphs) index ≡ Some id
 
--- it comes to this index, at which another paragraph of the book stands, or none
+-- the paragraph with this id stands at this index of the next book, and didn't in this one
 abbrev pub ComesTo : (book next : Book) → (id index : ℕ) → Type 0
 ComesTo book next id index = StandsAt next id index × ¬ StandsAt book id index
 

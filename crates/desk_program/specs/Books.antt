@@ -134,8 +134,8 @@ pub data Checks {D K : Type 0} (at : Place D) (sink : Sink K) (old new : K)
   found : (book : Book) → Finds at false book
       → Says sink old new (version_line book.version) outcome → Checks at sink old new outcome
 
--- A session is held on the book, from the connection as it was opened to what the session left, which is closed. A command is lost only with
--- a cause.
+-- A session is held on the book, from the connection as it was opened to what the session left, which is closed. The loss of a command is
+-- put down to an error.
 pub data Holds {D S K : Type 0} (at : Place D) (source : Source S) (old_source new_source : S)
     (sink : Sink K) (old new : K) (outcome : Outcome) : Type 0 where
   none : (stop : Stop) → FindsNone at false stop → new_source ≡ old_source → new ≡ old

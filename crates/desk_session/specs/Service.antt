@@ -127,17 +127,17 @@ pub record HoldsGiven (l : Layout) (book : Book) (ended : Ended) (given : List G
   pub after : After book (commands_of kept) next
   pub holds : HoldsBook l next db
 
--- The connection shows the last book, also where a command was lost if it is still open, and whatever a crash leaves holds the given
--- commands.
+-- The connection shows the last book; after a loss, if the connection is still open. Whatever a crash leaves holds the given commands.
 pub record IsLeft (l : Layout) (book last : Book) (ended : Ended) (given : List GivenCommand) (s : State)
     : Type 0 where
   pub shows : (ended ≢ Lost) ⊎ IsTrue s.is_open → ShowsBook l last s
   pub leaves : Leaves (HoldsGiven l book ended given) s
 
--- ---- why a command is lost
+-- ---- to which error the loss of a command is put down
 
 -- In a transaction that began on a connection some statements ran in turn, and the database answered the error to the next one or to the
--- commit, or an allocation failed. If the file showed the book and kept it before the session, it showed and kept the last book there.
+-- commit, or it is that of a failed allocation. If the file showed the book and kept it before the session, it showed and kept the last
+-- book when that transaction began.
 pub record LosesCommand {S : Type 0} (g : Ghosts S) (book last : Book) (old : State) (new : State) : Type 0 where
   pub before : Held S
   pub serves : (l : Layout) → MayServe l book old → MayServe l last (state g before)

@@ -42,7 +42,7 @@ pub fn serve<R: Source, W: Sink, S: Alter>(
 ) -> (Ended, Book)
     ensures served { Serves book result.1 result.0 (ends_of R.Source source.old source.new
         W.Sink sink.old sink.new (shown_by S.Store store.old) (shown_by S.Store store.new)) }
-    // Only a store on which a change was lost ends it so. The first loss has a cause.
+    // Only a store on which a change was lost ends it so. The first loss is put down to an error.
     ensures lost { result.0 ≡ Ended.Lost → store.new.lost ≡ true }
     ensures cause { HasCleanDisk (shown_by S.Store store.new) → store.old.lost ≡ false
         → result.0 ≡ Ended.Lost → LosesCommand S.Store book result.1

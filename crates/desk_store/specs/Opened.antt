@@ -70,8 +70,8 @@ TellsOf l c NoMemory = ⊤
 
 -- ---- what is reported of any file without the tables of a book
 
--- It holds no book, if none is to be made or `cache` is there. Otherwise a statement that makes the tables of a new file failed, or the
--- commit did, with an error that is reported so.
+-- It holds no book, if none is to be made or `cache` is there. Otherwise a statement that makes a table of a new file or puts the row of
+-- `book` failed, or the commit did, with an error that is reported so.
 abbrev pub TellsOfNone : {S : Type 0} → (make : Bool) → Ghosts S → Held S → State → OpenFault → Type 0
 TellsOfNone make g old new told =
     ((told ≡ NotABook) × ((make ≡ false) ⊎ (is_there (state g old).now.schema tables.Cache ≡ true)))
@@ -102,9 +102,8 @@ with_missing_tables l = with_tables (missing_tables l) l
 
 -- ---- what stands in a file, and what it is after opening
 
--- In any file, however its tables are declared: the rows that the statements give show the book, and of what the file lacks the
--- statements that make it and fill it with what the book has for it ran in turn, none if it lacks nothing. The connection was as at
--- first.
+-- In any file, however its tables are declared: its statements give rows that show the book; and the statements that make what the file
+-- lacks, and fill it with what the book has for it, ran in turn on the connection as it was, none if it lacks nothing.
 pub record Completes {S : Type 0} (g : Ghosts S) (old : Held S) (book : Book) (last : Held S) : Type 0 where
   pub rows : FileRows
   pub are : AreFileRows (state g old) rows
@@ -167,8 +166,8 @@ pub record IsMadeNew (make : Bool) (book : Book) (old new : State) : Type 0 wher
 
 -- ---- why it isn't opened, where it isn't refused
 
--- The statement that reads a table failed so, or there was no memory for the rows that it showed. The table is `book`, or the format that
--- the row of `book` names has it. The connection was as at first.
+-- The statement that reads a table failed so, or there was no memory for the rows that it showed. The table is `book`, or one that is read
+-- in the format which the row of `book` names. The connection was as at first.
 pub record StopsReading {S : Type 0} (g : Ghosts S) (old : Held S) (new : State) (why : DatabaseFault) : Type 0 where
   pub table : FileTable
   pub is_read : (table ≡ tables.Book) ⊎ ((rows : List BookRow) × (row : BookRow) × AreRowsIn (state g old) tables.Book rows
@@ -234,8 +233,8 @@ pub record LeavesStanding (make : Bool) (old new : State) (result : Result Book 
   pub made : HasNone old.now.schema → IfOk result (λ book. IsMadeNew make book old new)
   pub refused : IfErr result (λ fault. IsRefusal fault → ShowsAsBefore old new)
 
--- What opening answers and reports, and what then stands in the file: if a table of a book was there, what the statements made of it that
--- complete the file, and nothing else.
+-- What opening answers and reports, and what then stands in the file; at `Ok`, if a table of a book was there, just what the statements
+-- that complete the file made of it.
 pub record OpensBook {S : Type 0} (g : Ghosts S) (make : Bool) (old : Held S) (new : State)
     (result : Result Book OpenFault) : Type 0 where
   pub answers : AnswersBook make (state g old) new result
@@ -244,8 +243,9 @@ pub record OpensBook {S : Type 0} (g : Ghosts S) (make : Bool) (old : Held S) (n
   pub ran : (¬ HasNone (state g old).now.schema)
       → IfOk result (λ book. (last : Held S) × Completes g old book last × (new.now ≡ (state g last).now))
 
--- No book is opened, this is reported, and what a crash leaves is what opening may bring; after a refusal nothing new. If a table of a book
--- was there, that is what the statements which complete the file left, and if the file isn't refused, it has a cause.
+-- No book is opened, and this is reported. A crash leaves what it could have left before, or what opening may bring: if a table of a book
+-- was there, what the statements that complete the file made of it. After a refusal it leaves nothing new. If a table of a book was there
+-- and the file isn't refused, the report has a cause.
 pub record IsRefusedWith {S : Type 0} (g : Ghosts S) (make : Bool) (old : Held S) (new : State)
     (fault : OpenFault) : Type 0 where
   pub opens : HasCleanDisk new → OpensBook g make old new (Err fault)

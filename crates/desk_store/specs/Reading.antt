@@ -41,9 +41,9 @@ ShowsReadable format s =
     (l : Layout) × (c : Contents) × IsOfFormat format l × ShowsContents l c s
     × CanAllBeRead format l c × (s.step_limit ≡ None)
 
--- Nothing is read, since the statement that reads a table of the format failed, or an allocation for its rows did. If the steps have no
--- limit, a file that can be read isn't refused, nor is one of whatever declaration whose statements have answers that can be read. After a
--- refusal the connection is as it was.
+-- Nothing is read, since a table of the format wasn't: its statement failed, what it showed can't be read, or an allocation for its rows
+-- failed. If the steps have no limit, a file that can be read isn't refused, nor is one of whatever declaration whose statements have
+-- answers that can be read. After a refusal the connection is as it was.
 pub record FailsToRead {S : Type 0} (g : Ghosts S) (format : Format) (old : Held S) (new : State)
     (why : DatabaseFault) : Type 0 where
   pub refused : why ≡ fault.Refused → Stays (state g old) new × ¬ ShowsReadable format (state g old)

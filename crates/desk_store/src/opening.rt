@@ -143,8 +143,8 @@ impl<S: Alter> Store<S> {
         // Of a crash at any exit: nothing new is left but the book in a file with the tables of a new one.
         ensures crash { Survives (state S.Store connection.old) (state S.Store connection.new)
             (MayBring make (state S.Store connection.old)) }
-        // If a table of a book was there, in any file: nothing new is left but what the statements made of it that complete the
-        // file of the book which its rows showed.
+        // If a table of a book was there, in any file: a crash leaves nothing new but what the statements that complete the
+        // file made of it.
         ensures left { (¬ HasNone (state S.Store connection.old).now.schema)
             → Survives (state S.Store connection.old) (state S.Store connection.new)
             (λ db. (book : BookOf) × (last : Held S) × Completes S.Store connection.old book last
@@ -199,7 +199,7 @@ impl<S: Alter + Drop> Store<S> {
             (λ db. (book : BookOf) × (last : Held S) × Completes S.Store connection book last
             × (db ≡ (state S.Store last).now.trees))) }
         ensures kept { IfOk result (λ it. it.0.lost ≡ false) }
-        // There is a connection of which this holds, the one that was dropped.
+        // This holds of some connection; that it is the one that was dropped, no contract can say.
         ensures told { IfErr result (λ fault. (last : Held S)
             × IsRefusedWith S.Store make connection (state S.Store last) fault) }
     {
