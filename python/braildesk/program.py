@@ -12,6 +12,7 @@ from pathlib import Path
 
 from braildesk import limits, opening
 from braildesk.asked import AskedOfFile, BookFile, Line, NewBook, Pages, TableFile
+from braildesk.held import copy_held, held
 from braildesk.named_files import read_file
 from braildesk.places import has_work, log_path
 from braildesk.refusals import (
@@ -27,13 +28,10 @@ from braildesk.sentences import Why
 from braildesk.values import Table
 from braildesk.waiting import waited
 from braildesk.wording import Refusal
-from braildesk.workshop import copy_bytes
 
 StrPath = str | PathLike[str]
 
 _CHECKOUT = Path(__file__).resolve().parents[2]
-#: By which codes a file is refused that has the log of another beside it.
-_DAMAGED = (92, 93, 98)
 _CODE = re.compile(r"(?:braildesk: )?no ([0-9 ]+)")
 
 
@@ -139,34 +137,45 @@ def cannot_run(program: str, error: OSError) -> NoProgram:
     return NoProgram(f"The program “{program}” can't be run: {error.strerror}.")
 
 
-def unopened(status: int, errors: str, asked: AskedOfFile, program: str) -> DeskError:
+def judge_log(asked: AskedOfFile, program: str) -> None:
+    """Refuses a book beside which the log of another lies, before the program puts them together.
+
+    What can't be judged here is left to the program.
+    """
+    if isinstance(asked, TableFile):
+        return
+    try:
+        log = log_path(asked.path)
+        if not has_work(log):
+            return
+        with tempfile.TemporaryDirectory() as folder:
+            both, alone = Path(folder, "both"), Path(folder, "alone")
+            with held(BookFile(asked.path)) as file:
+                copy_held(file, log, both)
+                copy_held(file, "", alone)
+            is_of_another = not _is_book(both, program) and _is_book(alone, program)
+    except (OSError, ValueError, Refused):
+        return
+    if is_of_another:
+        raise cannot_open(asked, Why.OTHER_LOG)
+
+
+def _is_book(path: Path, program: str) -> bool:
+    """Whether the program finds a book in a file."""
+    words = [program, "check", "--", str(path)]
+    return subprocess.run(words, capture_output=True).returncode == 0
+
+
+def unopened(status: int, errors: str, asked: AskedOfFile) -> DeskError:
     """Why the program ended with a status other than 0."""
     if status == 2 and (found := _CODE.search(errors)):
         code, *numbers = map(int, found[1].split())
-        why = opening.why(asked) if code == 98 else Why.UNKNOWN
-        if code in _DAMAGED and why is Why.UNKNOWN and _is_whole_alone(asked, program):
-            return cannot_open(asked, Why.OTHER_LOG)
         if code == 98:
-            return cannot_open(asked, why)
+            return cannot_open(asked, opening.why(asked))
         if code == 8 and isinstance(asked, TableFile):
             asked = TableFile(asked.path, asked.text or _text_at(asked.path))
         return refused(code, tuple(numbers), asked)
     return Failed(_failure(status, errors))
-
-
-def _is_whole_alone(asked: AskedOfFile, program: str) -> bool:
-    """Whether a file that is refused is a book without the log beside it."""
-    if isinstance(asked, TableFile) or not has_work(log_path(asked.path)):
-        return False
-    try:
-        with tempfile.TemporaryDirectory() as folder:
-            alone = Path(folder, "book")
-            with open(asked.path, "rb") as file, open(alone, "xb") as written:
-                copy_bytes(file.fileno(), written.fileno())
-            check(alone, program)
-    except (OSError, DeskError):
-        return False
-    return True
 
 
 def _failure(status: int, errors: str) -> str:
@@ -233,6 +242,7 @@ def _run(
     shared: tuple[int, ...] = (),
 ) -> bytes:
     found = find(program)
+    judge_log(asked, found)
     try:
         done = subprocess.run(
             [found, *words], input=sent, capture_output=True, pass_fds=shared
@@ -240,9 +250,7 @@ def _run(
     except OSError as error:
         raise cannot_run(found, error) from error
     if done.returncode:
-        raise unopened(
-            done.returncode, done.stderr.decode(errors="replace"), asked, found
-        )
+        raise unopened(done.returncode, done.stderr.decode(errors="replace"), asked)
     return done.stdout
 
 

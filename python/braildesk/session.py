@@ -158,11 +158,12 @@ class Session:
     def _open(self) -> tuple[Pipe, OpenFile, int]:
         """The pipes to the program, the file that it has open, and the version of the book."""
         words = programs.session_words(self._book.path, self._program)
+        programs.judge_log(self._book, words[0])
         while True:
             file = OpenFile(self._book.path)
             try:
                 pipe = _started(words)
-                version = _first_version(pipe, self._book, words[0])
+                version = _first_version(pipe, self._book)
             except BaseException:
                 file.close()
                 raise
@@ -476,7 +477,7 @@ def _started(words: list[str]) -> Pipe:
         raise programs.cannot_run(words[0], error) from error
 
 
-def _first_version(pipe: Pipe, book: BookFile, program: str) -> int:
+def _first_version(pipe: Pipe, book: BookFile) -> int:
     """Waits for the first reply, which comes where the book was opened."""
     version = requests.Version()
     try:
@@ -493,7 +494,7 @@ def _first_version(pipe: Pipe, book: BookFile, program: str) -> int:
         raise
     if reply is None:
         ending = pipe.close()
-        raise programs.unopened(ending.status, ending.errors, book, program)
+        raise programs.unopened(ending.status, ending.errors, book)
     pipe.mend()
     return answer(version, reply)
 

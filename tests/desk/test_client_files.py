@@ -686,9 +686,15 @@ def test_an_older_copy_beside_the_log_of_a_newer_book_is_said_to_be_that(
     shutil.copyfile(older, book)
     log = Path(f"{book}-wal")
     before = book.read_bytes(), log.read_bytes()
+    noting, asked = tmp_path / "noting", tmp_path / "asked"
+    noting.write_text(
+        f"#!/bin/sh\necho \"$@\" >> '{asked}'\nexec '{braildesk.find()}' \"$@\"\n"
+    )
+    noting.chmod(0o755)
     attempts: list[Callable[[], object]] = [
-        lambda: Session(book),
-        lambda: braildesk.check(book),
+        lambda: Session(book, noting),
+        lambda: braildesk.check(book, noting),
+        lambda: braildesk.copy(book, tmp_path / "copied", program=noting),
     ]
     for attempt in attempts:
         with pytest.raises(CannotOpen) as caught:
@@ -701,6 +707,8 @@ def test_an_older_copy_beside_the_log_of_a_newer_book_is_said_to_be_that(
             " away."
         )
     assert (book.read_bytes(), log.read_bytes()) == before
+    # the program itself would put the two together
+    assert str(book) not in asked.read_text().split()
     log.unlink()
     assert braildesk.check(book) == 1
 
