@@ -46,6 +46,14 @@ class OutputFailed(Exception):
         )
 
 
+class OutputClosed(OutputFailed):
+    """Standard output was closed before scribe began."""
+
+    def __init__(self) -> None:
+        super().__init__(OSError(errno.EBADF, os.strerror(errno.EBADF)))
+        self.sentence = "Standard output is closed, so nothing was done."
+
+
 @dataclass(frozen=True)
 class Console:
     """Standard input and output, and standard error.
@@ -68,7 +76,7 @@ class Console:
         What can't be said, since the errors are closed, isn't missed by anybody.
         """
         if sys.stdout is None:
-            raise OutputFailed(OSError(errno.EBADF, os.strerror(errno.EBADF)))
+            raise OutputClosed
         source = _closed_input() if sys.stdin is None else sys.stdin.buffer
         try:
             return cls(source, _utf8_writer(1), _utf8_writer(2))

@@ -181,12 +181,7 @@ def test_a_descriptor_that_is_closed_is_said_or_does_not_matter(
         before=lambda: close(closed),
     )
     if 1 in closed:
-        assert ran == Ran(
-            3,
-            "",
-            "Standard output could not be written: it is closed. What was changed in a book before"
-            " that is kept.\n",
-        )
+        assert ran == Ran(3, "", "Standard output is closed, so nothing was done.\n")
         assert (sample / "moon.braildesk").read_bytes() == before
         assert not (sample / "other.braildesk").exists()
     elif name == "edit":
