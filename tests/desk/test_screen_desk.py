@@ -216,9 +216,8 @@ def test_words_and_cells_are_found_and_found_again(reader: Sat) -> None:
     assert spots == [(0, 13), (0, 16), (0, 18), (2, 6), (2, 9), (2, 18)]
     sat.press("*")
     assert (sat.state.chosen, sat.state.place) == (0, 13)
-    assert (
-        "Not found up to the end of the book, so found from its front on." in sat.lines
-    )
+    around = "“a” stands nowhere further on: this is the first in the book."
+    assert around in sat.lines
     sat.press("tab", "/")
     sat.write("tides")
     sat.press("enter")
@@ -239,7 +238,7 @@ def test_words_that_stand_nowhere_else_are_said_to(reader: Sat) -> None:
     sat.press("/", *"moon", "enter")
     assert (sat.state.chosen, sat.state.place) == (0, 4)
     assert sat.lines[-2] == (
-        "Not found up to the end of the book, so found from its front on."
+        "“moon” stands nowhere further on: this is the first in the book."
     )
 
 

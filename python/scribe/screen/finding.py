@@ -15,8 +15,6 @@ from scribe.screen.state import Pane, State
 from scribe.sequences import composed
 from scribe.visible import named
 
-_AROUND = "Not found up to the end of the book, so found from its front on."
-
 
 def to_found(session: Session, state: State, errand: ToFound) -> State:
     """The state with the cursor at the next place of words, or of cells while it is on cells."""
@@ -81,7 +79,9 @@ def _with_others_alike(session: Session, state: State, sought: str) -> State:
 def _at_found(state: State, found: search.Found, sought: str) -> State:
     """The state with the cursor at what was looked for."""
     spot = found.spot
-    said = _AROUND if found.is_around else ""
+    said = ""
     if found.is_same:
         said = f"{quoted(sought)} stands nowhere else in the book."
+    elif found.is_around:
+        said = f"{quoted(sought)} stands nowhere further on: this is the first in the book."
     return state.at(spot.chosen, spot.place).saying(said)
