@@ -46,7 +46,7 @@ def test_places_are_found_in_combining_sequences_over_lines() -> None:
 
 
 def test_marks_without_end_on_one_letter_are_judged_in_one_walk() -> None:
-    marks = "a" + "\u0301\u0323" * 200_000
+    marks = "a" + "\u0301\u0323" * 60_000
     began = time.process_time()
     (passage,) = passages(f"the moon\n{marks}\n".encode(), False)
     assert len(passage.text) == len("the moon ") + len(marks)
@@ -91,7 +91,7 @@ def test_a_head_of_blanks_takes_no_more_time_than_one_of_letters(
     tmp_path: Path,
 ) -> None:
     table = tmp_path / "blanks.utb"
-    blanks = " " * 300_000
+    blanks = " " * 60_000
     table.write_text(f"#-license: x{blanks}y\n", encoding="utf-8")
     began = time.process_time()
     assert head_of(table) == {"license": f"x{blanks}y"}
