@@ -471,7 +471,7 @@ def test_only_values_of_the_right_types_are_read_as_a_draft(
 
 
 BEGUN = {
-    "text": "/home/anna/text.txt",
+    "text": "/srv/texts/text.txt",
     "digest": "0" * 64,
     "by_lines": False,
     "line": 1,
