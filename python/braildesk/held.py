@@ -12,7 +12,7 @@ from braildesk.asked import BookFile
 from braildesk.places import has_work, is_log, log_path, real_path
 from braildesk.refusals import cannot_open
 from braildesk.sentences import Why
-from braildesk.workshop import copy_bytes
+from braildesk.workshop import copy_bytes, create
 
 
 @contextmanager
@@ -53,11 +53,18 @@ def held(book: BookFile, flags: int = os.O_RDONLY) -> Iterator[BinaryIO]:
         yield file
 
 
-def copy_held(source: BinaryIO, log: str, made: Path) -> None:
-    """Copies the file of a book that is held, and the work that stands in its log."""
-    with open(made, "xb") as written:
-        os.fchmod(written.fileno(), 0o600)
+def copy_held(source: BinaryIO, log: str, made: Path) -> os.stat_result:
+    """Copies the file of a book that is held, and the work that stands in its log.
+
+    What was made is said, so that it is known again.
+    """
+    with create(made) as written:
         copy_bytes(source.fileno(), written.fileno())
+        found = os.fstat(written.fileno())
     if has_work(log):
-        with open(log, "rb") as work, open(f"{made}-wal", "xb") as written:
-            copy_bytes(work.fileno(), written.fileno())
+        # whatever was put in its place in this moment, nothing is waited for
+        flags = os.O_RDONLY | os.O_NOFOLLOW | os.O_NONBLOCK | os.O_CLOEXEC
+        with open(os.open(log, flags), "rb") as work:
+            with create(Path(f"{made}-wal")) as written:
+                copy_bytes(work.fileno(), written.fileno())
+    return found

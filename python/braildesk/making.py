@@ -25,7 +25,14 @@ from braildesk.requests import Command
 from braildesk.sentences import Why
 from braildesk.session import Session
 from braildesk.waiting import waited
-from braildesk.workshop import give_access, made_beside, put, put_over
+from braildesk.workshop import (
+    Swapped,
+    give_access,
+    made_beside,
+    open_made,
+    put,
+    put_over,
+)
 
 
 class NotMade(DeskError):
@@ -78,14 +85,19 @@ def _make(
     target = real_path(asked.path)
     with made_beside(target) as made:
         # by the program it would have a mode that no group may write by, whatever the umask says
-        os.close(os.open(made, os.O_WRONLY | os.O_CREAT | os.O_EXCL, 0o666))
+        file = os.open(made, os.O_WRONLY | os.O_CREAT | os.O_EXCL, 0o666)
+        begun = os.fstat(file)
+        os.close(file)
         try:
             programs.make_book(made, program, named=asked.path)
             _carry_out(made, program, holding)
-        except Failed as failed:
+            open_made(made, begun).close()
+        except (Failed, Swapped) as failed:
+            why = (
+                failed.sentence if isinstance(failed, Failed) else f"{failed.strerror}."
+            )
             raise Failed(
-                f"The new book “{asked.path}” could not be written, and there is none:"
-                f" {failed.sentence}"
+                f"The new book “{asked.path}” could not be written, and there is none: {why}"
             ) from failed
         if has_work(f"{made}-wal"):
             raise Failed(
@@ -129,9 +141,9 @@ def _copied(
     with held(book) as source, _claimed(source, named, overwrite) as target:
         try:
             with made_beside(target.path) as made:
-                copy_held(source, log_path(book.path), made)
+                copied = copy_held(source, log_path(book.path), made)
                 version = _checked(made, book, named, program)
-                _finish(source, made)
+                _finish(source, made, copied)
                 _put(made, target)
         except (OSError, ValueError) as error:
             raise _not_written(named, _why(error)) from error
@@ -207,9 +219,9 @@ def _not_written(named: str, why: str) -> Failed:
     return Failed(f"The copy “{named}” could not be written: {why.rstrip('.')}.")
 
 
-def _finish(source: BinaryIO, made: Path) -> None:
+def _finish(source: BinaryIO, made: Path, copied: os.stat_result) -> None:
     """Gives a whole copy what the book's file has beside its contents."""
-    with open(made, "r+b") as file:
+    with open_made(made, copied) as file:
         give_access(file.fileno(), os.fstat(source.fileno()))
         os.fsync(file.fileno())
 

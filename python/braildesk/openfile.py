@@ -7,7 +7,14 @@ from braildesk import program as programs
 from braildesk.places import real_path
 from braildesk.program import StrPath
 from braildesk.refusals import Failed
-from braildesk.workshop import copy_bytes, give_access, made_beside, put
+from braildesk.workshop import (
+    copy_bytes,
+    create,
+    give_access,
+    made_beside,
+    open_made,
+    put,
+)
 
 
 class OpenFile:
@@ -42,11 +49,13 @@ class OpenFile:
         assert self._descriptor is not None
         try:
             with made_beside(self.path) as made:
-                with open(made, "xb") as written:
+                with create(made) as written:
                     copy_bytes(self._descriptor, written.fileno())
                     give_access(written.fileno(), os.fstat(self._descriptor))
+                    saved = os.fstat(written.fileno())
                 if programs.check(made, program) < version:
                     raise Failed("The program did not write all of it to its file.")
+                open_made(made, saved).close()
                 return _put_beside(made, self.path)
         except OSError as error:
             raise Failed(f"{error.strerror or error}.") from error

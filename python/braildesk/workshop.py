@@ -9,10 +9,12 @@ import ctypes
 import errno
 import fcntl
 import os
+import stat
 import tempfile
 from collections.abc import Iterator
 from contextlib import contextmanager, suppress
 from pathlib import Path
+from typing import BinaryIO
 
 _PREFIX = ".braildesk-"
 #: The file that is made, and the log that the program puts beside it. Nothing else is cleared away.
@@ -23,6 +25,14 @@ _HERE, _NO_REPLACE = -100, 1
 #: What a system says of that where it, or the file system, doesn't have it.
 _NOT_KNOWN = (errno.EINVAL, errno.ENOSYS, errno.EOPNOTSUPP)
 _CHUNK = 1 << 20
+
+
+class Swapped(OSError):
+    """A file that was being made isn't at its path any more."""
+
+    def __init__(self) -> None:
+        what = "another program put something else in the place of what was made"
+        super().__init__(errno.ESTALE, what)
 
 
 @contextmanager
@@ -36,6 +46,28 @@ def made_beside(target: str) -> Iterator[Path]:
     finally:
         _remove(descriptor, folder)
         os.close(descriptor)
+
+
+def create(path: Path) -> BinaryIO:
+    """A new file, which is its owner's alone until it is given its access."""
+    flags = os.O_RDWR | os.O_CREAT | os.O_EXCL | os.O_NOFOLLOW | os.O_CLOEXEC
+    return open(os.open(path, flags, 0o600), "r+b")
+
+
+def open_made(made: Path, like: os.stat_result) -> BinaryIO:
+    """A file that was made, open once more; ``Swapped`` where another one is at its path.
+
+    Who may write in the folder beside which it is made may put a folder with a link in its place.
+    """
+    flags = os.O_RDONLY | os.O_NOFOLLOW | os.O_NONBLOCK | os.O_CLOEXEC
+    try:
+        file = open(os.open(made, flags), "rb")
+    except OSError as error:
+        raise Swapped from error
+    if not os.path.samestat(os.fstat(file.fileno()), like):
+        file.close()
+        raise Swapped
+    return file
 
 
 def put(made: Path, target: str) -> None:
@@ -57,12 +89,19 @@ def put_over(made: Path, target: str) -> None:
 
 
 def give_access(file: int, like: os.stat_result) -> None:
-    """Gives a file the mode of another, and its group and owner where this process may."""
-    for owner, group in ((-1, like.st_gid), (like.st_uid, -1)):
-        with suppress(OSError):
-            os.fchown(file, owner, group)
+    """Gives a file the mode of another, and its group and owner where this process may.
+
+    A group that isn't that of the other file gets no more than anybody.
+    """
+    mode = like.st_mode & 0o777
+    try:
+        os.fchown(file, -1, like.st_gid)
+    except OSError:
+        mode &= ~stat.S_IRWXG | (mode & stat.S_IRWXO) << 3
     with suppress(OSError):
-        os.fchmod(file, like.st_mode & 0o777)
+        os.fchown(file, like.st_uid, -1)
+    with suppress(OSError):
+        os.fchmod(file, mode)
 
 
 def copy_bytes(source: int, target: int) -> None:
@@ -89,7 +128,7 @@ def _own_folder(parent: str) -> tuple[int, str]:
     """A new folder, and its descriptor, by which it is locked."""
     while True:
         folder = tempfile.mkdtemp(prefix=_PREFIX, dir=parent)
-        descriptor = os.open(folder, os.O_RDONLY | os.O_DIRECTORY)
+        descriptor = os.open(folder, os.O_RDONLY | os.O_DIRECTORY | os.O_NOFOLLOW)
         if _is_locked(descriptor) and os.path.exists(folder):
             return descriptor, folder
         # another program took it for one that was left

@@ -270,6 +270,70 @@ def test_of_two_copies_to_one_path_one_is_made(
     assert braildesk.check(to) == 2
 
 
+def swap(folder: Path, private: Path) -> None:
+    """Puts a folder with a link in place of the one in which a book is made, as its sharers may."""
+    (making,) = folder.glob(".braildesk-*")
+    making.rename(folder / "moved")
+    making.mkdir()
+    (making / "book").symlink_to(private)
+
+
+@pytest.mark.parametrize("replaces", [False, True])
+def test_a_link_in_place_of_a_copy_that_is_made_gives_no_file_another_mode(
+    book: Path, tmp_path: Path, monkeypatch: pytest.MonkeyPatch, replaces: bool
+) -> None:
+    book.chmod(0o666)
+    private, shared = tmp_path / "private", tmp_path / "shared"
+    private.write_text("mine")
+    private.chmod(0o600)
+    shared.mkdir()
+    to = shared / "copied"
+    if replaces:
+        shutil.copyfile(book, to)
+    meanwhile(monkeypatch, lambda: swap(shared, private))
+    with pytest.raises(Failed) as caught:
+        braildesk.copy(book, to, overwrite=replaces)
+    assert caught.value.sentence == (
+        f"The copy “{to}” could not be written: another program put something else in the place of"
+        " what was made."
+    )
+    assert stat.S_IMODE(private.stat().st_mode) == 0o600
+    assert (to.exists(), to.is_symlink()) == (replaces, False)
+
+
+def test_a_link_in_place_of_a_new_book_gets_no_name(
+    tmp_path: Path, monkeypatch: pytest.MonkeyPatch
+) -> None:
+    private, to = tmp_path / "private", tmp_path / "new"
+    private.write_text("mine")
+    make_book = braildesk.program.make_book
+
+    def made(path: Path, program: str | None, named: str) -> None:
+        make_book(path, program, named)
+        swap(tmp_path, private)
+
+    monkeypatch.setattr(braildesk.program, "make_book", made)
+    with pytest.raises(Failed) as caught:
+        braildesk.new_book(to)
+    assert caught.value.sentence == (
+        f"The new book “{to}” could not be written, and there is none: another program put"
+        " something else in the place of what was made."
+    )
+    assert (os.path.lexists(to), private.read_text()) == (False, "mine")
+
+
+def test_a_group_that_is_not_the_books_may_do_no_more_with_its_copy_than_anybody(
+    book: Path, tmp_path: Path, monkeypatch: pytest.MonkeyPatch
+) -> None:
+    def refused(file: int, owner: int, group: int) -> None:
+        raise PermissionError(errno.EPERM, "Operation not permitted")
+
+    monkeypatch.setattr(os, "fchown", refused)
+    book.chmod(0o664)
+    braildesk.copy(book, tmp_path / "copied")
+    assert stat.S_IMODE((tmp_path / "copied").stat().st_mode) == 0o644
+
+
 def test_where_a_file_system_has_no_such_renaming_a_copy_is_linked(
     book: Path, tmp_path: Path, monkeypatch: pytest.MonkeyPatch
 ) -> None:
