@@ -21,6 +21,7 @@ from scribe.screen.errands import (
     Quit,
     ShowHistory,
     ShowPage,
+    TakeBack,
     ToFound,
     ToMark,
     TypeAll,
@@ -422,6 +423,23 @@ def test_no_other_key_answers_a_question() -> None:
         taken = step(asked, key)
         assert (taken.state.question, taken.asked) == (asked.question, None)
     assert step(asked, "y").state.typed == draft
+
+
+def test_a_key_that_is_no_answer_is_said_to_be_none_at_each_question() -> None:
+    waits = Field(Purpose.EDIT, "text")
+    pasted_lines = replace(
+        typed(Purpose.AFTER), question=Question("Lines?", ("One.", "Two."))
+    )
+    for asked in (
+        replace(STATE, question=Question("Further?", draft=waits)),
+        replace(STATE, question=Question("Further?", draft=waits, older=1)),
+        replace(STATE, question=Question("All?", yes=TakeBack())),
+        pasted_lines,
+    ):
+        for key in ("enter", "q", "x", "a-y", "up"):
+            taken = step(asked, key)
+            assert (taken.state.question, taken.asked) == (asked.question, None)
+            assert taken.state.message == "That key is no answer to the question."
 
 
 def test_pasted_lines_that_wait_from_before_are_asked_about_again() -> None:

@@ -39,6 +39,7 @@ from scribe.visible import control_refused
 _NOTHING_WHILE_TYPING = (
     "That key does nothing here. Enter ends what is typed, Escape gives it up."
 )
+_NO_ANSWER = "That key is no answer to the question."
 _NOT_ENTER = "The end of the pasted line was left out. Enter ends what is typed."
 _ASKED_LATER = "Nothing was typed. It is asked again when the book is opened."
 _STAYS_GIVEN_UP = "Nothing was sent. U asks about it again."
@@ -130,7 +131,7 @@ def _answered(state: State, question: Question, key: str) -> Step:
     if question.draft is not None:
         return _about_text(state, question, question.draft, key)
     if key not in ("y", "n", "escape"):
-        return Step(replace(state, question=question))
+        return Step(replace(state, question=question).saying(_NO_ANSWER))
     if key == "escape":
         return Step(replace(state, question=question), GiveUp())
     assert state.typed is not None
@@ -159,7 +160,7 @@ def _about_errand(
     if key in ("n", "escape"):
         done = "taken back" if isinstance(errand, TakeBack) else "typed"
         return Step(answered.saying(f"Nothing was {done}."))
-    return Step(state)
+    return Step(state.saying(_NO_ANSWER))
 
 
 def _about_text(state: State, question: Question, draft: Field, key: str) -> Step:
@@ -167,14 +168,14 @@ def _about_text(state: State, question: Question, draft: Field, key: str) -> Ste
     asked = replace(state, question=question)
     if key == "y":
         return _taken_up(asked, draft)
-    if question.older is None:
-        errands: dict[str, Errand] = {"n": GiveUp(), "l": PutOff()}
-        return Step(asked, errands.get(key))
-    if key == "U":
+    errands: dict[str, Errand] = {"n": GiveUp(), "l": PutOff()}
+    if question.older is None and key in errands:
+        return Step(asked, errands[key])
+    if question.older is not None and key == "U":
         return Step(asked, BringBack(question.older))
-    if key in ("n", "escape"):
+    if question.older is not None and key in ("n", "escape"):
         return Step(replace(state, anchor=None).saying(_STAYS_GIVEN_UP))
-    return Step(asked)
+    return Step(asked.saying(_NO_ANSWER))
 
 
 def _taken_up(asked: State, draft: Field) -> Step:
