@@ -138,15 +138,15 @@ def copy(
 def _copied(
     book: BookFile, named: str, overwrite: bool, program: StrPath | None
 ) -> int:
-    with held(book) as source, _claimed(source, named, overwrite) as target:
-        try:
+    try:
+        with held(book) as source, _claimed(source, named, overwrite) as target:
             with made_beside(target.path) as made:
                 copied = copy_held(source, log_path(book.path), made)
                 version = _checked(made, book, named, program)
                 _finish(source, made, copied)
                 _put(made, target)
-        except (OSError, ValueError) as error:
-            raise _not_written(named, _why(error)) from error
+    except (OSError, ValueError) as error:
+        raise _not_written(named, _why(error)) from error
     return version
 
 

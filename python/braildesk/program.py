@@ -3,6 +3,7 @@
 import os
 import re
 import shutil
+import stat
 import subprocess
 import tempfile
 from collections.abc import Iterable, Iterator
@@ -137,13 +138,32 @@ def cannot_run(program: str, error: OSError) -> NoProgram:
     return NoProgram(f"The program “{program}” can't be run: {error.strerror}.")
 
 
-def judge_log(asked: AskedOfFile, program: str) -> None:
-    """Refuses a book beside which the log of another lies, before the program puts them together.
+def judge(asked: AskedOfFile, program: str) -> None:
+    """Refuses a book for what is seen of its files, before the program opens and changes them.
 
     What can't be judged here is left to the program.
     """
     if isinstance(asked, TableFile):
         return
+    if not isinstance(asked, NewBook):
+        _judge_size(asked)
+    _judge_log(asked, program)
+
+
+def _judge_size(asked: AskedOfFile) -> None:
+    """Refuses a file of no bytes, of which the program would make a database without a book."""
+    try:
+        found = os.stat(asked.path)
+        is_empty = stat.S_ISREG(found.st_mode) and not found.st_size
+        is_empty = is_empty and not has_work(log_path(asked.path))
+    except (OSError, ValueError):
+        return
+    if is_empty:
+        raise refused(92, (), asked)
+
+
+def _judge_log(asked: AskedOfFile, program: str) -> None:
+    """Refuses a book beside which the log of another lies, which the program would put into it."""
     try:
         log = log_path(asked.path)
         if not has_work(log):
@@ -242,7 +262,7 @@ def _run(
     shared: tuple[int, ...] = (),
 ) -> bytes:
     found = find(program)
-    judge_log(asked, found)
+    judge(asked, found)
     try:
         done = subprocess.run(
             [found, *words], input=sent, capture_output=True, pass_fds=shared

@@ -158,7 +158,7 @@ class Session:
     def _open(self) -> tuple[Pipe, OpenFile, int]:
         """The pipes to the program, the file that it has open, and the version of the book."""
         words = programs.session_words(self._book.path, self._program)
-        programs.judge_log(self._book, words[0])
+        programs.judge(self._book, words[0])
         while True:
             file = OpenFile(self._book.path)
             try:

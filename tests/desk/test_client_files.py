@@ -951,6 +951,20 @@ def test_a_new_book_in_a_folder_that_may_not_be_written_says_so(
     assert as_nobody(code, path) == DENIED.format(path)
 
 
+def test_a_copy_into_a_folder_that_may_not_be_entered_says_so(
+    book: Path, open_folder: Path
+) -> None:
+    path = Path(shutil.copyfile(book, open_folder / "book"))
+    path.chmod(0o644)
+    closed = open_folder / "closed"
+    closed.mkdir(0o600)
+    os.chown(closed, 65534, 65534)
+    said = as_nobody(ATTEMPTS, path, closed / "copied").splitlines()
+    assert said[3] == (
+        f"The copy “{closed / 'copied'}” could not be written: Permission denied."
+    )
+
+
 def test_names_and_texts_are_those_of_any_locale(tmp_path: Path) -> None:
     code = (
         "import sys, braildesk\n"
@@ -992,6 +1006,24 @@ def test_a_new_book_for_which_there_is_no_room_is_refused(tmp_path: Path) -> Non
         braildesk.new_book(tmp_path / "new", program=limited(tmp_path, 8))
     assert caught.value.why == Why.UNKNOWN
     assert "that there is room on the disk" in caught.value.sentence
+
+
+def test_a_file_of_no_bytes_is_no_book_and_stays_as_it_is(tmp_path: Path) -> None:
+    empty = tmp_path / "notes.txt"
+    empty.touch()
+    asks: list[Callable[[], object]] = [
+        lambda: Session(empty),
+        lambda: braildesk.check(empty),
+        lambda: braildesk.export(empty, 1),
+        lambda: braildesk.copy(empty, tmp_path / "copied"),
+        lambda: braildesk.tables(empty),
+    ]
+    for ask in asks:
+        with pytest.raises(NotABook):
+            ask()
+    assert (empty.stat().st_size, names(tmp_path)) == (0, {"notes.txt"})
+    braildesk.new_book(empty)
+    assert braildesk.check(empty) == 0
 
 
 def test_a_copy_that_does_not_fit_leaves_nothing(book: Path, tmp_path: Path) -> None:
