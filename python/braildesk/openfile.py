@@ -37,7 +37,9 @@ class OpenFile:
         if self._descriptor is None:
             return True
         try:
-            return os.path.samestat(os.stat(self.path), os.fstat(self._descriptor))
+            # by a link that stands there by now the log would be looked for in another place
+            found = os.stat(self.path, follow_symlinks=False)
+            return os.path.samestat(found, os.fstat(self._descriptor))
         except OSError:
             return False
 

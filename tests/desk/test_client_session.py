@@ -497,7 +497,12 @@ def replaced(book: Path) -> None:
     book.with_name("older").rename(book)
 
 
-@pytest.mark.parametrize("moved", [removed, renamed, replaced])
+def linked(book: Path) -> None:
+    renamed(book)
+    book.symlink_to("elsewhere")
+
+
+@pytest.mark.parametrize("moved", [removed, renamed, replaced, linked])
 @pytest.mark.parametrize("moment", ["before a command", "before the end"])
 def test_a_book_that_is_gone_from_its_path_is_saved_and_said(
     book: Path, moved: Callable[[Path], None], moment: str
