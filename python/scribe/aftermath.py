@@ -19,9 +19,20 @@ def after_loss(path: Path, lost: Lost) -> list[str]:
         return [lost.sentence]
     try:
         with Session(path, timeout=_PATIENCE) as session:
-            return [lost.cause, found_again(session, lost)]
+            return [lost.cause, _found_unshown(session, lost)]
     except DeskError as failed:
         return [lost.sentence, failed.sentence]
+
+
+def _found_unshown(session: Session, lost: Lost) -> str:
+    """What a book has where nobody may have read yet what the last command did."""
+    is_as_answered = session.seen == lost.version and not lost.unanswered
+    if is_as_answered and lost.acknowledged is not None:
+        return (
+            f"The book was opened again: it is at version {session.seen:,}, and what was changed"
+            " last is in it."
+        )
+    return found_again(session, lost)
 
 
 def found_again(session: Session, lost: Lost) -> str:

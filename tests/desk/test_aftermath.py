@@ -12,7 +12,7 @@ from braildesk.requests import Request
 from scribe.aftermath import found_again
 from scribe.cli import run_words
 from scribe.console import Console
-from stand_in import KEPT, KILL_PROGRAM, READ, REPLY
+from stand_in import ANSWERED, KEPT, KILL_PROGRAM, READ, REPLY
 from terminal import standing_in
 from tool import scribe
 
@@ -56,8 +56,13 @@ def stopped(
             8,
             "The book was opened again: it is at version 8, and what was asked last is in it.",
         ),
+        (
+            ANSWERED,
+            8,
+            "The book was opened again: it is at version 8, and what was changed last is in it.",
+        ),
     ],
-    ids=["not kept", "kept"],
+    ids=["not kept", "kept", "answered and not shown"],
 )
 def test_a_command_of_the_shell_says_whether_it_is_in_the_book_after_all(
     moon: Path,
