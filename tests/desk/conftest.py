@@ -17,8 +17,11 @@ from scribe.screen.state import Size
 from sitting import Sat, Sit
 from terminal import Open, Terminal
 
-# What the tests start is interrupted by SIGINT, also where a shell that runs them ignores it.
+# What the tests start is ended by signals, also if what runs the tests ignores them, as a shell does
+# with SIGINT in the background, and nohup with SIGHUP.
 signal.signal(signal.SIGINT, signal.default_int_handler)
+for each in (signal.SIGHUP, signal.SIGTERM):
+    signal.signal(each, signal.SIG_DFL)
 
 SAMPLE = Path(__file__).resolve().parents[2] / "sample"
 
