@@ -94,10 +94,16 @@ def sample(moon_once: Path, tmp_path_factory: pytest.TempPathFactory) -> Path:
     return folder
 
 
+def may_mount(folder: Path) -> bool:
+    """Whether a disk can be mounted at a folder here."""
+    mounted = ["unshare", "-m", "sh", "-c", MOUNTED, "sh", str(folder), "true"]
+    return subprocess.run(mounted, stderr=subprocess.DEVNULL).returncode == 0
+
+
 def came_of(kind: str, sample: Path, small: Path) -> dict[str, Came]:
     """What comes of each command on a disk of a kind."""
-    if os.geteuid() != 0:
-        pytest.skip("only root can mount a disk")
+    if not may_mount(small):
+        pytest.skip("only root can mount a disk, and not in each container")
     done = subprocess.run(
         ["unshare", "-m", "sh", "-c", MOUNTED, "sh", str(small), sys.executable]
         + ["-c", EACH, kind, str(small), str(sample)],
