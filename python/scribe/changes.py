@@ -10,7 +10,6 @@ from braildesk.values import After, Corrected, Done, Marked, Typed
 from scribe.cells import EMPTY_CELL
 from scribe.correction import smallest_correction
 from scribe.excerpt import excerpt, opening
-from scribe.occurrences import Occurrence
 from scribe.paragraph import mark_line
 from scribe.readings import answers
 from scribe.visible import visible

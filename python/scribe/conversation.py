@@ -13,7 +13,6 @@ from scribe.console import Console
 from scribe.grammar import NotARequest, TableHead, read_head
 from scribe.queries import shown
 from scribe.replies import refusal_sentence
-from scribe.status import Stop
 from scribe.terminal import GivenUp, Lines
 from scribe.visible import control_refused
 from scribe.wrapping import wrap

@@ -9,7 +9,7 @@ import pytest
 import braildesk
 from braildesk.bring.bringing import Brought, Options, bring
 from braildesk.bring.source import find_table
-from tool import Ran, scribe
+from tool import scribe
 
 EACH = 4
 NAMES = (

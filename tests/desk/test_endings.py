@@ -1,9 +1,7 @@
 """How scribe ends: by which status or signal, with which sentence, whatever stood in its way."""
 
-import errno
 import os
 import re
-import resource
 import signal
 import stat
 import subprocess

@@ -1,7 +1,6 @@
 """Each command of scribe on a disk without room, or that can only be read: what is said is so."""
 
 import json
-import os
 import shutil
 import subprocess
 import sys

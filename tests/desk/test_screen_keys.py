@@ -1,6 +1,5 @@
 """What each key asks for, from a state that is written by hand."""
 
-import re
 from dataclasses import replace
 from pathlib import Path
 
@@ -29,14 +28,12 @@ from scribe.screen.errands import (
 from scribe.screen.field import Field, Purpose
 from scribe.screen.keys import (
     KEYS,
-    NAMES,
     WHILE_TYPING,
     help_lines,
     pasted,
     step,
 )
 from scribe.screen.state import Lit, Opening, Pages, Pane, Question, Size, State
-from tool import ROOT
 
 PRINT = "The moon is far away."
 CELLS = "⠠⠞⠓⠑⠀⠍⠕⠕⠝⠀⠊⠎⠀⠋⠁⠗⠀⠁⠺⠁⠽⠲"

@@ -5,7 +5,6 @@ import re
 import signal
 from pathlib import Path
 
-from braildesk import Session
 from scribe.drafts import Drafts
 from terminal import Open, once_free
 

@@ -1,6 +1,5 @@
 """`scribe bring`: a table of liblouis made one text that braildesk reads."""
 
-import os
 from argparse import ArgumentParser, ArgumentTypeError, Namespace
 from pathlib import Path
 
