@@ -4,8 +4,8 @@
 _scribe() {
     local word=${COMP_WORDS[COMP_CWORD]} words=''
     local commands='new edit run talk table check-table try import show find change mark marks undo
-        resolve strike restore heading body volume move retable pages export copy
-        bring'
+        resolve strike restore heading body volume move retable pages export proof copy
+        bring tune'
     if ((COMP_CWORD == 1)); then
         words="$commands --help --version"
     elif [[ $word == -* ]]; then
@@ -22,8 +22,11 @@ _scribe() {
             mark) words='--nth --width' ;;
             undo | resolve | strike | restore | heading | body | volume | move | retable) words='--width' ;;
             pages) words='--width --lines --page --paragraph' ;;
-            bring) words='--list --words --learn --anyway' ;;
+            bring) words='--list --words --for --add --anyway' ;;
+            tune) words='--table --words --apply --width' ;;
             export) words='--width --lines' ;;
+            proof) words='--width --lines --print-first --ascii --marks-only --speak-cells --language' ;;
+            copy) words='--overwrite' ;;
         esac
         # those that open a book
         case ${COMP_WORDS[1]} in

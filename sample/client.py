@@ -1,7 +1,7 @@
 #!/usr/bin/env python3
 """Types lines of print into a book, and writes the braille of each.
 
-    PYTHONPATH=python sample/client.py FILE < PRINT
+    PYTHONPATH=src sample/client.py FILE < PRINT
 
 The book has to be there, and gets the supplied table. A line that is refused is said on standard
 error, with why, and the lines after it go on; the status is 2 then.
@@ -15,7 +15,7 @@ from braildesk import DeskError, Refused, Session, requests
 
 def type_lines(session: Session, lines: list[str]) -> int:
     """Types the lines, and writes the braille of those that were typed; gives the status."""
-    session.supply("en")
+    session.supply_table("en")
     answers = list(session.each(requests.Type("end", "en", line) for line in lines))
     typed = [answer for answer in answers if not isinstance(answer, Refused)]
     for braille in session.each(requests.Braille(paragraph.id) for paragraph in typed):

@@ -4,7 +4,7 @@
 #   scripts/deb.sh     SOURCE_DATE_EPOCH: that time, in seconds since 1970 (that of the last commit; PROGRAM as scripts/install.sh has it)
 set -eu
 cd "$(dirname "$0")/.."
-version=$(cat VERSION)
+version=$(cat src/braildesk/VERSION)
 package=build/braildesk_${version}_amd64.deb
 SOURCE_DATE_EPOCH=${SOURCE_DATE_EPOCH:-$(git log -1 --format=%ct)}
 export SOURCE_DATE_EPOCH LC_ALL=C
@@ -12,7 +12,7 @@ umask 022
 
 root=$(mktemp -d); trap 'rm -rf "$root"' EXIT
 chmod 755 "$root"
-DESTDIR=$root PREFIX=/usr PYTHON=/usr/bin/python3 scripts/install.sh install
+DESTDIR=$root PREFIX=/usr MODULES=lib/python3/dist-packages PYTHON=/usr/bin/python3 scripts/install.sh install
 documents=$root/usr/share/doc/braildesk
 
 # what Debian wants of each package: no names of symbols, pages and lists of changes compressed, a copyright file
@@ -27,6 +27,7 @@ install -m 644 packaging/copyright "$documents/copyright"
 
 mkdir "$root/DEBIAN"
 (cd "$root" && find usr -type f | sort | xargs -d '\n' md5sum) > "$root/DEBIAN/md5sums"
+for script in postinst prerm; do install -m 755 "packaging/$script" "$root/DEBIAN/$script"; done
 size=$(du -sk --apparent-size "$root/usr" | cut -f1)
 sed "s/@VERSION@/$version/; s/@SIZE@/$size/" packaging/control > "$root/DEBIAN/control"
 find "$root" -exec touch --no-dereference --date="@$SOURCE_DATE_EPOCH" {} +

@@ -22,7 +22,7 @@ command   strip           binutils
 compiler  cc              gcc libc6-dev
 python    python          python3
 '
-# What the tools of python/ and their tests need besides.
+# What the Python of src/ and its tests need besides.
 tools='
 module    prompt_toolkit  python3-prompt-toolkit
 module    pexpect         python3-pexpect
@@ -32,10 +32,14 @@ module    hypothesis      python3-hypothesis
 module    louis           python3-louis
 module    mypy            mypy
 module    black           black
+module    pyflakes        python3-pyflakes
+module    setuptools      python3-setuptools
+module    wheel           python3-wheel
+module    pip             python3-pip
 louis     lou_translate   liblouis-bin liblouis-data
 '
 needed=$gate
-[ ! -d python ] || needed=$gate$tools
+[ ! -d src ] || needed=$gate$tools
 
 is_there() { # HOW NAME
     case $1 in

@@ -11,7 +11,8 @@ import pytest
 
 import braildesk
 from braildesk import Session, Typed
-from braildesk.requests import Type
+from braildesk.protocol.requests import Type
+
 from scribe.screen.desk import Desk
 from scribe.screen.state import Size
 from sitting import Sat, Sit
@@ -48,7 +49,7 @@ def made_once(tmp_path_factory: pytest.TempPathFactory) -> Path:
     braildesk.new_book(folder / "empty.braildesk")
     shutil.copyfile(folder / "empty.braildesk", folder / "supplied.braildesk")
     with Session(folder / "supplied.braildesk") as session:
-        session.supply("en")
+        session.supply_table("en")
     return folder
 
 
@@ -81,12 +82,12 @@ def moon_once(made_once: Path, tmp_path_factory: pytest.TempPathFactory) -> Path
     path = tmp_path_factory.mktemp("moon") / "moon.braildesk"
     shutil.copyfile(made_once / "supplied.braildesk", path)
     with Session(path) as session:
-        session.table("plain", (SAMPLE / "plain.utb").read_bytes())
-        session.type("end", "en", "The mon is far away.")
-        session.type("end", "en", "The Tides")
-        session.type("end", "en", "Twice a day the sea comes up.")
+        session.put_table("plain", (SAMPLE / "plain.utb").read_bytes())
+        session.add_paragraph("end", "en", "The mon is far away.")
+        session.add_paragraph("end", "en", "The Tides")
+        session.add_paragraph("end", "en", "Twice a day the sea comes up.")
         session.correct(1, 4, 3, "moon")
-        session.mark(1, 5, 4, "spelled so?")
+        session.add_mark(1, 5, 4, "spelled so?")
     return path
 
 
@@ -108,7 +109,7 @@ def big_book() -> Iterator[Path]:
         path = Path(folder, "big.braildesk")
         braildesk.new_book(path)
         with Session(path) as session:
-            session.supply("en")
+            session.supply_table("en")
             typed = session.each(
                 Type("end", "en", f"Paragraph number {number} of the moon.")
                 for number in range(1, 20_001)

@@ -1,19 +1,20 @@
 #!/bin/bash
-# Looks at the layout and the types of the Python of python/ and tests/desk, and runs the tests of tests/desk by the program.
+# Looks at the layout and the types of the Python of src/ and tests/desk, for names that nothing uses, and runs the tests of tests/desk by the program.
 #   tests/desk/desk.sh     PROGRAM: the program (build/braildesk); PYTHON: the interpreter (that of tests/python.sh); SEED (1): of the
 #                          random cases; the words of the command go to pytest
 set -eu
 cd "$(dirname "$0")/../.."
 program=$(realpath "${PROGRAM:-build/braildesk}")
 [ -x "$program" ] || { echo "tests/desk/desk.sh: $program is missing: make builds it" >&2; exit 1; }
-tests/needs.sh python black mypy pytest hypothesis pexpect prompt_toolkit pyte louis
+tests/needs.sh python black mypy pyflakes pytest hypothesis pexpect prompt_toolkit pyte setuptools wheel pip louis
 python=${PYTHON:-$(tests/python.sh)}
-export BRAILDESK=$program PYTHONPATH=$PWD/python
-files=(python tests/desk sample/client.py)
+export BRAILDESK=$program PYTHONPATH=$PWD/src
+files=(src tests/desk sample/client.py)
 "$python" -m black --check --quiet "${files[@]}" || {
     "$python" -m black --check "${files[@]}" || true
     echo 'tests/desk/desk.sh: black lays out these files in another way' >&2
     exit 1
 }
+"$python" -m pyflakes "${files[@]}"
 "$python" -m mypy --strict "${files[@]}"
 exec "$python" -m pytest -q -p no:cacheprovider --hypothesis-seed="${SEED:-1}" tests/desk "$@"

@@ -5,7 +5,7 @@ from dataclasses import dataclass
 
 from scribe.screen.desk import Desk
 from scribe.screen.drawing import draw
-from scribe.screen.lines import LIT
+from scribe.screen.lines import HIGHLIGHTED
 from scribe.screen.state import State
 
 
@@ -31,10 +31,12 @@ class Sat:
         return draw(self.state).texts()
 
     @property
-    def lit(self) -> list[str]:
-        """What is lit, in its order."""
+    def highlighted(self) -> list[str]:
+        """What is highlighted, in its order."""
         lines = draw(self.state).lines
-        return [each.text for line in lines for each in line if each.look == LIT]
+        return [
+            each.text for line in lines for each in line if each.look == HIGHLIGHTED
+        ]
 
 
 #: What sits down at a book: a path, the name of a proofreader, and the size of the screen.

@@ -12,14 +12,16 @@ import pyte  # type: ignore[import]
 
 import braildesk
 from braildesk import CannotOpen, Session
-from braildesk.sentences import Why
-from tool import environment
+from braildesk.protocol.sentences import Why
+from tool import environment, is_taken_at_start, scribe_in_copy
 
 WAIT_SECONDS = 60
 # how long the screen may take to be drawn after a key; keys that do nothing draw nothing
 _DRAWN_SECONDS = 1
 # how long nothing is written once all is drawn, and how long Escape waits for a key with Alt
 _QUIET_SECONDS, _ESCAPE_SECONDS = 0.02, 0.15
+# what shows the cursor once the screen is drawn to its end, and what hides it before
+_SHOWN, _HIDDEN = b"\x1b[?25h", b"\x1b[?25l"
 STAND_IN = Path(__file__).with_name("stand_in.py")
 KEYS = {
     "enter": "\r",
@@ -58,14 +60,20 @@ class Terminal:
         self._screen = pyte.Screen(columns, lines)
         self._stream = pyte.ByteStream(self._screen)
         self.written = b""
-        self._drawn_before, self._pressed_at, self._pressed = 0, 0.0, ""
+        #: How often the screen was drawn to its end, until now and until the last key.
+        self._drawn = self._drawn_before = 0
+        self._pressed_at, self._pressed = 0.0, ""
         self._errors = book.parent / "errors"
+        words, first = ["edit", str(book)], environment(**settings)
+        begin = begin_errors
+        if not is_taken_at_start(more):
+            begin = scribe_in_copy(words, first, begin_errors)
         self._child = pexpect.spawn(
-            "/bin/sh",
-            ["-c", 'exec "$@" 2> errors', "sh"]
-            + [sys.executable, "-m", "scribe", "edit", str(book)],
+            sys.executable,
+            ["-m", "scribe", *words],
             cwd=str(book.parent),
-            env=environment(**settings),
+            env=first,
+            preexec_fn=begin,
             dimensions=(lines, columns),
             timeout=WAIT_SECONDS,
         )
@@ -134,14 +142,9 @@ class Terminal:
         return self.lines
 
     @property
-    def _drawn(self) -> int:
-        """How often the screen was drawn to its end."""
-        return self.written.count(b"\x1b[?25h")
-
-    @property
     def _is_drawn(self) -> bool:
         """Whether the screen is drawn to its end: its cursor is hidden while it is drawn."""
-        return self.written.rfind(b"\x1b[?25h") >= self.written.rfind(b"\x1b[?25l")
+        return self.written.rfind(_SHOWN) >= self.written.rfind(_HIDDEN)
 
     def wait_for(self, lines: list[str], cursor: tuple[int, int], what: str) -> None:
         """Waits until the lines and the cursor are these."""
@@ -219,9 +222,17 @@ class Terminal:
             data = self._child.read_nonblocking(65_536, timeout=seconds)
         except pexpect.TIMEOUT:
             return False
+        # what is counted may come in two parts
+        before = len(self.written) - len(_SHOWN) + 1
         self.written += data
+        self._drawn += self.written.count(_SHOWN, max(0, before))
         self._stream.feed(data)
         return True
+
+
+def begin_errors() -> None:
+    """Has what is said on standard error stand in a file of this name."""
+    os.dup2(os.open("errors", os.O_WRONLY | os.O_CREAT | os.O_TRUNC, 0o666), 2)
 
 
 def _is_held(name: str) -> bool:

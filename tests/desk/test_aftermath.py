@@ -8,10 +8,11 @@ from pathlib import Path
 import pytest
 
 from braildesk import Lost, Session, requests
-from braildesk.requests import Request
-from scribe.aftermath import found_again
+from braildesk.desk.aftermath import found_again
+from braildesk.protocol.requests import Request
+
 from scribe.cli import run_words
-from scribe.console import Console
+from scribe.words.console import Console
 from stand_in import ANSWERED, KEPT, KILL_PROGRAM, READ, REPLY
 from terminal import standing_in
 from tool import scribe
@@ -79,7 +80,7 @@ def test_a_command_of_the_shell_says_whether_it_is_in_the_book_after_all(
     assert said.getvalue().splitlines() == ["The session was ended by signal 9.", found]
     assert (status, shown.getvalue()) == (3, "")
     with Session(moon) as session:
-        assert session.seen == version
+        assert session.last_version == version
 
 
 def test_a_file_that_could_not_be_written_is_opened_again(

@@ -11,13 +11,14 @@ import pytest
 from hypothesis import HealthCheck, given, settings
 from hypothesis import strategies as st
 
-from scribe import help
-from scribe.cli import make_parser, run_words
-from scribe.console import Console
+from scribe.cli import run_words
+from scribe.cli.commands import COMMANDS
+from scribe.prompt import help
+from scribe.words.console import Console
 
 SAMPLE = Path(__file__).resolve().parents[2] / "sample"
 #: bring asks liblouis for seconds where a table is one, which test_bring.py does.
-NAMES = sorted({*make_parser()[1]} - {"bring"})
+NAMES = sorted({*COMMANDS} - {"bring"})
 PATHS = [
     "moon.braildesk",
     "other.braildesk",

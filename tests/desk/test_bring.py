@@ -1,5 +1,6 @@
 """scribe bring: tables of the installed liblouis, and small ones, brought over by the real program."""
 
+import re
 from collections.abc import Mapping
 from concurrent.futures import ThreadPoolExecutor
 from pathlib import Path
@@ -7,8 +8,8 @@ from pathlib import Path
 import pytest
 
 import braildesk
-from braildesk.bring.bringing import Brought, Options, bring
-from braildesk.bring.source import find_table
+from braildesk.tables.convert.conversion import Converted, Options, convert
+from braildesk.tables.convert.source import find_table
 from tool import scribe
 
 EACH = 4
@@ -44,11 +45,11 @@ BY_HAND = {
 
 
 @pytest.fixture(scope="session")
-def brought(program: str) -> Mapping[str, Brought]:
+def brought(program: str) -> Mapping[str, Converted]:
     """The twelve tables, two at a time."""
 
-    def one(name: str) -> Brought:
-        return bring(find_table(name), Options(each=EACH))
+    def one(name: str) -> Converted:
+        return convert(find_table(name), Options(each=EACH))
 
     with ThreadPoolExecutor(2) as pool:
         return dict(zip(NAMES, pool.map(one, NAMES), strict=True))
@@ -56,7 +57,7 @@ def brought(program: str) -> Mapping[str, Brought]:
 
 @pytest.mark.parametrize("name", NAMES)
 def test_a_table_agrees_with_liblouis_on_lines_that_it_was_not_made_from(
-    name: str, brought: Mapping[str, Brought]
+    name: str, brought: Mapping[str, Converted]
 ) -> None:
     found = brought[name]
     assert found.unseen.lines >= 60
@@ -68,7 +69,7 @@ def test_a_table_agrees_with_liblouis_on_lines_that_it_was_not_made_from(
 
 @pytest.mark.parametrize("name", NAMES)
 def test_a_text_says_where_it_is_from(
-    name: str, brought: Mapping[str, Brought]
+    name: str, brought: Mapping[str, Converted]
 ) -> None:
     comments = [line for line in brought[name].text.splitlines() if line[:1] == "#"]
     top = " ".join(line.lstrip("# ") for line in comments[:12])
@@ -78,7 +79,7 @@ def test_a_text_says_where_it_is_from(
 
 @pytest.mark.parametrize("name", BY_HAND)
 def test_the_cells_are_those_of_the_braille_code(
-    name: str, brought: Mapping[str, Brought], tmp_path: Path
+    name: str, brought: Mapping[str, Converted], tmp_path: Path
 ) -> None:
     (tmp_path / "table.utb").write_text(brought[name].text, encoding="utf-8")
     lines = list(BY_HAND[name])
@@ -183,17 +184,12 @@ def test_too_few_words_are_refused(tmp_path: Path) -> None:
     assert said.startswith("Of the words in words the table can write 2, and 200 are")
 
 
-def test_rules_are_not_guessed_from_made_up_words(tmp_path: Path) -> None:
-    said = refused(tmp_path, small(tmp_path), "--learn")
-    assert said.startswith("Rules are guessed from words of the table's language, and")
-
-
 def test_without_a_table_the_list_is_named(tmp_path: Path) -> None:
     assert refused(tmp_path).startswith("Which table is to be brought over?")
 
 
 def test_characters_that_texts_often_have_and_a_table_lacks_are_named(
-    brought: Mapping[str, Brought]
+    brought: Mapping[str, Converted]
 ) -> None:
     found = brought["sv-g0.utb"]
     (said,) = [one for one in found.losses if one.startswith("A text can't have")]
@@ -206,20 +202,31 @@ def test_characters_that_texts_often_have_and_a_table_lacks_are_named(
     assert "A text can't have these characters by this table" in found.text
 
 
-def test_the_list_shows_the_share_of_all_lines_first(tmp_path: Path) -> None:
+def test_the_list_shows_the_share_of_real_lines_first(tmp_path: Path) -> None:
+    ran = scribe("bring", "--list", "Swedish", folder=tmp_path)
+    (line,) = [one for one in ran.shown.splitlines() if " sv-g0.utb " in one]
+    assert re.search(r" sv-g0\.utb +9[5-9](\.\d+)?% +9\d(\.\d+)?% +100%  Swedish", line)
     ran = scribe("bring", "--list", "Bulgarian", folder=tmp_path)
-    assert (
-        "bg       bg.utb                                   96.66%    100%  Bulgarian braille"
-        in ran.shown.splitlines()
-    )
+    (line,) = [one for one in ran.shown.splitlines() if " bg.utb " in one]
+    assert re.search(r" bg\.utb {20,}9\d(\.\d+)?% +\d", line)
 
 
 def test_the_installed_tables_are_listed_by_language(tmp_path: Path) -> None:
     ran = scribe("bring", "--list", folder=tmp_path)
     assert ran.status == 0
     head, *lines = ran.shown.splitlines()
-    assert head.split() == ["language", "table", "all", "lines", "others", "title"]
+    words = [
+        "language",
+        "table",
+        "real",
+        "lines",
+        "made-up",
+        "lines",
+        "others",
+        "title",
+    ]
+    assert head.split() == words
     (spanish,) = [line for line in lines if " es-g1.ctb " in line]
     assert spanish.startswith("es ")
-    assert ran.said.startswith("all lines: of lines that were made up from the table's")
+    assert ran.said.startswith("real lines: of lines of running text that nobody made")
     assert [line[:8] for line in lines] == sorted(line[:8] for line in lines)

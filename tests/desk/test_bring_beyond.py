@@ -5,12 +5,12 @@ from pathlib import Path
 
 import pytest
 
-from braildesk.bring.beyond import needs_beyond
-from braildesk.bring.making import make
-from braildesk.bring.oracle import Liblouis
-from braildesk.bring.source import read_source
-from braildesk.bring.subject import read_subject
-from braildesk.bring.trial import Trial
+from braildesk.tables.convert.beyond import needs_beyond
+from braildesk.tables.convert.making import make
+from braildesk.tables.convert.oracle import Liblouis
+from braildesk.tables.convert.source import read_source
+from braildesk.tables.convert.subject import read_subject
+from braildesk.tables.convert.trial import ProgramTrial
 
 CHARACTERS = """\
 space \\s 0
@@ -53,8 +53,8 @@ CASES = {
     ),
     "marks after a number, by what follows": (
         BETWEEN,
-        ["qq 12.31", "q 1.2 x"],
-        ["qq 12.", "a."],
+        ["qq 123.", "a 321."],
+        ["qq 12.31", "q 1.2 x", "qq 12.", "a."],
     ),
     "signs of letters at a lone capital": (
         "word x 56-1346\n",
@@ -75,7 +75,7 @@ def needs(folder: Path, text: str, lines: Sequence[str]) -> dict[str, str]:
     table.write_text(CHARACTERS + text)
     with Liblouis(table) as liblouis:
         subject = read_subject(read_source(table), liblouis)
-        trial = Trial(folder)
+        trial = ProgramTrial(folder)
         draft = make(subject, trial).draft
         theirs = liblouis.ask(lines)
         ours = trial.cells(draft, lines)
@@ -99,7 +99,7 @@ def test_a_line_that_differs_for_another_reason_needs_nothing(tmp_path: Path) ->
     table.write_text(CHARACTERS + "numericmodechars (\n")
     with Liblouis(table) as liblouis:
         subject = read_subject(read_source(table), liblouis)
-        trial = Trial(tmp_path)
+        trial = ProgramTrial(tmp_path)
         draft = make(subject, trial).draft
         draft.cells["z"] = (1,)
         found = needs_beyond(subject, draft, trial, ["zz (12", "qq (12"])

@@ -2,12 +2,16 @@
 
 from pathlib import Path
 
-from braildesk.bring.comparison import Comparison, Difference
-from braildesk.bring.draft import Draft
-from braildesk.bring.report import agreement, examples, percent
-from braildesk.bring.shapes import ASKED, UNSEEN, Material, Shape, lines_of
-from braildesk.bring.shipped import measured_tables, shipped_table, shipped_tables
-from braildesk.bring.words import usable, words_in
+from braildesk.tables.convert.comparison import Comparison, Difference
+from braildesk.tables.convert.draft import TableDraft
+from braildesk.tables.convert.report import agreement, examples, percent
+from braildesk.tables.convert.shapes import ASKED, Material, Shape, UNSEEN, lines_of
+from braildesk.tables.convert.shipped import (
+    measured_tables,
+    shipped_table,
+    shipped_tables,
+)
+from braildesk.tables.convert.words import usable, words_in
 
 MATERIAL = Material(["ab"], ["c"], {"a": "A", "b": "B", "c": "C"})
 LETTERS = "abcABC0123456789 "
@@ -42,7 +46,7 @@ def test_the_words_of_a_spelling_list_are_its_words_alone(tmp_path: Path) -> Non
 
 
 def test_words_with_other_letters_are_left_out() -> None:
-    draft = Draft()
+    draft = TableDraft()
     for one in "abA":
         draft.define(one, "letter", (1,))
     draft.pair("A", "a")
@@ -121,8 +125,11 @@ def test_a_table_without_a_head_has_that_of_the_table_that_includes_it(
 def test_what_was_measured_is_read_by_the_names_of_tables(tmp_path: Path) -> None:
     path = tmp_path / "measured.tsv"
     path.write_text(
-        "table\tasked\tunseen\tothers\tdiffers\nes-g1.ctb\t1.0\t0.5\t0.75\tsums 1 of 4\n"
+        "table\tasked\tunseen\tothers\tdiffers\treal\n"
+        "es-g1.ctb\t1.0\t0.5\t0.75\tsums 1 of 4\t0.25\nka.utb\t1.0\t1.0\t1.0\t\t\n"
     )
     found = measured_tables(path)["es-g1.ctb"]
     assert (found.asked, found.unseen, found.others) == (1.0, 0.5, 0.75)
     assert found.differs == "sums 1 of 4"
+    assert found.real == 0.25
+    assert measured_tables(path)["ka.utb"].real is None

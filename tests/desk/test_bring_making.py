@@ -6,17 +6,16 @@ from tempfile import TemporaryDirectory
 
 import pytest
 
-from braildesk.bring.comparison import compare, what_differs
-from braildesk.bring.draft import Draft, Origin, comment_lines
-from braildesk.bring.learning import learn
-from braildesk.bring.making import Made, make
-from braildesk.bring.oracle import Liblouis, NoLiblouis
-from braildesk.bring.reduced import needs, text_without
-from braildesk.bring.report import losses
-from braildesk.bring.shapes import Sample
-from braildesk.bring.source import find_table, read_source
-from braildesk.bring.subject import read_subject
-from braildesk.bring.trial import Trial
+from braildesk.tables.convert.comparison import compare, what_differs
+from braildesk.tables.convert.draft import Origin, TableDraft, comment_lines
+from braildesk.tables.convert.making import Made, make
+from braildesk.tables.convert.oracle import Liblouis, NoLiblouis
+from braildesk.tables.convert.reduced import needs, text_without
+from braildesk.tables.convert.report import losses
+from braildesk.tables.convert.shapes import Sample
+from braildesk.tables.convert.source import find_table, read_source
+from braildesk.tables.convert.subject import read_subject
+from braildesk.tables.convert.trial import ProgramTrial
 
 LETTERS = """\
 space \\s 0
@@ -50,7 +49,7 @@ def made(folder: Path, text: str) -> Made:
     with Liblouis(folder / "table.utb") as liblouis, TemporaryDirectory() as scratch:
         return make(
             read_subject(read_source(folder / "table.utb"), liblouis),
-            Trial(Path(scratch)),
+            ProgramTrial(Path(scratch)),
         )
 
 
@@ -74,7 +73,7 @@ def test_definitions_that_cannot_be_read_are_named_with_their_lines(
     )
     with Liblouis(tmp_path / "sound.utb") as liblouis:
         subject = read_subject(read_source(broken), liblouis)
-        said = losses(Made(Draft(), (), (), ()), subject)
+        said = losses(Made(TableDraft(), (), (), ()), subject)
     assert said[-4:] == [
         "Not carried over: grouping, 1 line (broken.utb 2).",
         "Not carried over: base, 1 line (broken.utb 3).",
@@ -112,11 +111,75 @@ def test_a_mark_within_numbers_goes_on_with_them(tmp_path: Path) -> None:
 def test_usual_marks_have_their_places_where_there_are_thousands_of_characters(
     tmp_path: Path, monkeypatch: pytest.MonkeyPatch
 ) -> None:
-    monkeypatch.setattr("braildesk.bring.alphabet.MANY", 1)
+    monkeypatch.setattr("braildesk.tables.convert.alphabet.MANY", 1)
     text = LETTERS + DIGITS + "punctuation , 2\nmidnum , 2\npunctuation _ 456\n"
     lines = lines_of(tmp_path, text + 'punctuation " 4\npostpunc " 356\n')
     assert "numericmodechars ," in lines
     assert 'endword " 356' in lines
+
+
+GREEK = """\
+lowercase \u03b1 1
+lowercase \u03b5 15
+lowercase \u03b9 24
+lowercase \u03be 1346
+lowercase \u03b6 1356
+lowercase \u03c8 12346
+"""
+LATIN_IN_GREEK = """\
+lowercase a 1
+lowercase b 12
+lowercase c 14
+lowercase d 145
+lowercase e 15
+lowercase t 2345
+base uppercase T t
+attribute latin abcdet
+attribute capital T
+noback context _%latin[]%capital @6
+noback context _%capital[]%latin ?
+noback context _%latin[]%latin ?
+noback context []%latin @56
+noback context []%capital @56-6
+"""
+
+
+def made_for_greek(
+    folder: Path, monkeypatch: pytest.MonkeyPatch, text: str
+) -> list[str]:
+    """The lines made of a table whose name says that it is for Greek."""
+    monkeypatch.setattr("braildesk.tables.convert.scripts.FEWEST_LETTERS", 6)
+    (folder / "el.ctb").write_text("space \\s 0\n" + text, encoding="utf-8")
+    with Liblouis(folder / "el.ctb") as liblouis, TemporaryDirectory() as scratch:
+        subject = read_subject(read_source(folder / "el.ctb"), liblouis)
+        return make(subject, ProgramTrial(Path(scratch))).draft.text().splitlines()
+
+
+def test_letters_of_another_script_have_their_sign_at_the_beginning_of_a_word(
+    tmp_path: Path, monkeypatch: pytest.MonkeyPatch
+) -> None:
+    lines = made_for_greek(tmp_path, monkeypatch, GREEK + LATIN_IN_GREEK)
+    assert "letter t 2345" in lines
+    assert "begword t 56-2345" in lines
+    assert "word t 56-2345" in lines
+    assert "letter T 6-2345" in lines
+    assert "begword T 56-6-2345" in lines
+
+
+def test_pairs_of_letters_of_which_a_later_pass_makes_one_have_their_rule(
+    tmp_path: Path, monkeypatch: pytest.MonkeyPatch
+) -> None:
+    text = GREEK + "lowercase \u03af 5-24\nnoback pass2 @15-5-24 @5-146\n"
+    lines = made_for_greek(tmp_path, monkeypatch, text)
+    assert "midword \u03b5\u03af 5-146" in lines
+
+
+def test_the_normal_form_of_a_character_is_defined_like_it(
+    tmp_path: Path,
+) -> None:
+    lines = lines_of(tmp_path, LETTERS + "punctuation \u037e 26\npostpunc \u037e 236\n")
+    assert "punctuation ; 26" in lines
+    assert "endword ; 236" in lines
 
 
 def test_a_letter_that_stands_alone_gets_a_rule(tmp_path: Path) -> None:
@@ -233,7 +296,7 @@ def test_a_rule_with_characters_that_have_no_cells_is_reported(tmp_path: Path) -
 
 
 def test_rules_bound_to_a_place_stand_before_always() -> None:
-    draft = Draft()
+    draft = TableDraft()
     for letter, cell in (("a", 1), ("b", 3)):
         draft.define(letter, "letter", (cell,))
     draft.add_rule("always", "ab", (7,), Origin("Read."))
@@ -250,7 +313,7 @@ def test_rules_bound_to_a_place_stand_before_always() -> None:
 
 
 def test_a_draft_refuses_what_the_profile_cannot_have() -> None:
-    draft = Draft()
+    draft = TableDraft()
     assert not draft.define("a", "letter", ())
     assert not draft.define("a", "letter", (1,) * 21)
     assert draft.define("a", "letter", (1,) * 20)
@@ -261,7 +324,7 @@ def test_a_draft_refuses_what_the_profile_cannot_have() -> None:
 
 
 def test_a_draft_has_no_more_lines_than_a_table_may_have() -> None:
-    draft = Draft()
+    draft = TableDraft()
     defined = [draft.define(chr(0x4E00 + n), "letter", (1,)) for n in range(20_000)]
     assert defined == [True] * 19_000 + [False] * 1_000
     assert not draft.add_rule("always", chr(0x4E00), (1,), Origin("Read."))
@@ -338,11 +401,13 @@ def test_a_reduced_table_lacks_the_lines_of_the_opcodes(tmp_path: Path) -> None:
     assert text == "letter a 1\ncapsletter 6\n"
 
 
-def compared(folder: Path, draft: Draft, lines: Sequence[str]) -> tuple[float, str]:
+def compared(
+    folder: Path, draft: TableDraft, lines: Sequence[str]
+) -> tuple[float, str]:
     with Liblouis(folder / "table.utb") as liblouis:
         subject = read_subject(read_source(folder / "table.utb"), liblouis)
         samples = [Sample(line, "words") for line in lines]
-        result = compare(subject, draft, Trial(folder), samples, folder)
+        result = compare(subject, draft, ProgramTrial(folder), samples, folder)
     return result.share, what_differs(result)
 
 
@@ -351,15 +416,3 @@ def test_a_line_with_other_cells_is_a_difference(tmp_path: Path) -> None:
     assert compared(tmp_path, draft, ["ax", "qz", "xq", "zz"]) == (1.0, "")
     draft.cells["z"] = (1,)
     assert compared(tmp_path, draft, ["ax", "qz", "xq", "zz"]) == (0.5, "words 2 of 4")
-
-
-def test_guessed_rules_are_marked_and_set_words_right(tmp_path: Path) -> None:
-    text = LETTERS + "match - xq %a 16\n"
-    draft = made(tmp_path, text).draft
-    words = ["xqa", "xqaz", "axqa", "axqaz", "zxqa", "xqaa", "qqxqa"]
-    with Liblouis(tmp_path / "table.utb") as liblouis:
-        subject = read_subject(read_source(tmp_path / "table.utb"), liblouis)
-        assert learn(subject, draft, Trial(tmp_path), words) > 0
-    guessed = [line for line in draft.text().splitlines() if " xq " in line]
-    assert guessed
-    assert all(line.endswith(" 16 guessed") for line in guessed)

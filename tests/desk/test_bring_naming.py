@@ -4,9 +4,9 @@ from pathlib import Path
 
 import pytest
 
-from braildesk.bring.naming import named_table, of_language
-from braildesk.bring.shipped import shipped_tables
-from braildesk.bring.source import NoTable
+from braildesk.tables.convert.naming import named_table, of_language
+from braildesk.tables.convert.shipped import shipped_tables
+from braildesk.tables.convert.source import NoTable
 
 TABLES = {
     "da-g1.utb": ("da", "Danish, uncontracted", "Danish uncontracted braille"),
@@ -24,7 +24,7 @@ def folder(tmp_path: Path, monkeypatch: pytest.MonkeyPatch) -> Path:
         )
         (tmp_path / name).write_text(f"{head}\nletter a 1\n")
     (tmp_path / "de-chess.ctb").write_text("letter a 1\n")
-    monkeypatch.setattr("braildesk.bring.source.INSTALLED", tmp_path)
+    monkeypatch.setattr("braildesk.tables.convert.source.INSTALLED", tmp_path)
     return tmp_path
 
 

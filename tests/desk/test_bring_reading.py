@@ -4,8 +4,8 @@ from pathlib import Path
 
 import pytest
 
-from braildesk.bring.alphabet import make_alphabet, script_of_table
-from braildesk.bring.operands import (
+from braildesk.tables.convert.alphabet import make_alphabet, script_of_table
+from braildesk.tables.convert.operands import (
     BadOperand,
     read_characters,
     read_dots,
@@ -14,8 +14,8 @@ from braildesk.bring.operands import (
     write_characters,
     write_dots,
 )
-from braildesk.bring.source import NoTable, find_table, read_source
-from braildesk.bring.table import read_table
+from braildesk.tables.convert.source import NoTable, find_table, read_source
+from braildesk.tables.convert.table import read_table
 
 CHARACTERS = {
     "abc": "abc",

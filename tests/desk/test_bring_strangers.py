@@ -10,9 +10,9 @@ from pathlib import Path
 
 import pytest
 
-from braildesk.bring import oracle, source
-from braildesk.bring.oracle import Liblouis, NoLiblouis
-from braildesk.bring.source import NoTable, read_source
+from braildesk.tables.convert import oracle, source
+from braildesk.tables.convert.oracle import Liblouis, NoLiblouis
+from braildesk.tables.convert.source import NoTable, read_source
 from tool import environment, scribe
 
 # far less than a table of this kind takes that nothing stops
@@ -20,7 +20,7 @@ SECONDS = 40
 BRINGS = """
 import sys
 from pathlib import Path
-from braildesk.bring.oracle import Liblouis
+from braildesk.tables.convert.oracle import Liblouis
 Liblouis(Path(sys.argv[1]))
 """
 

@@ -15,15 +15,15 @@ def change(book: Path, *words: str) -> Ran:
 @pytest.fixture
 def moon(book: Path) -> Path:
     with Session(book) as session:
-        session.type("end", "en", "Two men stood on the mooon, on the mooon.")
-        session.type("end", "en", "The sea")
+        session.add_paragraph("end", "en", "Two men stood on the mooon, on the mooon.")
+        session.add_paragraph("end", "en", "The sea")
         session.strike(2)
     return book
 
 
 def history(book: Path, paragraph: int = 1) -> tuple[Entry, ...]:
     with Session(book) as session:
-        return session.history(paragraph)
+        return session.history_of(paragraph)
 
 
 def test_the_line_is_shown_as_it_is_now_and_as_it_was(moon: Path) -> None:
@@ -105,9 +105,9 @@ def test_the_same_words_change_nothing(moon: Path) -> None:
 
 def test_only_marks_whose_own_characters_change_are_touched(moon: Path) -> None:
     with Session(moon) as session:
-        men = session.where(1, 4)
-        session.mark(1, men, 3, "who?")
-        session.mark(1, session.where(1, 8), 5, "stood so?")
+        men = session.output_position(1, 4)
+        session.add_mark(1, men, 3, "who?")
+        session.add_mark(1, session.output_position(1, 8), 5, "stood so?")
     # the m and the n of men stay, and what stands in the middle of its mark changes
     assert change(moon, "1", "men stood", "man stood").shown == (
         "Paragraph 1: Two [man stood] on the mooon, on the mooon.\n"
@@ -116,7 +116,7 @@ def test_only_marks_whose_own_characters_change_are_touched(moon: Path) -> None:
         "The book is at version 7.\n"
     )
     with Session(moon) as session:
-        assert [mark.touched for mark in session.marks(1)] == [True, False]
+        assert [mark.touched for mark in session.marks_of(1)] == [True, False]
 
 
 def test_what_the_book_refuses_is_said_and_changes_nothing(moon: Path) -> None:
@@ -131,14 +131,14 @@ def test_what_the_book_refuses_is_said_and_changes_nothing(moon: Path) -> None:
 def test_words_are_compared_and_put_in_normal_form_c(empty_book: Path) -> None:
     table = "letter c 14\nletter a 1\nletter f 124\nletter e 15\nletter é 123456\n"
     with Session(empty_book) as session:
-        session.table("own", table.encode() + b"letter \\x0301 5\n")
-        session.type("end", "own", "cafe\u0301")
+        session.put_table("own", table.encode() + b"letter \\x0301 5\n")
+        session.add_paragraph("end", "own", "cafe\u0301")
     assert change(empty_book, "1", "e\u0301", "e").shown == (
         "Paragraph 1: caf[e]\nBefore: caf[é]\nThe book is at version 3.\n"
     )
     assert change(empty_book, "1", "fe", "fe\u0301").status == 0
     with Session(empty_book) as session:
-        assert session.print(1) == "café"
+        assert session.print_of(1) == "café"
 
 
 @pytest.mark.parametrize("words", [("men\x1b", "x"), ("men", "x\x07"), ("", "x")])
@@ -152,7 +152,9 @@ def test_words_with_control_characters_and_empty_ones_are_refused(
 
 def test_a_long_line_is_shown_around_what_changed(book: Path) -> None:
     with Session(book) as session:
-        session.type("end", "en", "the sea " * 200 + "moon " + "the sea " * 200)
+        session.add_paragraph(
+            "end", "en", "the sea " * 200 + "moon " + "the sea " * 200
+        )
     assert change(book, "1", "moon", "sun", "--width", "50").shown == (
         "Paragraph 1: …sea the sea [sun] the sea the sea…\n"
         "Before: …the sea the sea [moon] the sea the sea…\n"

@@ -5,7 +5,7 @@ from pathlib import Path
 
 import pytest
 
-from braildesk.profile import TableText, pieces, read, warnings
+from braildesk.tables import TableText, pieces, read, warnings
 from tool import Ran, scribe
 
 REFUSED = "braildesk refuses the table. Warnings come once it is accepted."

@@ -8,8 +8,11 @@ from pathlib import Path
 import pytest
 
 import braildesk
+from braildesk import Code
 
 ROOT = Path(__file__).parents[2]
+#: The folders of the client, beside the modules that stand in none.
+FOLDERS = ("text", "protocol")
 DOCUMENT = ROOT / "docs" / "CLIENT.md"
 
 
@@ -37,14 +40,20 @@ def test_each_name_of_the_package_stands_in_it() -> None:
     assert [name for name in braildesk.__all__ if name not in words] == []
 
 
+def test_each_code_stands_in_it() -> None:
+    text = DOCUMENT.read_text()
+    assert [code for code in Code if f"`{code.name}` ({code})" not in text] == []
+
+
 def used_by(module: Path) -> set[str]:
     """The modules of the package that one of them imports."""
     names = set()
     for node in ast.walk(ast.parse(module.read_text())):
         if isinstance(node, ast.ImportFrom) and node.module is not None:
-            package, _, name = node.module.partition(".")
+            package, *inside = node.module.split(".")
             if package == "braildesk":
-                names |= {name} if name else {alias.name for alias in node.names}
+                name = [each for each in inside if each not in FOLDERS]
+                names |= {*name} or {alias.name for alias in node.names}
     return names
 
 
@@ -53,7 +62,8 @@ def test_no_module_uses_one_that_is_named_after_it() -> None:
     named = re.findall(r"`(\w+)`", layout)
     modules = {
         path.stem: path
-        for path in (ROOT / "python" / "braildesk").glob("*.py")
+        for folder in ("", *FOLDERS)
+        for path in (ROOT / "src" / "braildesk" / folder).glob("*.py")
         if path.stem != "__init__"
     }
     assert sorted(named) == sorted(modules)

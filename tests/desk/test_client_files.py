@@ -29,10 +29,12 @@ from braildesk import (
     Session,
     Table,
     Why,
+    limits,
+    requests,
+    workshop,
 )
-from braildesk.asked import BookFile
 from braildesk.files import contents
-from braildesk import requests, workshop
+from braildesk.protocol.asked import BookFile
 
 ROOT = Path(__file__).parents[2]
 
@@ -44,7 +46,7 @@ def names(folder: Path) -> set[str]:
 def killed_after(path: Path, text: str) -> None:
     """Leaves work in the file beside a book, by a session that is killed."""
     with Session(path) as session:
-        session.type("end", "en", text)
+        session.add_paragraph("end", "en", text)
         os.kill(session.pid, signal.SIGKILL)
         with pytest.raises(braildesk.SessionEnded):
             session.version()
@@ -53,9 +55,9 @@ def killed_after(path: Path, text: str) -> None:
 def test_the_tables_of_a_book_are_read_with_their_texts(empty_book: Path) -> None:
     text = b"space \\s 0\r\nletter a 1\n# no line feed"
     with Session(empty_book) as session:
-        session.table("zz", text)
-        session.table("a_1", b"")
-    assert braildesk.tables(empty_book) == (
+        session.put_table("zz", text)
+        session.put_table("a_1", b"")
+    assert braildesk.read_tables(empty_book) == (
         Table("a_1", b""),
         Table("zz", text + b"\n"),
     )
@@ -63,32 +65,32 @@ def test_the_tables_of_a_book_are_read_with_their_texts(empty_book: Path) -> Non
 
 def test_tables_are_read_with_what_stands_beside_the_file(book: Path) -> None:
     with Session(book) as session:
-        session.table("new", b"letter a 1\n")
+        session.put_table("new", b"letter a 1\n")
         os.kill(session.pid, signal.SIGKILL)
         with pytest.raises(braildesk.SessionEnded):
             session.version()
     before = {path: path.read_bytes() for path in book.parent.iterdir()}
-    assert [table.name for table in braildesk.tables(book)] == ["en", "new"]
+    assert [table.name for table in braildesk.read_tables(book)] == ["en", "new"]
     assert {path: path.read_bytes() for path in book.parent.iterdir()} == before
 
 
 def test_reading_tables_leaves_nothing_beside_the_file(book: Path) -> None:
     before = names(book.parent)
-    braildesk.tables(book)
+    braildesk.read_tables(book)
     assert names(book.parent) == before
 
 
 def test_a_copy_opens_as_the_same_book(book: Path, tmp_path: Path) -> None:
     with Session(book) as session:
         for text in ("one", "two"):
-            session.type("end", "en", text)
-        session.mark(2, 0, 1, "who?")
+            session.add_paragraph("end", "en", text)
+        session.add_mark(2, 0, 1, "who?")
     to = tmp_path / "the copy"
     assert braildesk.copy(book, to) == 4
     with Session(book) as one, Session(to) as other:
-        assert one.list() == other.list()
-        assert [other.print(1), other.print(2)] == ["one", "two"]
-        assert other.marks(2) == one.marks(2) != ()
+        assert one.paragraphs() == other.paragraphs()
+        assert [other.print_of(1), other.print_of(2)] == ["one", "two"]
+        assert other.marks_of(2) == one.marks_of(2) != ()
 
 
 def test_a_copy_has_what_stands_in_the_file_beside_it(
@@ -101,11 +103,11 @@ def test_a_copy_has_what_stands_in_the_file_beside_it(
     assert (book.read_bytes(), Path(f"{book}-wal").read_bytes()) == before
     assert names(tmp_path) == {book.name, f"{book.name}-wal", "copied"}
     with Session(to) as session:
-        assert session.print(1) == "not in the file yet"
+        assert session.print_of(1) == "not in the file yet"
     # the copied file alone, without the one beside it, has all of it
     alone = shutil.copyfile(to, tmp_path / "alone")
     with Session(alone) as session:
-        assert session.print(1) == "not in the file yet"
+        assert session.print_of(1) == "not in the file yet"
 
 
 def test_while_a_session_is_open_nothing_is_read_or_copied(
@@ -113,9 +115,9 @@ def test_while_a_session_is_open_nothing_is_read_or_copied(
 ) -> None:
     to = tmp_path / "copied"
     with Session(book) as session:
-        session.type("end", "en", "a")
+        session.add_paragraph("end", "en", "a")
         attempts: list[Callable[[], object]] = [
-            lambda: braildesk.tables(book),
+            lambda: braildesk.read_tables(book),
             lambda: braildesk.copy(book, to),
             lambda: braildesk.check(book),
             lambda: Session(book),
@@ -165,7 +167,27 @@ def test_a_replaced_book_leaves_no_work_to_the_copy(book: Path, tmp_path: Path) 
     killed_after(old, "of the old book")
     assert braildesk.copy(book, old, overwrite=True) == 1
     with Session(old) as session:
-        assert session.list() == ()
+        assert session.paragraphs() == ()
+
+
+def test_a_book_that_can_not_be_replaced_keeps_its_work(
+    book: Path, tmp_path: Path, monkeypatch: pytest.MonkeyPatch
+) -> None:
+    old = Path(shutil.copyfile(book, tmp_path / "old"))
+    killed_after(old, "of the old book")
+    replace = os.replace
+
+    def refused(source: Path | str, target: Path | str) -> None:
+        if str(target) == str(old):
+            raise PermissionError(errno.EPERM, "Operation not permitted")
+        replace(source, target)
+
+    with monkeypatch.context() as patched:
+        patched.setattr(os, "replace", refused)
+        with pytest.raises(Failed, match="could not be written: Operation not"):
+            braildesk.copy(book, old, overwrite=True)
+    with Session(old) as session:
+        assert session.print_of(1) == "of the old book"
 
 
 def test_a_book_is_not_copied_over_itself_or_over_an_open_one(
@@ -184,7 +206,7 @@ def test_a_book_is_not_copied_over_itself_or_over_an_open_one(
             Why.IN_USE,
             str(other),
         )
-        session.type("end", "en", "a")
+        session.add_paragraph("end", "en", "a")
 
 
 def test_a_copy_is_not_put_beside_the_work_of_another_book(
@@ -262,7 +284,7 @@ def test_of_two_copies_to_one_path_one_is_made(
 ) -> None:
     other = Path(shutil.copyfile(book, tmp_path / "other"))
     with Session(other) as session:
-        session.type("end", "en", "of the other book")
+        session.add_paragraph("end", "en", "of the other book")
     to = tmp_path / "copied"
     meanwhile(monkeypatch, lambda: braildesk.copy(other, to))
     with pytest.raises(NotCopied):
@@ -301,8 +323,11 @@ def test_a_link_in_place_of_a_copy_that_is_made_gives_no_file_another_mode(
     assert (to.exists(), to.is_symlink()) == (replaces, False)
 
 
+@pytest.mark.parametrize("holding", [(), (requests.Supply("en"),)])
 def test_a_link_in_place_of_a_new_book_gets_no_name(
-    tmp_path: Path, monkeypatch: pytest.MonkeyPatch
+    tmp_path: Path,
+    monkeypatch: pytest.MonkeyPatch,
+    holding: tuple[requests.Supply, ...],
 ) -> None:
     private, to = tmp_path / "private", tmp_path / "new"
     private.write_text("mine")
@@ -314,7 +339,7 @@ def test_a_link_in_place_of_a_new_book_gets_no_name(
 
     monkeypatch.setattr(braildesk.program, "make_book", made)
     with pytest.raises(Failed) as caught:
-        braildesk.new_book(to)
+        braildesk.new_book(to, holding=holding)
     assert caught.value.sentence == (
         f"The new book “{to}” could not be written, and there is none: another program put"
         " something else in the place of what was made."
@@ -360,7 +385,7 @@ def test_what_a_killed_copy_left_is_cleared_away_by_the_next_one(
     code = "import sys, braildesk; braildesk.copy(*sys.argv[1:3], program=sys.argv[3])"
     done = subprocess.run(
         [sys.executable, "-c", code, book, tmp_path / "first", killer],
-        env={**os.environ, "PYTHONPATH": str(ROOT / "python")},
+        env={**os.environ, "PYTHONPATH": str(ROOT / "src")},
     )
     assert done.returncode == -signal.SIGKILL
     left = names(tmp_path) - {book.name, "killer"}
@@ -422,7 +447,7 @@ def test_through_a_link_the_work_beside_the_file_is_found(
     book: Path, tmp_path: Path, way: str
 ) -> None:
     with Session(book) as session:
-        session.table("new", b"letter a 1\n")
+        session.put_table("new", b"letter a 1\n")
         os.kill(session.pid, signal.SIGKILL)
         with pytest.raises(braildesk.SessionEnded):
             session.version()
@@ -433,7 +458,7 @@ def test_through_a_link_the_work_beside_the_file_is_found(
     else:
         elsewhere.symlink_to(tmp_path)
     linked = elsewhere / book.name
-    assert [table.name for table in braildesk.tables(linked)] == ["en", "new"]
+    assert [table.name for table in braildesk.read_tables(linked)] == ["en", "new"]
     assert braildesk.copy(linked, tmp_path / "copied") == 2
     assert braildesk.check(tmp_path / "copied") == 2
     assert braildesk.check(linked) == 2
@@ -455,13 +480,13 @@ def test_a_log_that_is_no_file_of_its_own_is_not_read(
             os.mkfifo(log)
     attempts: list[Callable[[], object]] = [
         lambda: braildesk.check(book),
-        lambda: braildesk.tables(book),
+        lambda: braildesk.read_tables(book),
         lambda: braildesk.copy(book, tmp_path / "copied"),
     ]
     for attempt in attempts:
         with pytest.raises(CannotOpen) as caught:
             attempt()
-        assert caught.value.why in (Why.UNKNOWN, Why.OTHER_LOG)
+        assert caught.value.why is Why.NO_LOG
     assert names(tmp_path) == {book.name, log.name, "other"}
 
 
@@ -475,7 +500,7 @@ def test_a_copy_that_replaces_a_book_through_a_link_leaves_the_link(
     assert braildesk.copy(book, link, overwrite=True) == 1
     assert os.readlink(link) == "old"
     with Session(old) as session:
-        assert session.list() == ()
+        assert session.paragraphs() == ()
 
 
 def test_a_copy_is_not_put_where_a_link_leads_nowhere(
@@ -495,7 +520,7 @@ def test_a_book_with_two_names_is_opened_by_neither(book: Path, tmp_path: Path) 
         attempts: list[Callable[[], object]] = [
             lambda: Session(path),
             lambda: braildesk.check(path),
-            lambda: braildesk.tables(path),
+            lambda: braildesk.read_tables(path),
             lambda: braildesk.copy(path, tmp_path / "copied"),
         ]
         for attempt in attempts:
@@ -537,22 +562,28 @@ def trying(deed: str, book: Path, to: Path) -> "subprocess.Popen[str]":
     )
     return subprocess.Popen(
         [sys.executable, "-c", code, book, to],
-        env={**os.environ, "PYTHONPATH": str(ROOT / "python")},
+        env={**os.environ, "PYTHONPATH": str(ROOT / "src")},
         stdout=subprocess.PIPE,
         stderr=subprocess.DEVNULL,
         text=True,
     )
 
 
-@pytest.mark.parametrize("deed", ["braildesk.tables(path)", "braildesk.copy(path, to)"])
+@pytest.mark.parametrize(
+    "deed, refused",
+    [
+        ("braildesk.read_tables(path)", "NotABook"),
+        ("braildesk.copy(path, to)", "CannotOpen"),
+    ],
+)
 def test_a_view_that_never_ends_is_not_read_for_a_table(
-    book: Path, tmp_path: Path, deed: str
+    book: Path, tmp_path: Path, deed: str, refused: str
 ) -> None:
     endless(book, "tab")
     before = names(tmp_path)
     with trying(deed, book, tmp_path / "copied") as process:
         try:
-            assert process.communicate(timeout=60)[0] == "NotABook\n"
+            assert process.communicate(timeout=60)[0] == f"{refused}\n"
         finally:
             process.kill()
     assert names(tmp_path) == before
@@ -589,10 +620,17 @@ def ticks(process: int) -> int:
     "deed",
     ["braildesk.copy(path, to)", "braildesk.check(path)", "braildesk.Session(path)"],
 )
-def test_a_book_that_never_ends_is_left_by_ctrl_c(
-    book: Path, tmp_path: Path, deed: str
+def test_a_program_that_never_answers_is_left_by_ctrl_c(
+    book: Path,
+    tmp_path: Path,
+    tmp_path_factory: pytest.TempPathFactory,
+    monkeypatch: pytest.MonkeyPatch,
+    deed: str,
 ) -> None:
-    endless(book, "book")
+    busy = tmp_path_factory.mktemp("busy") / "braildesk"
+    busy.write_text("#!/bin/sh\nwhile :; do :; done\n")
+    busy.chmod(0o755)
+    monkeypatch.setenv("BRAILDESK", str(busy))
     found: list[int] = []
     with trying(deed, book, tmp_path / "copied") as process:
         try:
@@ -615,7 +653,7 @@ def test_a_book_that_never_ends_is_left_by_ctrl_c(
 def test_a_hole_in_a_file_stays_one_in_its_copy(
     book: Path, tmp_path: Path, monkeypatch: pytest.MonkeyPatch
 ) -> None:
-    os.truncate(book, 1 << 34)
+    os.truncate(book, 1 << 32)
     blocks = []
     check = braildesk.program.check
 
@@ -627,6 +665,26 @@ def test_a_hole_in_a_file_stays_one_in_its_copy(
     with pytest.raises(CannotOpen):
         braildesk.copy(book, tmp_path / "copied")
     assert blocks[0] * 512 < 1 << 24
+
+
+def test_a_file_that_is_larger_than_any_book_is_not_opened(
+    book: Path, tmp_path: Path
+) -> None:
+    os.truncate(book, limits.BOOK_BYTES + 1)
+    attempts: list[Callable[[], object]] = [
+        lambda: Session(book, "false"),
+        lambda: braildesk.new_book(book, "false"),
+        lambda: braildesk.copy(book, tmp_path / "copied", program="false"),
+        lambda: braildesk.read_tables(book),
+    ]
+    for attempt in attempts:
+        with pytest.raises(CannotOpen) as caught:
+            attempt()
+        assert caught.value.sentence == (
+            f"“{book}” has more than 4,294,967,296 bytes, which is more than a book has. It was not"
+            " opened, and nothing was changed. Check that it is the right file; if it is, braildesk"
+            " itself opens books of any size."
+        )
 
 
 def test_a_damaged_book_is_not_copied(book: Path, tmp_path: Path) -> None:
@@ -713,7 +771,7 @@ def test_a_file_that_cannot_be_opened_says_why(
     attempts: list[Callable[[], object]] = [
         lambda: Session(path),
         lambda: braildesk.check(path),
-        lambda: braildesk.tables(path),
+        lambda: braildesk.read_tables(path),
         lambda: braildesk.copy(path, tmp_path / "copied"),
     ]
     for attempt in attempts:
@@ -740,7 +798,7 @@ def test_an_older_copy_beside_the_log_of_a_newer_book_is_said_to_be_that(
     older = Path(shutil.copyfile(book, tmp_path / "older"))
     with Session(book) as session:
         for number in range(60):
-            session.type("end", "en", f"line {number} " + "x" * 500)
+            session.add_paragraph("end", "en", f"line {number} " + "x" * 500)
     with Session(book) as session:
         for number in range(3):
             session.correct(number + 1, 0, 4, "Line")
@@ -794,7 +852,7 @@ def test_a_new_book_is_not_made_beside_the_work_of_another(book: Path) -> None:
 
 def test_where_a_book_was_removed_a_new_one_may_be_made(book: Path) -> None:
     with Session(book) as session:
-        session.type("end", "en", "in the file")
+        session.add_paragraph("end", "en", "in the file")
     assert names(book.parent) == {book.name, f"{book.name}-wal"}
     book.unlink()
     braildesk.new_book(book)
@@ -856,7 +914,7 @@ def test_a_database_without_a_book_has_no_tables(tmp_path: Path) -> None:
     with closing(sqlite3.connect(path)) as database:
         database.execute("CREATE TABLE birds (name TEXT)")
     with pytest.raises(NotABook):
-        braildesk.tables(path)
+        braildesk.read_tables(path)
     with pytest.raises(NotABook):
         braildesk.copy(path, tmp_path / "copied")
 
@@ -866,7 +924,7 @@ def as_nobody(code: str, *words: object) -> str:
     drop = "import os; os.setgid(65534); os.setuid(65534)\n" if os.getuid() == 0 else ""
     done = subprocess.run(
         [sys.executable, "-c", drop + code, *map(str, words)],
-        env={**os.environ, "PYTHONPATH": str(ROOT / "python"), "LC_ALL": "C"},
+        env={**os.environ, "PYTHONPATH": str(ROOT / "src"), "LC_ALL": "C"},
         capture_output=True,
         text=True,
         encoding="utf-8",
@@ -882,7 +940,7 @@ path, to = sys.argv[1:3]
 for attempt in (
     lambda: braildesk.Session(path),
     lambda: braildesk.check(path),
-    lambda: braildesk.tables(path),
+    lambda: braildesk.read_tables(path),
     lambda: braildesk.copy(path, to),
 ):
     try:
@@ -971,10 +1029,10 @@ def test_names_and_texts_are_those_of_any_locale(tmp_path: Path) -> None:
         "path = sys.argv[1]\n"
         "braildesk.new_book(path)\n"
         "with braildesk.Session(path) as session:\n"
-        "    session.supply('en')\n"
-        "    print(session.type('end', 'en', 'caf\\u2019s'))\n"
+        "    session.supply_table('en')\n"
+        "    print(session.add_paragraph('end', 'en', 'caf\\u2019s'))\n"
         "    try:\n"
-        "        session.type('end', 'en', '\\u2026')\n"
+        "        session.add_paragraph('end', 'en', '\\u2026')\n"
         "    except braildesk.Refused as refusal:\n"
         "        sys.stdout.buffer.write(refusal.sentence.encode())\n"
     )
@@ -982,12 +1040,12 @@ def test_names_and_texts_are_those_of_any_locale(tmp_path: Path) -> None:
     for locale in ("C", "POSIX", "C.UTF-8"):
         done = subprocess.run(
             [sys.executable, "-c", code, path],
-            env={**os.environ, "PYTHONPATH": str(ROOT / "python"), "LC_ALL": locale},
+            env={**os.environ, "PYTHONPATH": str(ROOT / "src"), "LC_ALL": locale},
             capture_output=True,
         )
         assert done.returncode == 0, done.stderr.decode()
         assert "“…” (U+2026 HORIZONTAL ELLIPSIS)" in done.stdout.decode()
-        assert braildesk.tables(path)[0].name == "en"
+        assert braildesk.read_tables(path)[0].name == "en"
         path.unlink()
 
 
@@ -1016,7 +1074,7 @@ def test_a_file_of_no_bytes_is_no_book_and_stays_as_it_is(tmp_path: Path) -> Non
         lambda: braildesk.check(empty),
         lambda: braildesk.export(empty, 1),
         lambda: braildesk.copy(empty, tmp_path / "copied"),
-        lambda: braildesk.tables(empty),
+        lambda: braildesk.read_tables(empty),
     ]
     for ask in asks:
         with pytest.raises(NotABook):
@@ -1039,7 +1097,7 @@ def test_a_copy_that_does_not_fit_leaves_nothing(book: Path, tmp_path: Path) -> 
     )
     done = subprocess.run(
         [sys.executable, "-c", code, book, to],
-        env={**os.environ, "PYTHONPATH": str(ROOT / "python")},
+        env={**os.environ, "PYTHONPATH": str(ROOT / "src")},
         capture_output=True,
         text=True,
         encoding="utf-8",

@@ -15,7 +15,7 @@ from hypothesis import HealthCheck, given, settings
 from hypothesis import strategies as st
 
 from braildesk import Entry, Kind, Mark, Paragraph, Refused, Session, Style, requests
-from braildesk.requests import Request
+from braildesk.protocol.requests import Request
 
 RUNS = int(os.environ.get("DESK_RUNS", "200"))
 
@@ -286,23 +286,23 @@ def tabled(made_once: Path, tmp_path_factory: pytest.TempPathFactory) -> Path:
     shutil.copyfile(made_once / "empty.braildesk", path)
     with Session(path) as session:
         for name, text in TEXTS.items():
-            session.table(name, text)
+            session.put_table(name, text)
     return path
 
 
 def compare(session: Session, model: ModelBook) -> None:
     """Looks at all that the book shows."""
     assert session.version() == model.version
-    assert session.list() == tuple(
+    assert session.paragraphs() == tuple(
         Paragraph(p.id, p.table, p.style, p.begins_volume, p.is_struck, len(p.text))
         for p in model.paragraphs
     )
     for paragraph in model.paragraphs:
         id, spans = paragraph.id, paragraph.spans()
-        assert session.print(id) == paragraph.text
-        assert session.braille(id) == paragraph.braille()
-        assert session.history(id) == tuple(paragraph.entries)
-        assert session.marks(id) == tuple(
+        assert session.print_of(id) == paragraph.text
+        assert session.braille_of(id) == paragraph.braille()
+        assert session.history_of(id) == tuple(paragraph.entries)
+        assert session.marks_of(id) == tuple(
             Mark(number, m.start, m.stop, m.is_resolved, m.is_touched, m.note)
             for number, m in enumerate(model.marks, 1)
             if m.paragraph == id

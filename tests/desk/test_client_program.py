@@ -45,7 +45,7 @@ def test_else_it_is_the_one_of_the_checkout_and_else_the_one_on_the_path(
 ) -> None:
     # a checkout of its own, since the package finds the one in which it stands
     package = shutil.copytree(
-        ROOT / "python" / "braildesk", tmp_path / "python" / "braildesk"
+        ROOT / "src" / "braildesk", tmp_path / "src" / "braildesk"
     )
     on_path = made(tmp_path / "bin" / "braildesk")
     monkeypatch.delenv("BRAILDESK", raising=False)
@@ -111,7 +111,7 @@ def test_a_new_book_is_empty_and_may_be_made_again(tmp_path: Path) -> None:
     assert braildesk.check(path) == 0
     braildesk.new_book(path)
     with Session(path) as session:
-        session.supply("en")
+        session.supply_table("en")
     assert braildesk.check(str(path)) == 1
 
 
@@ -122,19 +122,19 @@ def test_a_path_may_look_like_an_option_or_have_blanks_and_other_letters(
     for name in ("--help", "-x", "@en", "a book – Zdeněk.braildesk", "月"):
         braildesk.new_book(name)
         with Session(name) as session:
-            session.supply("en")
-            session.type("end", "en", "a")
+            session.supply_table("en")
+            session.add_paragraph("end", "en", "a")
         assert braildesk.check(name) == 2
         assert braildesk.export(name, 1).startswith(b"  A\r\n")
-        assert [table.name for table in braildesk.tables(name)] == ["en"]
+        assert [table.name for table in braildesk.read_tables(name)] == ["en"]
         assert braildesk.copy(name, f"{name} copied") == 2
 
 
 def test_a_volume_is_exported_as_pages(book: Path) -> None:
     with Session(book) as session:
-        session.type("end", "en", "The Moon")
-        session.type("end", "en", "is far")
-        session.style(1, "heading")
+        session.add_paragraph("end", "en", "The Moon")
+        session.add_paragraph("end", "en", "is far")
+        session.set_style(1, "heading")
     lines = ["    ,THE ,MOON", "  IS FAR", "", "", " " * 18 + "#A"]
     assert braildesk.export(book, 1, width=20, lines=5) == (
         "".join(line + "\r\n" for line in lines).encode() + b"\f"

@@ -23,12 +23,12 @@ from braildesk import (
     Style,
     requests,
 )
-from braildesk.asked import BookFile
-from braildesk.characters import around, named
+from braildesk.protocol.asked import BookFile, Refusal
+from braildesk.protocol.requests import Request
+from braildesk.protocol.sentences import CAUSES, LIMITS, PARTS, SENTENCES, UNOPENED
+from braildesk.protocol.wording import worded
 from braildesk.refusals import refused
-from braildesk.requests import Request
-from braildesk.sentences import CAUSES, LIMITS, PARTS, SENTENCES, UNOPENED
-from braildesk.wording import Refusal, worded
+from braildesk.text.characters import around, named
 
 FORMATS = Path(__file__).parents[2] / "docs" / "FORMATS.md"
 
@@ -69,13 +69,13 @@ def shelf(made_once: Path, tmp_path_factory: pytest.TempPathFactory) -> Path:
     path = tmp_path_factory.mktemp("shelf") / "shelf.braildesk"
     shutil.copyfile(made_once / "supplied.braildesk", path)
     with Session(path) as session:
-        session.table("few", b"space \\s 0\nletter a 1\nletter b 12\n")
-        session.type("end", "en", "The moon is far away.")
-        session.type("end", "en", "")
+        session.put_table("few", b"space \\s 0\nletter a 1\nletter b 12\n")
+        session.add_paragraph("end", "en", "The moon is far away.")
+        session.add_paragraph("end", "en", "")
         session.strike(2)
-        session.type("end", "few", "ab ba")
-        session.mark(1, 0, 1)
-        session.resolve(1)
+        session.add_paragraph("end", "few", "ab ba")
+        session.add_mark(1, 0, 1)
+        session.resolve_mark(1)
         session.correct(3, 0, 0, "b")
         assert session.version() == 9
     return path
@@ -322,7 +322,7 @@ def test_a_paragraph_that_is_not_in_a_small_book_is_refused(
 ) -> None:
     with Session(book) as session:
         for _ in range(count):
-            session.type("end", "en", "The moon")
+            session.add_paragraph("end", "en", "The moon")
         with pytest.raises(Refused) as caught:
             session.strike(2)
     assert caught.value.sentence == (
@@ -371,7 +371,7 @@ def test_each_command_has_its_words() -> None:
 def test_a_command_that_could_not_be_kept_is_named_in_words(
     request_: Request[Any], words: str
 ) -> None:
-    sentence = refused(91, (), request_).sentence
+    sentence = refused(91, request_).sentence
     assert sentence.startswith(
         f"{words} was not reported as kept, since the file of the book"
     )
@@ -448,7 +448,7 @@ def test_a_bad_line_of_a_table_is_shown_with_its_cause(
     text = b"letter a 1\nnumsign 3456\n" + line + b"\r\nletter y 1\n"
     shown = line.decode(errors="replace")
     with pytest.raises(Refused) as caught:
-        asked.table("new", text)
+        asked.put_table("new", text)
     refusal = caught.value
     assert (refusal.code, refusal.line, refusal.cause) == (8, 3, cause)
     assert refusal.sentence == (
@@ -629,8 +629,8 @@ def test_a_database_without_a_book_is_refused(tmp_path: Path) -> None:
 
 def test_a_cell_that_pages_cannot_have_is_refused(book: Path) -> None:
     with Session(book) as session:
-        session.table("eight", b"letter a 1\nletter b 17\n")
-        session.type("end", "eight", "aab")
+        session.put_table("eight", b"letter a 1\nletter b 17\n")
+        session.add_paragraph("end", "eight", "aab")
     with pytest.raises(Refused) as caught:
         braildesk.export(book, 1)
     assert (caught.value.code, caught.value.paragraph, caught.value.cell) == (95, 1, 2)
@@ -758,7 +758,7 @@ def test_want_of_memory_is_said_of_a_request_and_the_session_goes_on(
     )
     with Session("any", program) as session:
         with pytest.raises(NoMemory) as caught:
-            session.type("end", "en", "a")
+            session.add_paragraph("end", "en", "a")
         assert session.version() == 1
     assert caught.value.code == 90
     assert caught.value.sentence == (

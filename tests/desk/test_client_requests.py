@@ -1,7 +1,11 @@
 """Each request of a book: its bytes, and what it answers."""
 
+import builtins
+import inspect
+import re
+from dataclasses import fields, replace
 from pathlib import Path
-from typing import Any
+from typing import Any, cast
 
 import pytest
 
@@ -18,7 +22,18 @@ from braildesk import (
     Typed,
     requests,
 )
-from braildesk.requests import Request, Unwritable
+from braildesk.protocol.answers import Answer
+from braildesk.protocol.fields import Choice, Unwritable
+from braildesk.protocol.requests import (
+    BY_NAME,
+    REQUESTS,
+    Command,
+    Request,
+    TableHead,
+    fields_of,
+)
+from scribe.prompt.grammar import read_head
+from tool import ROOT
 
 #: Each request, with the bytes that docs/FORMATS.md gives it.
 WRITTEN: list[tuple[Request[Any], str]] = [
@@ -71,14 +86,103 @@ def test_a_request_is_written_as_its_form_says(
     assert request_.encoded() == written.encode()
 
 
+@pytest.mark.parametrize(("request_", "written"), WRITTEN, ids=lambda v: repr(v)[:40])
+def test_a_request_that_was_written_is_read_as_it_was(
+    request_: Request[Any], written: str
+) -> None:
+    head, _, text = written.partition("\n")
+    read = read_head(head.encode())
+    if isinstance(read, TableHead):
+        read = read.request(text.encode())
+        request_ = replace(request_, text=text.encode())
+    assert read == request_
+
+
 def test_each_kind_of_request_is_among_those_that_are_tried() -> None:
-    kinds = {
-        kind
-        for kind in vars(requests).values()
-        if isinstance(kind, type) and isinstance(getattr(kind, "name", None), str)
+    assert len(REQUESTS) == len(BY_NAME) == 22
+    assert set(REQUESTS) == {type(request) for request, _ in WRITTEN}
+
+
+def test_each_request_has_its_help_and_commands_what_they_keep() -> None:
+    for kind in REQUESTS:
+        assert re.fullmatch(r"[A-Z].*\.", kind.__doc__ or ""), kind
+        read = BY_NAME[kind.name].read(kind.example.partition(" ")[2] or None)
+        if isinstance(read, TableHead):
+            assert kind.example == f"table {read.table} {read.lines}"
+            read = read.request(b"")
+        else:
+            assert " ".join(read.head()) == kind.example
+        assert type(read) is kind
+        if isinstance(read, Command):
+            assert not re.search("[{}]", read.in_words())
+
+
+def test_the_document_has_the_form_of_each_request() -> None:
+    document = (ROOT / "docs" / "FORMATS.md").read_text()
+    rows = document.split("| head line | request |\n", 1)[1].split("\n\n", 1)[0]
+    columns = [line.split("|")[1] for line in rows.splitlines()[1:]]
+    forms = [form for text in columns for form in re.findall(r"`([^`]+)`", text)]
+    assert forms == [line for kind in REQUESTS for line in lines_of_form(kind)]
+
+
+def lines_of_form(kind: type[Request[Any]]) -> list[str]:
+    """The form of a request, once for each word of a field that is one of a few."""
+    for field in fields_of(kind).values():
+        if isinstance(field, Choice):
+            return [kind.form().replace(field.word, word) for word in field.words]
+    return [kind.form()]
+
+
+class Unsent(Session):
+    """A session that sends nothing, and remembers what it was asked for."""
+
+    def __init__(self) -> None:
+        self.asked: list[Request[Any]] = []
+
+    def ask(self, request: Request[Answer]) -> Answer:
+        self.asked.append(request)
+        return cast(Answer, None)
+
+
+#: A value for each argument of a request.
+VALUES: dict[str, object] = {
+    "table": "en",
+    "text": "moon",
+    "after": 11,
+    "paragraph": 12,
+    "start": 13,
+    "count": 14,
+    "cell": 15,
+    "place": 16,
+    "mark": 17,
+    "expect": 18,
+    "note": "so?",
+    "who": "anna",
+    "style": Style.HEADING,
+    "begins": True,
+}
+OTHER_METHODS = {"ask", "reply", "each", "close", "tables", "take_over"}
+
+
+def test_a_session_has_a_method_for_each_request() -> None:
+    session = Unsent()
+    methods = {
+        name: method
+        for name, method in vars(Session).items()
+        if callable(method) and name[0] != "_" and name not in OTHER_METHODS
     }
-    assert len(kinds) == 22
-    assert kinds == {type(request) for request, _ in WRITTEN}
+    for name, method in methods.items():
+        assert not hasattr(builtins, name)
+        names = list(inspect.signature(method).parameters)[1:]
+        given = {each: VALUES["who" if each == "by" else each] for each in names}
+        method(session, **given)
+        if given.pop("by", None):
+            method(session, **given)
+    assert {type(each) for each in session.asked} == set(REQUESTS)
+    assert len(session.asked) == len(REQUESTS) == len(methods) + 1
+    for request in session.asked:
+        for each in fields(request):
+            assert getattr(request, each.name) == VALUES[each.name], request
 
 
 #: What can't be written: the code by which it is refused, and the place of what is wrong.
@@ -146,73 +250,75 @@ def test_a_table_that_is_too_long_to_be_sent_is_refused_as_the_program_would(
 
 
 def test_every_request_is_answered_by_its_values(session: Session) -> None:
-    assert session.seen == 1
-    assert session.type("end", "en", "The mon is far.") == Typed(2, 1)
-    assert session.print(1) == "The mon is far."
-    assert session.braille(1) == "⠠⠞⠓⠑⠀⠍⠕⠝⠀⠊⠎⠀⠋⠁⠗⠲"
+    assert session.last_version == 1
+    assert session.add_paragraph("end", "en", "The mon is far.") == Typed(2, 1)
+    assert session.print_of(1) == "The mon is far."
+    assert session.braille_of(1) == "⠠⠞⠓⠑⠀⠍⠕⠝⠀⠊⠎⠀⠋⠁⠗⠲"
     assert session.correct(1, 4, 3, "moon") == Corrected(3, 1)
     assert session.correct(1, 12, 2, "ne", by="anna") == Corrected(4, 2)
     assert session.undo(1) == Corrected(5, 3)
-    assert session.print(1) == "The moon is far."
-    assert session.history(1) == (
+    assert session.print_of(1) == "The moon is far."
+    assert session.history_of(1) == (
         Entry(1, Kind.CORRECT, 4, 3, "moon", None, None),
         Entry(2, Kind.CORRECT, 12, 2, "ne", "anna", None),
         Entry(3, Kind.UNDO, 0, 0, "", None, 2),
     )
-    assert session.mark(1, 5, 4, "spelled  so? ") == Marked(6, 1)
-    assert session.mark(1, 0, 1) == Marked(7, 2)
-    assert session.resolve(2) == Done(8)
+    assert session.add_mark(1, 5, 4, "spelled  so? ") == Marked(6, 1)
+    assert session.add_mark(1, 0, 1) == Marked(7, 2)
+    assert session.resolve_mark(2) == Done(8)
     assert session.correct(1, 4, 0, "full ") == Corrected(9, 4)
     assert session.correct(1, 10, 1, "o") == Corrected(10, 5)
-    assert session.marks(1) == (
+    assert session.marks_of(1) == (
         Mark(1, 9, 13, False, True, "spelled  so? "),
         Mark(2, 0, 1, True, False, ""),
     )
-    assert (session.where(1, 4), session.whence(1, 5)) == (5, 4)
-    assert session.table("de", b"space \\s 0\nletter a 1\n") == Done(11)
-    assert session.type("front", "de", "a a") == Typed(12, 2)
-    assert session.retable(2, "en") == Done(13)
-    assert session.style(2, "heading") == Done(14)
-    assert session.volume(1, True) == Done(15)
+    assert (session.output_position(1, 4), session.input_position(1, 5)) == (5, 4)
+    assert session.put_table("de", b"space \\s 0\nletter a 1\n") == Done(11)
+    assert session.add_paragraph("front", "de", "a a") == Typed(12, 2)
+    assert session.set_table(2, "en") == Done(13)
+    assert session.set_style(2, "heading") == Done(14)
+    assert session.set_begins_volume(1, True) == Done(15)
     assert session.strike(1) == Done(16)
-    assert session.list() == (
+    assert session.paragraphs() == (
         Paragraph(2, "en", Style.HEADING, False, False, 3),
         Paragraph(1, "en", Style.BODY, True, True, 21),
     )
     assert session.restore(1) == Done(17)
-    assert session.style(2, Style.BODY) == Done(18)
-    assert session.volume(1, False) == Done(19)
+    assert session.set_style(2, Style.BODY) == Done(18)
+    assert session.set_begins_volume(1, False) == Done(19)
     assert session.move(2, 1) == Done(20)
-    assert session.supply("x") == Done(21)
-    assert [paragraph.id for paragraph in session.list()] == [1, 2]
-    assert session.version() == session.seen == 21
+    assert session.supply_table("x") == Done(21)
+    assert [paragraph.id for paragraph in session.paragraphs()] == [1, 2]
+    assert session.version() == session.last_version == 21
 
 
 def test_a_command_that_expects_the_version_is_kept(session: Session) -> None:
-    assert session.type("end", "en", "a", expect=session.seen) == Typed(2, 1)
+    assert session.add_paragraph(
+        "end", "en", "a", expect=session.last_version
+    ) == Typed(2, 1)
     assert session.correct(1, 0, 0, "b", by="z", expect=2) == Corrected(3, 1)
 
 
 def test_empty_texts_come_back_empty(session: Session) -> None:
-    session.type("end", "en", "")
-    assert (session.print(1), session.braille(1)) == ("", "")
-    assert (session.history(1), session.marks(1)) == ((), ())
+    session.add_paragraph("end", "en", "")
+    assert (session.print_of(1), session.braille_of(1)) == ("", "")
+    assert (session.history_of(1), session.marks_of(1)) == ((), ())
 
 
 def test_a_new_book_lists_nothing(empty_book: Path) -> None:
     with Session(empty_book) as session:
-        assert (session.list(), session.version()) == ((), 0)
+        assert (session.paragraphs(), session.version()) == ((), 0)
 
 
 def test_texts_come_back_as_they_are_kept(session: Session) -> None:
     text = "line\u0085of\u2028an\u2029odd\x0bone\x0c\x1c\x1d\x1e\t\xa0"
     lines = (f"letter \\x{ord(character):04x} 1\n" for character in sorted(set(text)))
-    session.table("odd", "".join(lines).encode())
-    session.type("end", "odd", text)
-    assert session.print(1) == text
+    session.put_table("odd", "".join(lines).encode())
+    session.add_paragraph("end", "odd", text)
+    assert session.print_of(1) == text
     session.correct(1, 0, 4, "\t\x0b", by="a\u0085b\tc")
-    session.mark(1, 0, 1, text + " ")
-    assert session.history(1) == (
+    session.add_mark(1, 0, 1, text + " ")
+    assert session.history_of(1) == (
         Entry(1, Kind.CORRECT, 0, 4, "\t\x0b", "a\u0085b\tc", None),
     )
-    assert session.marks(1)[0].note == text + " "
+    assert session.marks_of(1)[0].note == text + " "

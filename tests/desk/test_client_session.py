@@ -1,11 +1,15 @@
 """Sessions: many requests ahead of their replies, framing, and what is left of a killed one."""
 
+import gc
 import os
+import re
 import shutil
 import signal
 import subprocess
 import sys
+import threading
 import time
+import warnings
 from collections.abc import Callable, Iterator
 from contextlib import suppress
 from pathlib import Path
@@ -26,11 +30,12 @@ from braildesk import (
     Why,
     requests,
 )
-from braildesk.replies import Reader, Reply, Unreadable
+from braildesk.pipe import Ending, Pipe
+from braildesk.protocol.replies import Reader, Reply, Unreadable
 from stand_in import KEPT, KILL_PROGRAM
 from terminal import standing_in
 
-PYTHON = str(Path(__file__).parents[2] / "python")
+PYTHON = str(Path(__file__).parents[2] / "src")
 
 
 @pytest.fixture
@@ -120,6 +125,65 @@ def test_answers_are_given_while_requests_are_still_made(session: Session) -> No
     answers.close()
 
 
+def test_requests_are_sent_before_an_answer_is_taken(session: Session) -> None:
+    answers = session.each(requests.Type("end", "en", text) for text in ("a", "b"))
+    answers.close()
+    assert session.version() == 3
+    session.each([requests.Strike(1), requests.Strike(2)])
+    assert [each.struck for each in session.paragraphs()] == [True, True]
+
+
+def test_while_answers_are_given_no_others_are(session: Session) -> None:
+    answers = session.each([requests.Version()] * 2)
+    with pytest.raises(RuntimeError, match="still being given"):
+        session.each([requests.Version()])
+    assert list(answers) == [1, 1]
+    assert list(session.each([requests.Version()])) == [1]
+
+
+def test_another_thread_is_refused(session: Session) -> None:
+    said: list[str] = []
+
+    def use(what: Callable[[], object]) -> None:
+        with pytest.raises(RuntimeError) as caught:
+            what()
+        said.append(str(caught.value))
+
+    answers = session.each([requests.Version()] * 600)
+    assert next(answers) == 1
+    uses: list[Callable[[], object]] = [
+        session.version,
+        session.close,
+        lambda: session.each([]),
+        lambda: list(answers),
+    ]
+    for what in uses:
+        thread = threading.Thread(target=use, args=(what,))
+        thread.start()
+        thread.join()
+    assert said == 4 * [
+        "A session can be used by the thread that opened it alone. Nothing was sent. Open the book"
+        " in the thread that uses it."
+    ]
+    assert session.version() == 1
+
+
+def test_a_session_that_is_left_open_is_warned_of(book: Path) -> None:
+    session = Session(book)
+    with pytest.warns(
+        ResourceWarning, match=re.escape(f"unclosed session with {book}")
+    ):
+        del session
+        gc.collect()
+    # the program ends by that, and the book can be opened
+    with Session(book, timeout=20) as session:
+        session.version()
+    with warnings.catch_warnings(record=True) as caught:
+        del session
+        gc.collect()
+    assert not caught
+
+
 def test_where_answers_are_left_the_session_goes_on_and_the_rest_is_dropped(
     session: Session,
 ) -> None:
@@ -137,7 +201,7 @@ def test_where_answers_are_left_the_session_goes_on_and_the_rest_is_dropped(
     answers.close()
     typed = session.version() - 1
     assert 1 <= typed <= len(made) < 10_000
-    assert [session.print(p.id) for p in session.list()] == made[:typed]
+    assert [session.print_of(p.id) for p in session.paragraphs()] == made[:typed]
 
 
 def test_what_fails_while_requests_are_made_leaves_the_session_whole(
@@ -150,13 +214,13 @@ def test_what_fails_while_requests_are_made_leaves_the_session_whole(
     with pytest.raises(KeyError):
         list(session.each(asked()))
     assert session.version() in (1, 2)
-    assert session.type("end", "en", "two").id == session.version() - 1
+    assert session.add_paragraph("end", "en", "two").id == session.version() - 1
 
 
 def test_megabytes_go_both_ways_at_once(book: Path) -> None:
     text = "The moon is far away. " * 180
     with Session(book) as session:
-        typed = session.type("end", "en", text)
+        typed = session.add_paragraph("end", "en", text)
         # a correction of nothing by nothing needs little, a history shows all of it
         asked: list[requests.Request[Any]] = []
         for _ in range(150):
@@ -174,14 +238,14 @@ def test_megabytes_go_both_ways_at_once(book: Path) -> None:
                 received += sum(len(entry.text) for entry in answer)
         assert sent > 500_000
         assert received > 40_000_000
-        assert session.print(typed.id) == text
+        assert session.print_of(typed.id) == text
 
 
 def test_a_table_of_megabytes_is_sent_whole(session: Session) -> None:
     lines = [f"# {n:05d} {'x' * 900}\n" for n in range(4_000)]
     text = "".join(["letter a 1\n", *lines, "letter b 12\n"]).encode()
-    assert session.table("big", text) == Done(2)
-    assert session.type("end", "big", "ab").id == 1
+    assert session.put_table("big", text) == Done(2)
+    assert session.add_paragraph("end", "big", "ab").id == 1
 
 
 def test_a_session_that_is_closed_answers_no_more(session: Session) -> None:
@@ -197,11 +261,11 @@ def test_a_session_that_is_closed_answers_no_more(session: Session) -> None:
 
 def test_a_session_ends_well_and_leaves_all_in_the_file(book: Path) -> None:
     with Session(book) as session:
-        session.type("end", "en", "all of it")
+        session.add_paragraph("end", "en", "all of it")
     alone = book.with_name("alone")
     alone.write_bytes(book.read_bytes())
     with Session(alone) as session:
-        assert session.print(1) == "all of it"
+        assert session.print_of(1) == "all of it"
 
 
 def test_a_program_that_answers_something_else_is_ended(
@@ -250,7 +314,7 @@ def test_of_a_killed_session_all_that_was_reported_as_kept_is_there(
     with Session(book) as session:
         # at most the command that was being kept is there beside those that were reported
         assert session.version() - lost.version in (0, 1)
-        prints = list(session.each(requests.Print(p.id) for p in session.list()))
+        prints = list(session.each(requests.Print(p.id) for p in session.paragraphs()))
     assert prints == [f"line {n}" for n in range(len(prints))]
     assert len(prints) >= len(kept)
 
@@ -260,7 +324,7 @@ def test_a_killed_session_says_so_at_each_request(book: Path) -> None:
         os.kill(session.pid, signal.SIGKILL)
         for _ in range(2):
             with pytest.raises(SessionEnded) as caught:
-                session.type("end", "en", "a")
+                session.add_paragraph("end", "en", "a")
             assert caught.value.acknowledged is None
             assert caught.value.sentence == (
                 "The session was ended by signal 9. No command of this session was reported as kept."
@@ -274,7 +338,7 @@ def test_a_session_that_only_asked_changed_nothing(book: Path) -> None:
     with Session(book) as session:
         os.kill(session.pid, signal.SIGKILL)
         with pytest.raises(SessionEnded) as caught:
-            session.list()
+            session.paragraphs()
     assert caught.value.unanswered == ()
     assert caught.value.sentence == (
         "The session was ended by signal 9. Nothing was changed by this session."
@@ -289,11 +353,11 @@ def test_a_command_that_was_kept_and_not_answered_may_be_in_the_book(
             patched.setenv(name, value)
         with Session(book) as session:
             with pytest.raises(SessionEnded) as caught:
-                session.type("end", "en", "It rose.")
+                session.add_paragraph("end", "en", "It rose.")
     assert caught.value.unanswered == (requests.Type("end", "en", "It rose."),)
     assert "Nothing was changed" not in caught.value.sentence
     with Session(book) as session:
-        assert (session.seen, session.print(1)) == (2, "It rose.")
+        assert (session.last_version, session.print_of(1)) == (2, "It rose.")
 
 
 def test_a_killed_client_leaves_no_request_cut(book: Path) -> None:
@@ -328,7 +392,7 @@ def test_a_killed_client_leaves_no_request_cut(book: Path) -> None:
             assert refusal.code == 98
             time.sleep(0.2)
     with session:
-        prints = list(session.each(requests.Print(p.id) for p in session.list()))
+        prints = list(session.each(requests.Print(p.id) for p in session.paragraphs()))
     assert len(prints) >= max([50, *last])
     assert prints == [
         f"line {n} " + "x" * (n * 37 % 3000) + "." for n in range(len(prints))
@@ -343,8 +407,8 @@ def test_a_command_that_the_file_does_not_take_is_lost(
     with Session(book, limited) as session:
         with pytest.raises(Lost) as caught:
             for kept in range(1, 3_000):
-                session.type("end", "en", "x" * 3_000)
-        assert session.seen == kept
+                session.add_paragraph("end", "en", "x" * 3_000)
+        assert session.last_version == kept
     lost = caught.value
     assert not isinstance(lost, SessionEnded)
     assert lost.acknowledged == requests.Type("end", "en", "x" * 3_000)
@@ -389,7 +453,7 @@ def test_ctrl_c_leaves_the_program_to_end_well(book: Path) -> None:
         ids = [20, *map(int, running.stdout.read().split())]
         assert "KeyboardInterrupt" in running.stderr.read()
     with Session(book) as session:
-        prints = list(session.each(requests.Print(p.id) for p in session.list()))
+        prints = list(session.each(requests.Print(p.id) for p in session.paragraphs()))
     assert len(prints) >= ids[-1]
     assert prints == [f"line {n}." for n in range(len(prints))]
 
@@ -431,7 +495,7 @@ def interrupted_at(step: int, book: Path) -> bool:
         with suppress(Lost):
             session.close()
     with Session(book) as after:
-        prints = list(after.each(requests.Print(p.id) for p in after.list()))
+        prints = list(after.each(requests.Print(p.id) for p in after.paragraphs()))
     assert len(prints) >= len(answered)
     assert prints == texts[: len(prints)]
     return count >= step
@@ -450,38 +514,24 @@ def test_an_interrupt_at_each_seventh_step_of_the_client_leaves_a_whole_book(
         signal.alarm(0)
 
 
-def seconds(action: Callable[[], object]) -> float:
-    """How long something takes."""
-    started = time.monotonic()
-    action()
-    return time.monotonic() - started
-
-
-def test_many_requests_are_at_least_half_as_fast_as_by_a_pipe(
-    book: Path, program: str
+def test_requests_that_wait_are_written_in_groups(
+    book: Path, monkeypatch: pytest.MonkeyPatch
 ) -> None:
+    written: list[int] = []
+    write = os.write
+
+    def noted(descriptor: int, data: bytes) -> int:
+        written.append(len(data))
+        return write(descriptor, data)
+
     texts = [f"Line {n} of a book about the moon and the tides." for n in range(3_000)]
-    sent = "".join(f"type end en {text}\n" for text in texts).encode()
-
-    def by_pipe() -> None:
-        piped = shutil.copyfile(book, book.with_name("piped"))
-        words = [program, "session", str(piped)]
-        subprocess.run(words, input=sent, check=True, stdout=subprocess.DEVNULL)
-
-    def by_client() -> None:
-        with Session(shutil.copyfile(book, book.with_name("asked"))) as session:
-            asked = (requests.Type("end", "en", text) for text in texts)
-            assert all(isinstance(answer, Typed) for answer in session.each(asked))
-            assert session.version() == 3_001
-
-    # other work of the machine may hold up one of them: the best of some rounds counts
-    best_pipe, best_client = seconds(by_pipe), seconds(by_client)
-    for _ in range(20):
-        if best_client < 2 * best_pipe:
-            break
-        best_pipe = min(best_pipe, seconds(by_pipe))
-        best_client = min(best_client, seconds(by_client))
-    assert best_client < 2 * best_pipe, (best_client, best_pipe)
+    with Session(book) as session:
+        monkeypatch.setattr(os, "write", noted)
+        asked = (requests.Type("end", "en", text) for text in texts)
+        assert all(isinstance(answer, Typed) for answer in session.each(asked))
+        assert session.version() == 3_001
+    # those that go ahead of the first replies, some seventy at once
+    assert all(3_900 < size <= 4_096 for size in written[:5])
 
 
 def removed(book: Path) -> None:
@@ -510,10 +560,10 @@ def test_a_book_that_is_gone_from_its_path_is_saved_and_said(
     book.chmod(0o640)
     with pytest.raises(Displaced) as caught:
         with Session(book) as session:
-            session.type("end", "en", "One.")
+            session.add_paragraph("end", "en", "One.")
             if moment == "before a command":
                 moved(book)
-            session.type("end", "en", "Two.")
+            session.add_paragraph("end", "en", "Two.")
             assert moment == "before the end"
             moved(book)
     saved = Path(f"{book}-saved-1")
@@ -525,7 +575,7 @@ def test_a_book_that_is_gone_from_its_path_is_saved_and_said(
     assert caught.value.version == 3
     assert saved.stat().st_mode & 0o777 == 0o640
     with Session(saved) as session:
-        assert [session.print(1), session.print(2)] == ["One.", "Two."]
+        assert [session.print_of(1), session.print_of(2)] == ["One.", "Two."]
 
 
 def test_a_book_that_is_gone_with_its_folder_says_that_it_is_not_saved(
@@ -537,7 +587,7 @@ def test_a_book_that_is_gone_with_its_folder_says_that_it_is_not_saved(
     session = Session(book)
     shutil.rmtree(folder)
     with pytest.raises(Displaced) as caught:
-        session.type("end", "en", "One.")
+        session.add_paragraph("end", "en", "One.")
     assert caught.value.sentence == (
         f"The file of the book is no longer at “{book}”: it was removed, renamed or replaced while it"
         " was open. What was kept last isn't at that path, and it could not be saved in a new file:"
@@ -550,7 +600,7 @@ def test_a_session_that_asked_alone_does_not_mind_what_became_of_the_file(
 ) -> None:
     with Session(book) as session:
         book.unlink()
-        assert session.list() == ()
+        assert session.paragraphs() == ()
 
 
 def test_a_book_that_is_replaced_while_it_is_opened_is_opened_anew(
@@ -559,10 +609,10 @@ def test_a_book_that_is_replaced_while_it_is_opened_is_opened_anew(
     other = book.with_name("other")
     shutil.copyfile(book, other)
     with Session(other) as session:
-        session.type("end", "en", "of the other one")
+        session.add_paragraph("end", "en", "of the other one")
     moving = script(f"mv '{other}' '{book}' 2> /dev/null; exec '{program}' \"$@\"")
     with Session(book, moving) as session:
-        assert session.type("end", "en", "One.").version == 3
+        assert session.add_paragraph("end", "en", "One.").version == 3
 
 
 def test_a_session_waits_for_a_book_that_is_in_use(
@@ -573,12 +623,12 @@ def test_a_session_waits_for_a_book_that_is_in_use(
     def wait(seconds: float) -> None:
         waits.append(seconds)
         if len(waits) == 3:
-            first.type("end", "en", "One.")
+            first.add_paragraph("end", "en", "One.")
             first.close()
 
     monkeypatch.setattr(time, "sleep", wait)
     with Session(book, timeout=60) as session:
-        assert (session.seen, len(waits)) == (2, 3)
+        assert (session.last_version, len(waits)) == (2, 3)
 
 
 def test_a_session_waits_no_longer_than_it_may(
@@ -601,3 +651,23 @@ def test_a_session_waits_no_longer_than_it_may(
         with pytest.raises(CannotOpen):
             Session(book)
         assert not waits
+
+
+def test_a_file_that_is_replaced_once_its_session_has_ended_is_not_called_lost(
+    book: Path, monkeypatch: pytest.MonkeyPatch
+) -> None:
+    other = Path(shutil.copyfile(book, book.with_name("other")))
+    close = Pipe.close
+
+    def closed(pipe: Pipe) -> Ending:
+        ending = close(pipe)
+        other.replace(book)
+        return ending
+
+    monkeypatch.setattr(Pipe, "close", closed)
+    with Session(book) as session:
+        session.add_paragraph("end", "en", "a")
+    assert {path.name for path in book.parent.iterdir()} <= {
+        book.name,
+        f"{book.name}-wal",
+    }

@@ -7,10 +7,12 @@ import subprocess
 import braildesk
 import pytest
 
+from braildesk.protocol.requests import BY_NAME, fields_of
 from scribe.cli import make_parser
+from scribe.cli.commands import COMMANDS
 from tool import ROOT
 
-PARSER, NAMES = make_parser()
+PARSER, NAMES = make_parser(), list(COMMANDS)
 
 
 def completed(*words: str) -> list[str]:
@@ -48,9 +50,16 @@ def test_each_option_of_a_command_is_offered(name: str) -> None:
     assert set(completed("scribe", name, "book", "--")) == options(name)
 
 
+@pytest.mark.parametrize("name", [name for name in NAMES if name in BY_NAME])
+def test_each_word_of_the_second_field_of_a_request_is_offered(name: str) -> None:
+    second = list(fields_of(BY_NAME[name]).values())[1:2]
+    words = [word for field in second for word in field.words]
+    assert completed("scribe", name, "book", "2", "") == words
+
+
 def test_words_are_offered_by_what_was_typed() -> None:
     assert completed("scribe", "re") == ["resolve", "restore", "retable"]
-    assert completed("scribe", "volume", "book", "2", "") == ["on", "off"]
+    assert completed("scribe", "volume", "book", "2", "of") == ["off"]
     assert completed("scribe", "move", "book", "2", "f") == ["front"]
 
 

@@ -6,9 +6,9 @@ import pytest
 from hypothesis import given
 from hypothesis import strategies as st
 
-from scribe.correction import Correction, replaced, smallest_correction
-from scribe.occurrences import Occurrence, occurrences
-from scribe.sequences import composed, seams, sequences
+from braildesk.desk.correction import Correction, replaced, smallest_correction
+from braildesk.text.sequences import composed, seams, sequences
+from braildesk.text.spans import Span, find_spans
 
 DOT_ABOVE = "\u0307"  # q with it has no character of its own
 ACUTE = "\u0301"
@@ -138,4 +138,4 @@ OCCURRENCES = [
 def test_words_are_found_in_normal_form_c_and_cut_no_sequence(
     text: str, sought: str, places: list[tuple[int, int]]
 ) -> None:
-    assert occurrences(text, sought) == tuple(Occurrence(*span) for span in places)
+    assert find_spans(text, sought) == tuple(Span(*span) for span in places)

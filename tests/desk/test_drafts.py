@@ -12,19 +12,20 @@ from functools import partial
 from pathlib import Path
 
 import pytest
-from hypothesis import given, settings
-from hypothesis import strategies as st
+from hypothesis import given, settings, strategies as st
 
-from scribe.draft import Aim, Draft, draft_in
-from scribe.drafts import Drafts, NotKept
-from scribe.import_note import note_in
-from scribe.occurrences import Occurrence
-from scribe.own_folder import MOST_BYTES
-from scribe.record import NotSuch, Record
+from braildesk.desk.draft import Aim, Draft, draft_in
+from braildesk.desk.drafts import Drafts, NotKept
+from braildesk.desk.import_note import note_in
+from braildesk.desk.own_folder import MOST_BYTES
+from braildesk.desk.record import NotSuch, Record
+from braildesk.text.spans import Span
+
+from scribe.words.drafts import not_kept
 from sitting import Sit
 from strangers import NEEDS_ROOT, STRANGER, as_stranger
 
-NOTE = Draft(Aim.NOTE, 3, "en", "The Tides", "which?\nwhy?", Occurrence(2, 4), 9)
+NOTE = Draft(Aim.NOTE, 3, "en", "The Tides", "which?\nwhy?", Span(2, 4), 9)
 FORGED = {
     "purpose": "EDIT",
     "paragraph": 2,
@@ -104,8 +105,7 @@ def test_a_draft_is_read_back_as_it_was_and_by_each_way_to_the_book(
 def test_a_draft_goes_with_a_book_that_is_moved_and_not_with_a_copy(
     moon: Path, store: Path
 ) -> None:
-    Drafts(moon).save(NOTE)
-    Drafts(moon).give_up(NOTE)
+    Drafts(moon).put_by(NOTE)
     Drafts(moon).save(NOTE)
     copy = Path(shutil.copyfile(moon, moon.with_name("copy.braildesk")))
     Drafts(copy).take_in()
@@ -145,9 +145,7 @@ def test_the_last_ten_texts_that_were_given_up_are_kept(
 ) -> None:
     drafts = Drafts(moon)
     for number in range(12):
-        drafts.save(Draft(Aim.AFTER, 1, "en", "", f"Text {number}."))
-        drafts.give_up(Draft(Aim.AFTER, 1, "en", "", f"Text {number}."))
-        assert drafts.waiting() is None
+        drafts.put_by(Draft(Aim.AFTER, 1, "en", "", f"Text {number}."))
     texts = [each.text for each in Drafts(moon).given_up()]
     assert texts == [f"Text {number}." for number in range(11, 1, -1)]
 
@@ -157,7 +155,7 @@ def test_a_text_that_is_given_up_twice_is_kept_once_as_the_newest(
 ) -> None:
     drafts = Drafts(moon)
     for text in ("One.", "Two.", "One."):
-        drafts.give_up(Draft(Aim.AFTER, 1, "en", "", text))
+        drafts.put_by(Draft(Aim.AFTER, 1, "en", "", text))
     assert [each.text for each in drafts.given_up()] == ["One.", "Two."]
 
 
@@ -166,7 +164,7 @@ def test_long_texts_that_were_given_up_make_room_for_the_newest(
 ) -> None:
     drafts = Drafts(moon)
     for letter in "abc":
-        drafts.give_up(Draft(Aim.AFTER, 1, "en", "", letter * 900_000))
+        drafts.put_by(Draft(Aim.AFTER, 1, "en", "", letter * 900_000))
     assert [each.text[0] for each in drafts.given_up()] == ["c", "b"]
 
 
@@ -177,7 +175,7 @@ def test_a_text_that_is_too_long_is_not_kept_and_the_one_before_it_stays(
     drafts.save(NOTE)
     with pytest.raises(NotKept) as told:
         drafts.save(Draft(Aim.AFTER, 1, "en", "", "a" * MOST_BYTES))
-    assert told.value.sentence == (
+    assert not_kept(told.value) == (
         f"What is typed can't be kept in {store}: it has more than 4,194,304 bytes."
     )
     assert drafts.waiting() == NOTE
@@ -373,7 +371,7 @@ def test_what_another_user_put_in_place_of_the_folder_of_drafts_is_not_used(
     assert as_stranger(lambda: put(shared.parent / "braildesk")) == ""
     with pytest.raises(NotKept) as told:
         Drafts(moon).save(NOTE)
-    assert told.value.sentence == (
+    assert not_kept(told.value) == (
         f"What is typed can't be kept in {shared.parent}/braildesk: {why}."
     )
 

@@ -12,7 +12,7 @@ import pytest
 
 import braildesk
 from braildesk import Session
-from tool import ROOT, Ran, environment, scribe
+from tool import Ran, environment, scribe
 from words import GIVEN, WORDS
 
 IN_THE_BOOK = "What was reported as kept is in the book, and what was asked after that may be there too."
@@ -54,7 +54,7 @@ def test_a_fault_of_scribe_itself_is_a_sentence_with_3_and_its_details_are_kept(
         f" Please report it with its details, which are in {kept}.\n",
     )
     details = kept.read_text()
-    version = (ROOT / "VERSION").read_text().strip()
+    version = braildesk.__version__
     assert details.startswith(f"scribe {version} run, Python 3.")
     assert "Traceback" in details and details.endswith("KeyError: 'moon'\n")
     assert stat.S_IMODE(kept.stat().st_mode) == 0o600

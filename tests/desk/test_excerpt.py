@@ -2,8 +2,8 @@
 
 import pytest
 
-from scribe.excerpt import ending, excerpt, opening
-from scribe.wrapping import columns
+from braildesk.text.excerpt import ending, excerpt, opening
+from braildesk.text.wrapping import columns
 
 TEXT = "On 20 July 1969 two men stood on the moon."
 

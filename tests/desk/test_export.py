@@ -2,18 +2,22 @@
 
 import os
 import resource
+import shutil
 import stat
-from argparse import Namespace
 from io import BytesIO, StringIO
 from pathlib import Path
 
 import pytest
 
+from braildesk import Session
 import braildesk
-from braildesk import Failed, Session
-from scribe.commands import export
-from scribe.console import Console
-from scribe.status import Status, Stop
+from braildesk.desk import export
+from braildesk.desk.layout import PageSize
+
+from scribe.words.console import Console
+from scribe.words.export import export_in_words
+from scribe.words.failures import in_sentences
+from scribe.words.status import Status, Stop
 from strangers import NEEDS_ROOT, as_stranger, in_time, lead_to
 from tool import Ran, scribe
 
@@ -46,7 +50,7 @@ def test_all_volumes_are_written_and_described(moon: Path) -> None:
 def test_cells_are_counted_without_the_numbers_of_pages(moon: Path) -> None:
     with Session(moon) as session:
         for _ in range(12):
-            session.type("end", "en", "a")
+            session.add_paragraph("end", "en", "a")
     ran = scribe("export", moon, "out", *SIZES, folder=moon.parent)
     # 18, 10 and 24 of the paragraphs that were there, on four lines, and 12 on as many
     assert ran.shown == "out/moon-1.brf: volume 1, 4 pages, 64 cells with dots.\n"
@@ -58,8 +62,8 @@ def test_a_volume_that_is_refused_leaves_the_older_file(moon: Path) -> None:
     out.mkdir()
     (out / "moon-1.brf").write_bytes(b"older")
     with Session(moon) as session:
-        session.table("dots", b"space \\s 0\nletter a 7\n")
-        session.type("front", "dots", "a a")
+        session.put_table("dots", b"space \\s 0\nletter a 7\n")
+        session.add_paragraph("front", "dots", "a a")
     ran = scribe("export", moon, "out", *SIZES, folder=moon.parent)
     assert ran == Ran(
         2,
@@ -141,17 +145,17 @@ def test_a_new_file_has_the_permissions_of_any_new_file(moon: Path) -> None:
 def of_volumes(moon: Path) -> None:
     """Gives the book three volumes."""
     with Session(moon) as session:
-        session.volume(2, True)
-        session.volume(3, True)
+        session.set_begins_volume(2, True)
+        session.set_begins_volume(3, True)
 
 
 def exported(moon: Path) -> tuple[list[str], list[str]]:
     """What an export to the folder out shows and says."""
     shown, said = StringIO(), StringIO()
-    words = Namespace(
-        file=moon, wait=0, folder=moon.with_name("out"), width=24, lines=5
-    )
-    assert export.run(words, Console(BytesIO(), shown, said)) is Status.DONE
+    job = export.Job(moon, moon.with_name("out"), PageSize(24, 5), wait=0)
+    console = Console(BytesIO(), shown, said)
+    with in_sentences():
+        assert export_in_words(job, console) is Status.DONE
     return shown.getvalue().splitlines(), said.getvalue().splitlines()
 
 
@@ -166,7 +170,7 @@ def changed_after(
         if number == volume and left[0]:
             left[0] -= 1
             with Session(moon) as session:
-                session.type("end", "en", "x")
+                session.add_paragraph("end", "en", "x")
         return pages
 
     monkeypatch.setattr(export, "export", read)
@@ -183,6 +187,31 @@ def test_all_volumes_are_of_one_version_where_another_session_changes_the_book(
     ]
     assert said == []
     assert b"X" in (moon.with_name("out") / "moon-3.brf").read_bytes()
+
+
+def test_all_volumes_are_of_one_book_where_a_copy_of_another_replaces_it(
+    moon: Path, monkeypatch: pytest.MonkeyPatch
+) -> None:
+    of_volumes(moon)
+    other = moon.with_name("other")
+    shutil.copyfile(moon, other)
+    with Session(moon) as session:
+        session.strike(1)
+    with Session(other) as session:
+        session.correct(3, 0, 5, "Once")
+    assert braildesk.check(moon) == braildesk.check(other)
+    export_one = braildesk.export
+
+    def read(path: Path, number: int, width: int, lines: int, timeout: float) -> bytes:
+        pages = export_one(path, number, width, lines)
+        if number == 1 and other.exists():
+            other.replace(moon)
+        return pages
+
+    monkeypatch.setattr(export, "export", read)
+    exported(moon)
+    first = (moon.with_name("out") / "moon-1.brf").read_bytes()
+    assert first == export_one(moon, 1, 24, 5) != b""
 
 
 def test_nothing_is_written_while_the_book_never_stays_at_one_version(
@@ -208,8 +237,9 @@ def test_where_a_volume_fails_it_is_said_which_files_are_new_and_which_older(
     out = moon.with_name("out")
     out.mkdir()
     (out / "moon-2.brf").mkdir()
-    with pytest.raises(Failed) as failed:
+    with pytest.raises(Stop) as failed:
         exported(moon)
+    assert failed.value.status is Status.FAILED
     assert failed.value.sentence == (
         f"Volume 2 could not be written: Is a directory. {out}/moon-2.brf is as it was."
         " Volume 1 is new. Volume 3 is as before."
@@ -297,17 +327,6 @@ def test_a_copy_opens_as_the_same_book(moon: Path) -> None:
         scribe("run", copied, folder=moon.parent, given=given).shown
         == scribe("run", moon, folder=moon.parent, given=given).shown
     )
-
-
-def test_a_copy_of_a_book_that_is_open_is_refused(moon: Path) -> None:
-    with Session(moon):
-        ran = scribe("copy", moon, "copy.braildesk", folder=moon.parent)
-    assert ran == Ran(
-        2,
-        "",
-        f"Another program has “{moon}” open. Nothing was changed. End that one first.\n",
-    )
-    assert not moon.with_name("copy.braildesk").exists()
 
 
 def test_a_copy_replaces_no_file(moon: Path) -> None:

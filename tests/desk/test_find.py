@@ -18,9 +18,9 @@ def find(book: Path, *words: str) -> Ran:
 @pytest.fixture
 def moon(book: Path) -> Path:
     with Session(book) as session:
-        session.type("end", "en", "On 20 July 1969 two men stood on the moon.")
-        session.type("end", "en", "The tides come twice a day.")
-        session.type("front", "en", "Moon, moon, moonlight")
+        session.add_paragraph("end", "en", "On 20 July 1969 two men stood on the moon.")
+        session.add_paragraph("end", "en", "The tides come twice a day.")
+        session.add_paragraph("front", "en", "Moon, moon, moonlight")
         session.strike(2)
     return book
 
@@ -93,9 +93,9 @@ def test_the_sign_of_a_number_stands_for_its_first_digit(moon: Path) -> None:
 
 def test_cells_of_a_contraction_stand_for_all_of_it(empty_book: Path) -> None:
     with Session(empty_book) as session:
-        session.table("own", TABLE)
-        session.type("end", "own", "nana")
-        session.type("end", "own", "qan an")
+        session.put_table("own", TABLE)
+        session.add_paragraph("end", "own", "nana")
+        session.add_paragraph("end", "own", "qan an")
     assert find(empty_book, "--braille", "1").shown == (
         "Paragraph 1, cell 2: ⠝[⠂]⠁\n"
         "  character 2: n[an]a\n"
@@ -109,9 +109,9 @@ def test_cells_of_a_contraction_stand_for_all_of_it(empty_book: Path) -> None:
 def test_words_are_found_in_normal_form_c(empty_book: Path) -> None:
     table = TABLE + "letter é 123456\nletter \\x0301 5\nletter e 15\n".encode()
     with Session(empty_book) as session:
-        session.table("own", table)
-        session.type("end", "own", "ané ane\u0301 q\u0307n")
-        session.type("end", "own", "ae")
+        session.put_table("own", table)
+        session.add_paragraph("end", "own", "ané ane\u0301 q\u0307n")
+        session.add_paragraph("end", "own", "ae")
         session.correct(2, 2, 0, "\u0301")  # two characters, side by side in the print
     for sought in ("é", "e\u0301"):
         assert find(empty_book, sought).shown == (

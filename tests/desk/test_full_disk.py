@@ -19,7 +19,7 @@ import json, os, shutil, subprocess, sys
 from io import BytesIO, StringIO
 import braildesk
 from scribe.cli import run_words
-from scribe.console import Console
+from scribe.words.console import Console
 
 kind, small, sample = sys.argv[1:]
 work, full = os.path.join(small, "work"), os.path.join(small, "full")
@@ -156,6 +156,7 @@ MAKING = {
     " and try again.",
     "export": "Volume 1 could not be written: No space left on device. pages/moon-1.brf was not"
     " made.",
+    "proof": "moon.html could not be written: No space left on device.",
     "copy": "The copy “copy.braildesk” could not be written",
 }
 
@@ -181,7 +182,7 @@ def test_a_change_that_finds_no_room_is_said_not_to_be_kept_and_is_not(
     said = " ".join(found.said.split())
     assert said.startswith(
         f"{CHANGING[name]} was not reported as kept, since the file of the book could not be"
-        " written or read. See to the disk."
+        " written or read. See to the disk: there is no room on it."
     )
     assert "kept" not in found.shown and "now" not in found.shown
 

@@ -2,21 +2,20 @@
 
 import re
 import resource
-import shutil
-import subprocess
 import sys
-import time
 from pathlib import Path
 
 import pytest
-from tool import Ran, environment, scribe
 
 import braildesk
 from braildesk import Session
-from scribe.intake import Intake
-from scribe.manuscript import passages
-from scribe.status import Stop
-from scribe.typist import type_all
+from braildesk.desk.intake import Intake
+from braildesk.desk.manuscript import passages
+from braildesk.desk.typist import type_all
+
+from scribe.words.failures import in_sentences
+from scribe.words.status import Stop
+from tool import Ran, scribe
 
 TEXT = "The moon\nis far away.\n\nTides\n\n\tTwice a day.\n"
 
@@ -30,7 +29,7 @@ def put(book: Path, text: str | bytes, *words: str, name: str = "text.txt") -> R
 
 def prints(book: Path) -> list[str]:
     with Session(book) as session:
-        return [session.print(paragraph.id) for paragraph in session.list()]
+        return [session.print_of(paragraph.id) for paragraph in session.paragraphs()]
 
 
 def version(book: Path) -> int:
@@ -39,7 +38,7 @@ def version(book: Path) -> int:
 
 def test_paragraphs_are_typed_at_the_end_of_the_book(book: Path) -> None:
     with Session(book) as session:
-        session.type("end", "en", "Moon book")
+        session.add_paragraph("end", "en", "Moon book")
     assert put(book, TEXT) == Ran(
         0, "3 paragraphs typed, numbers 2 to 4, by the table en.\n", ""
     )
@@ -95,7 +94,7 @@ def test_all_that_would_be_refused_is_reported_before_anything_is_typed(
 def test_columns_count_characters_of_the_file(empty_book: Path) -> None:
     table = "space \\s 0\nletter ש 146\nletter é 123456\nletter 月 134\n"
     with Session(empty_book) as session:
-        session.table("own", table.encode())
+        session.put_table("own", table.encode())
     ran = put(empty_book, "שש e\u0301e\u0301 月?\n月q\u0307 ש")
     assert [line[:46] for line in ran.said.split("\n")[:3]] == [
         "text.txt, line 1, column 10: “?” (U+003F QUEST",
@@ -108,10 +107,10 @@ def test_a_print_has_4_000_characters_once_it_is_in_normal_form_c(
     empty_book: Path,
 ) -> None:
     with Session(empty_book) as session:
-        session.table("own", "letter é 123456\n".encode())
+        session.put_table("own", "letter é 123456\n".encode())
     assert put(empty_book, "e\u0301" * 4000).status == 0
     with Session(empty_book) as session:
-        assert session.list()[0].length == 4000
+        assert session.paragraphs()[0].length == 4000
 
 
 def test_a_book_that_would_be_too_large_is_refused(big_book: Path) -> None:
@@ -154,9 +153,9 @@ def test_a_file_that_is_not_there_is_refused(book: Path) -> None:
 def tables(book: Path) -> Path:
     """A book with two tables, of which its last paragraph has the second."""
     with Session(book) as session:
-        session.supply("second")
-        session.type("end", "en", "First")
-        session.type("end", "second", "Last")
+        session.supply_table("second")
+        session.add_paragraph("end", "en", "First")
+        session.add_paragraph("end", "second", "Last")
     return book
 
 
@@ -177,7 +176,7 @@ def test_the_table_is_that_of_the_paragraph_before(
         0, f"1 paragraph typed, number 3, by the table {table}.\n", ""
     )
     with Session(tables) as session:
-        assert " ".join(str(each.id) for each in session.list()) == order
+        assert " ".join(str(each.id) for each in session.paragraphs()) == order
 
 
 @pytest.mark.parametrize(
@@ -264,31 +263,37 @@ def test_from_within_a_paragraph_or_past_the_last_is_refused(book: Path) -> None
     )
 
 
-def test_a_file_that_can_not_grow_leaves_what_is_said_and_from_goes_on(
-    book: Path,
+@pytest.mark.parametrize(
+    "is_noted, goes_on", [(True, "--continue"), (False, r"--from \d+")]
+)
+def test_a_file_that_can_not_grow_leaves_what_is_said_and_the_words_there_go_on(
+    book: Path, is_noted: bool, goes_on: str
 ) -> None:
+    state = {} if is_noted else {"XDG_STATE_HOME": "/dev/null"}
     lines = [f"Line number {number} of the moon." for number in range(1, 61)]
     (book.parent / "text.txt").write_text("\n\n".join(lines))
 
     def limit() -> None:
         resource.setrlimit(resource.RLIMIT_FSIZE, (400_000, 400_000))
 
-    ran = scribe("import", book, "text.txt", folder=book.parent, before=limit)
+    words = ("import", book, "text.txt")
+    ran = scribe(*words, folder=book.parent, before=limit, **state)
     assert (ran.status, ran.shown) == (3, "")
     found = re.search(
         r"^text\.txt is in the book up to line (\d+), which is the end of paragraph"
         r" (\d+) of the book\.\nWhen nothing stands in the way any more, go on by: scribe"
-        rf" import {re.escape(str(book))} text\.txt --from (\d+)\n$",
+        rf" import {re.escape(str(book))} text\.txt {goes_on}\n$",
         ran.said,
         re.MULTILINE,
     )
     assert found is not None
-    last, paragraph, following = map(int, found.groups())
-    assert 1 <= paragraph < 60
-    assert (last, following) == (2 * paragraph - 1, 2 * paragraph + 1)
+    last, paragraph = map(int, found.groups())
+    assert 1 <= paragraph < 60 and last == 2 * paragraph - 1
     assert prints(book) == lines[:paragraph]
-    words = ("import", book, "text.txt", "--from", str(following))
-    assert scribe(*words, folder=book.parent).status == 0
+    said = ran.said.split("\n")[-2].split()
+    if not is_noted:
+        assert said[-1] == str(2 * paragraph + 1)
+    assert scribe(*said[said.index("import") :], folder=book.parent).status == 0
     assert prints(book) == lines
 
 
@@ -355,54 +360,24 @@ def test_an_import_that_is_cut_short_says_what_is_in_the_book(
     assert (ran.status, ran.shown) == (status, "")
     assert ran.said.startswith(sentence)
     assert "Open the book again" not in ran.said
-    found = re.search(r"--lines --after (\d+) --from (\d+)\n$", ran.said)
+    assert ran.said.endswith(f" go on by: scribe import {book} text.txt --continue\n")
+    found = re.search(r"up to line (\d+),.* end of paragraph (\d+) of", ran.said)
     assert found is not None
-    paragraph, following = map(int, found.groups())
-    assert paragraph == following + 1  # two were there before
-    assert prints(book) == ["front", *lines[: following - 1], "end"]
-    more = ("--lines", "--after", str(paragraph), "--from", str(following))
-    assert scribe("import", book, "text.txt", *more, folder=book.parent).status == 0
+    line, paragraph = map(int, found.groups())
+    assert paragraph == line + 2  # two were there before
+    assert prints(book) == ["front", *lines[:line], "end"]
+    words = ("import", book, "text.txt", "--continue")
+    assert scribe(*words, folder=book.parent).status == 0
     assert prints(book) == ["front", *lines, "end"]
 
 
 def test_nothing_is_typed_into_a_book_that_was_changed_meanwhile(book: Path) -> None:
-    table = braildesk.tables(book)[0]
+    table = braildesk.read_tables(book)[0]
     found = passages(TEXT.encode(), by_lines=False)
     intake = Intake(0, 0, found, "end", table)
-    with pytest.raises(Stop, match="Somebody else changed the book"):
+    with (
+        pytest.raises(Stop, match="Somebody else changed the book"),
+        in_sentences(),
+    ):
         type_all(book, intake, lambda done: None)
     assert version(book) == 1
-
-
-def test_10_000_paragraphs_take_no_more_than_twice_what_a_pipe_takes(
-    made_once: Path, tmp_path: Path, program: str
-) -> None:
-    lines = [f"Paragraph {n} of the moon, which is far away." for n in range(10_000)]
-    (tmp_path / "text.txt").write_text("\n".join(lines))
-    requests = "".join(f"type end en {line}\n" for line in lines).encode()
-
-    def taken(words: list[str], given: bytes, ending: bytes) -> float:
-        """The seconds that a process takes which types all lines into a new book."""
-        shutil.copyfile(made_once / "supplied.braildesk", tmp_path / "book")
-        began = time.monotonic()
-        done = subprocess.run(
-            words, cwd=tmp_path, env=environment(), input=given, capture_output=True
-        )
-        assert done.stdout.endswith(ending)
-        return time.monotonic() - began
-
-    def is_fast_enough() -> bool:
-        piped = taken([program, "session", "book"], requests, b"ok 10001 10000\n")
-        words = [
-            sys.executable,
-            "-m",
-            "scribe",
-            "import",
-            "book",
-            "text.txt",
-            "--lines",
-        ]
-        return taken(words, b"", b"numbers 1 to 10000, by the table en.\n") <= 2 * piped
-
-    # other work of the machine may hold up one of them
-    assert any(is_fast_enough() for _ in range(8))

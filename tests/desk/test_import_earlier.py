@@ -11,10 +11,11 @@ from pathlib import Path
 import pytest
 
 from braildesk import Session
+from braildesk.desk.drafts import Drafts
+from braildesk.desk.import_note import ImportNote
+
 from scribe.cli import run_words
-from scribe.console import Console
-from scribe.drafts import Drafts
-from scribe.import_note import ImportNote
+from scribe.words.console import Console
 from sitting import Sat, Sit
 from stand_in import KEPT, KILL_BOTH, READ
 from terminal import standing_in
@@ -36,8 +37,8 @@ def front(book: Path) -> Path:
     """A book with two paragraphs, and the lines in a file beside it."""
     (book.parent / "text.txt").write_text("\n".join(LINES))
     with Session(book) as session:
-        session.type("end", "en", "front")
-        session.type("end", "en", "end")
+        session.add_paragraph("end", "en", "front")
+        session.add_paragraph("end", "en", "end")
     return book
 
 
@@ -46,7 +47,7 @@ def killed(front: Path) -> Path:
     """That book after the import of the lines between the two ended when five were kept."""
     with Session(front) as session:
         for number, line in enumerate(LINES[:5], 2):
-            session.type(1 if number == 2 else number, "en", line)
+            session.add_paragraph(1 if number == 2 else number, "en", line)
     Drafts(front).begin_import(begun(front))
     assert prints(front) == ["front", *LINES[:5], "end"]
     return front
@@ -163,7 +164,7 @@ def test_an_import_goes_on_after_corrections_and_other_paragraphs(killed: Path) 
         session.correct(4, 0, 4, "Row")
         session.correct(4, 0, 1, "B")
         session.undo(4)
-        session.type("end", "en", "Typed by hand.")
+        session.add_paragraph("end", "en", "Typed by hand.")
     assert again(killed, "--continue").status == 0
     rows = ["Row number 1 of the moon.", "Row number 2 of the moon."]
     assert prints(killed) == ["front", *rows, *LINES[2:], "end", "Typed by hand."]
@@ -184,7 +185,7 @@ def test_an_import_of_which_nothing_or_all_is_in_the_book_is_not_called_cut_shor
     Drafts(front).begin_import(begun(front))
     with Session(front) as session:
         for line in LINES[:kept]:
-            session.type("end", "en", line)
+            session.add_paragraph("end", "en", line)
     assert ran("show", front).said == ""
     assert Drafts(front).imports() == ()
 
@@ -353,7 +354,7 @@ def test_a_text_is_recognized_where_it_would_go(book: Path, place: str) -> None:
     put(book, "front")
     assert put(book, "One.\n\nTwo.\n", "--after", "front").status == 0
     with Session(book) as session:
-        assert [each.id for each in session.list()] == [2, 3, 1]
+        assert [each.id for each in session.paragraphs()] == [2, 3, 1]
     found = put(book, "One.\n\nTwo.\n", "--after", place)
     if place == "1":
         assert found.status == 0
@@ -403,4 +404,19 @@ def test_an_import_is_done_where_it_can_not_be_noted(
     assert (found.status, found.said) == (
         0,
         f"How far the import comes can't be kept in {book}/braildesk: Not a directory.\n",
+    )
+
+
+def test_what_is_in_the_way_of_noting_an_import_is_said_once(
+    moon: Path, tmp_path: Path
+) -> None:
+    (moon.parent / "text.txt").write_text("The sun\n")
+    words = ("import", moon.name, "text.txt")
+    home = tmp_path / "home"
+    name = Drafts(moon).place.name.replace("unsent", "imports")
+    (home / "braildesk").mkdir(mode=0o700, parents=True)
+    (home / "braildesk" / name).mkdir()
+    ran = scribe(*words, folder=moon.parent, XDG_STATE_HOME=str(home))
+    assert (
+        ran.status == 0 and ran.said.count("can't be read: it is no regular file") == 1
     )

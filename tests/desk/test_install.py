@@ -1,14 +1,19 @@
-"""make install: what it puts in place, and the commands as a person finds them there."""
+"""make install and pip: what they put in place, and the commands as a person finds them there."""
 
 import os
+import re
 import shutil
 import subprocess
+import sys
 from pathlib import Path
 
 import pytest
 
 import braildesk
 from tool import ROOT, Ran
+
+
+UEB = ROOT / "src" / "braildesk" / "tables" / "ueb.utb"
 
 
 def make(target: str, program: str, prefix: Path, stage: Path) -> None:
@@ -61,10 +66,19 @@ def test_programs_tables_and_manual_pages_are_put_in_place(prefix: Path) -> None
         "bin/scribe",
         "share/bash-completion/completions/scribe",
         "share/braildesk/python/scribe/__main__.py",
-        "share/braildesk/tables/ueb.utb",
+        "share/braildesk/python/braildesk/tables/ueb.utb",
         "share/man/man1/braildesk.1",
     } <= {*found}
-    assert not [path for path in found if path.endswith(".pyc")]
+
+
+def test_each_module_is_compiled(prefix: Path) -> None:
+    modules = [path for path in files(prefix / "share") if path.endswith(".py")]
+    compiled = [path for path in files(prefix / "share") if path.endswith(".pyc")]
+    of_packages = [path for path in modules if "/python/" in path]
+    assert sorted(
+        re.sub(r"/__pycache__/(\w+)\.cpython-\d+\.pyc$", r"/\1.py", path)
+        for path in compiled
+    ) == sorted(of_packages)
 
 
 def test_the_table_ueb_is_found_by_its_name(prefix: Path, tmp_path: Path) -> None:
@@ -76,8 +90,8 @@ def test_the_table_ueb_is_found_by_its_name(prefix: Path, tmp_path: Path) -> Non
         "Table ueb is in the book. No paragraph has it yet.\nThe book is at version 2.\n",
         "",
     )
-    (table,) = braildesk.tables(tmp_path / "sea.braildesk")
-    assert table.text == (ROOT / "tables" / "ueb.utb").read_bytes()
+    (table,) = braildesk.read_tables(tmp_path / "sea.braildesk")
+    assert table.text == UEB.read_bytes()
 
 
 def test_a_text_becomes_pages(prefix: Path, tmp_path: Path) -> None:
@@ -122,3 +136,60 @@ def test_uninstall_takes_all_of_it_away(program: str, tmp_path: Path) -> None:
     assert files(stage)
     make("uninstall", program, prefix, stage)
     assert files(stage) == []
+
+
+@pytest.fixture(scope="module")
+def environment_of_pip(tmp_path_factory: pytest.TempPathFactory) -> Path:
+    """A virtual environment in which pip installed the checkout, of which it made a copy."""
+    folder = tmp_path_factory.mktemp("pip")
+    checkout, environment = folder / "checkout", folder / "environment"
+    checkout.mkdir()
+    for name in ("pyproject.toml", "README.md"):
+        shutil.copy(ROOT / name, checkout)
+    shutil.copytree(
+        ROOT / "src", checkout / "src", ignore=shutil.ignore_patterns("*.pyc")
+    )
+    venv = [sys.executable, "-m", "venv", "--without-pip", "--system-site-packages"]
+    subprocess.run([*venv, environment], check=True)
+    python = environment / "bin" / "python3"
+    words = [
+        "--quiet",
+        "--no-deps",
+        "--no-build-isolation",
+        "--no-index",
+        str(checkout),
+    ]
+    subprocess.run(
+        [python, "-m", "pip", "install", *words],
+        env={"PATH": os.environ["PATH"], "PIP_DISABLE_PIP_VERSION_CHECK": "1"},
+        check=True,
+    )
+    return environment
+
+
+def test_pip_installs_both_packages_with_their_files_and_the_command(
+    environment_of_pip: Path, program: str, tmp_path: Path
+) -> None:
+    binaries = environment_of_pip / "bin"
+    bare = {"PATH": "/usr/bin:/bin", "BRAILDESK": program, "LC_ALL": "C.UTF-8"}
+
+    def ran(*words: str | Path) -> str:
+        done = subprocess.run(words, cwd=tmp_path, env=bare, capture_output=True)
+        assert (done.returncode, done.stderr) == (0, b"")
+        return done.stdout.decode()
+
+    show = "import braildesk; print(braildesk.__file__, braildesk.__version__)"
+    path, version = ran(binaries / "python3", "-c", show).split()
+    assert Path(path).is_relative_to(environment_of_pip)
+    assert version == braildesk.__version__ != "unknown"
+    assert ran(binaries / "scribe", "--version") == f"scribe {version}\n"
+    assert ran(binaries / "scribe", "new", "sea.braildesk") == (
+        "sea.braildesk is a new book with the table ueb.\n"
+    )
+    (table,) = braildesk.read_tables(tmp_path / "sea.braildesk")
+    assert table.text == UEB.read_bytes()
+    kinds = (
+        "from importlib.resources import files; import braildesk.tables.convert as c"
+    )
+    read = f"{kinds}; print((files(c) / 'measured.tsv').is_file())"
+    assert ran(binaries / "python3", "-c", read) == "True\n"

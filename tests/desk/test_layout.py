@@ -2,15 +2,15 @@
 
 import pytest
 
-from scribe.cells import NotCells, braille_ascii, braille_patterns
-from scribe.layout import Row, Section, Sheet, lay_out
+from braildesk.desk.layout import PageSize, Row, Section, lay_out
+from braildesk.text.cells import NotCells, braille_ascii, braille_patterns
 
 
 def test_a_page_of_the_tutorial_is_laid_out_as_it_stands_there() -> None:
     title = Section(2, True, braille_patterns(",THE ,MOON"))
     words = ",ON #BJ ,JULY #AIFI TWO MEN STOOD ON THE MOON4"
     body = Section(1, False, braille_patterns(words))
-    volume = lay_out([title, body], Sheet(24, 8))
+    volume = lay_out([title, body], PageSize(24, 8))
     assert volume.rows == (
         Row(1, 1, 2, 0, 10, "    ,THE ,MOON"),
         Row(1, 2, 1, 0, 19, "  ,ON #BJ ,JULY #AIFI"),
@@ -21,18 +21,20 @@ def test_a_page_of_the_tutorial_is_laid_out_as_it_stands_there() -> None:
     assert volume.brf() == "".join(line + "\r\n" for line in lines).encode() + b"\f"
 
 
-def rows(*sections: tuple[bool, str], sheet: Sheet) -> list[tuple[int, int, str]]:
+def rows(
+    *sections: tuple[bool, str], page_size: PageSize
+) -> list[tuple[int, int, str]]:
     laid = [
         Section(number, is_heading, braille_patterns(text))
         for number, (is_heading, text) in enumerate(sections, 1)
     ]
-    return [(row.page, row.line, row.shown) for row in lay_out(laid, sheet).rows]
+    return [(row.page, row.line, row.shown) for row in lay_out(laid, page_size).rows]
 
 
 def test_an_empty_line_stands_before_a_heading_and_none_at_the_front_of_a_page() -> (
     None
 ):
-    assert rows((False, "A"), (True, "B"), (True, "C"), sheet=Sheet(10, 5)) == [
+    assert rows((False, "A"), (True, "B"), (True, "C"), page_size=PageSize(10, 5)) == [
         (1, 1, "  A"),
         (1, 3, "    B"),
         (2, 1, "    C"),
@@ -40,7 +42,7 @@ def test_an_empty_line_stands_before_a_heading_and_none_at_the_front_of_a_page()
 
 
 def test_a_heading_whose_empty_line_fills_the_page_begins_the_next() -> None:
-    assert rows(*[(False, "A")] * 3, (True, "B"), sheet=Sheet(10, 5)) == [
+    assert rows(*[(False, "A")] * 3, (True, "B"), page_size=PageSize(10, 5)) == [
         (1, 1, "  A"),
         (1, 2, "  A"),
         (1, 3, "  A"),
@@ -49,10 +51,10 @@ def test_a_heading_whose_empty_line_fills_the_page_begins_the_next() -> None:
 
 
 def test_paragraphs_without_words_take_no_line() -> None:
-    assert rows((False, ""), (True, "   "), (False, " A"), sheet=Sheet(10, 5)) == [
-        (1, 1, "  A")
-    ]
-    assert rows((False, "A"), (True, " "), (False, "B"), sheet=Sheet(10, 5)) == [
+    assert rows(
+        (False, ""), (True, "   "), (False, " A"), page_size=PageSize(10, 5)
+    ) == [(1, 1, "  A")]
+    assert rows((False, "A"), (True, " "), (False, "B"), page_size=PageSize(10, 5)) == [
         (1, 1, "  A"),
         (1, 2, "  B"),
     ]
@@ -60,17 +62,17 @@ def test_paragraphs_without_words_take_no_line() -> None:
 
 def test_a_word_that_is_longer_than_its_empty_line_is_cut_there() -> None:
     # room for 8 cells on the first line, for 10 on the others
-    assert rows((False, "ABCDEFGHIJKLMNOPQRS TU"), sheet=Sheet(10, 5)) == [
+    assert rows((False, "ABCDEFGHIJKLMNOPQRS TU"), page_size=PageSize(10, 5)) == [
         (1, 1, "  ABCDEFGH"),
         (1, 2, "IJKLMNOPQR"),
         (1, 3, "S TU"),
     ]
     # it isn't begun after another word, and nine cells fit whole on the second line
-    assert rows((False, "AB ABCDEFGHI"), sheet=Sheet(10, 5)) == [
+    assert rows((False, "AB ABCDEFGHI"), page_size=PageSize(10, 5)) == [
         (1, 1, "  AB"),
         (1, 2, "ABCDEFGHI"),
     ]
-    assert rows((True, "ABCDEFG AB ABC"), sheet=Sheet(10, 5)) == [
+    assert rows((True, "ABCDEFG AB ABC"), page_size=PageSize(10, 5)) == [
         (1, 1, "    ABCDEF"),
         (1, 2, "    G AB"),
         (1, 3, "    ABC"),
@@ -78,14 +80,14 @@ def test_a_word_that_is_longer_than_its_empty_line_is_cut_there() -> None:
 
 
 def test_a_word_that_just_fits_stays_on_its_line() -> None:
-    assert rows((False, "ABC DEFG HIJKLMNOPQ"), sheet=Sheet(10, 5)) == [
+    assert rows((False, "ABC DEFG HIJKLMNOPQ"), page_size=PageSize(10, 5)) == [
         (1, 1, "  ABC DEFG"),
         (1, 2, "HIJKLMNOPQ"),
     ]
 
 
 def test_pages_are_filled_and_numbered() -> None:
-    volume = lay_out([Section(1, False, braille_patterns("A " * 41))], Sheet(10, 5))
+    volume = lay_out([Section(1, False, braille_patterns("A " * 41))], PageSize(10, 5))
     assert volume.pages == 3
     pages = volume.brf().decode().split("\f")
     assert pages[1] == "A A A A A\r\n" * 4 + "        #B\r\n"
@@ -94,12 +96,12 @@ def test_pages_are_filled_and_numbered() -> None:
 
 
 def test_a_page_number_has_letters_for_its_digits() -> None:
-    volume = lay_out([Section(1, False, "⠁⠀" * 1603)], Sheet(10, 5))
+    volume = lay_out([Section(1, False, "⠁⠀" * 1603)], PageSize(10, 5))
     assert volume.brf().decode().split("\f")[79].split("\r\n")[4] == "       #HJ"
 
 
 def test_a_volume_without_lines_has_no_bytes() -> None:
-    assert lay_out([Section(1, True, "")], Sheet()).brf() == b""
+    assert lay_out([Section(1, True, "")], PageSize()).brf() == b""
 
 
 CELLS = [

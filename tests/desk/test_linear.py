@@ -9,12 +9,13 @@ from pathlib import Path
 import pytest
 
 from braildesk import Table
-from braildesk.bring.shipped import head_of
-from braildesk.profile import read, warnings
-from scribe.judgement import faults
-from scribe.manuscript import Position, passages
-from scribe.sequences import belongs, composed
-from scribe.wrapping import wrap
+from braildesk.desk.manuscript import Position, passages
+from braildesk.desk.validation import faults
+from braildesk.tables import read, warnings
+from braildesk.tables.convert.shipped import head_of
+from braildesk.text import sequences
+from braildesk.text.sequences import belongs, composed
+from braildesk.text.wrapping import wrap
 
 # far more than the least that is wanted takes on a slow machine, and far less than its square
 SECONDS = 5
@@ -104,3 +105,26 @@ def test_lines_of_blanks_are_wrapped_in_one_walk() -> None:
     assert wrap(f"the moon{blanks}", 40) == ["the moon"]
     assert wrap(blanks, 40) == [""]
     assert time.process_time() - began < SECONDS
+
+
+def test_of_a_line_without_end_the_characters_are_looked_at_where_it_matters(
+    monkeypatch: pytest.MonkeyPatch,
+) -> None:
+    looked: list[int] = []
+    of_text = sequences.seams
+
+    def seams(text: str) -> list[int]:
+        looked.append(len(text))
+        return of_text(text)
+
+    monkeypatch.setattr(sequences, "seams", seams)
+    for text in ("The moon is far. ", "La lune était là. ", "e\u0301a "):
+        looked.clear()
+        (passage,) = passages((text * 20_000).encode(), False)
+        place = len(passage.text) - 1
+        assert len(passage.text) == len(
+            unicodedata.normalize("NFC", passage.lines[0].text)
+        )
+        assert passage.position(place).column == len(passage.lines[0].text)
+        assert passage.position(4_000) < passage.position(place)
+        assert sum(looked) < 10_000

@@ -4,7 +4,9 @@ import tracemalloc
 
 import pytest
 
-from scribe.manuscript import Position, Unreadable, passages
+from braildesk.desk.manuscript import Position, UnreadableText, passages
+
+from scribe.words.import_text import unreadable
 
 
 def texts(data: bytes, by_lines: bool = False) -> list[tuple[str, int, int]]:
@@ -41,9 +43,9 @@ def test_blank_lines_take_no_memory(by_lines: bool) -> None:
 
 def test_a_text_of_more_paragraphs_than_five_books_is_refused() -> None:
     assert len(passages(b"a\n" * 100_000, True)) == 100_000
-    with pytest.raises(Unreadable) as refused:
+    with pytest.raises(UnreadableText) as refused:
         passages(b"a\n" * 100_001, True)
-    assert refused.value.sentence == (
+    assert unreadable(refused.value) == (
         "has over 100,000 paragraphs, and a book has at most 20,000"
     )
 
@@ -118,5 +120,6 @@ UNREADABLE = [
 
 @pytest.mark.parametrize("data, sentence", UNREADABLE)
 def test_a_file_that_is_not_utf_8_is_refused(data: bytes, sentence: str) -> None:
-    with pytest.raises(Unreadable, match=sentence):
+    with pytest.raises(UnreadableText) as refused:
         passages(data, by_lines=True)
+    assert unreadable(refused.value).startswith(sentence)

@@ -31,14 +31,14 @@ def marks(book: Path) -> Ran:
 
 def marks_of(book: Path, paragraph: int = 1) -> tuple[Mark, ...]:
     with Session(book) as session:
-        return session.marks(paragraph)
+        return session.marks_of(paragraph)
 
 
 @pytest.fixture
 def moon(book: Path) -> Path:
     with Session(book) as session:
-        session.type("end", "en", "On 20 July 1969 two men stood there.")
-        session.type("front", "en", "Two moons")
+        session.add_paragraph("end", "en", "On 20 July 1969 two men stood there.")
+        session.add_paragraph("front", "en", "Two moons")
     return book
 
 
@@ -80,8 +80,8 @@ def test_the_nth_place_is_marked(moon: Path) -> None:
 def sand(empty_book: Path) -> Path:
     """Print that contractions make into cells together."""
     with Session(empty_book) as session:
-        session.table("own", CONTRACTIONS)
-        session.type("end", "own", "the sand ends")
+        session.put_table("own", CONTRACTIONS)
+        session.add_paragraph("end", "own", "the sand ends")
     return empty_book
 
 
@@ -136,7 +136,7 @@ def test_all_marks_are_shown_open_ones_first_in_the_order_of_the_book(
     mark(moon, "1", "men", "who?")
     mark(moon, "1", "two", "")
     with Session(moon) as session:
-        session.resolve(2)
+        session.resolve_mark(2)
         session.correct(1, 20, 3, "women")
     assert marks(moon) == Ran(
         0,
@@ -155,7 +155,7 @@ def test_a_book_without_marks_is_said_to_have_none(moon: Path) -> None:
 
 def test_control_characters_of_a_note_are_made_visible(moon: Path) -> None:
     with Session(moon) as session:
-        session.mark(1, 1, 2, "a\x1b[2Jb\u202e")
+        session.add_mark(1, 1, 2, "a\x1b[2Jb\u202e")
     assert marks(moon).shown == (
         "Mark 1, open, paragraph 1, on “On”: a<U+001B>[2Jb<U+202E>\n"
     )

@@ -13,7 +13,7 @@ import pytest
 import braildesk
 from braildesk import CannotOpen, Why
 from braildesk.named_files import NoFile, TooLarge, open_file, read_file
-from braildesk.profile import text_at
+from braildesk.tables import text_at
 from strangers import NEEDS_ROOT, in_time
 from tool import Ran, environment, scribe
 
@@ -79,7 +79,7 @@ def test_a_client_opens_no_pipe_in_place_of_a_book_or_a_table(
         lambda: braildesk.new_book(pipe),
         lambda: braildesk.check(pipe),
         lambda: braildesk.export(pipe, 1),
-        lambda: braildesk.tables(pipe),
+        lambda: braildesk.read_tables(pipe),
         lambda: braildesk.copy(pipe, pipe.with_name("copied")),
         lambda: braildesk.copy(book, pipe, overwrite=True),
         lambda: braildesk.translate(pipe, ["a"]),

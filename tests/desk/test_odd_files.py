@@ -7,20 +7,24 @@ import signal
 import subprocess
 import sys
 import tempfile
-from argparse import Namespace
 from collections.abc import Iterator, Sequence
 from io import BytesIO, StringIO
 from pathlib import Path
 
 import pytest
 
-import braildesk
 from braildesk import Failed, Lost, Session
+import braildesk
+from braildesk.desk.export import Job
+from braildesk.desk.import_text import bytes_of
+from braildesk.desk.layout import PageSize
+
 from scribe.cli import run_words
-from scribe.commands import export, import_text
-from scribe.console import Console
-from scribe.status import Stop
-from scribe.trial import Trial
+from scribe.prompt.trial import Trial
+from scribe.words.console import Console
+from scribe.words.export import export_in_words
+from scribe.words.failures import in_sentences
+from scribe.words.status import Stop
 from tool import ROOT, Ran, environment
 from words import PATHS, WORDS
 
@@ -105,17 +109,14 @@ def test_a_path_of_any_kind_ends_each_command_in_a_sentence(
 
 
 def test_a_path_that_is_typed_with_nul_is_refused_in_a_sentence(sample: Path) -> None:
-    with pytest.raises(Stop) as stop:
-        import_text.bytes_of(Path("mo\0on"))
+    with pytest.raises(Stop) as stop, in_sentences():
+        bytes_of(Path("mo\0on"))
     assert stop.value.sentence == (
         "mo\0on can't be read: no path has the character U+0000. Nothing was typed."
     )
-    words = Namespace(
-        **{"file": Path("moon.braildesk"), "folder": Path("mo\0on"), "wait": 0.0},
-        **{"width": 40, "lines": 25},
-    )
-    with pytest.raises(Stop) as stop:
-        export.run(words, Console(BytesIO(), StringIO(), StringIO()))
+    job = Job(Path("moon.braildesk"), Path("mo\0on"), PageSize(), wait=0)
+    with pytest.raises(Stop) as stop, in_sentences():
+        export_in_words(job, Console(BytesIO(), StringIO(), StringIO()))
     assert stop.value.sentence == (
         "mo\0on can't be a path, which has no character U+0000. Nothing was exported."
     )
@@ -163,7 +164,7 @@ def test_a_temporary_folder_without_room_is_said_where_a_book_has_a_log(
         session.close()
     monkeypatch.setattr(tempfile, "tempdir", str(sample / "missing"))
     with pytest.raises(Failed) as failed:
-        braildesk.tables("moon.braildesk")
+        braildesk.read_tables("moon.braildesk")
     assert failed.value.sentence == (
         "The book “moon.braildesk” could not be copied to a temporary folder, in which its tables"
         " are read with the work in its log: No such file or directory. Nothing was changed. Let"
@@ -187,7 +188,7 @@ EACH = """\
 import json, sys
 from io import BytesIO, StringIO
 from scribe.cli import run_words
-from scribe.console import Console
+from scribe.words.console import Console
 
 for words in json.load(sys.stdin):
     shown, said = StringIO(), StringIO()
@@ -202,9 +203,7 @@ def installed() -> Iterator[Path]:
     with tempfile.TemporaryDirectory(prefix="scribe-installed-") as name:
         folder = Path(name)
         folder.chmod(0o755)
-        shutil.copytree(ROOT / "python", folder / "python")
-        shutil.copytree(ROOT / "tables", folder / "tables")
-        shutil.copy(ROOT / "VERSION", folder)
+        shutil.copytree(ROOT / "src", folder / "src")
         shutil.copy(braildesk.find(), folder / "braildesk")
         yield folder
 
@@ -227,7 +226,7 @@ def ran_by_another(installed: Path, asked: list[list[str]]) -> list[Ran]:
         [sys.executable, "-c", EACH],
         cwd=installed,
         env=environment(
-            PYTHONPATH=str(installed / "python"),
+            PYTHONPATH=str(installed / "src"),
             BRAILDESK=str(installed / "braildesk"),
             HOME="/nonexistent",
         ),

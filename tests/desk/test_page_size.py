@@ -2,10 +2,12 @@
 
 import pytest
 
+from braildesk.desk.layout import PageSize
+
 from scribe.cli import make_parser
-from scribe.layout import Sheet
-from scribe.page_size import NoSize, described, sheet_of, typed_sheet
-from scribe.parser import WordsRefused
+from scribe.cli.page_size import page_size_of
+from scribe.cli.parser import WordsRefused
+from scribe.words.page_size import NoSize, described, typed_page_size
 
 COMMANDS = {
     "pages": ["pages", "m"],
@@ -16,10 +18,10 @@ COMMANDS = {
 
 @pytest.mark.parametrize("name", COMMANDS)
 def test_each_command_takes_a_size_and_has_the_same_usual_one(name: str) -> None:
-    parser, _ = make_parser()
-    assert sheet_of(parser.parse_args(COMMANDS[name])) == Sheet(40, 25)
+    parser = make_parser()
+    assert page_size_of(parser.parse_args(COMMANDS[name])) == PageSize(40, 25)
     words = [*COMMANDS[name], "--width", "10", "--lines", "40"]
-    assert sheet_of(parser.parse_args(words)) == Sheet(10, 40)
+    assert page_size_of(parser.parse_args(words)) == PageSize(10, 40)
 
 
 @pytest.mark.parametrize("name", COMMANDS)
@@ -36,28 +38,28 @@ def test_each_command_takes_a_size_and_has_the_same_usual_one(name: str) -> None
 def test_each_command_refuses_a_size_by_the_same_sentence(
     name: str, word: str, value: str, sentence: str
 ) -> None:
-    parser, _ = make_parser()
+    parser = make_parser()
     with pytest.raises(WordsRefused) as refused:
         parser.parse_args([*COMMANDS[name], word, value])
     assert refused.value.sentence == sentence
 
 
 @pytest.mark.parametrize(
-    "text, sheet",
+    "text, page_size",
     [
-        ("40 25", Sheet(40, 25)),
-        (" 10  5 ", Sheet(10, 5)),
-        ("60\t40", Sheet(60, 40)),
+        ("40 25", PageSize(40, 25)),
+        (" 10  5 ", PageSize(10, 5)),
+        ("60\t40", PageSize(60, 40)),
     ],
 )
-def test_a_size_is_typed_as_two_numbers(text: str, sheet: Sheet) -> None:
-    assert typed_sheet(text) == sheet
+def test_a_size_is_typed_as_two_numbers(text: str, page_size: PageSize) -> None:
+    assert typed_page_size(text) == page_size
 
 
 @pytest.mark.parametrize("text", ["", "40", "9 25", "61 25", "40 4", "40 41", "a b"])
 def test_what_is_no_size_is_said_with_all_that_are(text: str) -> None:
     with pytest.raises(NoSize) as fault:
-        typed_sheet(text)
+        typed_page_size(text)
     assert fault.value.sentence == (
         "A line of a page has 10 to 60 cells, and a page 5 to 40 lines. Type both numbers with a"
         " blank between them, as in 40 25."
@@ -65,4 +67,4 @@ def test_what_is_no_size_is_said_with_all_that_are(text: str) -> None:
 
 
 def test_a_size_is_described_in_words() -> None:
-    assert described(Sheet(30, 10)) == "10 lines of 30 cells"
+    assert described(PageSize(30, 10)) == "10 lines of 30 cells"

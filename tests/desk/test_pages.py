@@ -8,10 +8,10 @@ from hypothesis import HealthCheck, given, settings
 from hypothesis import strategies as st
 from tool import Ran, scribe
 
-import braildesk
 from braildesk import Session, new_book
-from scribe.layout import Sheet
-from scribe.volumes import parted, volume
+import braildesk
+from braildesk.desk.layout import PageSize
+from braildesk.desk.volumes import parted, volume
 
 SIZE = ("--width", "24", "--lines", "8")
 
@@ -24,16 +24,18 @@ def pages(book: Path, *words: str) -> Ran:
 def moon(book: Path) -> Path:
     """The book of the tutorial, with a struck paragraph and one without words."""
     with Session(book) as session:
-        session.type("end", "en", "On 20 July 1969 two men stood on the moon.")
-        session.type("front", "en", "The Moon")
-        session.style(2, "heading")
-        session.type("end", "en", "Not for the embosser.")
+        session.add_paragraph("end", "en", "On 20 July 1969 two men stood on the moon.")
+        session.add_paragraph("front", "en", "The Moon")
+        session.set_style(2, "heading")
+        session.add_paragraph("end", "en", "Not for the embosser.")
         session.strike(3)
-        session.type("end", "en", "The Tides")
-        session.style(4, "heading")
-        session.volume(4, True)
-        session.type("end", "en", "Twice a day the sea comes up, and twice it goes.")
-        session.type("end", "en", " ")
+        session.add_paragraph("end", "en", "The Tides")
+        session.set_style(4, "heading")
+        session.set_begins_volume(4, True)
+        session.add_paragraph(
+            "end", "en", "Twice a day the sea comes up, and twice it goes."
+        )
+        session.add_paragraph("end", "en", " ")
     return book
 
 
@@ -108,7 +110,7 @@ def test_what_is_not_there_is_refused(
 def test_a_book_of_struck_paragraphs_has_no_volume(book: Path) -> None:
     assert pages(book).status == 2
     with Session(book) as session:
-        session.type("end", "en", "Moon")
+        session.add_paragraph("end", "en", "Moon")
         session.strike(1)
     assert pages(book) == Ran(
         2, "", "The book has no volume, since it has no paragraph to show.\n"
@@ -122,8 +124,8 @@ def test_sizes_that_no_page_has_are_refused(book: Path, words: tuple[str]) -> No
 
 def test_a_cell_that_pages_can_not_have_is_refused(empty_book: Path) -> None:
     with Session(empty_book) as session:
-        session.table("own", b"letter a 1\nletter b 17\n")
-        session.type("end", "own", "ab")
+        session.put_table("own", b"letter a 1\nletter b 17\n")
+        session.add_paragraph("end", "own", "ab")
     ran = pages(empty_book)
     assert (ran.status, ran.shown) == (2, "")
     assert "paragraph 1" in ran.said
@@ -173,18 +175,18 @@ def test_volumes_are_laid_out_as_export_writes_them(
     path.unlink(missing_ok=True)
     new_book(path)
     with Session(path) as session:
-        session.supply("en")
+        session.supply_table("en")
         for text, is_heading, begins_volume, is_struck in paragraphs:
-            number = session.type("end", "en", text).id
+            number = session.add_paragraph("end", "en", text).id
             if is_heading:
-                session.style(number, "heading")
+                session.set_style(number, "heading")
             if begins_volume:
-                session.volume(number, True)
+                session.set_begins_volume(number, True)
             if is_struck:
                 session.strike(number)
-        parts = parted(session.list())
-        sheet = Sheet(width, lines)
-        laid = [volume(session, n, part, sheet) for n, part in enumerate(parts, 1)]
+        parts = parted(session.paragraphs())
+        page_size = PageSize(width, lines)
+        laid = [volume(session, n, part, page_size) for n, part in enumerate(parts, 1)]
     for each in laid:
         written = braildesk.export(path, each.number, width, lines)
         assert each.layout.brf() == written
@@ -210,7 +212,7 @@ def test_a_book_that_is_changed_meanwhile_is_said_to_be(
     )
     other.chmod(other.stat().st_mode | stat.S_IXUSR)
     with Session(moon) as session:
-        version = session.seen
+        version = session.last_version
     ran = scribe(
         "pages",
         moon,

@@ -74,7 +74,7 @@ def test_each_reply_is_that_of_the_program(requests: str, moon: Path) -> None:
     wanted = session(other, requests.encode())
     ran = scribe("run", moon, "--keep-going", folder=moon.parent, given=requests)
     assert ran.shown == wanted
-    assert braildesk.tables(moon) == braildesk.tables(other)
+    assert braildesk.read_tables(moon) == braildesk.read_tables(other)
 
 
 def test_lines_of_all_forms_are_read_as_the_program_reads_them(moon: Path) -> None:
@@ -253,7 +253,7 @@ def test_the_lines_of_a_table_arrive_as_they_stand(moon: Path) -> None:
     given = b"table own 2\nspace \\s 0\r\n# a b\xc2\x85c \r\r\nversion"
     ran = scribe("run", moon, folder=moon.parent, given=given)
     assert ran == Ran(0, "ok 8\nend 8\n", "")
-    (own,) = (table for table in braildesk.tables(moon) if table.name == "own")
+    (own,) = (table for table in braildesk.read_tables(moon) if table.name == "own")
     assert own.text == b"space \\s 0\r\n# a b\xc2\x85c \r\r\n"
 
 

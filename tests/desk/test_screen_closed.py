@@ -8,7 +8,8 @@ from typing import TextIO
 
 import pytest
 
-from scribe.drafts import Drafts
+from braildesk.desk.drafts import Drafts
+
 from scribe.screen.terminal import HungUp, Output, TerminalFailed
 from stand_in import KEPT, READ, WAIT
 from terminal import Open, Terminal, once_free, standing_in
@@ -47,7 +48,7 @@ def test_print_that_is_edited_is_offered_again(moon: Path, at: Open, way: str) -
     close(terminal, way)
     check_has_ended(terminal, way)
     with once_free(moon) as session:
-        assert session.seen == 8 and session.print(2) == "The Tides"
+        assert session.last_version == 8 and session.print_of(2) == "The Tides"
     again = at(moon)
     again.wait("further? y is yes, n is no.")
     again.keys("y")
@@ -73,7 +74,10 @@ def test_a_command_that_waits_for_its_reply_is_kept(
     queue.write_bytes(b"")
     check_has_ended(terminal, way)
     with once_free(moon) as session:
-        assert session.seen == 8 and session.print(1) == "Oh, The moon is far away."
+        assert (
+            session.last_version == 8
+            and session.print_of(1) == "Oh, The moon is far away."
+        )
     again = at(moon)
     lines = again.wait("? shows all keys.")
     assert lines[0] == "moon.braildesk, version 8, table en, nothing kept yet"
@@ -100,8 +104,8 @@ def test_a_note_that_is_typed_is_offered_again_on_its_cells(
     again.keys("q")
     assert again.ended() == 0
     with once_free(moon) as session:
-        (mark,) = session.marks(2)
-        assert session.print(2)[mark.start : mark.stop] == "Th"
+        (mark,) = session.marks_of(2)
+        assert session.print_of(2)[mark.start : mark.stop] == "Th"
 
 
 def test_lines_that_were_pasted_and_not_answered_for_are_asked_about_again(
@@ -124,7 +128,7 @@ def test_lines_that_were_pasted_and_not_answered_for_are_asked_about_again(
     again.keys("q")
     assert again.ended() == 0
     with once_free(moon) as session:
-        prints = [session.print(each.id) for each in session.list()]
+        prints = [session.print_of(each.id) for each in session.paragraphs()]
     assert prints[1:3] == ["It rose.", "It set."]
 
 
@@ -161,7 +165,7 @@ def failing(folder: Path, failure: str) -> dict[str, str]:
         f"    raise {failure}\n\n"
         "Desk.paste = paste\n"
     )
-    return {"PYTHONPATH": f"{folder}:{ROOT / 'python'}"}
+    return {"PYTHONPATH": f"{folder}:{ROOT / 'src'}"}
 
 
 @pytest.mark.parametrize("code", ["ENOSPC", "EIO"])

@@ -12,10 +12,11 @@ import pytest
 
 import braildesk
 from braildesk import Kind, Session, requests
-from scribe.cells import braille_patterns
-from scribe.draft import Aim, Draft
-from scribe.drafts import Drafts
-from scribe.screen.aside import Ending
+from braildesk.desk.draft import Aim, Draft
+from braildesk.desk.drafts import Drafts
+from braildesk.text.cells import braille_patterns
+
+from scribe.screen.background import Ending
 from scribe.screen.desk import Desk
 from scribe.screen.preview import Tables
 from scribe.screen.state import Preview, Size
@@ -65,11 +66,11 @@ def test_the_book_is_shown_as_it_is_opened(reader: Sat) -> None:
         "|⠠⠞|⠓⠑⠀{⠍⠕⠕⠝}⠀⠊⠎⠀⠋⠁⠗⠀⠁⠺⠁⠽⠲",
     ]
     # the T with its sign
-    assert sat.lit == ["T", "⠠⠞"]
+    assert sat.highlighted == ["T", "⠠⠞"]
     sat.press("tab")
-    assert sat.lit == ["T", "⠠"]
+    assert sat.highlighted == ["T", "⠠"]
     sat.press("right", "right")
-    assert sat.lit == ["h", "⠓"]
+    assert sat.highlighted == ["h", "⠓"]
 
 
 def test_a_correction_is_kept_with_its_name_and_then_undone(
@@ -94,7 +95,7 @@ def test_a_correction_is_kept_with_its_name_and_then_undone(
         "3: correction 2 taken back",
     ]
     with Session(closed(sat)) as session:
-        entries = session.history(1)
+        entries = session.history_of(1)
     assert [(each.kind, each.who) for each in entries] == [
         (Kind.CORRECT, None),
         (Kind.CORRECT, "anna"),
@@ -145,7 +146,7 @@ def test_paragraphs_are_typed_and_pasted_up_to_one_that_is_refused(
     assert sat.state.message.startswith("1 typed. The table en has no cells for “ě”")
     assert "kept: paragraph 8" in sat.lines[0]
     with Session(closed(sat)) as session:
-        found = [(each.id, session.print(each.id)) for each in session.list()]
+        found = [(each.id, session.print_of(each.id)) for each in session.paragraphs()]
     assert found == [
         (1, "The moon is far away."),
         (5, "Soon."),
@@ -272,7 +273,7 @@ def test_words_that_are_otherwise_in_the_book_are_offered_and_gone_to(
     moon: Path, sit: Sit, sought: str, how: str, place: tuple[int, int]
 ) -> None:
     with Session(moon) as session:
-        session.type("end", "plain", "The Tides' sea–side “up”")
+        session.add_paragraph("end", "plain", "The Tides' sea–side “up”")
     sat = sit(moon)
     sat.press("right", "/", *sought, "enter")
     assert sat.state.message == (
@@ -406,7 +407,7 @@ def test_an_import_into_an_empty_book_has_the_table_that_was_chosen(
     book: Path, sit: Sit
 ) -> None:
     with Session(book) as session:
-        session.table("plain", (ROOT / "sample" / "plain.utb").read_bytes())
+        session.put_table("plain", (ROOT / "sample" / "plain.utb").read_bytes())
     (book.parent / "text.txt").write_text("The sun\n")
     sat = sit(book)
     sat.press("i")
@@ -421,10 +422,10 @@ def test_an_import_that_is_cut_short_is_kept_as_far_as_it_came(
 ) -> None:
     def cut_short(path: Path, *_: object) -> Ending:
         with Session(path) as session:
-            session.type("end", "en", "The sun")
+            session.add_paragraph("end", "en", "The sun")
         return Ending("Import.", ("The session ended.",))
 
-    monkeypatch.setattr("scribe.screen.desk.done_aside", cut_short)
+    monkeypatch.setattr("scribe.screen.desk.done_in_background", cut_short)
     sat = sit(moon)
     sat.press("s", "i", "x", "enter")
     assert sat.lines[0].endswith("last kept: paragraph 1 struck")
@@ -439,13 +440,12 @@ def test_only_the_listed_paragraphs_are_asked_for(
 ) -> None:
     sat = sit(big_book)
     asked: list[int] = []
-    print_fields = requests.Print.fields
 
     def noted(request: requests.Print) -> list[str]:
         asked.append(request.paragraph)
-        return print_fields(request)
+        return super(requests.Print, request).head()
 
-    monkeypatch.setattr(requests.Print, "fields", noted)
+    monkeypatch.setattr(requests.Print, "head", noted)
     sat.press("c-end")
     assert sorted(set(asked)) == list(range(19_995, 20_001))
     assert sat.lines[6] == ">20000 body: Paragraph number 20000 of the moon."

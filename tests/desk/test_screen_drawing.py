@@ -5,14 +5,16 @@ from dataclasses import replace
 import pytest
 
 from braildesk import Mark, Paragraph, Style
-from scribe.occurrences import Occurrence
-from scribe.readings import Reading
+from braildesk.desk.readings import ParagraphReading
+from braildesk.text.spans import Span
+from braildesk.text.wrapping import columns
+
 from scribe.screen.drawing import Drawing, draw
-from scribe.screen.lines import LIT, MARKED
 from scribe.screen.field import Field, Purpose
+from scribe.screen.lines import HIGHLIGHTED, MARKED
 from scribe.screen.rows import rows
 from scribe.screen.state import (
-    Lit,
+    Highlighted,
     Opening,
     Pages,
     Pane,
@@ -21,7 +23,6 @@ from scribe.screen.state import (
     Size,
     State,
 )
-from scribe.wrapping import columns
 from tool import ROOT
 
 PRINT = "The moon is far away."
@@ -30,7 +31,7 @@ FIRST = Paragraph(1, "en", Style.BODY, False, False, 21)
 SECOND = Paragraph(2, "en", Style.HEADING, True, True, 9)
 MARKED_CELLS = "⠠⠞⠓⠑⠀{⠍⠕⠕⠝}⠀⠊⠎⠀⠋⠁⠗⠀⠁⠺⠁⠽⠲"
 MARK = Mark(1, 4, 8, False, False, "spelled so?")
-READING = Reading(FIRST, PRINT, CELLS, (MARK,))
+READING = ParagraphReading(FIRST, PRINT, CELLS, (MARK,))
 STATE = State(
     "moon.braildesk",
     7,
@@ -39,9 +40,9 @@ STATE = State(
     Size(80, 24),
     openings={1: Opening(PRINT, 1), 2: Opening("The Tides", 0)},
     reading=READING,
-    marked_cells=(Occurrence(5, 9),),
+    marked_cells=(Span(5, 9),),
     place=5,
-    lit=Lit(Occurrence(5, 6), Occurrence(6, 7)),
+    highlighted=Highlighted(Span(5, 6), Span(6, 7)),
     kept="kept: mark 1",
 )
 SIZES = {
@@ -114,42 +115,46 @@ def test_the_picture_of_the_page_of_the_desk_is_what_is_drawn() -> None:
         2: Opening(PRINT, 1),
         3: Opening("The Tides", 0),
     }
-    reading = Reading(book[1], PRINT, CELLS, (MARK,))
+    reading = ParagraphReading(book[1], PRINT, CELLS, (MARK,))
     state = replace(STATE, size=Size(72, 14), book=book, chosen=1, openings=openings)
     assert draw(replace(state, reading=reading)).texts() == picture
 
 
 def test_the_character_of_the_cursor_its_cells_and_the_marked_words_are_lit() -> None:
     drawn = draw(STATE)
-    assert looks(drawn, LIT) == ["o", "⠕"]
+    assert looks(drawn, HIGHLIGHTED) == ["o", "⠕"]
     assert looks(drawn, MARKED) == ["{m", "on}", "{⠍", "⠕⠝}"]
     assert drawn.lines[8][2].text == "o" and drawn.cursor == (8, 6)
 
 
 def test_on_cells_the_cursor_stands_on_the_cell_and_its_characters_are_lit() -> None:
-    lit = Lit(Occurrence(0, 1), Occurrence(0, 1))
-    drawn = draw(replace(STATE, pane=Pane.CELLS, place=0, lit=lit))
-    assert looks(drawn, LIT) == ["T", "⠠"]
+    highlighted = Highlighted(Span(0, 1), Span(0, 1))
+    drawn = draw(replace(STATE, pane=Pane.CELLS, place=0, highlighted=highlighted))
+    assert looks(drawn, HIGHLIGHTED) == ["T", "⠠"]
     assert drawn.texts()[8:10] == ["|T|he {moon} is far away.", MARKED_CELLS]
     assert drawn.cursor == (9, 0)
 
 
 def test_what_belongs_to_the_cursor_stands_between_bars_with_its_signs() -> None:
-    lit = Lit(Occurrence(0, 1), Occurrence(0, 2))
-    drawn = draw(replace(STATE, place=0, lit=lit))
+    highlighted = Highlighted(Span(0, 1), Span(0, 2))
+    drawn = draw(replace(STATE, place=0, highlighted=highlighted))
     assert drawn.texts()[8:10] == ["The {moon} is far away.", "|⠠⠞|" + MARKED_CELLS[2:]]
     assert "“T” ⠠⠞, character 1, cells 1 to 2" in drawn.texts()
 
 
 def test_chosen_cells_are_lit_and_counted() -> None:
-    lit = Lit(Occurrence(7, 8), Occurrence(8, 9))
-    drawn = draw(replace(STATE, pane=Pane.CELLS, place=8, anchor=5, lit=lit))
-    assert looks(drawn, LIT) == ["n", "⠍⠕⠕⠝"]
+    highlighted = Highlighted(Span(7, 8), Span(8, 9))
+    drawn = draw(
+        replace(STATE, pane=Pane.CELLS, place=8, anchor=5, highlighted=highlighted)
+    )
+    assert looks(drawn, HIGHLIGHTED) == ["n", "⠍⠕⠕⠝"]
     line, place = drawn.cursor
     assert drawn.texts()[line] == "⠠⠞⠓⠑⠀{|⠍⠕⠕⠝|}⠀⠊⠎⠀⠋⠁⠗⠀⠁⠺⠁⠽⠲"
     assert drawn.texts()[line][place] == "⠝"
     assert "4 cells chosen, at ⠝ “n”, cell 9, character 8" in drawn.texts()
-    drawn = draw(replace(STATE, pane=Pane.CELLS, place=9, anchor=5, lit=lit))
+    drawn = draw(
+        replace(STATE, pane=Pane.CELLS, place=9, anchor=5, highlighted=highlighted)
+    )
     line, place = drawn.cursor
     assert drawn.texts()[line][:place] == "⠠⠞⠓⠑⠀{|⠍⠕⠕⠝}"
 
@@ -186,9 +191,9 @@ def test_a_note_is_typed_on_the_last_line_and_the_cursor_stands_there() -> None:
 def test_a_long_paragraph_is_shown_around_the_cursor() -> None:
     text = " ".join(f"word{n:04}" for n in range(444))
     cells = text.replace(" ", "\u2800")
-    reading = Reading(FIRST, text, cells, ())
-    lit = Lit(Occurrence(3990, 3991), Occurrence(3990, 3991))
-    drawn = draw(replace(STATE, reading=reading, place=3990, lit=lit))
+    reading = ParagraphReading(FIRST, text, cells, ())
+    highlighted = Highlighted(Span(3990, 3991), Span(3990, 3991))
+    drawn = draw(replace(STATE, reading=reading, place=3990, highlighted=highlighted))
     line, place = drawn.cursor
     assert drawn.texts()[line].startswith("word") and "word0443" in drawn.texts()[line]
     assert drawn.texts()[line][place - 3 : place + 5] == "word0443"
@@ -199,14 +204,14 @@ def test_wide_and_combining_characters_take_their_columns_and_are_not_cut() -> N
     text = "月" * 20 + "e\u0301" * 20
     # of 22 columns the last is left free: 10 wide ones; 10 wide ones and one sequence; the others
     assert rows(text, 22) == [
-        Occurrence(0, 10),
-        Occurrence(10, 22),
-        Occurrence(22, 60),
+        Span(0, 10),
+        Span(10, 22),
+        Span(22, 60),
     ]
 
 
 def test_an_empty_book_says_what_to_do() -> None:
-    state = replace(STATE, book=(), openings={}, reading=None, lit=None)
+    state = replace(STATE, book=(), openings={}, reading=None, highlighted=None)
     lines = draw(state).texts()
     assert lines[1].startswith("The book has no paragraphs. o types the first one")
 
@@ -286,9 +291,13 @@ def test_several_marks_at_the_cursor_are_counted_and_a_long_note_is_wrapped() ->
 
 
 def test_a_character_that_can_not_be_seen_is_named_where_the_cursor_is() -> None:
-    reading = Reading(FIRST, "a\u00a0b", "⠁⠀⠃", ())
-    lit = Lit(Occurrence(1, 2), Occurrence(1, 2))
-    drawn = draw(replace(STATE, reading=reading, place=1, lit=lit, marked_cells=()))
+    reading = ParagraphReading(FIRST, "a\u00a0b", "⠁⠀⠃", ())
+    highlighted = Highlighted(Span(1, 2), Span(1, 2))
+    drawn = draw(
+        replace(
+            STATE, reading=reading, place=1, highlighted=highlighted, marked_cells=()
+        )
+    )
     assert "U+00A0 NO-BREAK SPACE ⠀, character 2, cell 2" in drawn.texts()
 
 
@@ -309,9 +318,9 @@ def test_no_sentence_brings_a_control_character_to_the_screen() -> None:
 
 
 def test_control_characters_are_written_out_and_the_cursor_stands_after_them() -> None:
-    reading = Reading(FIRST, "a\u200bb", "⠁⠁⠃", ())
-    lit = Lit(Occurrence(2, 3), Occurrence(2, 3))
-    drawn = draw(replace(STATE, reading=reading, place=2, lit=lit))
+    reading = ParagraphReading(FIRST, "a\u200bb", "⠁⠁⠃", ())
+    highlighted = Highlighted(Span(2, 3), Span(2, 3))
+    drawn = draw(replace(STATE, reading=reading, place=2, highlighted=highlighted))
     assert drawn.texts()[8] == "a<U+200B>b"
     assert drawn.cursor == (8, 9)
 

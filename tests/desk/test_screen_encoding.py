@@ -2,8 +2,9 @@
 
 import pytest
 
+from braildesk.text.wrapping import columns
+
 from scribe.screen.encoding import encoding_of, has, in_encoding, is_plain
-from scribe.wrapping import columns
 
 
 @pytest.mark.parametrize(

@@ -8,8 +8,8 @@ from pathlib import Path
 import pytest
 
 from braildesk import Session
-from scribe.draft import Aim, Draft
-from scribe.drafts import Drafts
+from braildesk.desk.draft import Aim, Draft
+from braildesk.desk.drafts import Drafts
 from sitting import Sat, Sit
 from stand_in import KEPT, KILL_PROGRAM
 from terminal import Open, standing_in
@@ -262,6 +262,23 @@ def test_lines_pasted_into_an_edit_go_on_after_the_one_that_is_in_the_book(
     assert sat.state.version == 10
 
 
+def test_lines_stand_on_the_screen_while_it_is_asked_what_they_are(
+    moon: Path, sit: Sit
+) -> None:
+    sat = sit(moon)
+    sat.press("o")
+    paste(sat, "It rose.\nIt set.")
+    assert "It rose. It set." in sat.lines
+    sat.press("escape", "escape")
+    assert "It rose. It set." not in sat.lines
+    sat.press("U", "y")
+    assert asked(sat).startswith("The pasted text has 2 lines. Are they 2 paragraphs?")
+    assert "It rose. It set." in sat.lines
+    sat.press("y")
+    prints = [sat.state.openings[each.id].words for each in sat.state.book]
+    assert prints[1:3] == ["It rose.", "It set."]
+
+
 def test_an_unbracketed_paste_at_the_terminal_changes_nothing_and_comes_back(
     moon: Path, at: Open
 ) -> None:
@@ -282,4 +299,4 @@ def test_an_unbracketed_paste_at_the_terminal_changes_nothing_and_comes_back(
     terminal.keys("q")
     assert terminal.ended() == 0
     with Session(moon) as session:
-        assert session.seen == 9
+        assert session.last_version == 9

@@ -13,13 +13,14 @@ import pytest
 from prompt_toolkit.input.ansi_escape_sequences import ANSI_SEQUENCES
 
 from braildesk import Paragraph, Session, Style
-from scribe.occurrences import Occurrence
-from scribe.readings import Reading
+from braildesk.desk.readings import ParagraphReading
+from braildesk.text.spans import Span
+
 from scribe.screen.drawing import draw
 from scribe.screen.field import Field, Purpose
 from scribe.screen.keyboard import Keyboard, Pasted
 from scribe.screen.keys import step
-from scribe.screen.state import Lit, Opening, Size, State
+from scribe.screen.state import Highlighted, Opening, Size, State
 from terminal import Open
 
 PRINT = "The moon is far away."
@@ -51,8 +52,8 @@ def state_of(size: Size) -> State:
         ("en",),
         size,
         openings={1: Opening(PRINT, 0)},
-        reading=Reading(its, PRINT, "⠠⠞⠓⠑⠀⠍⠕⠕⠝⠀⠊⠎⠀⠋⠁⠗⠀⠁⠺⠁⠽⠲", ()),
-        lit=Lit(Occurrence(0, 1), Occurrence(0, 2)),
+        reading=ParagraphReading(its, PRINT, "⠠⠞⠓⠑⠀⠍⠕⠕⠝⠀⠊⠎⠀⠋⠁⠗⠀⠁⠺⠁⠽⠲", ()),
+        highlighted=Highlighted(Span(0, 1), Span(0, 2)),
         table="en",
         typed=Field(Purpose.EDIT, TYPED, PLACE),
     )
@@ -219,4 +220,4 @@ def test_keys_with_alt_at_the_terminal_leave_the_text_and_escape_alone_ends_it(
     terminal.keys("q")
     assert terminal.ended() == 0
     with Session(moon) as session:
-        assert session.seen == 7
+        assert session.last_version == 7

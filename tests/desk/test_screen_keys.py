@@ -6,10 +6,11 @@ from pathlib import Path
 import pytest
 
 from braildesk import Mark, Paragraph, Style, requests
-from scribe.layout import Sheet
-from scribe.occurrences import Occurrence
-from scribe.readings import Reading
-from scribe.screen.errands import (
+from braildesk.desk.layout import PageSize
+from braildesk.desk.readings import ParagraphReading
+from braildesk.text.spans import Span
+
+from scribe.screen.actions import (
     BringBack,
     ExportTo,
     GiveTable,
@@ -26,14 +27,8 @@ from scribe.screen.errands import (
     TypeAll,
 )
 from scribe.screen.field import Field, Purpose
-from scribe.screen.keys import (
-    KEYS,
-    WHILE_TYPING,
-    help_lines,
-    pasted,
-    step,
-)
-from scribe.screen.state import Lit, Opening, Pages, Pane, Question, Size, State
+from scribe.screen.keys import KEYS, WHILE_TYPING, help_lines, pasted, step
+from scribe.screen.state import Highlighted, Opening, Pages, Pane, Question, Size, State
 
 PRINT = "The moon is far away."
 CELLS = "⠠⠞⠓⠑⠀⠍⠕⠕⠝⠀⠊⠎⠀⠋⠁⠗⠀⠁⠺⠁⠽⠲"
@@ -48,11 +43,13 @@ STATE = State(
     BOOK,
     ("en", "own"),
     Size(80, 24),
-    reading=Reading(BOOK[0], PRINT, CELLS, (Mark(1, 4, 8, False, False, "so?"),)),
+    reading=ParagraphReading(
+        BOOK[0], PRINT, CELLS, (Mark(1, 4, 8, False, False, "so?"),)
+    ),
     place=5,
-    lit=Lit(Occurrence(5, 6), Occurrence(6, 7)),
+    highlighted=Highlighted(Span(5, 6), Span(6, 7)),
 )
-EMPTY = replace(STATE, book=(), reading=None, lit=None)
+EMPTY = replace(STATE, book=(), reading=None, highlighted=None)
 AT_SECOND = STATE.at(1)
 
 
@@ -137,9 +134,9 @@ ASKED = {
         ExportTo(Path("pages")),
     ),
     "a folder is exported to on pages of another size": (
-        replace(typed(Purpose.FOLDER, "pages"), sheet=Sheet(30, 10)),
+        replace(typed(Purpose.FOLDER, "pages"), page_size=PageSize(30, 10)),
         "enter",
-        ExportTo(Path("pages"), Sheet(30, 10)),
+        ExportTo(Path("pages"), PageSize(30, 10)),
     ),
     "a text file is imported after the paragraph": (
         typed(Purpose.TEXT_FILE, "a.txt"),
@@ -182,7 +179,7 @@ SAID = {
         "That key does nothing here. Escape goes back.",
     ),
     "r without a mark": (
-        replace(STATE, lit=Lit(Occurrence(0, 1), Occurrence(0, 2))),
+        replace(STATE, highlighted=Highlighted(Span(0, 1), Span(0, 2))),
         "r",
         "There is no open mark here. n looks for the next one.",
     ),
@@ -190,6 +187,65 @@ SAID = {
         AT_SECOND,
         "enter",
         "Paragraph 2 is struck. s restores it, and then it can be edited.",
+    ),
+    "m on a struck paragraph": (
+        AT_SECOND,
+        "m",
+        "Paragraph 2 is struck. s restores it, and then it can be marked.",
+    ),
+    "t on a struck paragraph": (
+        AT_SECOND,
+        "t",
+        "Paragraph 2 is struck. s restores it, and then it can be given a table.",
+    ),
+    **{
+        f"{key} on the first paragraph": (
+            replace(STATE, place=place),
+            key,
+            "It is the first paragraph of the book.",
+        )
+        for key, place in (("up", 5), ("pageup", 5), ("c-home", 0))
+    },
+    **{
+        f"{key} on the last paragraph": (
+            STATE.at(2),
+            key,
+            "It is the last paragraph of the book.",
+        )
+        for key in ("down", "pagedown", "c-end")
+    },
+    **{
+        f"{key} at the front": (
+            replace(STATE, place=0),
+            key,
+            "This is the front of the paragraph.",
+        )
+        for key in ("left", "home", "c-left")
+    },
+    **{
+        f"{key} at the end": (
+            replace(STATE, place=20),
+            key,
+            "This is the end of the paragraph.",
+        )
+        for key in ("right", "end", "c-right")
+    },
+    "the end of a word at the end of the cells": (
+        replace(STATE, pane=Pane.CELLS, anchor=3, place=21),
+        "c-right",
+        "This is the end of the paragraph.",
+    ),
+    "right in an empty paragraph": (
+        replace(STATE, reading=ParagraphReading(BOOK[0], "", "", ()), place=0),
+        "right",
+        "The paragraph is empty.",
+    ),
+    "down on the last line that is looked at": (
+        replace(
+            STATE, pages=Pages("All keys.", ("Up: to the paragraph before",), 0, 0)
+        ),
+        "down",
+        "There are no more lines that way.",
     ),
     "Alt-Up at the front": (STATE, "a-up", "It is the first paragraph of the book."),
     "Alt-Down at the end": (
@@ -357,7 +413,7 @@ def test_space_begins_and_ends_a_choice_of_cells() -> None:
     state = step(STATE, " ").state
     assert (state.pane, state.anchor) == (Pane.CELLS, 6)
     state = step(step(state, "right").state, "right").state
-    assert state.chosen_cells == Occurrence(6, 9)
+    assert state.chosen_cells == Span(6, 9)
     assert step(state, " ").state.anchor is None
 
 
@@ -369,6 +425,12 @@ def test_pasted_lines_of_a_new_paragraph_are_asked_about() -> None:
     )
     joined = step(state, "n").state
     assert joined.typed and joined.typed.text == "One Two ThreeIt. "
+
+
+def test_a_key_at_an_end_leaves_the_cursor_and_the_chosen_cells() -> None:
+    state = replace(STATE, pane=Pane.CELLS, anchor=3, place=5)
+    moved = step(state, "up").state
+    assert (moved.place, moved.anchor, moved.chosen) == (5, 3, 0)
 
 
 def test_pasted_lines_where_print_is_edited_are_asked_about() -> None:
@@ -408,9 +470,12 @@ def test_a_size_of_pages_is_kept_and_what_is_none_is_typed_further() -> None:
     asked = step(STATE, "w").state
     assert asked.typed == Field(Purpose.SIZE, "40 25", 5)
     given = step(typed(Purpose.SIZE, "30 10"), "enter").state
-    assert (given.sheet, given.typed) == (Sheet(30, 10), None)
+    assert (given.page_size, given.typed) == (PageSize(30, 10), None)
     further = step(typed(Purpose.SIZE, "30 1"), "enter").state
-    assert (further.sheet, further.typed) == (Sheet(), Field(Purpose.SIZE, "30 1", 4))
+    assert (further.page_size, further.typed) == (
+        PageSize(),
+        Field(Purpose.SIZE, "30 1", 4),
+    )
 
 
 def test_no_other_key_answers_a_question() -> None:

@@ -11,7 +11,7 @@ from pathlib import Path
 import pytest
 
 from braildesk import Mark, Session
-from scribe.drafts import Drafts
+from braildesk.desk.drafts import Drafts
 from stand_in import ANSWERED, HALF, KEPT, KILL_PROGRAM, KILL_SCRIBE, READ
 from terminal import WAIT_SECONDS, Open, Terminal, once_free, standing_in
 
@@ -46,21 +46,21 @@ def shown(path: Path) -> str:
             " ".join(
                 [
                     str(each.id),
-                    session.print(each.id),
+                    session.print_of(each.id),
                     *("struck" for _ in range(each.struck)),
                     *(
                         f"<{on(session, each.id, mark)}>"
-                        for mark in session.marks(each.id)
+                        for mark in session.marks_of(each.id)
                     ),
                 ]
             )
-            for each in session.list()
+            for each in session.paragraphs()
         ]
-        return f"{session.seen}: {', '.join(paragraphs)}"
+        return f"{session.last_version}: {', '.join(paragraphs)}"
 
 
 def on(session: Session, number: int, mark: Mark) -> str:
-    return session.print(number)[mark.start : mark.stop]
+    return session.print_of(number)[mark.start : mark.stop]
 
 
 def worked(terminal: Terminal, number: int) -> None:

@@ -5,7 +5,8 @@ from pathlib import Path
 import pytest
 
 from braildesk import Session
-from scribe.occurrences import Occurrence
+from braildesk.text.spans import Span
+
 from scribe.screen.drawing import draw
 from scribe.screen.state import Size
 from sitting import Sat, Sit
@@ -107,8 +108,8 @@ def test_each_mark_of_one_character_is_gone_to_shown_and_resolved(
     moon: Path, sit: Sit
 ) -> None:
     with Session(moon) as session:
-        session.mark(1, 5, 4, "whose?")
-        session.mark(1, 6, 1, "one o?")
+        session.add_mark(1, 5, 4, "whose?")
+        session.add_mark(1, 6, 1, "one o?")
     sat = sit(moon)
     first = "Mark 1, open, on “moon”: spelled so?"
     second = "Mark 2, open, on “moon”: whose?"
@@ -156,7 +157,7 @@ def test_marks_that_are_touched_besides_the_one_in_hand_are_named(
     moon: Path, sit: Sit
 ) -> None:
     with Session(moon) as session:
-        session.mark(1, 10, 2, "is?")
+        session.add_mark(1, 10, 2, "is?")
     sat = sit(moon)
     sat.press("n", "enter", *["delete"] * 7, *"sun was", "home", "enter")
     assert sat.lines[-3:-1] == [
@@ -169,8 +170,8 @@ def test_a_mark_whose_words_at_the_end_are_gone_is_gone_to_and_resolved(
     moon: Path, sit: Sit
 ) -> None:
     with Session(moon) as session:
-        session.resolve(1)
-        session.mark(2, 6, 5, "which?")
+        session.resolve_mark(1)
+        session.add_mark(2, 6, 5, "which?")
         session.correct(2, 4, 5, "")
     sat = sit(moon)
     sat.press("n")
@@ -183,7 +184,7 @@ def test_the_chosen_paragraph_is_listed_whatever_is_said_below(
     moon: Path, sit: Sit
 ) -> None:
     with Session(moon) as session:
-        session.mark(3, 0, 6, "is it so? " * 40)
+        session.add_mark(3, 0, 6, "is it so? " * 40)
     for size in SIZES:
         sat = sit(moon, size=size)
         sat.press("c-end")
@@ -201,8 +202,8 @@ def test_marks_are_worked_through_in_a_terminal(
     moon: Path, at: Open, size: tuple[int, int]
 ) -> None:
     with Session(moon) as session:
-        session.mark(2, 6, 5, "which?")
-        session.mark(3, 1, 5, "how often?")
+        session.add_mark(2, 6, 5, "which?")
+        session.add_mark(3, 1, 5, "how often?")
     terminal = at(moon, *size)
     terminal.wait("? shows all keys.")
     for number, typed in enumerate(("sun", "Waves", "Once"), 1):
@@ -217,8 +218,8 @@ def test_marks_are_worked_through_in_a_terminal(
     terminal.keys("q")
     assert terminal.ended() == 0
     with Session(moon) as session:
-        prints = [session.print(number) for number in (1, 2, 3)]
-        marks = [mark for number in (1, 2, 3) for mark in session.marks(number)]
+        prints = [session.print_of(number) for number in (1, 2, 3)]
+        marks = [mark for number in (1, 2, 3) for mark in session.marks_of(number)]
     assert prints == [
         "The sun is far away.",
         "The Waves",
@@ -233,11 +234,11 @@ def test_ctrl_right_chooses_cells_to_the_end_of_a_word(
 ) -> None:
     sat = sit(moon, size=size)
     sat.press("c-right", " ", "c-right")
-    assert sat.state.chosen_cells == Occurrence(5, 9)
+    assert sat.state.chosen_cells == Span(5, 9)
     sat.press("c-right")
-    assert sat.state.chosen_cells == Occurrence(5, 12)
+    assert sat.state.chosen_cells == Span(5, 12)
     sat.press(*["c-right"] * 5)
-    assert sat.state.chosen_cells == Occurrence(5, 22)
+    assert sat.state.chosen_cells == Span(5, 22)
     sat.press(" ", "c-left", "c-left")
     assert sat.state.place == 13
     # without a choice it goes to the front of the next word, as in the print

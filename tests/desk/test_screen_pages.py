@@ -5,31 +5,38 @@ from pathlib import Path
 
 import pytest
 
-import braildesk
 from braildesk import Session
-from scribe.layout import Sheet
+import braildesk
+from braildesk.desk.layout import PageSize
+from braildesk.text.wrapping import wrap
+
 from scribe.screen.pager import seen
 from scribe.screen.state import Size
-from scribe.wrapping import wrap
 from sitting import Sat, Sit
 
-SHEETS = [Sheet(40, 25), Sheet(30, 10), Sheet(10, 5), Sheet(60, 40), Sheet(13, 6)]
+SHEETS = [
+    PageSize(40, 25),
+    PageSize(30, 10),
+    PageSize(10, 5),
+    PageSize(60, 40),
+    PageSize(13, 6),
+]
 
 
 @pytest.fixture
 def tides(book: Path) -> Path:
     """A book of two volumes, with headings, a long paragraph and one that is struck."""
     with Session(book) as session:
-        session.type("end", "en", "The Moon")
-        session.style(1, "heading")
+        session.add_paragraph("end", "en", "The Moon")
+        session.set_style(1, "heading")
         for count in (3, 40, 1):
-            session.type("end", "en", "Twice a day the sea comes up. " * count)
+            session.add_paragraph("end", "en", "Twice a day the sea comes up. " * count)
         session.strike(4)
-        session.type("end", "en", "The Tides")
-        session.style(5, "heading")
-        session.volume(5, True)
-        session.type("end", "en", "It goes twice, and comes twice.")
-        session.type("end", "en", " ")
+        session.add_paragraph("end", "en", "The Tides")
+        session.set_style(5, "heading")
+        session.set_begins_volume(5, True)
+        session.add_paragraph("end", "en", "It goes twice, and comes twice.")
+        session.add_paragraph("end", "en", " ")
     return book
 
 
@@ -43,11 +50,11 @@ FIRST = {
 }
 
 
-def sized(sat: Sat, sheet: Sheet) -> None:
+def sized(sat: Sat, page_size: PageSize) -> None:
     """Gives pages a size, by keys."""
-    before = f"{sat.state.sheet.width} {sat.state.sheet.lines}"
+    before = f"{sat.state.page_size.width} {sat.state.page_size.lines}"
     sat.press("w", *["backspace"] * len(before))
-    sat.write(f"{sheet.width} {sheet.lines}")
+    sat.write(f"{page_size.width} {page_size.lines}")
     sat.press("enter")
 
 
@@ -56,26 +63,28 @@ def test_the_page_and_the_line_of_each_paragraph_are_those_of_an_export(
     tides: Path, sit: Sit, size: Size
 ) -> None:
     exported = {
-        (sheet, volume): braildesk.export(tides, volume, sheet.width, sheet.lines)
-        for sheet in SHEETS
+        (page_size, volume): braildesk.export(
+            tides, volume, page_size.width, page_size.lines
+        )
+        for page_size in SHEETS
         for volume in (1, 2)
     }
     sat = sit(tides, size=size)
     sat.press("a")
-    for sheet in SHEETS:
-        sized(sat, sheet)
+    for page_size in SHEETS:
+        sized(sat, page_size)
         for number, first in FIRST.items():
             sat.press("g", str(number), "enter", "p")
             pages = sat.state.pages
             assert pages is not None
             found = re.fullmatch(
                 rf"Paragraph {number}, character 1: volume (\d), page (\d+), line (\d+), of"
-                rf" {sheet.lines} lines of {sheet.width} cells\.",
+                rf" {page_size.lines} lines of {page_size.width} cells\.",
                 pages.title,
             )
             assert found is not None
             volume, page, line = map(int, found.groups())
-            written = exported[sheet, volume].decode().split("\f")[page - 1]
+            written = exported[page_size, volume].decode().split("\f")[page - 1]
             assert pages.lines == tuple(written.split("\r\n")[:-1])
             words = pages.lines[line - 1].strip()
             assert words and (words.startswith(first) or first.startswith(words))
@@ -90,12 +99,12 @@ def test_the_page_and_the_line_of_each_paragraph_are_those_of_an_export(
 def test_the_page_is_that_of_the_words_of_the_cursor(
     tides: Path, sit: Sit, size: Size
 ) -> None:
-    sheet = Sheet(30, 10)
-    exported = braildesk.export(tides, 1, sheet.width, sheet.lines).decode()
+    page_size = PageSize(30, 10)
+    exported = braildesk.export(tides, 1, page_size.width, page_size.lines).decode()
     words = "Twice a day the sea comes up. " * 40
     sat = sit(tides, size=size)
     sat.press("a")
-    sized(sat, sheet)
+    sized(sat, page_size)
     sat.press("g", "3", "enter")
     for _ in range(14):
         sat.press(*["c-right"] * 19)
@@ -148,9 +157,9 @@ def test_a_cell_that_pages_can_not_have_is_said_where_it_is(
     empty_book: Path, sit: Sit
 ) -> None:
     with Session(empty_book) as session:
-        session.table("own", b"letter a 1\nletter b 17\n")
-        session.type("end", "own", "a")
-        session.type("end", "own", "ab")
+        session.put_table("own", b"letter a 1\nletter b 17\n")
+        session.add_paragraph("end", "own", "a")
+        session.add_paragraph("end", "own", "ab")
     sat = sit(empty_book)
     sat.press("p")
     assert sat.state.message == (

@@ -7,7 +7,7 @@ from pathlib import Path
 import pytest
 
 from braildesk import Session
-from scribe.shelf import FOLDER
+from braildesk.desk.tables import FOLDER
 from sitting import Sat, Sit
 from stand_in import READ, REPLY
 from terminal import standing_in
@@ -28,8 +28,8 @@ SAID = {
         "Paragraph 2 is struck. Nothing was changed. Restore it first.",
     ),
     "a mark in a struck paragraph": (
-        "down m w enter",
-        "Paragraph 2 is struck. No mark was put. Restore it first.",
+        "down m",
+        "Paragraph 2 is struck. s restores it, and then it can be marked.",
     ),
     "an edit of a struck paragraph": (
         "down enter",
@@ -154,7 +154,7 @@ def test_a_name_that_no_proofreader_has_is_said_at_the_first_correction(
 
 
 def after_errand(sat: Sat, key: str, path: Path) -> list[str]:
-    """What is shown after an errand for which the session is closed; the book is open then."""
+    """What is shown after an action for which the session is closed; the book is open then."""
     sat.press(key)
     sat.write(str(path))
     sat.press("enter")
@@ -200,8 +200,8 @@ def test_what_is_not_exported_or_imported_is_said(moon: Path, sit: Sit) -> None:
 
 def test_a_cell_that_no_embosser_has_is_said(moon: Path, sit: Sit) -> None:
     with Session(moon) as session:
-        session.table("seven", b"space \\s 0\nletter a 17\n")
-        session.type("end", "seven", "a")
+        session.put_table("seven", b"space \\s 0\nletter a 17\n")
+        session.add_paragraph("end", "seven", "a")
     file = moon.parent / "pages" / "moon-1.brf"
     assert after_errand(sit(moon), "x", file.parent) == [
         "Volume 1: Cell 1 of paragraph 4 has dot 7 or 8, which pages for embossers can't have."

@@ -6,9 +6,8 @@ from pathlib import Path
 
 import pytest
 
-import braildesk
 from braildesk import Session
-from scribe.screen import desk as desks
+
 from sitting import Sat, Sit
 from stand_in import HALF, KEPT, KILL_PROGRAM, READ, REPLY, SEND
 from terminal import Open, once_free, standing_in
@@ -113,7 +112,7 @@ def test_lines_that_were_cut_short_go_on_where_the_book_ends(
     sat.press("y")
     sat.desk.close()
     with Session(moon) as session:
-        prints = [session.print(each.id) for each in session.list()]
+        prints = [session.print_of(each.id) for each in session.paragraphs()]
     assert prints[:5] == ["The moon is far away.", "One.", "Two.", "Three.", "Four."]
 
 
@@ -213,7 +212,7 @@ def test_a_command_to_a_book_that_is_gone_from_its_path_is_not_shown_as_kept(
         "Soon.",
     )
     with Session(saved) as session:
-        assert session.print(4) == "Soon."
+        assert session.print_of(4) == "Soon."
 
 
 def test_a_change_by_another_program_meanwhile_is_said(moon: Path, sit: Sit) -> None:
@@ -234,29 +233,6 @@ def test_a_change_by_another_program_meanwhile_is_said(moon: Path, sit: Sit) -> 
     sat.press("escape")
     assert sat.lines[0] == "moon.braildesk, version 8, table en, nothing kept yet"
     assert sat.lines[2] == ">    2 body: The Tide" and sat.lines[8] == "The Tide"
-
-
-def test_a_change_while_the_book_is_being_opened_is_said(
-    moon: Path, sit: Sit, monkeypatch: pytest.MonkeyPatch
-) -> None:
-    checks: list[int] = []
-
-    def check_and_change(path: Path, timeout: float) -> int:
-        version = braildesk.check(path)
-        if not checks:
-            with Session(path) as session:
-                session.strike(3)
-        checks.append(version)
-        return version
-
-    monkeypatch.setattr(desks, "check", check_and_change)
-    sat = sit(moon)
-    assert checks == [7, 8]
-    assert sat.lines[0] == "moon.braildesk, version 8, table en, nothing kept yet"
-    assert sat.lines[3] == "     3 body, struck: Twice a day the sea comes up."
-    assert " ".join(sat.lines[-3:-1]) == (
-        "Another program changed the book while it was being opened, so it was read once more."
-    )
 
 
 def test_a_command_for_another_version_is_not_carried_out_and_the_book_is_shown_anew(

@@ -26,10 +26,10 @@ SCRIPTS = (
 def scripts(empty_book: Path) -> Path:
     """A book of Hebrew, Chinese and combining characters, by a table of its own."""
     with Session(empty_book) as session:
-        session.table("own", SCRIPTS.encode())
-        session.type("end", "own", "ab אבג דהו a")
-        session.type("end", "own", "月星 月星 ab")
-        session.type("end", "own", "ab\u0301 ab\u0301 b")
+        session.put_table("own", SCRIPTS.encode())
+        session.add_paragraph("end", "own", "ab אבג דהו a")
+        session.add_paragraph("end", "own", "月星 月星 ab")
+        session.add_paragraph("end", "own", "ab\u0301 ab\u0301 b")
     return empty_book
 
 
@@ -198,7 +198,7 @@ def test_a_terminal_without_utf8_shows_what_it_can_and_names_the_others(
     scripts: Path, at: Open
 ) -> None:
     with Session(scripts) as session:
-        session.type("front", "own", "aób 月")
+        session.add_paragraph("front", "own", "aób 月")
     terminal = at(scripts, LC_ALL="en_US.ISO-8859-1")
     lines = terminal.wait(OPENED)
     assert '"a" A, character 1, cell 1' in lines

@@ -2,8 +2,9 @@
 
 import pytest
 
-from scribe.cells import braille_ascii
-from scribe.occurrences import Occurrence
+from braildesk.text.cells import braille_ascii
+from braildesk.text.spans import Span
+
 from scribe.screen.signs import BAR, CLOSES, OPENS, signed
 
 CASES = [
@@ -26,13 +27,13 @@ CASES = [
 def test_braces_stand_around_spans_and_places_are_found_again(
     text: str, spans: list[tuple[int, int]], wanted: str
 ) -> None:
-    found = signed(text, (Occurrence(*span) for span in spans))
+    found = signed(text, (Span(*span) for span in spans))
     assert found.text == wanted
     assert len(found.places) == len(text) + 1
     assert all(found.text[found.places[n]] == own for n, own in enumerate(text))
     assert found.places[-1] == len(found.text)
     for start, stop in spans:
-        span = found.span(Occurrence(start, stop))
+        span = found.span(Span(start, stop))
         if start < stop:
             assert found.text[span.start] == text[start]
             assert found.text[span.stop - 1] == text[stop - 1]
@@ -40,7 +41,7 @@ def test_braces_stand_around_spans_and_places_are_found_again(
 
 
 def test_what_is_within_braces_is_marked_with_them() -> None:
-    found = signed("the moon is", [Occurrence(4, 8), Occurrence(6, 11)])
+    found = signed("the moon is", [Span(4, 8), Span(6, 11)])
     assert found.text == "the {mo{on} is}"
     assert found.marked == frozenset(range(4, 15))
 

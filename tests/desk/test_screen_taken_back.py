@@ -137,6 +137,17 @@ def test_an_import_is_taken_back_by_striking_its_paragraphs(
     assert (struck, sat.state.version) == ([4, 5, 6], 13)
 
 
+def test_a_mark_that_is_taken_back_beside_another_is_said_once(
+    moon: Path, sit: Sit
+) -> None:
+    sat = sit(moon)
+    sat.press("n", "m", *"who?", "enter", "u")
+    assert sat.state.message == (
+        "Taken back: mark 2 was put. The book keeps it, resolved. 1 open mark is left here; r"
+        " resolves mark 1."
+    )
+
+
 def test_a_mark_is_taken_back_by_resolving_it_and_that_by_a_new_one(
     moon: Path, sit: Sit
 ) -> None:
@@ -157,7 +168,7 @@ def test_a_mark_is_taken_back_by_resolving_it_and_that_by_a_new_one(
     )
     sat.desk.close()
     with Session(moon) as session:
-        marks = [(m.id, m.start, m.stop, m.resolved) for m in session.marks(2)]
+        marks = [(m.id, m.start, m.stop, m.resolved) for m in session.marks_of(2)]
     assert marks == [(2, 0, 1, True), (3, 0, 1, True)]
 
 
@@ -165,11 +176,11 @@ def test_a_table_that_was_put_into_the_book_stays_there_which_is_said_before(
     moon: Path, sit: Sit
 ) -> None:
     sat = sit(moon)
-    sat.press("s", "t")
+    sat.press("s", "s", "t")
     assert sat.state.message == (
         "A table that the book lacks is put into it, and stays there."
     )
-    sat.press("escape", "s", "t", *"ueb", "enter", "u")
+    sat.press(*"ueb", "enter", "u")
     assert sat.state.message == "Taken back: paragraph 1 was given the table ueb."
     version = sat.state.version
     sat.press("u")
@@ -185,7 +196,7 @@ def test_a_table_that_was_put_into_the_book_stays_there_which_is_said_before(
 def test_what_others_changed_meanwhile_is_not_taken_back(moon: Path, sit: Sit) -> None:
     def changed(line: str) -> None:
         with Session(moon) as session:
-            session.style(2, "heading")
+            session.set_style(2, "heading")
 
     sat = sit(moon)
     sat.press("down", "s", "x", *str(moon.parent / "pages"), "enter")

@@ -5,7 +5,7 @@ import re
 import signal
 from pathlib import Path
 
-from scribe.drafts import Drafts
+from braildesk.desk.drafts import Drafts
 from terminal import Open, once_free
 
 #: What sets a colour of letters or of what is behind them.
@@ -63,7 +63,7 @@ def test_a_killed_session_leaves_what_the_screen_said_was_kept(
     terminal.hang_up()
     assert terminal.left() == 3
     with once_free(moon) as session:
-        assert session.seen == 8 and session.list()[1].struck
+        assert session.last_version == 8 and session.paragraphs()[1].struck
     waits = Drafts(moon).waiting()
     assert waits and waits.text == "It rose."
 

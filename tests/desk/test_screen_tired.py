@@ -9,11 +9,12 @@ from hypothesis import HealthCheck, given, settings
 from hypothesis import strategies as st
 
 from braildesk import Session
+from braildesk.text.wrapping import columns
+
 from scribe.screen.desk import Desk
 from scribe.screen.drawing import draw
 from scribe.screen.keys import KEYS
 from scribe.screen.state import Size
-from scribe.wrapping import columns
 from sitting import Sat, Sit
 
 PROMPTS = ["enter", "o", "O", "m", "g", "t", "/", "x", "i"]
@@ -36,7 +37,10 @@ def check_book(sat: Sat) -> None:
     """The book in the file is the one that is shown."""
     sat.desk.close()
     with Session(sat.desk.path) as session:
-        assert (session.seen, session.list()) == (sat.state.version, sat.state.book)
+        assert (session.last_version, session.paragraphs()) == (
+            sat.state.version,
+            sat.state.book,
+        )
 
 
 @pytest.mark.parametrize("key", PROMPTS)

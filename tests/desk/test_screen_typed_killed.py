@@ -20,8 +20,9 @@ from typing import Any
 
 import pytest
 
-from scribe.draft import Aim, Draft
-from scribe.drafts import Drafts
+from braildesk.desk.draft import Aim, Draft
+from braildesk.desk.drafts import Drafts
+
 from scribe.screen.desk import Desk
 from scribe.screen.state import Size, State
 from terminal import once_free
@@ -197,10 +198,10 @@ def check_left(path: Path, whole: list[Shown], count: int, moment: int) -> None:
     around = [before, whole[count]]
     with once_free(path) as session:
         book = [
-            [each.id, each.struck, each.style.value, session.print(each.id)]
-            for each in session.list()
+            [each.id, each.struck, each.style.value, session.print_of(each.id)]
+            for each in session.paragraphs()
         ]
-        version = session.seen
+        version = session.last_version
     # several commands may be one step, and each of them is in the book whole
     assert around[0].version <= version <= around[1].version, moment
     for each in around:

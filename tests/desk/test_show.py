@@ -1,6 +1,5 @@
 """`scribe show`: the book as a person reads it."""
 
-import time
 from pathlib import Path
 
 import pytest
@@ -35,18 +34,18 @@ def show(book: Path, *words: str) -> Ran:
 def moon(book: Path) -> Path:
     """Four paragraphs, of which the last typed stands first, with two marks."""
     with Session(book) as session:
-        session.type("end", "en", "The moon is far away.")
-        session.type("end", "en", "Tides")
-        session.type("end", "en", "Twice a day.")
-        session.type("front", "en", "Moon book")
-        session.style(2, "heading")
-        session.volume(2, True)
+        session.add_paragraph("end", "en", "The moon is far away.")
+        session.add_paragraph("end", "en", "Tides")
+        session.add_paragraph("end", "en", "Twice a day.")
+        session.add_paragraph("front", "en", "Moon book")
+        session.set_style(2, "heading")
+        session.set_begins_volume(2, True)
         session.strike(3)
-        session.style(4, "heading")
-        session.mark(1, 5, 4, "which moon?")
-        session.mark(1, 13, 3, "")
+        session.set_style(4, "heading")
+        session.add_mark(1, 5, 4, "which moon?")
+        session.add_mark(1, 13, 3, "")
         session.correct(1, 4, 4, "sun")
-        session.resolve(1)
+        session.resolve_mark(1)
     return book
 
 
@@ -147,8 +146,8 @@ def test_what_is_no_stretch_is_refused(book: Path, word: str) -> None:
 
 def test_the_table_is_named_where_paragraphs_have_several(moon: Path) -> None:
     with Session(moon) as session:
-        session.table("own", TABLE)
-        session.type("end", "own", "qa")
+        session.put_table("own", TABLE)
+        session.add_paragraph("end", "own", "qa")
     lines = show(moon, "--paragraphs", "3-5", "--print").shown.split("\n")
     assert lines[0] == "Paragraph 3, body, struck, table en"
     assert lines[3] == "Paragraph 5, body, table own"
@@ -157,13 +156,15 @@ def test_the_table_is_named_where_paragraphs_have_several(moon: Path) -> None:
 @pytest.fixture
 def letters(empty_book: Path) -> Path:
     with Session(empty_book) as session:
-        session.table("own", TABLE)
-        session.type("end", "own", "月海月 海月")
-        session.type("end", "own", "q\u0307q\u0307q\u0307q\u0307q\u0307q\u0307")
-        session.type("end", "own", "שלום לום")
-        session.type("end", "own", "a\x1ba")
-        session.type("end", "own", "aa q")
-        session.type("end", "own", "")
+        session.put_table("own", TABLE)
+        session.add_paragraph("end", "own", "月海月 海月")
+        session.add_paragraph(
+            "end", "own", "q\u0307q\u0307q\u0307q\u0307q\u0307q\u0307"
+        )
+        session.add_paragraph("end", "own", "שלום לום")
+        session.add_paragraph("end", "own", "a\x1ba")
+        session.add_paragraph("end", "own", "aa q")
+        session.add_paragraph("end", "own", "")
     return empty_book
 
 
@@ -191,17 +192,3 @@ def test_a_mark_whose_words_are_gone_says_where_it_is(moon: Path) -> None:
         session.correct(1, 10, 4, "")
     lines = show(moon, "--paragraphs", "1", "--width", "80").shown.split("\n")
     assert lines[4] == "Mark 2, open, touched, on no words, at character 11."
-
-
-def test_ten_paragraphs_of_a_book_of_20_000_are_shown_within_a_second(
-    big_book: Path,
-) -> None:
-    def taken() -> float:
-        began = time.monotonic()
-        ran = show(big_book, "--paragraphs", "12000-12009")
-        assert ran.shown.count("Paragraph") == 20
-        assert "\nParagraph number 12009 of the moon.\n" in ran.shown
-        return time.monotonic() - began
-
-    # other work of the machine may hold up some of them
-    assert any(taken() < 1 for _ in range(10))

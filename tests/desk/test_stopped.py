@@ -5,17 +5,19 @@ import re
 import signal
 import subprocess
 import sys
-from argparse import Namespace
 from io import BytesIO, StringIO
 from pathlib import Path
 
 import pytest
 
-import braildesk
 from braildesk import Session
-from scribe.commands import export
-from scribe.console import Console
-from scribe.status import Interrupted
+import braildesk
+from braildesk.desk.export import Job
+from braildesk.desk.layout import PageSize
+
+from scribe.words.console import Console
+from scribe.words.export import export_in_words
+from scribe.words.status import Interrupted
 from sitting import Sit
 from stand_in import ANSWERED, HALF, KEPT, READ, SIGNAL, WAIT
 from terminal import Open, once_free, standing_in
@@ -49,15 +51,16 @@ def run(settings: dict[str, str], folder: Path, *words: str) -> Ran:
 def check_told(said: str, book: Path) -> None:
     """Looks at whether what is said to be in the book is what is there."""
     with once_free(book) as session:
-        prints = [session.print(each.id) for each in session.list()]
+        prints = [session.print_of(each.id) for each in session.paragraphs()]
     found = TOLD.search(said)
     count = int(found[1]) if found else 0
     assert prints == LINES[:count]
     if not found:
         assert "Nothing of text.txt is in the book." in said
     if count < len(LINES):
-        assert f"go on by: scribe import {book.name} text.txt --lines" in said
-        assert f" --from {count + 1}\n" in said
+        # what is noted of an import goes with a part that is in the book
+        how = "--continue" if found else "--lines"
+        assert f"go on by: scribe import {book.name} text.txt {how}" in said
 
 
 @pytest.mark.parametrize(
@@ -115,8 +118,8 @@ def test_an_import_that_is_told_to_end_while_it_judges_has_typed_nothing(
 def volumes(moon: Path) -> Path:
     """A book of three volumes, and a folder with older files of them."""
     with Session(moon) as session:
-        session.volume(2, True)
-        session.volume(3, True)
+        session.set_begins_volume(2, True)
+        session.set_begins_volume(3, True)
     folder = moon.with_name("pages")
     folder.mkdir()
     for number in (1, 2, 3):
@@ -168,9 +171,9 @@ def test_an_export_that_is_told_to_end_while_it_writes_says_which_files_are_new(
     monkeypatch.setattr(os, "replace", replaced)
     said = StringIO()
     folder = volumes.with_name("pages")
-    words = Namespace(file=volumes, folder=folder, width=40, lines=25, wait=0.0)
+    job = Job(volumes, folder, PageSize(), wait=0)
     with pytest.raises(Interrupted) as stopped:
-        export.run(words, Console(BytesIO(), StringIO(), said))
+        export_in_words(job, Console(BytesIO(), StringIO(), said))
     assert stopped.value.is_said
     assert said.getvalue() == f"Stopped by SIGTERM.{told}\n"
     files = [folder / f"moon-{number}.brf" for number in (1, 2, 3)]
@@ -233,7 +236,7 @@ def test_an_import_of_the_screen_ends_at_a_signal_and_says_what_is_in_the_book(
     found = re.search("is in the book up to line ([0-9]+), which", terminal.said)
     assert found is not None
     with once_free(book) as session:
-        prints = [session.print(each.id) for each in session.list()]
+        prints = [session.print_of(each.id) for each in session.paragraphs()]
     assert prints == LINES[: (int(found[1]) + 1) // 2]
     assert 3 <= len(prints) < len(LINES)
 
@@ -263,4 +266,4 @@ def test_a_taking_back_of_the_screen_ends_at_a_signal_and_says_how_far_it_came(
     assert terminal.ended() == -signal.SIGTERM
     assert terminal.said == "2 of 3 done.\n"
     with once_free(book) as session:
-        assert [each.struck for each in session.list()].count(True) == 2
+        assert [each.struck for each in session.paragraphs()].count(True) == 2

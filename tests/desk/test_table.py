@@ -13,7 +13,7 @@ from tool import ROOT, Ran, environment, scribe
 
 def text_of(book: Path, name: str) -> bytes:
     """The text of a table, as the book has it."""
-    (found,) = (table for table in braildesk.tables(book) if table.name == name)
+    (found,) = (table for table in braildesk.read_tables(book) if table.name == name)
     return found.text
 
 
@@ -101,7 +101,9 @@ def test_en_without_a_file_is_the_supplied_table(moon: Path) -> None:
 def test_a_table_that_is_not_installed_is_refused(moon: Path) -> None:
     ran = scribe("table", moon, "klingon", folder=moon.parent)
     assert (ran.status, ran.shown) == (2, "")
-    assert ran.said.startswith(f"There is no table klingon in {ROOT / 'tables'}.")
+    assert ran.said.startswith(
+        f"There is no table klingon in {ROOT / 'src' / 'braildesk' / 'tables'}."
+    )
 
 
 def test_a_file_that_is_not_there_is_named(moon: Path) -> None:
@@ -118,10 +120,10 @@ def test_a_file_that_is_not_there_is_named(moon: Path) -> None:
 def installed(tmp_path: Path) -> Path:
     """The folder in which scribe and a table ueb are installed."""
     folder = tmp_path / "share" / "braildesk"
-    shutil.copytree(ROOT / "python", folder / "python")
-    (folder / "tables").mkdir()
-    (folder / "tables" / "ueb.utb").write_bytes(
-        (ROOT / "sample" / "plain.utb").read_bytes()
+    shutil.copytree(ROOT / "src", folder / "python")
+    shutil.copy(
+        ROOT / "sample" / "plain.utb",
+        folder / "python" / "braildesk" / "tables" / "ueb.utb",
     )
     (tmp_path / "bin").mkdir()
     shutil.copy(ROOT / "bin" / "scribe", tmp_path / "bin" / "scribe")

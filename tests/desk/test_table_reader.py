@@ -9,7 +9,7 @@ from hypothesis import strategies as st
 
 import braildesk
 from braildesk import Refused
-from braildesk.profile import (
+from braildesk.tables import (
     Cause,
     Disagreement,
     Rule,

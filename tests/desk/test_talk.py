@@ -12,7 +12,7 @@ import pexpect  # type: ignore[import]
 import pytest
 
 import braildesk
-from tool import Ran, environment, scribe
+from tool import Ran, environment, is_taken_at_start, scribe, scribe_in_copy
 
 #: Longer than what a terminal that collects lines gives to a program.
 PASTED_BYTES = 20_000
@@ -22,10 +22,14 @@ class Talk:
     """A person at a terminal at which scribe talks."""
 
     def __init__(self, book: Path, *words: str, **more: str) -> None:
+        spoken = ["talk", str(book), *words]
+        settings = environment(TERM="xterm-256color", INPUTRC="/dev/null", **more)
+        is_new = is_taken_at_start(more)
         self._child = pexpect.spawn(
             sys.executable,
-            ["-m", "scribe", "talk", str(book), *words],
-            env=environment(TERM="xterm-256color", INPUTRC="/dev/null", **more),
+            ["-m", "scribe", *spoken],
+            env=settings,
+            preexec_fn=None if is_new else scribe_in_copy(spoken, settings),
             encoding="utf-8",
             timeout=60,
             dimensions=(24, 200),
@@ -322,7 +326,7 @@ def test_a_tab_is_a_character_of_a_note(talk: Talk, moon: Path) -> None:
     talk.type("mark 1 0 3 a\tb")
     talk.end("quit\r")
     with braildesk.Session(moon) as session:
-        assert session.marks(1)[-1].note == "a\tb"
+        assert session.marks_of(1)[-1].note == "a\tb"
 
 
 def test_a_long_line_that_is_pasted_is_kept_whole(talk: Talk, moon: Path) -> None:
@@ -330,7 +334,7 @@ def test_a_long_line_that_is_pasted_is_kept_whole(talk: Talk, moon: Path) -> Non
     talk.wait_for("The book is at version 8.")
     talk.end("quit\r")
     with braildesk.Session(moon) as session:
-        assert session.print(4) == "’" * 4_000
+        assert session.print_of(4) == "’" * 4_000
 
 
 def test_no_line_of_a_paste_is_cut(talk: Talk) -> None:
@@ -355,20 +359,28 @@ def test_the_end_of_the_input_ends_the_talk(talk: Talk, moon: Path) -> None:
     assert ran.shown.endswith("The book is at version 7.\r\n")
 
 
-def test_a_lost_session_says_what_was_kept_and_what_was_not(
+def test_a_lost_session_says_what_was_kept_and_what_was_not_and_talks_on(
     talk: Talk, moon: Path
 ) -> None:
     talk.type("strike 1")
     os.kill(talk.program(), signal.SIGKILL)
-    ran = talk.end("type end en All that I typed.\r")
-    said = " ".join(ran.shown.split())
-    assert ran.status == 3
+    said = " ".join(" ".join(talk.type("type end en All that I typed.")).split())
     assert "may not be in the book: type end en All that I typed. The session" in said
     assert (
         "The book was opened again: it is at version 8, as before, and what was asked last is not in"
         " it."
     ) in said
-    assert braildesk.check(moon) == 8
+    assert talk.type("strike 2")[-1] == "The book is at version 9."
+    assert talk.end("quit\r").status == 0
+    assert braildesk.check(moon) == 9
+
+
+def test_a_talk_whose_book_can_not_be_opened_again_ends(talk: Talk, moon: Path) -> None:
+    os.kill(talk.program(), signal.SIGKILL)
+    moon.rename(moon.with_name("moved"))
+    ran = talk.end("strike 1\r")
+    assert ran.status == 3
+    assert "There is no file" in " ".join(ran.shown.split())
 
 
 def test_no_line_is_over_the_width_and_nothing_moves_the_cursor(moon: Path) -> None:
@@ -387,7 +399,7 @@ def test_letters_of_all_languages_are_typed_in_any_locale(moon: Path) -> None:
     assert talk.type("\x1b[A")[0].endswith("on “The”: Zdeňkův ⠍")
     talk.end("quit\r")
     with braildesk.Session(moon) as session:
-        assert session.marks(1)[-1].note == "Zdeňkův ⠍"
+        assert session.marks_of(1)[-1].note == "Zdeňkův ⠍"
 
 
 def test_the_terminal_is_left_as_it_was(moon: Path) -> None:

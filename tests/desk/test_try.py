@@ -9,7 +9,8 @@ from pathlib import Path
 import pexpect  # type: ignore[import]
 import pytest
 
-from tool import Ran, environment, scribe
+from scribe.prompt import typed_lines
+from tool import Ran, environment, is_taken_at_start, scribe, scribe_in_copy
 
 TABLE = """\
 space \\s 0
@@ -27,15 +28,30 @@ always he 1-2
 """
 
 
+# how often it is looked for whether the file was saved, and how long that is waited for
+_TICK, _TICKS = 0.05, 8
+
+
+def look_often() -> None:
+    """Has scribe look for the file more often than somebody who types would need."""
+    typed_lines._TICK = _TICK
+
+
 class Trying:
     """A person at a terminal at which a table is tried."""
 
     def __init__(self, path: Path, *words: str, **more: str) -> None:
+        spoken = ["try", path.name, *words]
+        settings = environment(TERM="xterm-256color", INPUTRC="/dev/null", **more)
+        begin = None
+        if not is_taken_at_start(more):
+            begin = scribe_in_copy(spoken, settings, look_often)
         self._child = pexpect.spawn(
             sys.executable,
-            ["-m", "scribe", "try", path.name, *words],
+            ["-m", "scribe", *spoken],
             cwd=str(path.parent),
-            env=environment(TERM="xterm-256color", INPUTRC="/dev/null", **more),
+            env=settings,
+            preexec_fn=begin,
             encoding="utf-8",
             timeout=60,
             dimensions=(24, 200),
@@ -133,7 +149,7 @@ def test_a_file_that_is_saved_while_a_line_is_typed_is_read_with_the_line(
 ) -> None:
     trying.keys("th")
     own.write_text(TABLE.replace("word the 2346", "word the 1-1"))
-    time.sleep(2)
+    time.sleep(_TICK * _TICKS)
     assert trying.type("e") == [
         "The file was saved, and is read again.",
         "own.utb: 12 lines, accepted.",
@@ -144,7 +160,7 @@ def test_a_file_that_is_saved_while_a_line_is_typed_is_read_with_the_line(
 
 def test_a_file_that_is_saved_as_it_was_is_no_matter(trying: Trying, own: Path) -> None:
     own.write_text(TABLE)
-    time.sleep(2)
+    time.sleep(_TICK * _TICKS)
     assert trying.type("the")[0] == "⠮"
 
 

@@ -6,9 +6,10 @@ from pathlib import Path
 
 import pytest
 
-from braildesk.bring.draft import comment_lines
-from scribe.console import Console
-from scribe.visible import control_refused, visible
+from braildesk.tables.convert.draft import comment_lines
+from braildesk.text.characters import control_refused, visible
+
+from scribe.words.console import Console
 from tool import scribe
 
 

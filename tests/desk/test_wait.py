@@ -7,8 +7,9 @@ from pathlib import Path
 import pytest
 
 from braildesk import Session
+
 from scribe.cli import run_words
-from scribe.console import Console
+from scribe.words.console import Console
 
 
 class Clock:
@@ -54,7 +55,7 @@ def test_two_who_mark_at_once_both_have_their_marks(
 
 @pytest.mark.parametrize(
     "words",
-    ["talk {}", "mark {} 1 far why? --wait 0", "copy {} {}-copy --wait 1.2"],
+    ["talk {}", "mark {} 1 far why? --wait 0", "export {} {}-pages --wait 1.2"],
 )
 def test_a_book_that_is_not_free_in_time_is_said_to_be_in_use(
     moon: Path, monkeypatch: pytest.MonkeyPatch, words: str

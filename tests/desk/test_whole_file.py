@@ -7,7 +7,7 @@ from pathlib import Path
 
 import pytest
 
-from scribe.whole_file import Access, MayNotLast, NoPlaceForAFile, write_whole
+from braildesk.desk.whole_file import Access, MayNotLast, NoPlaceForAFile, write_whole
 from strangers import NEEDS_ROOT, STRANGER, as_stranger, lead_to
 
 

@@ -11,24 +11,25 @@ import pytest
 
 import braildesk
 from braildesk import Session
-from scribe import help
-from scribe.cli import make_parser
-from scribe.elsewhere import AMONG_REQUESTS, AT_PROMPT, AT_SHELL
-from scribe.grammar import BY_NAME, unknown_request
-from scribe.parser import unknown_command
+from braildesk.protocol.requests import BY_NAME
+from scribe.cli.commands import COMMANDS
+from scribe.cli.parser import unknown_command
+from scribe.prompt import help
+from scribe.prompt.grammar import unknown_request
+from scribe.words.elsewhere import AMONG_REQUESTS, AT_PROMPT, AT_SHELL
 from tool import ROOT, Ran, environment, scribe
 from words import WORDS
 
-NAMES = make_parser()[1]
+NAMES = list(COMMANDS)
 #: The commands of the desk.
 ALL = (
     "new edit run talk import table check-table try show find change undo resolve strike restore heading body"
-    " volume move retable mark marks pages export copy bring"
+    " volume move retable mark marks pages export proof copy bring tune"
 ).split()
 
 
 def test_each_command_is_there() -> None:
-    assert sorted(NAMES) == sorted(ALL) == sorted(WORDS)
+    assert sorted(NAMES) == sorted(ALL) == sorted([*WORDS, "tune"])
 
 
 def examples(help_text: str) -> list[str]:
@@ -75,9 +76,9 @@ def test_help_names_all_commands(tmp_path: Path) -> None:
 
 
 def test_the_version_is_shown(tmp_path: Path) -> None:
-    version = (ROOT / "VERSION").read_text()
+    version = braildesk.__version__
     ran = scribe("--version", folder=tmp_path)
-    assert (ran.status, ran.shown, ran.said) == (0, f"scribe {version}", "")
+    assert (ran.status, ran.shown, ran.said) == (0, f"scribe {version}\n", "")
 
 
 @pytest.mark.parametrize(
@@ -158,7 +159,7 @@ def test_a_word_of_another_place_is_named_at_a_prompt_and_among_requests(
 
 def test_each_word_of_another_place_is_known() -> None:
     requests, prompt = set(BY_NAME), set(help.names())
-    assert set(AT_SHELL) == prompt - set(NAMES)
+    assert set(AT_SHELL) - set(NAMES) == prompt - set(NAMES)
     assert set(AT_PROMPT) == set(NAMES) - prompt
     assert set(AMONG_REQUESTS) == (set(NAMES) | prompt) - requests
 
@@ -238,7 +239,7 @@ def test_what_is_shown_is_utf8_in_any_locale(moon: Path) -> None:
 
 def test_the_command_works_where_it_is_installed(moon: Path, tmp_path: Path) -> None:
     share = tmp_path / "share" / "braildesk"
-    shutil.copytree(ROOT / "python", share / "python")
+    shutil.copytree(ROOT / "src", share / "python")
     (tmp_path / "bin").mkdir()
     shutil.copy(ROOT / "bin" / "scribe", tmp_path / "bin")
     (tmp_path / "bin" / "braildesk").symlink_to(braildesk.find())
@@ -258,15 +259,13 @@ def test_the_command_works_where_it_is_installed(moon: Path, tmp_path: Path) -> 
 def installed(tmp_path: Path) -> Path:
     """The command, beside which there is a folder of packages with nothing of scribe in it yet."""
     (tmp_path / "bin").mkdir()
-    (tmp_path / "python" / "scribe").mkdir(parents=True)
-    (tmp_path / "python" / "scribe" / "__init__.py").touch()
+    (tmp_path / "src" / "scribe").mkdir(parents=True)
+    (tmp_path / "src" / "scribe" / "__init__.py").touch()
     return Path(shutil.copy(ROOT / "bin" / "scribe", tmp_path / "bin"))
 
 
 def test_a_command_that_is_not_installed_whole_says_so(installed: Path) -> None:
-    (installed.parents[1] / "python" / "scribe" / "cli.py").write_text(
-        "import scribe.x"
-    )
+    (installed.parents[1] / "src" / "scribe" / "cli.py").write_text("import scribe.x")
     done = subprocess.run(
         [sys.executable, installed, "show", "moon.braildesk"],
         env={"PATH": "/usr/bin:/bin"},
@@ -280,7 +279,7 @@ def test_a_command_that_is_not_installed_whole_says_so(installed: Path) -> None:
 
 
 def test_ctrl_c_while_scribe_starts_ends_it_without_a_word(installed: Path) -> None:
-    (installed.parents[1] / "python" / "scribe" / "cli.py").write_text(
+    (installed.parents[1] / "src" / "scribe" / "cli.py").write_text(
         "import time\nprint('begun', flush=True)\ntime.sleep(60)\n"
     )
     process = subprocess.Popen(

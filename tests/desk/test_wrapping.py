@@ -4,9 +4,10 @@ import pytest
 from hypothesis import given
 from hypothesis import strategies as st
 
-from scribe.interlinear import interlinear
-from scribe.sequences import seams, sequences
-from scribe.wrapping import columns, wrap
+from braildesk.text.sequences import seams, sequences
+from braildesk.text.wrapping import columns, wrap
+
+from scribe.words.view import interlinear
 
 WIDTHS = [
     ("", 0),

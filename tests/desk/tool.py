@@ -1,13 +1,23 @@
 """Runs scribe as a person does: its words, what it shows, what it says, and its status."""
 
+import gc
 import os
+import signal
 import subprocess
 import sys
-from collections.abc import Callable
+import tempfile
+import traceback
+from collections.abc import Callable, Mapping, Sequence
 from dataclasses import dataclass
 from pathlib import Path
+from typing import TextIO
+
+from scribe.cli import main
+from scribe.screen import terminal
 
 ROOT = Path(__file__).resolve().parents[2]
+# what Python takes from the environment as it is started, and not later
+_TAKEN_AT_START = ("LC_", "LANG", "PYTHON")
 
 
 @dataclass(frozen=True)
@@ -21,7 +31,7 @@ class Ran:
 
 def environment(**more: str) -> dict[str, str]:
     """The environment in which scribe is found."""
-    return {**os.environ, "PYTHONPATH": str(ROOT / "python"), **more}
+    return {**os.environ, "PYTHONPATH": str(ROOT / "src"), **more}
 
 
 def scribe(
@@ -31,13 +41,72 @@ def scribe(
     before: Callable[[], object] | None = None,
     **more: str,
 ) -> Ran:
-    """Runs scribe in a folder, with what is given as its input."""
+    """Runs scribe in a folder, with what is given as its input.
+
+    It runs in a copy of this process, unless settings are given that only a new one takes.
+    """
+    settings = environment(**more)
+    begin = (
+        before if is_taken_at_start(more) else scribe_in_copy(words, settings, before)
+    )
     done = subprocess.run(
         [sys.executable, "-m", "scribe", *words],
         cwd=folder,
         input=given.encode() if isinstance(given, str) else given,
         capture_output=True,
-        env=environment(**more),
-        preexec_fn=before,
+        env=settings,
+        preexec_fn=begin,
     )
     return Ran(done.returncode, done.stdout.decode(), done.stderr.decode())
+
+
+def is_taken_at_start(settings: Mapping[str, str]) -> bool:
+    """Whether some settings are taken by Python as it is started."""
+    return any(name.startswith(_TAKEN_AT_START) for name in settings)
+
+
+def scribe_in_copy(
+    words: Sequence[str | Path],
+    settings: Mapping[str, str],
+    before: Callable[[], object] | None = None,
+) -> Callable[[], None]:
+    """What has a copy of this process be scribe in place of another program that it would run.
+
+    The copy has its streams and its folder already. All that scribe imports is imported in it, which
+    takes a new process longer than most commands take.
+    """
+
+    def become() -> None:
+        status = 1
+        try:
+            # nothing of what the tests have open is open here, nor closed a second time
+            gc.freeze()
+            os.closerange(3, os.sysconf("SC_OPEN_MAX"))
+            os.environ.clear()
+            os.environ.update(settings)
+            tempfile.tempdir = None
+            if before is not None:
+                before()
+            # as Python has it from its beginning, and no process that is to run another program
+            for each in (signal.SIGPIPE, signal.SIGXFSZ):
+                signal.signal(each, signal.SIG_IGN)
+            # the environment with which a process was started can't be changed in it
+            terminal.first_environment = lambda: dict(settings)
+            sys.argv = ["scribe", *map(str, words)]
+            for number, name in enumerate(("stdin", "stdout", "stderr")):
+                setattr(sys, name, _stream(number))
+            status = main()
+        except BaseException:
+            traceback.print_exc()
+        finally:
+            os._exit(status)
+
+    return become
+
+
+def _stream(number: int) -> TextIO | None:
+    """A standard stream as Python has it as it begins; none if it is closed."""
+    try:
+        return open(number, "w" if number else "r", closefd=False)
+    except OSError:
+        return None

@@ -9,7 +9,7 @@ PATHS = (
     "text.txt",
     "pages",
 )
-#: Each command with its words.
+#: Each command with its words, but for tune, which test_contracted.py has.
 WORDS: dict[str, list[str]] = {
     "new": ["other.braildesk"],
     "edit": ["moon.braildesk"],
@@ -35,6 +35,7 @@ WORDS: dict[str, list[str]] = {
     "retable": ["moon.braildesk", "2", "plain"],
     "pages": ["moon.braildesk"],
     "export": ["moon.braildesk", "pages"],
+    "proof": ["moon.braildesk", "moon.html"],
     "copy": ["moon.braildesk", "copy.braildesk"],
     "bring": ["--list", "German"],
 }

@@ -7,13 +7,13 @@ cd "$(dirname "$0")/../.."
 . tests/built.sh dpkg-deb
 fail() { echo "tests/make/package.sh: $*" >&2; exit 1; }
 export PROGRAM=$program LC_ALL=C.UTF-8
-version=$(cat VERSION)
+version=$(cat src/braildesk/VERSION)
 
 # what is installed, by words of a new user, and nothing left when it is taken away
 export DESTDIR=$scratch/installed PREFIX=/opt/braildesk
 scripts/install.sh install
 at=$DESTDIR$PREFIX
-use() { # FOLDER: a new book by what is installed there
+use() { # FOLDER MODULES: a new book by what is installed there, and the packages of Python
     (
         cd "$scratch"
         unset BRAILDESK PYTHONPATH
@@ -30,11 +30,13 @@ use() { # FOLDER: a new book by what is installed there
         (cd strange && PYTHONPATH=: "$1/bin/scribe" --version) || exit 1
         rm -r strange
     ) > "$scratch/shown" 2>&1 || { cat "$scratch/shown" >&2; fail "what is installed below $1 doesn't work"; }
+    (cd "$scratch" && "$PYTHON" -BI -c "import sys; sys.path.insert(0, '$2'); import braildesk; print(braildesk.__version__)") > "$scratch/shown.version"
+    [ "$(cat "$scratch/shown.version")" = "$version" ] || fail "Python finds no braildesk in $2, or another version"
     grep -q 'new book with the table ueb' "$scratch/shown" || fail "the table ueb is not found below $1"
     grep -q '⠠⠞⠓⠑⠀⠍⠕⠕⠝⠀⠊⠎⠀⠋⠁⠗⠀⠁⠺⠁⠽⠲' "$scratch/shown" || fail "the book made below $1 has other braille"
     grep -q 'Twice a day the sea comes' "$scratch/shown" || fail "the book of the examples below $1 is not shown"
 }
-use "$at"
+use "$at" "$at/share/braildesk/python"
 for document in README.md docs/FORMATS.md docs/TUTORIAL.md docs/DESK.md; do
     cmp "$document" "$at/share/doc/braildesk/$document" || fail "$document is not installed"
 done
@@ -55,7 +57,8 @@ cmp "$package" "$scratch/first.deb" || fail 'two packages of one program differ'
 [ "$package" = "build/braildesk_${version}_amd64.deb" ] || fail "the package is called $package"
 [ "$(dpkg-deb --field "$package" Version)" = "$version" ] || fail 'the package has another version'
 dpkg-deb --extract "$package" "$scratch/root"
-use "$scratch/root/usr"
+use "$scratch/root/usr" "$scratch/root/usr/lib/python3/dist-packages"
+[ -z "$(find "$scratch/root" -name '*.pyc')" ] || fail 'the package has compiled modules, which it makes where it is installed'
 for file in bin/braildesk bin/scribe share/man/man1/scribe.1.gz share/doc/braildesk/copyright share/doc/braildesk/docs/FORMATS.md \
     share/applications/braildesk.desktop share/mime/packages/braildesk.xml share/bash-completion/completions/braildesk; do
     [ -f "$scratch/root/usr/$file" ] || fail "the package lacks $file"

@@ -11,7 +11,7 @@ scratch=$(mktemp -d); trap 'rm -rf "$scratch"' EXIT
 git ls-files > "$scratch/files"
 
 # A path begins with a folder at the top, but for bin, which each place has where something is installed.
-tops=$(sed -n 's|/.*||p' "$scratch/files" | sort -u | grep -v '^bin$' | sed 's/\./\\./' | paste -sd'|')
+tops=$(sed -n 's|/.*||p' "$scratch/files" | sort -u | grep -v '^bin$' | sed 's|^src$|src/(?:braildesk\|scribe)|; s/\./\\./' | paste -sd'|')
 xargs -d '\n' grep -HnoPI "(?<![\w./\$}-])(?:\.\./)*(?:$tops)/[\w.*/-]*[\w*](?![\w.*/-]*[\${<])" < "$scratch/files" |
     grep -vE ':.*/(out|[A-Z]+|NAME\.[a-z]+)(/|$)' > "$scratch/paths"
 # each file of a document, by the end of its path

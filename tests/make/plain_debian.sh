@@ -28,7 +28,10 @@ in_plain apt-get install -y --no-install-recommends python3 python3-prompt-toolk
 list > "$scratch/before"
 cp "$package" "$plain/tmp"
 in_plain apt-get install -y "/tmp/${package##*/}" > "$scratch/log" 2>&1 || { tail "$scratch/log" >&2; fail 'the package is not installed'; }
+[ -n "$(find "$plain/usr/lib/python3/dist-packages/braildesk" -name '*.pyc')" ] || fail 'the packages of Python are not compiled'
 in_plain useradd --create-home writer
+in_plain su writer -c "cd && python3 -c 'import braildesk; print(braildesk.__version__)'" > "$scratch/version" || fail 'Python does not find braildesk'
+[ "$(cat "$scratch/version")" = "$(cat src/braildesk/VERSION)" ] || fail 'Python finds another version of braildesk'
 mkdir "$plain/home/writer/tree"
 cp -r README.md docs sample tests "$plain/home/writer/tree"
 in_plain chown -R writer /home/writer

@@ -8,7 +8,7 @@ cd "$(dirname "$0")/../.."
 tests/needs.sh python
 PYTHON=${PYTHON:-$(tests/python.sh)}
 scratch=$(mktemp -d); trap 'rm -rf "$scratch"' EXIT
-export BRAILDESK=$program PYTHONPATH=python PYTHONUTF8=1 PYTHONDONTWRITEBYTECODE=1
+export BRAILDESK=$program PYTHONPATH=src PYTHONUTF8=1 PYTHONDONTWRITEBYTECODE=1
 same() { # WHAT EXPECTED FOUND
     diff "$2" "$3" >&2 || { echo "tests/program/client.sh: $1 differ (< expected, > found)" >&2; exit 1; }
     echo "ok  $1"

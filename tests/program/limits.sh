@@ -4,4 +4,4 @@
 set -eu
 cd "$(dirname "$0")/../.."
 . tests/built.sh python
-PYTHONPATH=tests:python "$PYTHON" -B tests/program/limits.py "$program" "$scratch"
+PYTHONPATH=tests:src "$PYTHON" -B tests/program/limits.py "$program" "$scratch"

@@ -10,6 +10,7 @@ one table in JSON. Of tables that have the same lines one is measured, for all o
 from __future__ import annotations
 
 import csv
+import functools
 import io
 import json
 import os
@@ -23,14 +24,29 @@ from pathlib import Path
 from typing import Any, Final
 
 ROOT: Final = Path(__file__).resolve().parents[2]
-sys.path.insert(0, str(ROOT / "python"))
+sys.path[:0] = [str(ROOT / "src"), str(ROOT / "tests/tables/real")]
 
-from braildesk.bring.bringing import FEWEST, LIMIT, Options, bring  # noqa: E402
-from braildesk.bring.comparison import Comparison, what_differs  # noqa: E402
-from braildesk.bring.oracle import NoLiblouis  # noqa: E402
-from braildesk.bring.report import percent  # noqa: E402
-from braildesk.bring.shipped import MEASURED, Shipped, shipped_tables  # noqa: E402
-from braildesk.bring.source import NoTable, find_table, read_source  # noqa: E402
+import document as running  # noqa: E402
+
+from braildesk.tables.convert.conversion import (
+    FEWEST,
+    LIMIT,
+    Options,
+    convert,
+)  # noqa: E402
+from braildesk.tables.convert.comparison import Comparison, what_differs  # noqa: E402
+from braildesk.tables.convert.oracle import NoLiblouis  # noqa: E402
+from braildesk.tables.convert.report import percent  # noqa: E402
+from braildesk.tables.convert.shipped import (
+    MEASURED,
+    Shipped,
+    shipped_tables,
+)  # noqa: E402
+from braildesk.tables.convert.source import (
+    NoTable,
+    find_table,
+    read_source,
+)  # noqa: E402
 
 EACH: Final = int(os.environ.get("EACH", "10"))
 """How many lines of each shape are compared."""
@@ -80,6 +96,7 @@ def different_tables() -> list[Shipped]:
     return sorted(found, key=lambda table: not is_european_and_uncontracted(table))
 
 
+@functools.cache
 def tables_by_lines() -> list[list[Shipped]]:
     """All tables, those together that have the same lines."""
     together: dict[tuple[str, ...], list[Shipped]] = {}
@@ -122,7 +139,7 @@ def keep(folder: Path, name: str) -> None:
 def measured(name: str) -> Row:
     """The figures of a table."""
     try:
-        brought = bring(find_table(name), Options(each=EACH))
+        brought = convert(find_table(name), Options(each=EACH))
     except (NoLiblouis, NoTable) as error:
         return failed(name, str(error))
     return {
@@ -158,14 +175,50 @@ def write(rows: Iterable[Row]) -> None:
         if tables[0].name in by_name
     ]
     found.sort(key=lambda one: (one.table.language, one.table.name))
+    real = on_running_text()
     with MEASURED.open("w", encoding="utf-8", newline="") as file:
         writer = csv.writer(file, delimiter="\t", lineterminator="\n")
-        writer.writerow(["table", "asked", "unseen", "others", "differs"])
+        writer.writerow(["table", "asked", "unseen", "others", "differs", "real"])
         for one in found:
             if one.is_compared:
                 shares = [f"{share:.5f}" for share in one.shares]
-                writer.writerow([one.table.name, *shares, one.row["differs"]])
+                known = real.get(one.table.name, {}).get("all_lines", "")
+                writer.writerow([one.table.name, *shares, one.row["differs"], known])
     (ROOT / "docs" / "TABLES.md").write_text(document(found), encoding="utf-8")
+
+
+def on_running_text() -> dict[str, running.Row]:
+    """The figures on running text by the names of the tables, of those with the same lines for each."""
+    known = running.rows()
+    return {
+        table.name: {**known[tables[0].name], "table": table.name}
+        for tables in tables_by_lines()
+        for table in tables
+        if tables[0].name in known
+    }
+
+
+def part_on_running_text(tables: Sequence[Shipped]) -> str:
+    """The part of the document on running text."""
+    real = on_running_text()
+    europe = [
+        real[one.name]
+        for one in tables
+        if one.name in real and is_european_and_uncontracted(one)
+    ]
+    text = paragraphs(running.head(europe, list(real.values())))
+    for title, is_wanted in (
+        ("Uncontracted tables", True),
+        ("Tables with contractions", False),
+    ):
+        text += f"\n### {title}\n\n{running.COLUMNS}"
+        text += "".join(
+            running.line_of(real[one.name], one.title)
+            for one in tables
+            if one.name in real and is_european_and_uncontracted(one) is is_wanted
+        )
+        text += running.below(europe) if is_wanted else ""
+    return text
 
 
 @dataclass(frozen=True)
@@ -193,13 +246,15 @@ def document(found: Sequence[Found]) -> str:
     rest = [one for one in compared if one not in europe]
     contracted = [one for one in rest if is_contracted(one.table)]
     text = io.StringIO()
+    text.write(paragraphs(FRONT))
+    text.write("\n" + part_on_running_text([one.table for one in found]) + "\n")
     text.write(paragraphs(HEAD.format(**summary(found, compared, europe))))
     for title, part in (
         ("Uncontracted tables of Europe", europe),
         ("Other uncontracted tables", [one for one in rest if one not in contracted]),
         ("Contracted tables", contracted),
     ):
-        text.write(f"\n## {title}\n\n")
+        text.write(f"\n### {title}\n\n")
         text.write(
             "| language | table | asked | unseen | others | apart | what differs |\n"
         )
@@ -268,13 +323,21 @@ def summary(
     }
 
 
-HEAD: Final = """\
+FRONT: Final = """\
 # Tables of liblouis, brought over
 
 `scribe bring TABLE FILE` makes one text that braildesk can read from a table of liblouis, with all
-that it includes, and compares the program's cells with those of liblouis. `tests/tables/bring_all.sh` did
-this with the tables of liblouis 3.24.0, and wrote this file. `scribe bring --list` shows the shares
-*unseen* and *others* of it, as *all lines* and *others*.
+that it includes, and compares the program's cells with those of liblouis. This was done with the tables
+of liblouis 3.24.0, on running text and on lines that were made up. `tests/tables/bring_real.sh` and
+`tests/tables/bring_all.sh` wrote this file. `scribe bring --list` shows the shares of *all lines* of
+running text, as *real lines*, and then *unseen* and *others* of made-up ones.
+"""
+
+HEAD: Final = """\
+## On lines that were made up
+
+For most tables there is no running text here. Each table is compared on lines that are made of its own
+letters, words and marks.
 
 - **asked**: the share of lines that agree, of the shapes that `scribe bring` asks liblouis about to
   make the table: words, capitals and numbers, each with one mark.
@@ -308,7 +371,7 @@ and {europe_others} on at least 99.5% of the others. Below that: {below}.
 """
 
 TAIL: Final = """
-## Not compared
+### Not compared
 
 """
 

@@ -1,4 +1,4 @@
-"""Compares tables/ueb.utb with liblouis's en-ueb-g1 on English of this machine.
+"""Compares src/braildesk/tables/ueb.utb with liblouis's en-ueb-g1 on English of this machine.
 
 Each difference has to have a cause that docs/LIBLOUIS.md explains by an example, and the
 shares of lines with the same cells have to be as large as they are known to be.
@@ -21,11 +21,11 @@ from program import Program
 from regions import Region, Translation, differing
 
 ROOT = pathlib.Path(__file__).resolve().parents[3]
-sys.path.insert(0, str(ROOT / "python"))
+sys.path.insert(0, str(ROOT / "src"))
 
-from braildesk import profile  # noqa: E402
+from braildesk import tables as profile  # noqa: E402
 
-UEB = ROOT / "tables/ueb.utb"
+UEB = ROOT / "src/braildesk/tables/ueb.utb"
 TABLES = ["unicode.dis", "en-ueb-g1.ctb"]
 
 # The characters that alone have other cells, as docs/LIBLOUIS.md says.

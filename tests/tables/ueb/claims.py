@@ -1,4 +1,4 @@
-"""Which characters tables/ueb.utb defines, by the blocks of Unicode, and no others."""
+"""Which characters src/braildesk/tables/ueb.utb defines, by the blocks of Unicode, and no others."""
 
 # Where the characters stand that are asked for: all of the blocks that have claims.
 ASKED = (range(0x1, 0x3000), range(0xFB00, 0xFB50))

@@ -1,4 +1,4 @@
-"""Looks at tables/ueb.utb by the built program.
+"""Looks at src/braildesk/tables/ueb.utb by the built program.
 
 Its characters and its pairs of letters are asked for, rows of print are compared with
 their cells, and a book that is typed with it is exported.
@@ -128,7 +128,7 @@ def main() -> int:
     """Runs each check, and says what is wrong."""
     parser = argparse.ArgumentParser(description=__doc__)
     parser.add_argument("program", type=lambda it: pathlib.Path(it).resolve())
-    program = Program(parser.parse_args().program, ROOT / "tables/ueb.utb")
+    program = Program(parser.parse_args().program, ROOT / "src/braildesk/tables/ueb.utb")
     status = 0
     for check in CHECKS:
         name = check.__name__.replace("_", " ")

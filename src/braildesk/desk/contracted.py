@@ -1,0 +1,33 @@
+"""What a table is made with for a manuscript: its paragraphs, a list of words, and what was kept."""
+
+from pathlib import Path
+
+from braildesk.desk.manuscripts import paragraphs_of
+from braildesk.desk.own_folder import OwnFolder
+from braildesk.desk.state_folder import cache_folder
+from braildesk.tables.convert.addition import read_addition
+from braildesk.tables.convert.shipped import shipped_table
+from braildesk.tables.convert.tailoring import Manuscript, Means, Report
+from braildesk.tables.convert.word_list import WordList
+from braildesk.tables.convert.words import installed_words
+
+FOLDER = "contractions"
+"""The folder, within what can be made again, of the rules that were learned from lists."""
+
+
+def manuscript_at(path: Path, wait: float = 0.0) -> Manuscript:
+    """The manuscript in a file, a text or a book."""
+    return Manuscript(path.name, paragraphs_of(path, wait))
+
+
+def means_for(
+    table: Path, words: Path | None, report: Report, add: Path | None = None
+) -> Means:
+    """A list of words, or else the installed one of the table's language, and the user's cache.
+
+    Raises `BadAddition` where the lines of a file can't be added.
+    """
+    path = words or installed_words(shipped_table(table).language)
+    found = None if path is None else WordList.of(path)
+    addition = None if add is None else read_addition(add)
+    return Means(found, OwnFolder(cache_folder() / FOLDER), report, addition)

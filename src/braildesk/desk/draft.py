@@ -1,0 +1,103 @@
+"""A text that was typed for a book and isn't in it yet."""
+
+import re
+from dataclasses import dataclass, replace
+from enum import Enum, auto
+
+from braildesk.desk.record import NotSuch, Record
+from braildesk.text import limits
+from braildesk.text.spans import Span
+
+_SURROGATE = re.compile("[\ud800-\udfff]")
+_NAME = re.compile(f"[^ \n\r\0]{{1,{limits.NAME_CHARACTERS}}}")
+
+
+class Aim(Enum):
+    """What a text was typed for: the print of a paragraph, a new paragraph, or a note."""
+
+    EDIT = auto()
+    AFTER = auto()
+    BEFORE = auto()
+    NOTE = auto()
+
+    @property
+    def is_new(self) -> bool:
+        """Whether it is a new paragraph."""
+        return self in (Aim.AFTER, Aim.BEFORE)
+
+
+@dataclass(frozen=True)
+class Draft:
+    """A text that was typed: what for, at which paragraph, and how its print read then.
+
+    Lines that were pasted, and may become paragraphs, are parted by LF. The cells are those of the
+    mark whose note was typed. The version is that of the book at that time, where it is known.
+    """
+
+    aim: Aim
+    paragraph: int | None
+    table: str | None
+    before: str
+    text: str
+    cells: Span | None = None
+    version: int | None = None
+
+    @property
+    def joined(self) -> str:
+        """The text in one line."""
+        return self.text.replace("\n", " ")
+
+    @property
+    def first_line(self) -> str:
+        """The first of its lines."""
+        return self.text.partition("\n")[0]
+
+    def after_first_line(self, paragraph: int) -> "Draft | None":
+        """The lines after the first one, which is in a paragraph; none where there are none."""
+        _, _, rest = self.text.partition("\n")
+        if not rest:
+            return None
+        return replace(self, aim=Aim.AFTER, paragraph=paragraph, text=rest)
+
+    def values(self) -> dict[str, object]:
+        """What is kept of it as JSON."""
+        cells = self.cells
+        return {
+            "purpose": self.aim.name,
+            "paragraph": self.paragraph,
+            "table": self.table,
+            "before": _written(self.before),
+            "text": _written(self.text),
+            "cells": None if cells is None else [cells.start, cells.stop],
+            "version": self.version,
+        }
+
+
+def draft_in(kept: Record) -> Draft:
+    """The draft of which these values were kept; `NotSuch` where they are none."""
+    aim = kept.text("purpose")
+    if aim not in Aim.__members__:
+        raise NotSuch("purpose")
+    table = kept.text_or_none("table")
+    if table is not None and not _NAME.fullmatch(table):
+        raise NotSuch("table")
+    return Draft(
+        Aim[aim],
+        kept.number_or_none("paragraph", least=1),
+        table,
+        kept.text("before"),
+        kept.text("text"),
+        _cells(kept.numbers("cells")) if kept.has("cells") else None,
+        kept.number_or_none("version"),
+    )
+
+
+def _written(text: str) -> str:
+    """A text as it is kept: what came in bytes that aren't UTF-8 has no character."""
+    return _SURROGATE.sub("\N{REPLACEMENT CHARACTER}", text)
+
+
+def _cells(places: list[int]) -> Span:
+    if len(places) != 2 or places[0] >= places[1]:
+        raise NotSuch("cells")
+    return Span(*places)

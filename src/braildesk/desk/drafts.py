@@ -1,0 +1,261 @@
+"""What a person began for a book and the book doesn't have yet, kept in a folder of their own.
+
+The folder is `braildesk` under `XDG_STATE_HOME`, else under `~/.local/state`, and not beside the
+book: a book may come from anybody and lie where others write. Files there are named by the book's
+path; they say that path, and the device and the inode of the book's file.
+"""
+
+import hashlib
+import json
+import os
+from collections.abc import Callable
+from enum import Enum
+from pathlib import Path
+from typing import TypeVar
+
+from braildesk.desk import Problem
+from braildesk.desk.draft import Draft, draft_in
+from braildesk.desk.import_note import ImportNote, note_in
+from braildesk.desk.own_folder import MOST_BYTES, OwnFolder, Unfit, bytes_of, opened
+from braildesk.desk.record import NotSuch, Record
+from braildesk.desk.state_folder import state_folder
+
+#: How many texts that were given up are kept for a book.
+MOST_GIVEN_UP = 10
+#: How many imports that were cut short are noted for a book.
+MOST_IMPORTS = 10
+_Kept = TypeVar("_Kept")
+
+
+class Begun(Enum):
+    """What is kept for a book: each has a file, whose name ends so."""
+
+    WAITING = "unsent"
+    GIVEN_UP = "given-up"
+    IMPORTS = "imports"
+
+
+class NotKept(Problem):
+    """Something can't be kept, or what was kept can't be read."""
+
+
+class NotTaken(NotKept):
+    """A file beside the book, which an older scribe may have left, stays where it is, and why."""
+
+    def __init__(self, path: Path, why: str) -> None:
+        super().__init__(path, why)
+        self.path = path
+        self.why = why
+
+
+class NotRead(NotKept):
+    """What was kept in a file can't be read by its cause."""
+
+    def __init__(self, path: Path, cause: OSError) -> None:
+        super().__init__(path, cause)
+        self.path = path
+        self.cause = cause
+
+
+class NotAsKept(NotKept):
+    """A file has something else than was kept there; it is set aside by a name, or can't be."""
+
+    def __init__(self, path: Path, aside: str | OSError) -> None:
+        super().__init__(path, aside)
+        self.path = path
+        self.aside = aside
+
+
+class NotSaved(NotKept):
+    """Something can't be kept in a folder, if one is known, or can't be taken out of it."""
+
+    def __init__(self, what: Begun, folder: Path, cause: OSError, is_out: bool) -> None:
+        super().__init__(what, folder, cause, is_out)
+        self.what = what
+        self.folder = folder
+        self.cause = cause
+        self.is_out = is_out
+
+
+class Drafts:
+    """The text of one book that waits, those that were given up, and imports that aren't done."""
+
+    def __init__(self, book: Path) -> None:
+        self.book = Path(os.path.realpath(book))
+        self._key = hashlib.sha256(os.fsencode(self.book)).hexdigest()[:32]
+        self._folder = OwnFolder(state_folder())
+
+    @property
+    def place(self) -> Path:
+        """The file of the text that waits."""
+        return self._folder.path / self._name(Begun.WAITING)
+
+    def waiting(self) -> Draft | None:
+        """The text that waits, none where there is none."""
+        return self._read(Begun.WAITING, draft_in)
+
+    def save(self, draft: Draft) -> None:
+        """Has a text wait, in place of the one that did."""
+        self._write(Begun.WAITING, draft.values())
+
+    def clear(self) -> None:
+        """Takes away the text that waits: the book has it, or nobody wants it."""
+        self._remove(Begun.WAITING)
+
+    def put_by(self, draft: Draft) -> None:
+        """Keeps a text as the newest of the last ten given up; the one that waits stays."""
+        others = [each for each in self.given_up() if each.text != draft.text]
+        values = [each.values() for each in (draft, *others)][:MOST_GIVEN_UP]
+        while len(values) > 1 and len(json.dumps(values)) > MOST_BYTES // 2:
+            values.pop()
+        self._write(Begun.GIVEN_UP, {"texts": values})
+
+    def take_out(self, text: str) -> None:
+        """Takes a text out of those given up: it is typed further, and waits until it is sent."""
+        texts = self.given_up()
+        others = [each.values() for each in texts if each.text != text]
+        if len(others) < len(texts):
+            self._write(Begun.GIVEN_UP, {"texts": others})
+
+    def given_up(self) -> tuple[Draft, ...]:
+        """The texts that were given up, the newest first."""
+        return self._read(Begun.GIVEN_UP, _drafts_in) or ()
+
+    def imports(self) -> tuple[ImportNote, ...]:
+        """The imports that were begun and haven't come to their end, the newest first."""
+        return self._read(Begun.IMPORTS, _notes_in) or ()
+
+    def begin_import(self, note: ImportNote) -> None:
+        """Notes an import before its first paragraph is typed, in place of others of its text."""
+        self._note((note, *self._others(note)))
+
+    def end_import(self, note: ImportNote) -> None:
+        """Takes away what is noted of an import: it is done, or nobody goes on with it."""
+        others = self._others(note)
+        if len(others) < len(self.imports()):
+            self._note(others)
+
+    def take_in(self) -> None:
+        """Moves in what an older scribe left beside the book.
+
+        It is read if it is a regular file of one's own, with one name and of a moderate size, and
+        is a draft; else it stays where it is, which `NotKept` says.
+        """
+        self._clear_left()
+        self.adopt()
+        beside = self.book.name + "-unsent"
+        try:
+            with opened(self.book.parent) as folder:
+                found = draft_in(Record.of(bytes_of(folder, beside)))
+                if not os.access(".", os.W_OK, dir_fd=folder):
+                    raise Unfit("its folder can't be written")
+                if self.waiting() is None:
+                    self.save(found)
+                else:
+                    self.put_by(found)
+                os.unlink(beside, dir_fd=folder)
+        except FileNotFoundError:
+            return
+        except NotSuch as cause:
+            raise NotTaken(self.book.with_name(beside), "it is no such text") from cause
+        except OSError as cause:
+            raise NotTaken(self.book.with_name(beside), cause.strerror) from cause
+
+    def adopt(self) -> None:
+        """Takes over what was kept for this book at a path where it is no more: it was moved."""
+        identity = _identity(self.book)
+        try:
+            names = self._folder.names() if identity else []
+            missing = {each.value for each in Begun if self._name(each) not in names}
+            for name in names:
+                what = name.partition(".")[2]
+                if what in missing and self._is_of(name, identity):
+                    self._folder.rename(name, self._name(Begun(what)))
+                    missing.discard(what)
+        except OSError:
+            # what can't be read is said where it is asked for
+            pass
+
+    def _is_of(self, name: str, identity: list[int] | None) -> bool:
+        """Whether a file was kept for this book, at a path where another file is, or none."""
+        try:
+            kept = Record.of(self._folder.read(name) or b"")
+            path = Path(kept.path("book"))
+            is_same = kept.has("file") and kept.numbers("file") == identity
+        except NotSuch:
+            return False
+        return is_same and _identity(path) != identity
+
+    def _others(self, note: ImportNote) -> tuple[ImportNote, ...]:
+        return tuple(each for each in self.imports() if not each.is_of(note))
+
+    def _note(self, notes: tuple[ImportNote, ...]) -> None:
+        if notes:
+            values = [each.values() for each in notes[:MOST_IMPORTS]]
+            self._write(Begun.IMPORTS, {"imports": values})
+        else:
+            self._remove(Begun.IMPORTS)
+
+    def _clear_left(self) -> None:
+        try:
+            self._folder.clear_left()
+        except OSError:
+            # what matters is said where something is read or kept
+            pass
+
+    def _name(self, what: Begun) -> str:
+        return f"{self._key}.{what.value}"
+
+    def _read(self, what: Begun, taken: Callable[[Record], _Kept]) -> _Kept | None:
+        """What was kept, none where nothing was.
+
+        What isn't such a thing is set aside, so that nothing is written over it.
+        """
+        path = self._folder.path / self._name(what)
+        try:
+            data = self._folder.read(path.name)
+            return None if data is None else taken(Record.of(data))
+        except NotSuch as cause:
+            raise NotAsKept(path, self._set_aside(path)) from cause
+        except OSError as cause:
+            raise NotRead(path, cause) from cause
+
+    def _set_aside(self, path: Path) -> str | OSError:
+        aside = path.name + ".unreadable"
+        try:
+            self._folder.rename(path.name, aside)
+        except OSError as cause:
+            return cause
+        return aside
+
+    def _write(self, what: Begun, values: dict[str, object]) -> None:
+        of_book = {"book": str(self.book), "file": _identity(self.book)}
+        whole: dict[str, object] = {**of_book, **values}
+        data = json.dumps(whole, ensure_ascii=True, indent=1) + "\n"
+        try:
+            self._folder.write(self._name(what), data.encode())
+        except OSError as cause:
+            raise NotSaved(what, self._folder.path, cause, False) from cause
+
+    def _remove(self, what: Begun) -> None:
+        try:
+            self._folder.remove(self._name(what))
+        except OSError as cause:
+            raise NotSaved(what, self._folder.path, cause, True) from cause
+
+
+def _drafts_in(kept: Record) -> tuple[Draft, ...]:
+    return tuple(map(draft_in, kept.records("texts")))
+
+
+def _notes_in(kept: Record) -> tuple[ImportNote, ...]:
+    return tuple(map(note_in, kept.records("imports")))
+
+
+def _identity(book: Path) -> list[int] | None:
+    """The device and the inode of a book's file, none where it isn't there."""
+    try:
+        found = book.stat()
+    except OSError:
+        return None
+    return [found.st_dev, found.st_ino]

@@ -1,0 +1,236 @@
+"""An export: all volumes of a book as pages for an embosser, each in a file of a folder."""
+
+import os
+import re
+from collections.abc import Callable, Iterator
+from dataclasses import dataclass
+from pathlib import Path
+
+from braildesk import Code, NotFound, Refused, check, export
+from braildesk.desk import Problem
+from braildesk.desk.layout import PageSize
+from braildesk.desk.whole_file import Access, write_whole
+from braildesk.named_files import read_file
+
+# how often the volumes are read until all are of one version
+TRIES = 3
+
+
+@dataclass(frozen=True)
+class Job:
+    """A book whose volumes are written to a folder, and the size of their pages."""
+
+    book: Path
+    folder: Path
+    page_size: PageSize
+    #: How many seconds a book is waited for that another program has open.
+    wait: float
+
+    @property
+    def name(self) -> str:
+        """What the names of the files begin with."""
+        return self.book.name.removesuffix(".braildesk")
+
+    def file(self, volume: int) -> Path:
+        """The file of a volume."""
+        return self.folder / f"{self.name}-{volume}.brf"
+
+    def later_files(self, volumes: int) -> list[Path]:
+        """Files of volumes that the book doesn't have, in their order."""
+        form = re.compile(re.escape(self.name) + r"-([1-9][0-9]{0,4})\.brf")
+        found = {
+            int(match[1]): path
+            for path in self.folder.iterdir()
+            if (match := form.fullmatch(path.name))
+        }
+        return [found[volume] for volume in sorted(found) if volume > volumes]
+
+
+@dataclass(frozen=True)
+class Written:
+    """A volume that is in its file: its pages, and its cells with dots but for the pages' numbers."""
+
+    volume: int
+    file: Path
+    pages: int
+    cells: int
+
+
+@dataclass(frozen=True)
+class LeftOut:
+    """A volume that is refused: its file is as it was, if there was one."""
+
+    volume: int
+    file: Path
+    refused: Refused
+    is_there: bool
+
+
+@dataclass(frozen=True)
+class Files:
+    """What the files of the volumes have where an export ended before its end."""
+
+    new: tuple[int, ...]
+    as_before: tuple[int, ...]
+
+
+class BookChanges(Problem):
+    """Another program changes the book while its volumes are read, and none was written."""
+
+    def __init__(self, version: int, folder: Path) -> None:
+        super().__init__(version, folder)
+        self.version = version
+        self.folder = folder
+
+
+class NoFolder(Problem):
+    """The folder of the volumes isn't one and can't be made, by its cause; none was written."""
+
+    def __init__(self, folder: Path, cause: OSError | ValueError) -> None:
+        super().__init__(folder, cause)
+        self.folder = folder
+        self.cause = cause
+
+
+class NotWritten(Problem):
+    """The file of a volume couldn't be written, or `MayNotLast`; the files of the others."""
+
+    def __init__(
+        self, volume: int, file: Path, cause: OSError, is_there: bool, files: Files
+    ) -> None:
+        super().__init__(volume, file, cause)
+        self.volume = volume
+        self.file = file
+        self.cause = cause
+        self.is_there = is_there
+        self.files = files
+
+
+class Export:
+    """An export that is made, and what it has done so far.
+
+    The check is called between any two of its steps, and ends it by what it raises.
+    """
+
+    def __init__(self, job: Job, check: Callable[[], None] = lambda: None) -> None:
+        self.job = job
+        self._check = check
+        self._volumes: list[bytes | Refused] = []
+        self._written: list[int] = []
+
+    @property
+    def volumes(self) -> int:
+        """How many volumes the book has, once they were read."""
+        return len(self._volumes)
+
+    @property
+    def is_whole(self) -> bool:
+        """Whether each volume is in its file."""
+        return len(self._written) == self.volumes
+
+    def run(self) -> Iterator[Written | LeftOut]:
+        """Reads all volumes, then writes each that isn't refused.
+
+        Raises `BookChanges`, `NoFolder` and `NotWritten`, and what the client raises of the book.
+        """
+        self._volumes = self._of_one_version()
+        self._make_folder()
+        for volume, pages in enumerate(self._volumes, 1):
+            self._check()
+            file = self.job.file(volume)
+            if isinstance(pages, Refused):
+                yield LeftOut(volume, file, pages, os.path.lexists(file))
+                continue
+            self._write(volume, pages)
+            self._written.append(volume)
+            yield Written(volume, file, *_size(pages))
+
+    def so_far(self) -> Files | None:
+        """What the files have where this was ended; none where no volume was to be written yet."""
+        if not self._volumes:
+            return None
+        rest = [n for n in self._wanted if n not in self._written]
+        # the first of these may have its pages and not be noted yet
+        if rest and _has(self.job.file(rest[0]), self._wanted[rest[0]]):
+            return Files((*self._written, rest[0]), tuple(rest[1:]))
+        return Files(tuple(self._written), tuple(rest))
+
+    @property
+    def _wanted(self) -> dict[int, bytes]:
+        """The pages of each volume that isn't refused."""
+        pairs = enumerate(self._volumes, 1)
+        return {number: each for number, each in pairs if isinstance(each, bytes)}
+
+    def _of_one_version(self) -> list[bytes | Refused]:
+        """The pages of each volume, or why it is refused, all read while the book was at one version."""
+        job = self.job
+        version = _version(job)
+        for _ in range(TRIES):
+            volumes = list(self._read())
+            before, version = version, _version(job)
+            if before == version:
+                return volumes
+        raise BookChanges(version[0], job.folder)
+
+    def _read(self) -> Iterator[bytes | Refused]:
+        """The pages of each volume, or why it is refused."""
+        job, page_size, volume = self.job, self.job.page_size, 1
+        while True:
+            self._check()
+            try:
+                yield export(
+                    job.book, volume, page_size.width, page_size.lines, timeout=job.wait
+                )
+            except NotFound:
+                return
+            except Refused as refused:
+                if refused.code != Code.NOT_FOR_EMBOSSERS:
+                    raise
+                yield refused
+            volume += 1
+
+    def _make_folder(self) -> None:
+        try:
+            self.job.folder.mkdir(exist_ok=True)
+        except (OSError, ValueError) as cause:
+            raise NoFolder(self.job.folder, cause) from cause
+
+    def _write(self, volume: int, pages: bytes) -> None:
+        """Writes a volume after some others."""
+        file = self.job.file(volume)
+        is_there = os.path.lexists(file)
+        try:
+            write_whole(file, pages, Access.of(self.job.book))
+        except OSError as cause:
+            later = tuple(range(volume + 1, self.volumes + 1))
+            files = Files(tuple(self._written), later)
+            raise NotWritten(volume, file, cause, is_there, files) from cause
+
+
+def _version(job: Job) -> tuple[int, int, int]:
+    """The version of the book, and the device and inode of its file: a copy may replace that."""
+    version, found = check(job.book, timeout=job.wait), job.book.stat()
+    return version, found.st_dev, found.st_ino
+
+
+def _size(pages: bytes) -> tuple[int, int]:
+    """How much a volume is: its pages, and its cells that have dots but for the pages' numbers."""
+    numbered = pages.split(b"\f")[:-1]
+    cells = sum(_cells_with_dots(line) for page in numbered for line in _texts(page))
+    return len(numbered), cells
+
+
+def _texts(page: bytes) -> list[bytes]:
+    """The lines of a page without the last one, which has its number."""
+    return page.removesuffix(b"\r\n").split(b"\r\n")[:-1]
+
+
+def _cells_with_dots(line: bytes) -> int:
+    return len(line) - line.count(b" ")
+
+
+def _has(file: Path, pages: bytes) -> bool:
+    try:
+        return not file.is_symlink() and read_file(file, len(pages)) == pages
+    except OSError:
+        return False

@@ -1,0 +1,129 @@
+"""Where words or cells stand in a book, and words that are like those that were looked for.
+
+Who looks for words types what the keyboard has: a straight apostrophe, a hyphen, a blank. In the
+print there may be a curved one, a dash, a no-break space, or a capital at the front of a sentence.
+"""
+
+from collections.abc import Iterable, Iterator, Sequence
+from dataclasses import dataclass
+from enum import Enum, auto
+
+from braildesk import Paragraph, Session
+from braildesk.desk.places import words_of
+from braildesk.desk.readings import brailles, prints
+from braildesk.text.sequences import composed
+from braildesk.text.spans import Form, Span, find_spans
+
+
+class Kind(Enum):
+    """By what words differ that are alike."""
+
+    CAPITALS = auto()
+    APOSTROPHE = auto()
+    QUOTATION_MARKS = auto()
+    DASH = auto()
+    BLANK = auto()
+
+
+#: The signs of each kind, which count as the first of them.
+_SIGNS = {
+    Kind.APOSTROPHE: "'‘’‚‛‹›′ʼ`´",
+    Kind.QUOTATION_MARKS: '"“”„‟«»″',
+    Kind.DASH: "-‐‑‒–—―−",
+    Kind.BLANK: " \t\u00a0\u2002\u2003\u2007\u2009\u202f",
+}
+#: What each sign counts as where texts may differ by all kinds, or by all but one.
+_SHAPES = {
+    kept: {
+        ord(sign): signs[0]
+        for kind, signs in _SIGNS.items()
+        if kind is not kept
+        for sign in signs
+    }
+    for kept in (None, *Kind)
+}
+
+
+def alike(text: str) -> str:
+    """The same text for all texts that differ by these alone; their sequences stay in their order."""
+    return _folded(text, None)
+
+
+def unlike(words: str, others: str) -> tuple[Kind, ...]:
+    """By what two texts differ that are alike."""
+    return tuple(kind for kind in Kind if _folded(words, kind) != _folded(others, kind))
+
+
+def _folded(text: str, kept: Kind | None) -> str:
+    """A text without what its sequences may differ by, but for one kind."""
+    text = composed(text)
+    if kept is not Kind.CAPITALS:
+        text = text.casefold()
+    return text.translate(_SHAPES[kept])
+
+
+@dataclass(frozen=True)
+class Hit:
+    """A paragraph, its print or its braille, and the places in it of what was looked for."""
+
+    paragraph: Paragraph
+    text: str
+    places: tuple[Span, ...]
+
+
+@dataclass(frozen=True)
+class Tally:
+    """How many places were found, in how many paragraphs, and by what they differ from the words."""
+
+    count: int = 0
+    paragraphs: int = 0
+    kinds: tuple[Kind, ...] = ()
+
+    def with_hit(self, hit: Hit, sought: str) -> "Tally":
+        """With those of another paragraph."""
+        found = {hit.text[place.start : place.stop] for place in hit.places} - {sought}
+        kinds = {kind for words in found for kind in unlike(sought, words)}
+        return Tally(
+            self.count + len(hit.places),
+            self.paragraphs + 1,
+            tuple(kind for kind in Kind if kind in kinds | set(self.kinds)),
+        )
+
+
+def tallied(found: Iterable[Hit], sought: str) -> Tally:
+    """How much was found."""
+    tally = Tally()
+    for hit in found:
+        tally = tally.with_hit(hit, sought)
+    return tally
+
+
+def find_words(session: Session, sought: str, form: Form = composed) -> Iterator[Hit]:
+    """The paragraphs in whose prints words stand, compared in a form."""
+    book = session.paragraphs()
+    yield from _hits(book, prints(session, book), sought, form)
+
+
+def find_cells(session: Session, cells: str) -> list[Hit]:
+    """The paragraphs in whose braille cells stand, for all of which the session can be asked."""
+    book = session.paragraphs()
+    return list(_hits(book, brailles(session, book), cells, composed))
+
+
+def print_of(session: Session, hit: Hit) -> tuple[str, list[Span]]:
+    """The print of a paragraph, and the places in it for which the cells stand that were found."""
+    number = hit.paragraph.id
+    text = session.print_of(number)
+    return text, [
+        words_of(session, number, place, text, hit.text) for place in hit.places
+    ]
+
+
+def _hits(
+    book: Sequence[Paragraph], texts: Iterable[str], sought: str, form: Form
+) -> Iterator[Hit]:
+    """The paragraphs in whose texts something stands."""
+    for paragraph, text in zip(book, texts):
+        found = find_spans(text, sought, form)
+        if found:
+            yield Hit(paragraph, text, found)

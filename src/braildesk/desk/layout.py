@@ -1,0 +1,190 @@
+"""The pages of a volume, laid out from its cells as `export` lays them out.
+
+docs/FORMATS.md says under "Pages for embossers" how. Lines and pages are counted from 1, cells of a
+paragraph from 0.
+"""
+
+from bisect import bisect_left, bisect_right
+from collections.abc import Iterable, Iterator
+from dataclasses import dataclass
+from itertools import accumulate, chain, repeat
+
+from braildesk.text.cells import EMPTY_CELL, braille_ascii
+
+_BODY_INDENT = 2
+_HEADING_INDENT = 4
+_DIGITS = str.maketrans("1234567890", "ABCDEFGHIJ")
+
+#: Cells of a paragraph, from the first one up to but not including another one.
+Span = tuple[int, int]
+
+
+@dataclass(frozen=True)
+class PageSize:
+    """The size of a page: the cells of a line, and its lines, of which the last has its number."""
+
+    width: int = 40
+    lines: int = 25
+
+    @property
+    def text_lines(self) -> int:
+        return self.lines - 1
+
+    def place(self, line: int) -> tuple[int, int]:
+        """The page and its line on which a line of a volume stands, which is counted from 0."""
+        page, place = divmod(line, self.text_lines)
+        return page + 1, place + 1
+
+
+@dataclass(frozen=True)
+class Section:
+    """A paragraph of a volume with its braille, as characters of Braille Patterns."""
+
+    paragraph: int
+    is_heading: bool
+    braille: str
+
+    @property
+    def indents(self) -> Span:
+        """The empty cells at the front of its first line, and of its others."""
+        return (_HEADING_INDENT,) * 2 if self.is_heading else (_BODY_INDENT, 0)
+
+
+@dataclass(frozen=True)
+class Row:
+    """A line of a page: which cells of which paragraph stand on it, and what is embossed."""
+
+    page: int
+    line: int
+    paragraph: int
+    start: int
+    stop: int
+    shown: str
+
+
+@dataclass(frozen=True)
+class Placed:
+    """A paragraph on its lines, with the cells on each; it has none where it has no words.
+
+    Lines are counted from 0 through all pages of the volume, without those of the numbers of pages.
+    """
+
+    section: Section
+    lines: range
+    spans: list[Span]
+
+    @property
+    def shown(self) -> list[str]:
+        """What is embossed on its lines."""
+        letters = braille_ascii(self.section.braille)
+        first, later = self.section.indents
+        margins = chain([first], repeat(later))
+        return [
+            " " * margin + " ".join(letters[start:stop].split())
+            for margin, (start, stop) in zip(margins, self.spans)
+        ]
+
+
+@dataclass(frozen=True)
+class Layout:
+    """The paragraphs of a volume in their order, on pages of a size."""
+
+    page_size: PageSize
+    placed: tuple[Placed, ...]
+
+    @property
+    def pages(self) -> int:
+        """How many pages there are."""
+        return (
+            -(-self.placed[-1].lines.stop // self.page_size.text_lines)
+            if self.placed
+            else 0
+        )
+
+    @property
+    def rows(self) -> tuple[Row, ...]:
+        """The lines that have words, in their order."""
+        return tuple(row for each in self.placed for row in self.rows_of(each))
+
+    def rows_of(self, placed: Placed) -> Iterator[Row]:
+        """The lines of a paragraph."""
+        number = placed.section.paragraph
+        for line, span, shown in zip(placed.lines, placed.spans, placed.shown):
+            yield Row(*self.page_size.place(line), number, *span, shown)
+
+    def on_page(self, page: int) -> list[Placed]:
+        """The paragraphs that have lines on a page."""
+        first = (page - 1) * self.page_size.text_lines
+        last = first + self.page_size.text_lines
+        start = bisect_right(self.placed, first, key=lambda each: each.lines.stop)
+        stop = bisect_left(self.placed, last, key=lambda each: each.lines.start)
+        return [each for each in self.placed[start:stop] if each.lines]
+
+    def page(self, page: int) -> list[str]:
+        """The lines of a page in Braille ASCII, the last of them with its number."""
+        lines = [""] * self.page_size.text_lines
+        front = (page - 1) * self.page_size.text_lines
+        for placed in self.on_page(page):
+            for line, text in zip(placed.lines, placed.shown):
+                if 0 <= line - front < len(lines):
+                    lines[line - front] = text
+        number = "#" + str(page).translate(_DIGITS)
+        return [*lines, number.rjust(self.page_size.width)]
+
+    def embossed(self, page: int) -> bytes:
+        """A page in Braille Ready Format."""
+        lines = "".join(line + "\r\n" for line in self.page(page))
+        return lines.encode("ascii") + b"\f"
+
+    def brf(self) -> bytes:
+        """The volume in Braille Ready Format."""
+        return b"".join(map(self.embossed, range(1, self.pages + 1)))
+
+
+def lay_out(sections: Iterable[Section], page_size: PageSize) -> Layout:
+    """Puts the words of a volume's paragraphs on lines, and the lines on pages."""
+    return Layout(page_size, tuple(placed(sections, page_size)))
+
+
+def placed(sections: Iterable[Section], page_size: PageSize) -> Iterator[Placed]:
+    """Each paragraph of a volume on its lines."""
+    front = 0
+    for section in sections:
+        spans = spans_of(section, page_size.width)
+        if section.is_heading and spans and front % page_size.text_lines:
+            front += 1
+        yield Placed(section, range(front, front + len(spans)), spans)
+        front += len(spans)
+
+
+def spans_of(section: Section, width: int) -> list[Span]:
+    """The cells on each line of a paragraph: words that are parted by one empty cell there."""
+    first, later = (width - indent for indent in section.indents)
+    cells = section.braille
+    joined = EMPTY_CELL.join(filter(None, cells.split(EMPTY_CELL)))
+    spans = _broken(joined, first, later)
+    if joined == cells:
+        return spans
+    # each cell of a word stands at a place of its own in the paragraph
+    places = [place for place, cell in enumerate(cells) if cell != EMPTY_CELL]
+    counts = list(accumulate(cell != EMPTY_CELL for cell in joined))
+    return [
+        (places[counts[start] - 1], places[counts[stop - 1] - 1] + 1)
+        for start, stop in spans
+    ]
+
+
+def _broken(words: str, first: int, later: int) -> list[Span]:
+    """The lines of words, by the room of the first line and of the others."""
+    spans = []
+    start, room = 0, first
+    while len(words) - start > room:
+        stop = words.rfind(EMPTY_CELL, start, start + room + 1)
+        is_cut = stop < 0
+        if is_cut:
+            stop = start + room
+        spans.append((start, stop))
+        start, room = stop if is_cut else stop + 1, later
+    if words[start:]:
+        spans.append((start, len(words)))
+    return spans

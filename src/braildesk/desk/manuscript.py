@@ -1,0 +1,166 @@
+"""The paragraphs of a text file, and where in the file each of their characters stands.
+
+Lines end with LF or CR LF, and one byte order mark at the front is skipped. Tabs and form feeds are
+blanks. Blanks around a line, and lines of blanks alone, are no part of a paragraph. Lines and
+columns are counted from 1, columns in characters.
+"""
+
+from bisect import bisect_right
+from collections.abc import Iterable, Iterator, Sequence
+from dataclasses import dataclass
+from functools import cached_property
+from io import StringIO
+from itertools import groupby, islice
+
+from braildesk.desk import Problem
+from braildesk.text import limits
+from braildesk.text.sequences import chunks, composed, sequences
+
+_MARK = b"\xef\xbb\xbf"
+_OTHER_MARKS = (b"\xff\xfe", b"\xfe\xff")
+# what is over the paragraphs of a book is counted up to here, so that it can be said how many
+_MOST = 5 * limits.PARAGRAPHS
+
+
+class UnreadableText(Problem):
+    """The bytes of a text file can't be read as paragraphs for a book."""
+
+
+class TooManyPassages(UnreadableText):
+    """A text has more paragraphs than are counted."""
+
+    def __init__(self, most: int) -> None:
+        super().__init__(most)
+        self.most = most
+
+
+class Utf16(UnreadableText):
+    """A text is UTF-16."""
+
+
+class NotUtf8(UnreadableText):
+    """A text isn't UTF-8: a byte at a line and a column isn't."""
+
+    def __init__(self, position: "Position", byte: int) -> None:
+        super().__init__(position, byte)
+        self.position = position
+        self.byte = byte
+
+
+@dataclass(frozen=True, order=True, slots=True)
+class Position:
+    """A line of a file and a column in it, both from 1."""
+
+    line: int
+    column: int
+
+
+@dataclass(frozen=True, slots=True)
+class Line:
+    """What a line of a file has between the blanks around it, and the position of its front."""
+
+    text: str
+    position: Position
+
+
+@dataclass(frozen=True)
+class Passage:
+    """A paragraph of a text file: lines that are joined by one blank each."""
+
+    lines: tuple[Line, ...]
+
+    @property
+    def first_line(self) -> int:
+        return self.lines[0].position.line
+
+    @property
+    def last_line(self) -> int:
+        return self.lines[-1].position.line
+
+    @cached_property
+    def text(self) -> str:
+        """The print of the paragraph, in normal form C."""
+        return composed(self._joined)
+
+    @property
+    def _joined(self) -> str:
+        return " ".join(line.text for line in self.lines)
+
+    def position(self, place: int) -> Position:
+        """Where in the file a place of the print comes from, by the front of its sequence."""
+        (position,) = self.positions([place])
+        return position
+
+    def positions(self, places: Iterable[int]) -> Iterator[Position]:
+        """Where in the file places of the print come from, in their ascending order."""
+        fronts, rest = self._fronts(), iter(places)
+        place = next(rest, None)
+        before = there = 0
+        for chunk in chunks(self._joined):
+            if place is None:
+                return
+            if there + (length := len(composed(chunk))) <= place:
+                before, there = before + len(chunk), there + length
+                continue
+            for sequence in sequences(chunk):
+                there += len(composed(sequence))
+                while place is not None and place < there:
+                    yield self._position(before, fronts)
+                    place = next(rest, None)
+                before += len(sequence)
+        # beyond the end of the print is the place after its last character
+        while place is not None:
+            yield self._position(before, fronts)
+            place = next(rest, None)
+
+    def _fronts(self) -> list[int]:
+        """Where each line begins in the lines joined."""
+        fronts = [0]
+        for line in self.lines[:-1]:
+            fronts.append(fronts[-1] + len(line.text) + 1)
+        return fronts
+
+    def _position(self, place: int, fronts: Sequence[int]) -> Position:
+        number = bisect_right(fronts, place) - 1
+        front = self.lines[number].position
+        return Position(front.line, front.column + place - fronts[number])
+
+
+def passages(data: bytes, by_lines: bool) -> tuple[Passage, ...]:
+    """The paragraphs of a text: its lines, or what stands between its blank lines.
+
+    Raises `UnreadableText`.
+    """
+    lines = _lines(_decoded(data.removeprefix(_MARK)))
+    found = tuple(islice(_parted(lines, by_lines), _MOST + 1))
+    if len(found) > _MOST:
+        raise TooManyPassages(_MOST)
+    return found
+
+
+def _parted(lines: Iterator[Line], by_lines: bool) -> Iterator[Passage]:
+    if by_lines:
+        return (Passage((line,)) for line in lines if line.text)
+    groups = groupby(lines, key=lambda line: bool(line.text))
+    return (Passage(tuple(group)) for has_text, group in groups if has_text)
+
+
+def _lines(text: str) -> Iterator[Line]:
+    # lines are taken one by one, since a text may have millions that are blank
+    for number, whole in enumerate(StringIO(text, newline="\n"), start=1):
+        shown = whole.removesuffix("\n").removesuffix("\r")
+        shown = shown.replace("\t", " ").replace("\f", " ")
+        front = len(shown) - len(shown.lstrip(" "))
+        yield Line(shown.strip(" "), Position(number, front + 1))
+
+
+def _decoded(data: bytes) -> str:
+    try:
+        return data.decode("utf-8")
+    except UnicodeDecodeError as fault:
+        if data.startswith(_OTHER_MARKS):
+            raise Utf16 from fault
+        before = data[: fault.start].decode("utf-8")
+        line = before.count("\n") + 1
+        column = len(before) - before.rfind("\n")
+        raise NotUtf8(Position(line, column), data[fault.start]) from fault

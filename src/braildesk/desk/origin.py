@@ -1,0 +1,67 @@
+"""Which paragraphs of a book came from a text: those that have its prints, or had them once."""
+
+from collections.abc import Iterable, Sequence
+
+from braildesk import After, Entry, Kind, Paragraph, Session
+from braildesk.desk.manuscript import Passage
+from braildesk.desk.readings import answers
+from braildesk.protocol.requests import Print
+
+
+def came_from(
+    session: Session, numbers: Iterable[int], texts: Sequence[Passage]
+) -> int:
+    """How many paragraphs of a text, from its first one on, these paragraphs of a book are.
+
+    They are that also where they were corrected since.
+    """
+    pairs = list(zip(numbers, texts))
+    prints = answers(session, (Print(number) for number, _ in pairs))
+    others = {
+        number: found
+        for found, (number, passage) in zip(prints, pairs)
+        if found != passage.text
+    }
+    for count, (number, passage) in enumerate(pairs):
+        if number in others:
+            history = session.history_of(number)
+            if not history or corrected(passage.text, history) != others[number]:
+                return count
+    return len(pairs)
+
+
+def standing(
+    session: Session,
+    book: Sequence[Paragraph],
+    after: After,
+    texts: Sequence[Passage],
+) -> tuple[int, ...]:
+    """The paragraphs that are a text already, just before or after a place; none where none are.
+
+    Struck ones are passed over.
+    """
+    place = 0
+    if after == "end":
+        place = len(book)
+    elif after != "front":
+        place = [each.id for each in book].index(after) + 1
+    before = [each.id for each in book[:place] if not each.struck][-len(texts) :]
+    behind = [each.id for each in book[place:] if not each.struck][: len(texts)]
+    for numbers in (before, behind):
+        if len(numbers) == len(texts) and came_from(session, numbers[:1], texts):
+            if came_from(session, numbers, texts) == len(texts):
+                return tuple(numbers)
+    return ()
+
+
+def corrected(text: str, history: Iterable[Entry]) -> str:
+    """A print after the corrections and undos of a history."""
+    before: list[str] = []
+    for entry in history:
+        if entry.kind is Kind.UNDO:
+            text = before.pop()
+        else:
+            before.append(text)
+            stop = entry.start + entry.count
+            text = text[: entry.start] + entry.text + text[stop:]
+    return text

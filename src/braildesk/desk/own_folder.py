@@ -1,0 +1,155 @@
+"""A folder of one's own, in which nobody else reads or puts a file.
+
+Files are opened relative to the folder, never through a link, and without waiting for what is no
+file. What isn't a regular file of one's own, with one name and of a moderate size, isn't read.
+"""
+
+import os
+import stat
+import time
+from collections.abc import Iterator
+from contextlib import contextmanager
+from pathlib import Path
+
+from braildesk.desk.whole_file import Access, remove_from, replace_in, sync_names
+
+#: The bytes of a file at most.
+MOST_BYTES = 4 * 2**20
+_TOO_LARGE = f"it has more than {MOST_BYTES:,} bytes"
+_READ = os.O_RDONLY | os.O_NOFOLLOW | os.O_NONBLOCK | os.O_NOCTTY | os.O_CLOEXEC
+_FOLDER = os.O_RDONLY | os.O_DIRECTORY | os.O_NOFOLLOW | os.O_CLOEXEC
+# a file in place of a folder has no files
+_ABSENT = (FileNotFoundError, NotADirectoryError)
+_OWN = Access(0o600)
+# what a writer that was killed left is taken away after this time
+_LEFT_SECONDS = 3_600
+
+
+class Unfit(OSError):
+    """What is there isn't a file, or a folder, of one's own."""
+
+    def __init__(self, why: str) -> None:
+        super().__init__(None, why)
+
+
+class OwnFolder:
+    """The folder of a path, which is made with the first file."""
+
+    def __init__(self, path: Path) -> None:
+        self.path = path
+
+    def read(self, name: str) -> bytes | None:
+        """The bytes of a file, none where there is none."""
+        try:
+            with self._opened() as folder:
+                return bytes_of(folder, name)
+        except _ABSENT:
+            return None
+
+    def write(self, name: str, data: bytes) -> None:
+        """Gives a file these bytes, in place of what it had; or leaves it as it was."""
+        if len(data) > MOST_BYTES:
+            raise Unfit(_TOO_LARGE)
+        if not self.path.is_absolute():
+            raise Unfit("no home folder is known")
+        _make(self.path)
+        with self._opened() as folder:
+            replace_in(folder, name, data, _OWN)
+
+    def rename(self, name: str, other: str) -> None:
+        """Gives a file another name, also one that can't be read."""
+        with self._opened() as folder:
+            os.rename(name, other, src_dir_fd=folder, dst_dir_fd=folder)
+            sync_names(folder)
+
+    def remove(self, name: str) -> None:
+        """Takes a file away, where there is one."""
+        try:
+            with self._opened() as folder:
+                remove_from(folder, name)
+                sync_names(folder)
+        except _ABSENT:
+            pass
+
+    def names(self) -> list[str]:
+        """The names of the files, without those of what was never written to its end."""
+        try:
+            with self._opened() as folder:
+                found = os.listdir(folder)
+        except _ABSENT:
+            return []
+        return sorted(name for name in found if not name.startswith("."))
+
+    def clear_left(self) -> None:
+        """Takes away what writers that were killed left, once nobody can be writing it still."""
+        try:
+            with self._opened() as folder:
+                for name in os.listdir(folder):
+                    if name.startswith(".") and _is_old(folder, name):
+                        remove_from(folder, name)
+        except _ABSENT:
+            pass
+
+    @contextmanager
+    def _opened(self) -> Iterator[int]:
+        folder = os.open(self.path, _FOLDER)
+        try:
+            found = os.fstat(folder)
+            if found.st_uid != os.geteuid():
+                raise Unfit("it belongs to another user")
+            if stat.S_IMODE(found.st_mode) & 0o077:
+                os.fchmod(folder, 0o700)
+            yield folder
+        finally:
+            os.close(folder)
+
+
+@contextmanager
+def opened(path: Path) -> Iterator[int]:
+    """A folder that may be anybody's, to read a file of one's own there."""
+    folder = os.open(path, os.O_PATH | os.O_DIRECTORY | os.O_CLOEXEC)
+    try:
+        yield folder
+    finally:
+        os.close(folder)
+
+
+def bytes_of(folder: int, name: str) -> bytes:
+    """The bytes of a regular file of one's own with one name, `Unfit` for anything else."""
+    # a device isn't even opened; and what was opened is looked at again, since names change
+    _refuse(os.stat(name, dir_fd=folder, follow_symlinks=False))
+    with open(os.open(name, _READ, dir_fd=folder), "rb") as file:
+        _refuse(os.fstat(file.fileno()))
+        data = file.read(MOST_BYTES + 1)
+    if len(data) > MOST_BYTES:
+        raise Unfit(_TOO_LARGE)
+    return data
+
+
+def _refuse(found: os.stat_result) -> None:
+    if stat.S_ISLNK(found.st_mode):
+        raise Unfit("it is a link")
+    if not stat.S_ISREG(found.st_mode):
+        raise Unfit("it is no regular file")
+    if found.st_uid != os.geteuid():
+        raise Unfit("it belongs to another user")
+    if found.st_nlink > 1:
+        raise Unfit("it has another name too")
+    if found.st_size > MOST_BYTES:
+        raise Unfit(_TOO_LARGE)
+
+
+def _make(path: Path) -> None:
+    """Makes a folder for its owner alone, and those above it that are missing."""
+    try:
+        path.mkdir(mode=0o700)
+    except FileExistsError:
+        pass
+    except FileNotFoundError:
+        _make(path.parent)
+        path.mkdir(mode=0o700, exist_ok=True)
+
+
+def _is_old(folder: int, name: str) -> bool:
+    found = os.stat(name, dir_fd=folder, follow_symlinks=False)
+    return time.time() - found.st_mtime > _LEFT_SECONDS

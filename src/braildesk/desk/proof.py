@@ -1,0 +1,193 @@
+"""A book as it will be embossed, with the print that each word of cells stands for."""
+
+import re
+from collections.abc import Iterable, Iterator, Mapping, Sequence
+from dataclasses import dataclass
+from itertools import groupby
+
+from braildesk import Mark, Paragraph, Session, Style
+from braildesk.desk.layout import PageSize, Row
+from braildesk.desk.readings import answers, prints
+from braildesk.desk.volumes import Volume, parted, volume
+from braildesk.protocol.requests import Marks, Whence
+from braildesk.text.cells import EMPTY_CELL
+
+_CELLS = re.compile(f"[^{EMPTY_CELL}]+")
+_PRINT = re.compile(r"\S+")
+
+
+@dataclass(frozen=True, slots=True)
+class ProofWord:
+    """Cells that stand together on a line, and the print that they stand for."""
+
+    #: The column of the first cell, counted from 0.
+    column: int
+    cells: str
+    #: Empty where the print stands under the cells before, as where a word is cut at a line's end.
+    text: str
+    is_marked: bool
+
+
+@dataclass(frozen=True, slots=True)
+class ProofLine:
+    """A line of a page that has words."""
+
+    #: Its number on the page, counted from 1.
+    number: int
+    #: The number of the paragraph that begins on it, if one does.
+    begins: int | None
+    is_heading: bool
+    words: tuple[ProofWord, ...]
+    #: The marks whose first word stands on it.
+    marks: tuple[Mark, ...]
+
+
+@dataclass(frozen=True, slots=True)
+class ProofPage:
+    """A page of a volume."""
+
+    volume: int
+    #: Counted from 1 in each volume.
+    number: int
+    lines: tuple[ProofLine, ...]
+
+    @property
+    def has_open_mark(self) -> bool:
+        return any(not mark.resolved for line in self.lines for mark in line.marks)
+
+
+@dataclass(frozen=True, slots=True)
+class _Word:
+    """A run of cells of a paragraph, and the places of the print that it stands for."""
+
+    start: int
+    stop: int
+    first: int
+    last: int
+
+
+def proof_pages(session: Session, page_size: PageSize) -> Iterator[ProofPage]:
+    """The pages of all volumes of a book."""
+    for number, paragraphs in enumerate(parted(session.paragraphs()), 1):
+        its = volume(session, number, paragraphs, page_size)
+        texts = dict(zip((each.id for each in paragraphs), prints(session, paragraphs)))
+        words = _words(session, its, texts)
+        yield from _pages(its, texts, _marks(session, paragraphs), words)
+
+
+def _marks(
+    session: Session, paragraphs: Sequence[Paragraph]
+) -> dict[int, tuple[Mark, ...]]:
+    found = answers(session, (Marks(each.id) for each in paragraphs))
+    return {each.id: marks for each, marks in zip(paragraphs, found)}
+
+
+def _words(
+    session: Session, its: Volume, texts: Mapping[int, str]
+) -> dict[int, list[_Word]]:
+    """The words of each paragraph of a volume.
+
+    Where a print has as many words as its braille, they are paired; of others the book says where each
+    run of cells comes from.
+    """
+    brailles = its.brailles
+    paired: dict[int, list[_Word]] = {}
+    others: dict[int, list[tuple[int, int]]] = {}
+    for paragraph in its.paragraphs:
+        number = paragraph.id
+        runs = [match.span() for match in _CELLS.finditer(brailles[number])]
+        words = [match.span() for match in _PRINT.finditer(texts[number])]
+        if len(runs) == len(words):
+            paired[number] = [_Word(*run, *word) for run, word in zip(runs, words)]
+        else:
+            others[number] = runs
+    asked = (
+        Whence(number, start) for number, runs in others.items() for start, _ in runs
+    )
+    places = answers(session, asked)
+    for number, runs in others.items():
+        firsts = [next(places) for _ in runs]
+        lasts = [*firsts[1:], len(texts[number])]
+        spans = zip(runs, firsts, lasts)
+        paired[number] = [_Word(*run, first, last) for run, first, last in spans]
+    return paired
+
+
+def _pages(
+    its: Volume,
+    texts: Mapping[int, str],
+    marks: dict[int, tuple[Mark, ...]],
+    words: dict[int, list[_Word]],
+) -> Iterator[ProofPage]:
+    headings = {each.id for each in its.paragraphs if each.style is Style.HEADING}
+    line = _Lines(its, texts, marks, words)
+    for page, rows in groupby(its.layout.rows, lambda row: row.page):
+        lines = tuple(line.of(row, row.paragraph in headings) for row in rows)
+        yield ProofPage(its.number, page, lines)
+
+
+class _Lines:
+    """The lines of a volume, row by row in their order."""
+
+    def __init__(
+        self,
+        its: Volume,
+        texts: Mapping[int, str],
+        marks: dict[int, tuple[Mark, ...]],
+        words: dict[int, list[_Word]],
+    ) -> None:
+        self._brailles = its.brailles
+        self._texts = texts
+        self._marks = marks
+        self._words = words
+        self._paragraph = 0
+        #: The word of the paragraph that comes next.
+        self._next = 0
+
+    def of(self, row: Row, is_heading: bool) -> ProofLine:
+        """The line of a row, which comes after those of the rows before."""
+        is_new = row.paragraph != self._paragraph
+        if is_new:
+            self._paragraph, self._next = row.paragraph, 0
+        text, braille = self._texts[row.paragraph], self._brailles[row.paragraph]
+        marks = self._marks[row.paragraph]
+        words: list[ProofWord] = []
+        begun: list[_Word] = []
+        column = len(row.shown) - len(row.shown.lstrip(" "))
+        for word in self._on(row):
+            start, stop = max(word.start, row.start), min(word.stop, row.stop)
+            is_begun = word.start >= row.start
+            shown = text[word.first : word.last].strip() if is_begun else ""
+            words.append(
+                ProofWord(column, braille[start:stop], shown, _is_marked(word, marks))
+            )
+            begun += [word] if is_begun else []
+            column += stop - start + 1
+        its = tuple(
+            mark for mark in marks if any(_begins(mark, word) for word in begun)
+        )
+        return ProofLine(
+            row.line, row.paragraph if is_new else None, is_heading, tuple(words), its
+        )
+
+    def _on(self, row: Row) -> Iterator[_Word]:
+        """The words of which cells stand on a row; one that goes on is the next row's first."""
+        words = self._words[row.paragraph]
+        while self._next < len(words) and words[self._next].start < row.stop:
+            yield words[self._next]
+            if words[self._next].stop > row.stop:
+                return
+            self._next += 1
+
+
+def _is_marked(word: _Word, marks: Iterable[Mark]) -> bool:
+    return any(
+        not mark.resolved
+        and mark.start < word.last
+        and word.first < max(mark.stop, mark.start + 1)
+        for mark in marks
+    )
+
+
+def _begins(mark: Mark, word: _Word) -> bool:
+    return word.first <= mark.start < word.last

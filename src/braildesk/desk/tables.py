@@ -1,0 +1,66 @@
+"""Tables that are put into a book: from a file, from those that are installed, or supplied."""
+
+import re
+from collections.abc import Sequence
+from importlib.resources import files
+from pathlib import Path
+
+from braildesk.desk import Problem
+from braildesk.named_files import read_file
+from braildesk.protocol import requests
+from braildesk.text import limits
+
+
+SUPPLIED = "en"
+
+
+class NoSuchTable(Problem):
+    """No table of this name is installed in a folder; those that are there, and the supplied one."""
+
+    def __init__(self, name: str, folder: Path, names: Sequence[str]) -> None:
+        super().__init__(name, folder, names)
+        self.name = name
+        self.folder = folder
+        self.names = names
+
+
+class UnreadableTable(Problem):
+    """The file of a table can't be read."""
+
+    def __init__(self, path: Path, cause: OSError) -> None:
+        super().__init__(path, cause)
+        self.path = path
+        self.cause = cause
+
+
+def table_request(name: str, path: Path | None) -> requests.Table | requests.Supply:
+    """The request that puts a table into a book: the text of a file, or an installed table.
+
+    Without a file `en` is the supplied table. Raises `NoSuchTable` and `UnreadableTable`.
+    """
+    if path is None and name == SUPPLIED:
+        return requests.Supply(name)
+    found = path or table_file(name)
+    if found is None:
+        raise NoSuchTable(name, FOLDER, [SUPPLIED, *table_names()])
+    try:
+        return requests.Table(name, read_file(found, limits.TABLE_BYTES))
+    except OSError as cause:
+        raise UnreadableTable(found, cause) from cause
+
+
+FOLDER = Path(str(files("braildesk.tables")))
+_NAME = re.compile("[a-z0-9_-]{1,32}")
+
+
+def table_file(name: str, folder: Path = FOLDER) -> Path | None:
+    """The file of an installed table, if there is one of this name."""
+    if not _NAME.fullmatch(name):
+        return None
+    path = folder / f"{name}.utb"
+    return path if path.is_file() else None
+
+
+def table_names(folder: Path = FOLDER) -> list[str]:
+    """The names of the installed tables."""
+    return sorted(path.stem for path in folder.glob("*.utb"))

@@ -1,0 +1,70 @@
+"""Types the paragraphs of a text file into a book, and sees what is there where that is cut short."""
+
+from collections.abc import Callable
+from pathlib import Path
+
+from braildesk import DeskError, Session
+from braildesk.desk import Problem
+from braildesk.desk.intake import Intake, NotImported
+from braildesk.desk.readings import answers
+
+
+class ChangedMeanwhile(NotImported):
+    """Somebody else changed the book, which is at another version now."""
+
+    def __init__(self, version: int) -> None:
+        super().__init__(version)
+        self.version = version
+
+
+class CutShort(Problem):
+    """The typing ended, by its cause, after some paragraphs were reported as kept."""
+
+    def __init__(self, done: int, cause: DeskError | KeyboardInterrupt) -> None:
+        super().__init__(done, cause)
+        self.done = done
+        self.cause = cause
+        #: How many of them are in the book, if that was looked for and could be seen there.
+        self.kept: int | None = None
+        #: Whether the import is noted, so that the text is known again by its path.
+        self.is_noted = False
+
+
+def type_all(
+    path: Path,
+    intake: Intake,
+    report: Callable[[int], None],
+    begin: Callable[[], None] = lambda: None,
+    *,
+    wait: float = 0.0,
+) -> None:
+    """Types all paragraphs, or raises `CutShort`; `ChangedMeanwhile` if the book isn't as it was.
+
+    What has to be done before the first one is typed is done once nobody else can type.
+    A book that another program has open is waited for so many seconds.
+    """
+    done = 0
+    try:
+        with Session(path, timeout=wait) as session:
+            if session.last_version != intake.version:
+                raise ChangedMeanwhile(session.last_version)
+            begin()
+            for _ in answers(session, intake.requests(), report):
+                done += 1
+    except (DeskError, KeyboardInterrupt) as cause:
+        raise CutShort(done, cause) from cause
+
+
+def kept_of(path: Path, intake: Intake, wait: float) -> int | None:
+    """How many of the paragraphs are in the book, if that can be seen there."""
+    try:
+        with Session(path, timeout=wait) as session:
+            kept = len(session.paragraphs()) - intake.there
+            if kept == 0:
+                return 0
+            if not 0 < kept <= len(intake.passages):
+                return None
+            stored = session.print_of(intake.there + kept)
+            return kept if stored == intake.passages[kept - 1].text else None
+    except DeskError:
+        return None

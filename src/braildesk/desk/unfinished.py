@@ -1,0 +1,102 @@
+"""An import that was begun and didn't come to its end: how much of its text is in the book.
+
+That is seen in the book: the paragraphs that it got since are compared with those of the text.
+"""
+
+import hashlib
+from collections.abc import Sequence
+from dataclasses import dataclass
+
+from braildesk import After, Paragraph, Session
+from braildesk.desk.import_note import ImportNote
+from braildesk.desk.intake import NotImported, parted_at
+from braildesk.desk.manuscript import Passage, UnreadableText, passages
+from braildesk.desk.origin import came_from
+from braildesk.named_files import open_file
+from braildesk.text import limits
+
+
+class NotSeen(NotImported):
+    """The text of an import was changed or can't be read, so what became of it can't be seen."""
+
+    def __init__(self, note: ImportNote, cause: OSError | None = None) -> None:
+        super().__init__(note, cause)
+        self.note = note
+        self.cause = cause
+
+
+@dataclass(frozen=True)
+class Unfinished:
+    """An import, and how far it came."""
+
+    note: ImportNote
+    #: How many paragraphs the book got by it.
+    kept: int
+    #: The paragraphs of the text before those that it was to type, and those.
+    before: tuple[Passage, ...]
+    rest: tuple[Passage, ...]
+    #: Whether all that the book got by it is struck.
+    is_taken_back: bool
+
+    @property
+    def done(self) -> int:
+        """How many paragraphs of the text are in the book."""
+        return len(self.before) + self.kept
+
+    @property
+    def is_to_go_on(self) -> bool:
+        """Whether a part of the text is in the book, and not all of it."""
+        has_part = self.done > 0 and self.kept < len(self.rest)
+        return has_part and not self.is_taken_back
+
+    @property
+    def after(self) -> After:
+        """Where the rest goes."""
+        return self.note.there + self.kept if self.kept else self.note.after
+
+    @property
+    def line(self) -> int:
+        """The line of the text at which it goes on."""
+        return self.rest[self.kept].first_line
+
+    @property
+    def whole(self) -> tuple[Passage, ...]:
+        """All paragraphs of the text."""
+        return (*self.before, *self.rest)
+
+
+def unfinished(
+    session: Session, book: Sequence[Paragraph], note: ImportNote
+) -> Unfinished:
+    """What became of an import, by the book as it is now; `NotSeen` where nothing shows it."""
+    before, rest = _parts(note)
+    new = range(note.there + 1, len(book) + 1)
+    is_untouched = session.last_version == note.version
+    kept = 0 if is_untouched else came_from(session, new, rest)
+    struck = {each.id for each in book if each.struck}
+    is_taken_back = kept > 0 and struck.issuperset(new[:kept])
+    return Unfinished(note, kept, before, rest, is_taken_back)
+
+
+def digest_of(data: bytes) -> str:
+    """By which a text is known again."""
+    return hashlib.sha256(data).hexdigest()
+
+
+def _parts(note: ImportNote) -> tuple[tuple[Passage, ...], tuple[Passage, ...]]:
+    """The paragraphs of the text before those that were to be typed, and those."""
+    try:
+        # never what the shell hands over now
+        with open_file(note.text) as file:
+            data = file.read(limits.TEXT_BYTES + 1)
+    except OSError as cause:
+        raise NotSeen(note, cause) from cause
+    if digest_of(data) != note.digest:
+        raise NotSeen(note)
+    try:
+        before, rest = parted_at(passages(data, note.by_lines), note.line)
+    except (NotImported, UnreadableText) as cause:
+        raise NotSeen(note) from cause
+    if len(rest) != note.count:
+        raise NotSeen(note)
+    return before, rest

@@ -1,0 +1,146 @@
+"""Files that are written whole or not at all."""
+
+import errno
+import os
+import stat
+from dataclasses import dataclass
+from pathlib import Path
+
+ANYONE = 0o666
+_OF_THE_SYSTEM = ("/dev/", "/proc/")
+# what a file system says, as one of a network may, that has no way to sync a folder
+_NO_SYNC_OF_FOLDERS = (errno.EINVAL, errno.ENOTSUP, errno.ENOSYS)
+
+
+class MayNotLast(OSError):
+    """A file has its new bytes, and whether its name outlasts a loss of power isn't known."""
+
+    def sentence_about(self, file: Path) -> str:
+        """What is so of the file."""
+        return (
+            f"{file} is written, but its folder could not be brought to the disk:"
+            f" {self.strerror}. After a loss of power the older file may be there."
+        )
+
+
+class NoPlaceForAFile(OSError):
+    """What stands at a path, or what a link there leads to, isn't replaced by a file."""
+
+
+@dataclass(frozen=True)
+class Access:
+    """Who may read and write a new file, as far as the umask allows."""
+
+    mode: int = ANYONE
+    #: The group that the mode means, where that isn't any.
+    group: int | None = None
+
+    @classmethod
+    def of(cls, path: Path) -> "Access":
+        """That of a file from which another one is made."""
+        found = path.stat()
+        return cls(found.st_mode & ANYONE, found.st_gid)
+
+
+def write_whole(path: Path, data: bytes, access: Access = Access()) -> None:
+    """Gives a name these bytes, in place of the file that it named.
+
+    They are written beside it, in a file whose name begins with a full stop, and are on the disk
+    when that file gets the name. Where anything fails before that, what had the name is as it was;
+    `MayNotLast` comes after it. The name alone is replaced: a link there is gone and the file that
+    it led to stays as it was, and a pipe of that name isn't opened. A file of one's own keeps its
+    permissions to read and write. Any other gets what is said here and the umask allows.
+    """
+    path = path if path.name else path.resolve()
+    folder = os.open(path.parent, os.O_RDONLY | os.O_DIRECTORY | os.O_CLOEXEC)
+    try:
+        kept = _kept_permissions(path.name, folder)
+        replace_in(folder, path.name, data, access, kept)
+    finally:
+        os.close(folder)
+
+
+def replace_in(
+    folder: int, name: str, data: bytes, access: Access, kept: int | None = None
+) -> None:
+    """Gives a name in an open folder these bytes, as a new file.
+
+    It has the permissions that are kept, else what is said here and the umask allows.
+    """
+    beside = f".scribe-{os.urandom(8).hex()}"
+    try:
+        _write(beside, folder, data, access, kept)
+        os.replace(beside, name, src_dir_fd=folder, dst_dir_fd=folder)
+    except BaseException:
+        remove_from(folder, beside)
+        raise
+    sync_names(folder)
+
+
+def sync_names(folder: int) -> None:
+    """Has the names of an open folder on the disk, where its file system has a way to do so."""
+    try:
+        os.fsync(folder)
+    except OSError as error:
+        if error.errno not in _NO_SYNC_OF_FOLDERS:
+            raise MayNotLast(error.errno, error.strerror) from error
+
+
+def remove_from(folder: int, name: str) -> None:
+    """Takes a name out of an open folder, if it is there."""
+    try:
+        os.unlink(name, dir_fd=folder)
+    except FileNotFoundError:
+        pass
+
+
+def _kept_permissions(name: str, folder: int) -> int | None:
+    """The permissions of a file of one's own that is to be replaced, else none."""
+    try:
+        older = os.stat(name, dir_fd=folder, follow_symlinks=False)
+    except FileNotFoundError:
+        return None
+    if stat.S_ISDIR(older.st_mode):
+        raise IsADirectoryError(errno.EISDIR, os.strerror(errno.EISDIR))
+    if _is_device(name, folder, older.st_mode):
+        raise NoPlaceForAFile(errno.EINVAL, "a device, a terminal or a pipe is there")
+    is_own = stat.S_ISREG(older.st_mode) and older.st_uid == os.geteuid()
+    return older.st_mode & ANYONE if is_own else None
+
+
+def _is_device(name: str, folder: int, mode: int) -> bool:
+    """Whether a name is that of a device, or of a link to one or to an open file, as /dev/stdout is."""
+    if not stat.S_ISLNK(mode):
+        return stat.S_ISCHR(mode) or stat.S_ISBLK(mode)
+    return os.readlink(name, dir_fd=folder).startswith(_OF_THE_SYSTEM)
+
+
+def _write(
+    name: str, folder: int, data: bytes, access: Access, kept: int | None
+) -> None:
+    flags = os.O_WRONLY | os.O_CREAT | os.O_EXCL | os.O_NOFOLLOW | os.O_CLOEXEC
+    created = access.mode if kept is None else 0o600
+    with open(os.open(name, flags, created, dir_fd=folder), "wb") as file:
+        if kept is not None:
+            os.fchmod(file.fileno(), kept)
+        elif access.group is not None:
+            _take_group(file.fileno(), folder, access.mode, access.group)
+        file.write(data)
+        file.flush()
+        os.fsync(file.fileno())
+
+
+def _take_group(file: int, folder: int, mode: int, group: int) -> None:
+    """Gives a new file a group, or else lets its own group do no more than others by the mode.
+
+    The group of a folder that gives it to its files is kept: it was chosen for them.
+    """
+    made = os.fstat(file)
+    is_chosen = os.fstat(folder).st_mode & stat.S_ISGID
+    if is_chosen or made.st_gid == group:
+        return
+    try:
+        os.fchown(file, -1, group)
+    except PermissionError:
+        of_others = (mode & stat.S_IRWXO) << 3
+        os.fchmod(file, made.st_mode & ANYONE & (~stat.S_IRWXG | of_others))

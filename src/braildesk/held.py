@@ -1,0 +1,92 @@
+"""The file of a closed book, kept from being used by a session while something else is done with it."""
+
+import os
+import stat
+from collections.abc import Iterator
+from contextlib import contextmanager
+from pathlib import Path
+from typing import BinaryIO
+
+from braildesk import locks, opening
+from braildesk.protocol.asked import BookFile
+from braildesk.protocol.book_files import (
+    has_journal,
+    has_work,
+    is_log,
+    log_path,
+    real_path,
+)
+from braildesk.protocol.sentences import Why
+from braildesk.refusals import cannot_open
+from braildesk.text import limits
+from braildesk.workshop import copy_bytes, create
+
+
+@contextmanager
+def held(book: BookFile, flags: int = os.O_RDONLY) -> Iterator[BinaryIO]:
+    """The file of a book, open and kept from being used by a session meanwhile.
+
+    Where it is opened for writing, it is kept from all others who hold it so too.
+    """
+    with open_file(book, flags) as file:
+        if not (locks.take_alone if flags == os.O_RDWR else locks.take_shared)(file):
+            raise cannot_open(book, Why.IN_USE)
+        if not is_at_path(book, file):
+            # another one was put there in this moment
+            raise cannot_open(book, Why.IN_USE)
+        if not is_log(log_path(book.path)):
+            raise cannot_open(book, Why.NO_LOG)
+        if has_journal(book.path):
+            raise cannot_open(book, Why.JOURNAL)
+        yield file
+
+
+def open_file(book: BookFile, flags: int = os.O_RDONLY) -> BinaryIO:
+    """The file of a book, which is a regular one with one name."""
+    if opening.word(book.path) is None:
+        raise cannot_open(book, Why.NO_PATH)
+    if not opening.is_file_or_free(book.path):
+        raise cannot_open(book, Why.NO_FILE)
+    try:
+        # a pipe at the path isn't waited for
+        file = open(
+            os.open(real_path(book.path), flags | os.O_NONBLOCK),
+            "r+b" if flags == os.O_RDWR else "rb",
+            buffering=0,
+        )
+    except OSError:
+        raise cannot_open(book, opening.why(book)) from None
+    found = os.fstat(file.fileno())
+    if not stat.S_ISREG(found.st_mode) or found.st_nlink > 1:
+        file.close()
+        raise cannot_open(book, opening.why(book))
+    if found.st_size > limits.BOOK_BYTES:
+        file.close()
+        raise cannot_open(book, Why.TOO_LARGE_FOR_BOOK)
+    return file
+
+
+def is_at_path(book: BookFile, file: BinaryIO) -> bool:
+    """Whether a file that was opened is the one that stands at the path of the book."""
+    try:
+        found = os.stat(real_path(book.path))
+        return os.path.samestat(found, os.fstat(file.fileno()))
+    except OSError:
+        return False
+
+
+def copy_held(source: BinaryIO, log: str, made: Path) -> os.stat_result:
+    """Copies the file of a book that is held, and the work that stands in its log.
+
+    What was made is said, so that it is known again.
+    """
+    with create(made) as written:
+        copy_bytes(source.fileno(), written.fileno())
+        found = os.fstat(written.fileno())
+    if has_work(log):
+        # whatever was put in its place in this moment, nothing is waited for
+        flags = os.O_RDONLY | os.O_NOFOLLOW | os.O_NONBLOCK | os.O_CLOEXEC
+        with open(os.open(log, flags), "rb") as work:
+            with create(Path(f"{made}-wal")) as written:
+                copy_bytes(work.fileno(), written.fileno())
+    return found

@@ -1,0 +1,249 @@
+"""Books that are made whole or not at all: new ones, and copies."""
+
+import os
+from collections.abc import Iterator, Sequence
+from contextlib import contextmanager
+from dataclasses import dataclass, replace
+from os import fspath
+from pathlib import Path
+from typing import Any, BinaryIO
+
+from braildesk import opening, program as programs
+from braildesk.held import copy_held, held
+from braildesk.program import StrPath
+from braildesk.protocol.asked import BookFile, NewBook
+from braildesk.protocol.book_files import has_work, log_path, real_path
+from braildesk.protocol.requests import Command
+from braildesk.protocol.sentences import Why
+from braildesk.refusals import DeskError, Failed, Refused, cannot_open, refused_as
+from braildesk.session import Session
+from braildesk.waiting import waited
+from braildesk.workshop import (
+    Swapped,
+    give_access,
+    made_beside,
+    open_made,
+    put,
+    put_over,
+)
+
+
+class NotMade(DeskError):
+    """A book isn't made, since its path is taken."""
+
+
+class NotCopied(NotMade):
+    """A copy isn't made, since its path is taken."""
+
+
+class FileIsThere(NotCopied):
+    """A copy isn't made, since it would replace a file, and nobody asked for that."""
+
+
+def new_book(
+    path: StrPath,
+    program: StrPath | None = None,
+    *,
+    holding: Sequence[Command[Any]] = (),
+    timeout: float = 0.0,
+) -> None:
+    """Makes a book in a file: an empty one, or one in which some commands are carried out.
+
+    A new file gets its name when all of that is in it, so that where anything fails there is none.
+    A file with an empty book is taken as it is; one with another book is refused (99). While another
+    program has it open, this is tried again for ``timeout`` seconds.
+    """
+    asked = NewBook(fspath(path))
+    waited(lambda: _new_book(asked, program, holding), timeout)
+
+
+def _new_book(
+    asked: NewBook, program: StrPath | None, holding: Sequence[Command[Any]]
+) -> None:
+    if opening.word(asked.path) is None:
+        raise cannot_open(asked, Why.NO_PATH)
+    try:
+        if not os.path.lexists(asked.path):
+            _judge_log(asked.path, NotMade, "new book")
+            _make(asked, program, holding)
+            return
+    except FileExistsError:
+        pass  # another program made one in this moment
+    except OSError:
+        raise cannot_open(asked, opening.why(asked)) from None
+    programs.make_book(asked.path, program)
+    _carry_out(asked.path, program, holding)
+
+
+def _make(
+    asked: NewBook, program: StrPath | None, holding: Sequence[Command[Any]]
+) -> None:
+    """Makes a book where none is, and gives it its name once it is whole."""
+    target = real_path(asked.path)
+    with made_beside(target) as made:
+        # by the program it would have a mode that no group may write by, whatever the umask says
+        file = os.open(made, os.O_WRONLY | os.O_CREAT | os.O_EXCL, 0o666)
+        begun = os.fstat(file)
+        os.close(file)
+        try:
+            programs.make_book(made, program, named=asked.path)
+            _carry_out(made, program, holding)
+            open_made(made, begun).close()
+        except (DeskError, Swapped) as failed:
+            is_of_made = made.parent.name in str(failed)
+            if not (is_of_made or isinstance(failed, Failed | Swapped)):
+                raise
+            # nobody knows the path at which it was made
+            why = f"{Swapped().strerror}." if is_of_made else _sentence(failed)
+            raise Failed(
+                f"The new book “{asked.path}” could not be written, and there is none: {why}"
+            ) from failed
+        if has_work(f"{made}-wal"):
+            raise Failed(
+                f"The new book “{asked.path}” could not be written, and there is none. See to the"
+                " disk."
+            )
+        put(made, target)
+
+
+def _sentence(failed: DeskError | Swapped) -> str:
+    return failed.sentence if isinstance(failed, DeskError) else f"{failed.strerror}."
+
+
+def _carry_out(
+    path: StrPath, program: StrPath | None, commands: Sequence[Command[Any]]
+) -> None:
+    if commands:
+        with Session(path, program) as session:
+            for command in commands:
+                session.ask(command)
+
+
+def copy(
+    path: StrPath,
+    to: StrPath,
+    *,
+    overwrite: bool = False,
+    program: StrPath | None = None,
+    timeout: float = 0.0,
+) -> int:
+    """Copies a closed book, with what stands in the log beside it, and gives its version.
+
+    The copy is written in a folder beside ``to``, opened there by the program, and gets its name
+    only then. A file that is at ``to`` already is replaced only where ``overwrite`` says so, and no
+    session can open it meanwhile. While a session has one of them open, this is tried again for
+    ``timeout`` seconds.
+    """
+    book, named = BookFile(fspath(path)), fspath(to)
+    return waited(lambda: _copied(book, named, overwrite, program), timeout)
+
+
+def _copied(
+    book: BookFile, named: str, overwrite: bool, program: StrPath | None
+) -> int:
+    try:
+        with held(book) as source, _claimed(source, named, overwrite) as target:
+            with made_beside(target.path) as made:
+                copied = copy_held(source, log_path(book.path), made)
+                version = _checked(made, copied, book, named, program)
+                _finish(source, made, copied)
+                _put(made, target)
+    except (OSError, ValueError) as error:
+        raise _not_written(named, _why(error)) from error
+    return version
+
+
+@dataclass(frozen=True, slots=True)
+class _Target:
+    """Where a copy goes: the path as it was given, where that leads, and what it does there."""
+
+    named: str
+    path: str
+    replaces: bool
+
+
+@contextmanager
+def _claimed(source: BinaryIO, named: str, overwrite: bool) -> Iterator[_Target]:
+    """A path at which a copy may be put. The lock of a file that is there is held all the while."""
+    if opening.word(named) is None:
+        raise cannot_open(BookFile(named), Why.NO_PATH)
+    path = real_path(named)
+    if not os.path.lexists(named):
+        _judge_log(named, NotCopied, "copy")
+        yield _Target(named, path, False)
+        return
+    if os.path.exists(path) and os.path.samestat(
+        os.stat(path), os.fstat(source.fileno())
+    ):
+        raise NotCopied(
+            f"“{named}” is the book itself. Take another path for the copy."
+        )
+    if not overwrite:
+        raise _taken(named)
+    with held(BookFile(named), os.O_RDWR):
+        yield _Target(named, path, True)
+
+
+def _taken(named: str) -> FileIsThere:
+    return FileIsThere(
+        f"“{named}” is there already, and was left as it is. Take another path for the copy."
+    )
+
+
+def _judge_log(named: str, kind: type[NotMade], what: str) -> None:
+    """Whether a book may get a path at which none is: work there belongs to another one."""
+    log = log_path(named)
+    if has_work(log):
+        raise kind(
+            f"“{log}” is there, which belongs to another book that stood at “{named}” and may"
+            f" hold work. Take another path for the {what}, or move that file away."
+        )
+
+
+def _checked(
+    made: Path,
+    copied: os.stat_result,
+    book: BookFile,
+    named: str,
+    program: StrPath | None,
+) -> int:
+    """The version of a copy; what keeps it from being opened keeps the book from it too."""
+    try:
+        version = programs.check(made, program)
+    except Failed as failed:
+        raise _not_written(named, failed.sentence) from failed
+    except Refused as refusal:
+        # unless it is another file by now
+        open_made(made, copied).close()
+        raise refused_as(replace(refusal.refusal, asked=book)) from None
+    if has_work(f"{made}-wal"):
+        raise _not_written(named, "the program could not write all of it")
+    return version
+
+
+def _why(error: OSError | ValueError) -> str:
+    """Why something failed, without the number of it and the path that was made beside the copy."""
+    return (isinstance(error, OSError) and error.strerror) or str(error)
+
+
+def _not_written(named: str, why: str) -> Failed:
+    return Failed(f"The copy “{named}” could not be written: {why.rstrip('.')}.")
+
+
+def _finish(source: BinaryIO, made: Path, copied: os.stat_result) -> None:
+    """Gives a whole copy what the book's file has beside its contents."""
+    with open_made(made, copied) as file:
+        give_access(file.fileno(), os.fstat(source.fileno()))
+        os.fsync(file.fileno())
+
+
+def _put(made: Path, target: _Target) -> None:
+    """Gives a whole copy its path, where nothing of an older book is left beside it."""
+    if target.replaces:
+        put_over(made, target.path)
+        return
+    _judge_log(target.named, NotCopied, "copy")
+    try:
+        put(made, target.path)
+    except FileExistsError:
+        raise _taken(target.named) from None

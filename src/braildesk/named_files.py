@@ -1,0 +1,90 @@
+"""Files that a person names: opened only if they are files, and read up to a size.
+
+A name may lead to a pipe that nobody writes to, to a device that never ends, or to a file of more
+bytes than a machine has; who shares a folder can put such a thing there. What the shell itself
+hands over, as for ``<(command)`` and ``/dev/stdin``, is the person's own, and is read to its end.
+"""
+
+import errno
+import os
+import re
+import stat
+from os import PathLike, fspath
+from typing import BinaryIO, Self
+
+StrPath = str | PathLike[str]
+
+#: The names of what this process has open already.
+_HANDED_OVER = re.compile(r"/dev/(stdin|fd/[0-9]+)|/proc/self/fd/[0-9]+")
+#: Opened so that a pipe isn't waited for, and no terminal becomes the one of this process.
+_READ = os.O_RDONLY | os.O_NONBLOCK | os.O_NOCTTY | os.O_CLOEXEC
+_KINDS = (
+    (stat.S_ISFIFO, "it is a pipe and no file"),
+    (stat.S_ISSOCK, "it is a socket and no file"),
+    (stat.S_ISCHR, "it is a device and no file"),
+    (stat.S_ISBLK, "it is a device and no file"),
+)
+
+
+class NoFile(OSError):
+    """What stands at a path is no file; ``strerror`` says what it is."""
+
+    def __init__(self, what: str) -> None:
+        super().__init__(errno.EINVAL, what)
+
+    def __reduce__(self) -> tuple[type[Self], tuple[str | None]]:
+        return type(self), (self.strerror,)
+
+
+class TooLarge(OSError):
+    """A file has too many bytes; ``strerror`` says how many it may have."""
+
+    def __init__(self, most: int) -> None:
+        super().__init__(errno.EFBIG, f"it has more than {most:,} bytes")
+        self.most = most
+
+    def __reduce__(self) -> tuple[type[Self], tuple[int]]:
+        return type(self), (self.most,)
+
+
+def is_handed_over(path: StrPath) -> bool:
+    """Whether a name means what this process has open already, and something else to another."""
+    return _HANDED_OVER.fullmatch(fspath(path)) is not None
+
+
+def open_file(path: StrPath) -> BinaryIO:
+    """A file, open for reading; ``NoFile`` where it is none."""
+    if "\0" in fspath(path):
+        raise NoFile("no path has the character U+0000")
+    _judge(os.stat(path).st_mode)
+    descriptor = os.open(path, _READ)
+    try:
+        # what has been put there in this moment
+        _judge(os.fstat(descriptor).st_mode)
+        return open(descriptor, "rb")
+    except BaseException:
+        os.close(descriptor)
+        raise
+
+
+def read_file(path: StrPath, most: int) -> bytes:
+    """The bytes of a file, or of what the shell hands over; ``TooLarge`` where they are too many."""
+    with open(path, "rb") if is_handed_over(path) else open_file(path) as file:
+        if file.isatty():
+            # its keys may be those of a screen, on which nothing ends a text
+            raise NoFile("it is a terminal and no file")
+        if os.fstat(file.fileno()).st_size > most:
+            raise TooLarge(most)
+        data = file.read(most + 1)
+    if len(data) > most:
+        raise TooLarge(most)
+    return data
+
+
+def _judge(mode: int) -> None:
+    """Whether it is the mode of a file."""
+    if stat.S_ISDIR(mode):
+        raise IsADirectoryError(errno.EISDIR, os.strerror(errno.EISDIR))
+    for is_such, what in _KINDS:
+        if is_such(mode):
+            raise NoFile(what)

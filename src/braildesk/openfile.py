@@ -1,0 +1,97 @@
+"""The file of a book that a session has open: whether it still is at its path, and what is in it."""
+
+import os
+from pathlib import Path
+from typing import BinaryIO
+
+from braildesk import program as programs
+from braildesk.program import StrPath
+from braildesk.protocol.book_files import real_path
+from braildesk.refusals import Failed, Unopened
+from braildesk.workshop import (
+    copy_bytes,
+    create,
+    give_access,
+    made_beside,
+    open_made,
+    put,
+)
+
+
+class OpenFile:
+    """A file that is held open beside the program, so that it is known when its name is taken away."""
+
+    def __init__(self, path: str) -> None:
+        #: Where the path leads.
+        self.path = real_path(path)
+        self._descriptor: int | None = None
+        if os.path.isfile(self.path):
+            try:
+                # a pipe that stands there by now isn't waited for
+                self._descriptor = os.open(self.path, os.O_RDONLY | os.O_NONBLOCK)
+            except OSError:
+                return  # the program says why
+
+    @property
+    def is_at_its_path(self) -> bool:
+        """Whether the file has its name still; True where there was none to be held."""
+        if self._descriptor is None:
+            return True
+        try:
+            # by a link that stands there by now the log would be looked for in another place
+            found = os.stat(self.path, follow_symlinks=False)
+            return os.path.samestat(found, os.fstat(self._descriptor))
+        except OSError:
+            return False
+
+    def opened(self) -> BinaryIO:
+        """The file, to be read from its front, and closed."""
+        flags = os.O_RDONLY | os.O_NOFOLLOW | os.O_NONBLOCK | os.O_CLOEXEC
+        return open(os.open(self.path, flags), "rb")
+
+    def save(self, program: StrPath | None, version: int) -> str:
+        """Puts what is in the file to a new path beside its own, once no program has it open.
+
+        The version is the least that is in it.
+        """
+        assert self._descriptor is not None
+        try:
+            with made_beside(self.path) as made:
+                with create(made) as written:
+                    copy_bytes(self._descriptor, written.fileno())
+                    give_access(written.fileno(), os.fstat(self._descriptor))
+                    saved = os.fstat(written.fileno())
+                if _version(made, program) < version:
+                    raise Failed("The program did not write all of it to its file.")
+                open_made(made, saved).close()
+                return _put_beside(made, self.path)
+        except OSError as error:
+            raise Failed(f"{error.strerror or error}.") from error
+
+    def close(self) -> None:
+        """Holds the file no longer."""
+        if self._descriptor is not None:
+            os.close(self._descriptor)
+            self._descriptor = None
+
+
+def _version(made: Path, program: StrPath | None) -> int:
+    """The version of a book that was put beside its own path, which nobody has to know of."""
+    try:
+        return programs.check(made, program)
+    except Unopened as failed:
+        raise Failed("What was written there can't be opened.") from failed
+
+
+def _put_beside(made: Path, path: str) -> str:
+    """Puts a file beside a path, under a name that nothing has."""
+    number = 1
+    while True:
+        saved = f"{path}-saved-{number}"
+        try:
+            if not os.path.lexists(f"{saved}-wal"):
+                put(made, saved)
+                return saved
+        except FileExistsError:
+            pass
+        number += 1

@@ -1,0 +1,199 @@
+"""The pipes to a session of the program: bytes of requests go in, and replies come out.
+
+Both ways go on at once, so that no sizes of requests and replies make the two wait for each other.
+"""
+
+import os
+import select
+from collections import deque
+from collections.abc import Sequence
+from dataclasses import dataclass
+from subprocess import PIPE, Popen
+from typing import IO
+
+from braildesk.protocol.replies import Reader, Reply
+
+#: A write of so many bytes goes into a pipe whole or not at all. Short requests are written in
+#: groups of at most this size, so that a client that is killed leaves none of them cut.
+_WHOLE = select.PIPE_BUF
+#: What is read at once.
+_READ = 1 << 16
+
+
+@dataclass(frozen=True, slots=True)
+class Ending:
+    """How the program of a session ended."""
+
+    #: Its exit status, or the number of a signal with a minus before it.
+    status: int
+    #: What it wrote on standard error.
+    errors: str
+
+
+class Steps:
+    """Steps that belong together: all of them are done, or they were interrupted, as by Ctrl-C."""
+
+    def __init__(self) -> None:
+        self.are_interrupted = False
+
+    def __enter__(self) -> None:
+        self.are_interrupted = True
+
+    def __exit__(self, kind: type[BaseException] | None, *_: object) -> None:
+        if kind is None:
+            self.are_interrupted = False
+
+
+class Pipe:
+    """The program of a session, with the pipes to it."""
+
+    def __init__(self, words: Sequence[str]) -> None:
+        # in a group of its own, so that Ctrl-C at a terminal interrupts the client alone
+        self._process = Popen(
+            words, bufsize=0, stdin=PIPE, stdout=PIPE, stderr=PIPE, process_group=0
+        )
+        self._input = _unblocked(self._process.stdin)
+        self._output = _unblocked(self._process.stdout)
+        self._errors = _unblocked(self._process.stderr)
+        self._poll = select.poll()
+        self._poll.register(self._output, select.POLLIN)
+        self._poll.register(self._errors, select.POLLIN)
+        self._open = {self._output, self._errors}
+        self._reader = Reader()
+        self._error_bytes = b""
+        self._queue: deque[bytes] = deque()
+        self._queued_bytes = 0
+        self._chunk = memoryview(b"")
+        self._writable = True
+        self._is_closing = False
+        #: What belongs together, here or of the caller, is done within these.
+        self.steps = Steps()
+
+    @property
+    def pid(self) -> int:
+        """The number of the process."""
+        return self._process.pid
+
+    @property
+    def queued(self) -> int:
+        """How many requests there are of which nothing is written yet."""
+        return len(self._queue)
+
+    @property
+    def queued_bytes(self) -> int:
+        """The bytes of the requests of which nothing is written yet."""
+        return self._queued_bytes
+
+    def send(self, request: bytes) -> None:
+        """Queues a request, which is written while replies are waited for."""
+        self._queue.append(request)
+        self._queued_bytes += len(request)
+
+    def drop(self) -> int:
+        """Drops the requests of which nothing is written yet, and says how many."""
+        dropped = len(self._queue)
+        self._queue.clear()
+        self._queued_bytes = 0
+        return dropped
+
+    def has_reply(self) -> bool:
+        """Whether there is a next reply, which is waited for, and the program didn't end before it."""
+        while not self._reader.has_reply:
+            if self._output not in self._open:
+                return False
+            self._move()
+        return True
+
+    def reply(self) -> Reply:
+        """Takes the next reply, which is there. The caller notes it among the same steps."""
+        reply = self._reader.next()
+        assert reply is not None
+        return reply
+
+    def push(self) -> None:
+        """Writes what can be written without waiting."""
+        while self._writable and self._fill():
+            with self.steps:
+                try:
+                    self._chunk = self._chunk[os.write(self._input, self._chunk) :]
+                except BlockingIOError:
+                    return
+                except BrokenPipeError:
+                    self._writable = False
+
+    def close(self) -> Ending:
+        """Ends the input, and waits for the program to end.
+
+        A program whose pipes were left in the middle of a move, as Ctrl-C may do, is ended by a
+        signal: what it acknowledged is in its file, and no request is written to it twice.
+        """
+        if self.steps.are_interrupted:
+            self.kill()
+        self._is_closing = True
+        self.abandon()
+        while self._open:
+            self._receive()
+        status = self._process.wait()
+        for stream in (self._process.stdout, self._process.stderr):
+            if stream is not None:
+                stream.close()
+        return Ending(status, self._error_bytes.decode(errors="replace"))
+
+    def abandon(self) -> None:
+        """Ends the input, and doesn't wait for the program, which ends by that."""
+        self._writable = False
+        if self._process.stdin is not None:
+            self._process.stdin.close()
+
+    def kill(self) -> None:
+        """Ends the program by a signal, and reads no more of it."""
+        self._process.kill()
+        self._open.clear()
+
+    def _fill(self) -> bool:
+        """Whether there is a chunk to write, which is made of whole requests."""
+        if not self._chunk and self._queue:
+            with self.steps:
+                parts = [self._queue.popleft()]
+                size = len(parts[0])
+                while self._queue and size + len(self._queue[0]) <= _WHOLE:
+                    parts.append(self._queue.popleft())
+                    size += len(parts[-1])
+                self._queued_bytes -= size
+                self._chunk = memoryview(b"".join(parts))
+        return bool(self._chunk)
+
+    def _move(self) -> None:
+        """Writes and reads what there is, and waits if there is nothing."""
+        self.push()
+        if self._writable and self._chunk:
+            self._poll.register(self._input, select.POLLOUT)
+            try:
+                self._receive()
+            finally:
+                self._poll.unregister(self._input)
+        else:
+            self._receive()
+
+    def _receive(self) -> None:
+        for stream, _ in self._poll.poll():
+            if stream != self._input:
+                self._take(stream)
+
+    def _take(self, stream: int) -> None:
+        with self.steps:
+            data = os.read(stream, _READ)
+            if not data:
+                self._poll.unregister(stream)
+                self._open.remove(stream)
+            elif stream == self._errors:
+                self._error_bytes += data
+            elif not self._is_closing:
+                self._reader.feed(data)
+
+
+def _unblocked(stream: IO[bytes] | None) -> int:
+    """The number of an end of a pipe that never waits."""
+    assert stream is not None
+    os.set_blocking(stream.fileno(), False)
+    return stream.fileno()

@@ -1,0 +1,345 @@
+"""The program braildesk: where it is, and what it does without a session."""
+
+import os
+import re
+import shutil
+import stat
+import subprocess
+from collections.abc import Iterable, Iterator
+from contextlib import contextmanager
+from os import PathLike, fspath
+from pathlib import Path
+
+from braildesk import opening
+from braildesk.held import copy_held, held
+from braildesk.named_files import read_file
+from braildesk.protocol.asked import (
+    AskedOfFile,
+    BookFile,
+    Line,
+    NewBook,
+    Pages,
+    Refusal,
+    TableFile,
+)
+from braildesk.protocol.book_files import has_work, log_path, real_path
+from braildesk.protocol.codes import Code
+from braildesk.protocol.sentences import Why
+from braildesk.protocol.values import Table
+from braildesk.protocol.wording import said_of_room
+from braildesk.refusals import (
+    CannotOpen,
+    DeskError,
+    Failed,
+    Refused,
+    cannot_open,
+    refused,
+    refused_as,
+)
+from braildesk.schema import fault_in
+from braildesk.text import limits
+from braildesk.waiting import waited
+
+StrPath = str | PathLike[str]
+
+_CHECKOUT = Path(__file__).resolve().parents[2]
+_CODE = re.compile(r"(?:braildesk: )?no ([0-9 ]+)")
+
+
+class NoProgram(DeskError):
+    """The program braildesk isn't found."""
+
+
+def find(program: StrPath | None = None) -> str:
+    """The path of the program.
+
+    It is the one that is named here, else the one that ``BRAILDESK`` names, else
+    ``build/braildesk`` of the checkout in which this package stands, else the one on the path.
+    """
+    named = fspath(program) if program is not None else os.environ.get("BRAILDESK", "")
+    if named:
+        if found := shutil.which(named):
+            return found
+        source = "" if program is not None else ", which BRAILDESK names,"
+        raise NoProgram(
+            f"The program “{named}”{source} isn't there, or may not be run."
+        )
+    for candidate in (str(_CHECKOUT / "build" / "braildesk"), "braildesk"):
+        if found := shutil.which(candidate):
+            return found
+    raise NoProgram(
+        "The program braildesk isn't found: it is neither on the path nor built in"
+        f" {_CHECKOUT / 'build'}. Build it by make, or let BRAILDESK name it."
+    )
+
+
+def make_book(
+    path: StrPath, program: StrPath | None = None, named: StrPath | None = None
+) -> None:
+    """Makes an empty book in a file, which is called by another name where it is refused."""
+    asked = NewBook(fspath(path if named is None else named))
+    _run(program, ["new", "--", _word(NewBook(fspath(path)))], asked)
+
+
+def check(
+    path: StrPath, program: StrPath | None = None, *, timeout: float = 0.0
+) -> int:
+    """The version of the book in a file.
+
+    While another program has the book open, this is tried again for ``timeout`` seconds.
+    """
+    asked = BookFile(fspath(path))
+    words = ["check", "--", _word(asked)]
+    answer = waited(lambda: _run(program, words, asked), timeout)
+    return int(answer.removeprefix(b"ok "))
+
+
+def export(
+    path: StrPath,
+    volume: int,
+    width: int = 40,
+    lines: int = 25,
+    program: StrPath | None = None,
+    *,
+    timeout: float = 0.0,
+) -> bytes:
+    """The pages of a volume, in Braille Ready Format.
+
+    While another program has the book open, this is tried again for ``timeout`` seconds.
+    """
+    asked = Pages(fspath(path), volume, width, lines)
+    if not 1 <= volume <= limits.PARAGRAPHS:
+        raise refused(Code.NO_VOLUME, asked)
+    if not (_is_within(width, limits.WIDTHS) and _is_within(lines, limits.PAGE_LINES)):
+        raise refused(Code.BAD_PAGE_SIZE, asked)
+    sizes = ["--width", str(width), "--lines", str(lines)]
+    words = ["export", *sizes, "--", _word(asked), str(volume)]
+    return waited(lambda: _run(program, words, asked), timeout)
+
+
+def translate(
+    table: StrPath | Table, lines: Iterable[str], program: StrPath | None = None
+) -> list[str | Refused]:
+    """The braille of each line, or why it is refused.
+
+    The table is the text in a file, a table of a book as ``tables`` gives it, or the supplied one
+    where ``table`` is the string ``"@en"``.
+    """
+    asked = _table_asked(table)
+    judged = [_judged(Line(asked.path, line)) for line in lines]
+    sent = b"".join(
+        line.text.encode() + b"\r\n" for line in judged if isinstance(line, Line)
+    )
+    if isinstance(table, Table):
+        output = _by_text(program, asked, sent)
+    else:
+        output = _run(program, ["translate", "--", _word(asked)], asked, sent)
+    answers = iter(output.decode().split("\n"))
+    return [_answered(line, answers) for line in judged]
+
+
+def session_words(path: StrPath, program: StrPath | None = None) -> list[str]:
+    """The words that start a session with the book in a file."""
+    return [find(program), "session", "--", _word(BookFile(fspath(path)))]
+
+
+def cannot_run(program: str, error: OSError) -> NoProgram:
+    """Why a file that was found can't be run."""
+    return NoProgram(f"The program “{program}” can't be run: {error.strerror}.")
+
+
+def judge(asked: AskedOfFile, program: str) -> None:
+    """Refuses a book for what is seen of its files, before the program opens and changes them.
+
+    What can't be judged here is left to the program.
+    """
+    if isinstance(asked, TableFile):
+        return
+    _judge_size(asked)
+    try:
+        fault = _fault_of(asked.path, program)
+    except (OSError, ValueError, Refused):
+        return
+    if fault is not None:
+        raise cannot_open(asked, fault)
+
+
+def _judge_size(asked: AskedOfFile) -> None:
+    """Refuses a file of no bytes, of which the program would make a database without a book.
+
+    It refuses one of too many bytes too, at which the program would look for very long.
+    """
+    try:
+        found = os.stat(asked.path)
+        size = found.st_size if stat.S_ISREG(found.st_mode) else None
+        is_empty = size == 0 and not has_work(log_path(asked.path))
+    except (OSError, ValueError):
+        return
+    if is_empty and not isinstance(asked, NewBook):
+        raise refused(Code.NOT_A_BOOK, asked)
+    if size is not None and size > limits.BOOK_BYTES:
+        raise cannot_open(asked, Why.TOO_LARGE_FOR_BOOK)
+
+
+def _fault_of(path: str, program: str) -> Why | None:
+    """What is seen of the files of a book that keeps it from being opened."""
+    log = log_path(path)
+    with held(BookFile(path)):
+        fault = fault_in(real_path(path), is_alone=True)
+    if fault is Why.COMPUTED or not has_work(log):
+        return fault
+    return _fault_with_log(path, log, program)
+
+
+def _fault_with_log(path: str, log: str, program: str) -> Why | None:
+    """The same where a log has work, which may be that of another book: copies of both are tried."""
+    import tempfile  # which few books need
+
+    with tempfile.TemporaryDirectory() as folder:
+        both, alone = Path(folder, "both"), Path(folder, "alone")
+        with held(BookFile(path)) as file:
+            copy_held(file, log, both)
+            copy_held(file, "", alone)
+        fault = fault_in(both, is_alone=False)
+        if fault is Why.COMPUTED:
+            return fault
+        is_whole = fault is None and _is_book(both, program)
+        is_of_another = not is_whole and _is_book(alone, program)
+    return Why.OTHER_LOG if is_of_another else fault
+
+
+def _is_book(path: Path, program: str) -> bool:
+    """Whether the program finds a book in a file."""
+    words = [program, "check", "--", str(path)]
+    return subprocess.run(words, capture_output=True).returncode == 0
+
+
+def unopened(status: int, errors: str, asked: AskedOfFile) -> DeskError:
+    """Why the program ended with a status other than 0."""
+    if status == 2 and (found := _CODE.search(errors)):
+        code, *numbers = map(int, found[1].split())
+        if code == Code.CANNOT_OPEN:
+            return cannot_open(asked, opening.why(asked))
+        if code == Code.BAD_TABLE and isinstance(asked, TableFile):
+            asked = TableFile(asked.path, asked.text or _text_at(asked.path))
+        return refused(code, asked, numbers)
+    return Failed(_failure(status, errors, asked))
+
+
+def _failure(status: int, errors: str, asked: AskedOfFile) -> str:
+    if status == 3:
+        room = said_of_room(opening.little_room(asked.path))
+        return (
+            "The file could not be written or read. What the book held is still in it. See to"
+            f" the disk, and try again{room}."
+        )
+    if status < 0:
+        return f"braildesk was ended by signal {-status} before it was done."
+    return f"braildesk ended with status {status}: {errors.strip()}"
+
+
+def _table_asked(table: StrPath | Table) -> TableFile:
+    """What is asked of: a table by its file, or by its name and its text."""
+    if isinstance(table, Table):
+        return TableFile(table.name, table.text)
+    is_file_of_that_name = isinstance(table, PathLike) and fspath(table) == "@en"
+    return TableFile("./@en" if is_file_of_that_name else fspath(table))
+
+
+def _by_text(program: StrPath | None, asked: TableFile, sent: bytes) -> bytes:
+    """The answers to lines by a table whose text is handed over in memory, and in no file."""
+    with _in_memory(asked.text) as descriptor:
+        path = f"/dev/fd/{descriptor}"
+        words = ["translate", "--", path]
+        try:
+            return _run(program, words, asked, sent, (descriptor,))
+        except CannotOpen as refused_by_program:
+            raise Failed(
+                f"The text of the table {asked.path} could not be handed to braildesk, since it"
+                f" can't open {path}. Nothing was translated. See that /proc is mounted."
+            ) from refused_by_program
+
+
+@contextmanager
+def _in_memory(text: bytes) -> Iterator[int]:
+    """The descriptor of a file in memory with a text."""
+    try:
+        descriptor = os.memfd_create("table")
+    except OSError as error:
+        raise _no_room(error) from error
+    with open(descriptor, "wb") as file:
+        try:
+            file.write(text)
+            file.flush()
+        except OSError as error:
+            raise _no_room(error) from error
+        yield descriptor
+
+
+def _no_room(error: OSError) -> Failed:
+    return Failed(
+        f"The text of a table could not be kept in memory: {error.strerror}. Nothing was"
+        " translated. Close other programs, and try again."
+    )
+
+
+def _run(
+    program: StrPath | None,
+    words: list[str],
+    asked: AskedOfFile,
+    sent: bytes = b"",
+    shared: tuple[int, ...] = (),
+) -> bytes:
+    found = find(program)
+    judge(asked, found)
+    try:
+        done = subprocess.run(
+            [found, *words], input=sent, capture_output=True, pass_fds=shared
+        )
+    except OSError as error:
+        raise cannot_run(found, error) from error
+    if done.returncode:
+        raise unopened(done.returncode, done.stderr.decode(errors="replace"), asked)
+    return done.stdout
+
+
+def _word(asked: AskedOfFile) -> str:
+    word = opening.word(asked.path)
+    if word is None:
+        raise cannot_open(asked, Why.NO_PATH)
+    if not opening.is_file_or_free(word):
+        raise cannot_open(asked, Why.NO_FILE)
+    return word
+
+
+def _is_within(number: int, limit: tuple[int, int]) -> bool:
+    return limit[0] <= number <= limit[1]
+
+
+def _text_at(path: str) -> bytes:
+    try:
+        return read_file(path, limits.TABLE_BYTES)
+    except OSError:
+        return b""
+
+
+def _judged(line: Line) -> Line | Refused:
+    """A line that can be sent, or why it can't."""
+    if lone := re.search("[\ud800-\udfff]", line.text):
+        return refused_as(Refusal(Code.NO_REQUEST, line, place=lone.start()))
+    if "\n" in line.text:
+        return refused_as(
+            Refusal(Code.BARRED_CHARACTER, line, place=line.text.index("\n"))
+        )
+    return line
+
+
+def _answered(line: Line | Refused, answers: Iterator[str]) -> str | Refused:
+    """The answer to a line, which is the next one where the line was sent."""
+    if isinstance(line, Refused):
+        return line
+    answer = next(answers)
+    if not (found := _CODE.fullmatch(answer)):
+        return answer
+    code, *numbers = map(int, found[1].split())
+    return refused(code, line, numbers)

@@ -1,0 +1,78 @@
+"""What may be refused: requests of a session, and files and lines of print beside them."""
+
+from dataclasses import dataclass
+from typing import Any
+
+from braildesk.protocol.requests import Request
+from braildesk.protocol.sentences import Why
+
+
+@dataclass(frozen=True, slots=True)
+class Line:
+    """A line of print that was to be translated."""
+
+    table: str
+    text: str
+
+
+@dataclass(frozen=True, slots=True)
+class Pages:
+    """A volume of a book that was to be written as pages."""
+
+    path: str
+    volume: int
+    width: int
+    lines: int
+
+
+@dataclass(frozen=True, slots=True)
+class TableFile:
+    """The file of a table, with its text if that could be read."""
+
+    path: str
+    text: bytes = b""
+
+
+@dataclass(frozen=True, slots=True)
+class BookFile:
+    """The file of a book."""
+
+    path: str
+
+
+@dataclass(frozen=True, slots=True)
+class NewBook:
+    """The file of a book that was to be made."""
+
+    path: str
+
+
+#: What names a file.
+AskedOfFile = Pages | TableFile | BookFile | NewBook
+#: Anything that may be refused.
+Asked = Request[Any] | Line | AskedOfFile
+
+
+@dataclass(frozen=True, slots=True)
+class Refusal:
+    """A code with its numbers, and what was asked."""
+
+    code: int
+    asked: Asked
+    place: int | None = None
+    line: int | None = None
+    cause: int | None = None
+    paragraph: int | None = None
+    limit: int | None = None
+    version: int | None = None
+    cell: int | None = None
+    table: int | None = None
+    id: int | None = None
+    #: Why a file can't be opened.
+    why: Why = Why.UNKNOWN
+    #: The print or the braille of the paragraph, if it was looked up for the sentence.
+    shown: str | None = None
+    #: How many paragraphs the book has, if that was looked up for the sentence.
+    count: int | None = None
+    #: For how many bytes there is room on the disk, where that was looked up and is little.
+    room: int | None = None

@@ -1,0 +1,63 @@
+"""Replies of a session, read from the bytes that come."""
+
+from collections import deque
+from dataclasses import dataclass
+
+
+@dataclass(frozen=True, slots=True)
+class Reply:
+    """One reply: what it shows, and the word and the numbers of the line that ends it."""
+
+    lines: tuple[str, ...]
+    #: ``ok``, ``no`` or ``end``.
+    word: str
+    numbers: tuple[int, ...]
+
+
+class Unreadable(Exception):
+    """A line that no session of braildesk answers."""
+
+    def __init__(self, line: bytes) -> None:
+        super().__init__(line)
+
+    def __str__(self) -> str:
+        return f"This is no line of a reply of braildesk: {self.args[0][:80]!r}."
+
+
+class Reader:
+    """Cuts bytes into replies, however they come."""
+
+    def __init__(self) -> None:
+        self._rest = b""
+        self._lines: list[str] = []
+        self._replies: deque[Reply] = deque()
+
+    def feed(self, data: bytes) -> None:
+        """Takes the next bytes."""
+        *lines, self._rest = (self._rest + data).split(b"\n")
+        for line in lines:
+            self._take(line)
+
+    @property
+    def has_reply(self) -> bool:
+        """Whether a reply is there whole."""
+        return bool(self._replies)
+
+    def next(self) -> Reply | None:
+        """The next reply that is there whole."""
+        return self._replies.popleft() if self._replies else None
+
+    def _take(self, line: bytes) -> None:
+        try:
+            text = line.decode()
+            if text.startswith("| "):
+                self._lines.append(text[2:])
+                return
+            word, *numbers = text.split(" ")
+            reply = Reply(tuple(self._lines), word, tuple(map(int, numbers)))
+        except ValueError:
+            raise Unreadable(line) from None
+        if word not in ("ok", "no", "end") or not numbers:
+            raise Unreadable(line)
+        self._lines = []
+        self._replies.append(reply)

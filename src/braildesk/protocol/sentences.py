@@ -1,0 +1,179 @@
+"""One sentence for each code by which something is refused.
+
+What stands in braces is filled by ``refusals.py`` from what was asked and what was answered.
+"""
+
+from collections.abc import Mapping
+from enum import StrEnum
+from types import MappingProxyType
+
+from braildesk.protocol.codes import Code
+from braildesk.text import limits
+
+
+class Why(StrEnum):
+    """Why a file can't be opened (98)."""
+
+    MISSING = "not there"
+    NO_FOLDER = "no folder"
+    FOLDER = "a folder"
+    NO_FILE = "no file"
+    DENIED = "not permitted"
+    NO_DATABASE = "no database"
+    READ_ONLY = "read-only"
+    NO_ROOM = "no room"
+    IN_USE = "in use"
+    LINKED = "linked"
+    OTHER_LOG = "log of another"
+    NO_LOG = "no log"
+    JOURNAL = "journal"
+    COMPUTED = "computed"
+    NO_SCHEMA = "no schema"
+    CUT_SHORT = "cut short"
+    TOO_LARGE = "too large"
+    TOO_LARGE_FOR_BOOK = "too large for a book"
+    NO_PATH = "no path"
+    UNKNOWN = "unknown"
+
+
+#: What a person reads of each code.
+SENTENCES: Mapping[int, str] = MappingProxyType(
+    {
+        Code.NO_REQUEST: "{unreadable} {nothing}",
+        Code.NO_PARAGRAPH: "The book has no paragraph {paragraph}{there}. {nothing}{look}",
+        Code.NO_TABLE: "The book has no table {table}. {nothing} Add that table first, or name one that is"
+        " there.",
+        Code.NO_MARK: "The book has no mark {mark}. {nothing} The request marks shows those of a paragraph.",
+        Code.OUT_OF_RANGE: "{span} {nothing}",
+        Code.BARRED_CHARACTER: "A {kind} can't have {character}, which is character {number} of this one{around}."
+        " {nothing} Take it out.",
+        Code.UNDEFINED: "The table {table} has no cells for {character}, character {number} of"
+        " {where}{around}. {nothing}",
+        Code.BAD_TABLE: "Line {line} of the table {table} is refused: {cause}.{line_shown} {nothing}",
+        Code.UNDEFINED_IN_PRINT: "The new text of the table {table} has no cells for {character}, character {number} of"
+        " paragraph {paragraph}, which uses that table{around}. {nothing} Keep a definition of"
+        " it, or give that paragraph another table first.",
+        Code.NOTHING_TO_UNDO: "Paragraph {paragraph} has no correction that could be taken back. {nothing}",
+        Code.STRUCK: "Paragraph {paragraph} is struck. {nothing} Restore it first.",
+        Code.NOT_STRUCK: "Paragraph {paragraph} isn't struck, so there is nothing to restore.",
+        Code.RESOLVED: "Mark {mark} is resolved already.",
+        Code.TOO_LONG: "{length} {nothing} {shorter}",
+        Code.FULL: "{limit} {nothing} Begin another book.",
+        Code.VERSION_CONFLICT: "The book is at version {version} and not at {expect}: another command came first."
+        " {nothing} Look at the book as it is now, and ask again.",
+        Code.BAD_TABLE_NAME: "{table} can't be the name of a table. {nothing} A name has 1 to"
+        f" {limits.NAME_CHARACTERS} of the characters a to z, 0 to 9, _ and -.",
+        Code.BAD_PROOFREADER: "{who} can't be the name of a proofreader. {nothing} A name has 1 to"
+        f" {limits.WHO_CHARACTERS} characters, none of them a blank.",
+        Code.NO_MEMORY: "There was no memory for this. {nothing} Close other programs, and ask again.",
+        Code.NOT_KEPT: "{command} was not reported as kept, since the file of the book could not be written or"
+        " read. See to the disk{room}.",
+        Code.NOT_A_BOOK: "{path} is no book. Nothing was changed. Check that the path is right.",
+        Code.DAMAGED: "The book {path} is damaged: its file has a wrong row in {part}. Nothing was changed."
+        " Keep the file as it is, and go on with an earlier copy.",
+        Code.NEWER_FORMAT: "The book {path} was made by a newer braildesk than this one. Nothing was changed."
+        " Use that one, or a newer.",
+        Code.NOT_FOR_EMBOSSERS: "Cell {cell} of paragraph {paragraph} has dot 7 or 8, which pages for embossers can't"
+        " have. Nothing was exported. Correct the table of that paragraph.",
+        Code.NO_VOLUME: "The book has no volume {volume}. Nothing was exported. Take a smaller number, from 1"
+        " on; a book of which each paragraph is struck has no volume at all.",
+        Code.BAD_PAGE_SIZE: "A page can't have {lines} lines of {width} cells. Nothing was exported. Take"
+        f" {limits.WIDTHS[0]} to {limits.WIDTHS[1]} cells and {limits.PAGE_LINES[0]} to"
+        f" {limits.PAGE_LINES[1]} lines.",
+        Code.CANNOT_OPEN: "{unopened}",
+        Code.BOOK_THERE: "{path} holds a book at version {version} already, which stays as it is. Use that"
+        " one, or take another path for the new one.",
+    }
+)
+
+#: What is full (15), by LIMIT.
+LIMITS = MappingProxyType(
+    {
+        1: f"The book has {limits.TABLES} tables, and holds no more.",
+        2: f"The book has {limits.PARAGRAPHS:,} paragraphs with the struck ones, and holds no"
+        " more.",
+        3: f"The history of paragraph {{paragraph}} has {limits.ENTRIES:,} entries, and holds no"
+        " more.",
+        4: f"The book has {limits.MARKS:,} marks with the resolved ones, and holds no more.",
+        5: f"The book is at version {limits.NUMBER:,}, which is the last one.",
+    }
+)
+
+#: What is wrong with a line of a table (8), by CAUSE.
+CAUSES = MappingProxyType(
+    {
+        1: "it begins with a word that is no opcode of braildesk",
+        2: "an operand is missing",
+        3: "its characters are written with an escape that there isn't, or are not as many as the"
+        " opcode takes (one, or two after uplow)",
+        4: "its dots are none that the opcode takes",
+        5: "a character is defined already, by an earlier line or twice by this one",
+        6: "this sign, or these characters, were given by an earlier line already",
+        7: "it has a character that no line of the table defines",
+        8: "it is too long, or has too many characters or cells, or the table has over"
+        f" {limits.TABLE_LINES:,} lines",
+        9: "it is not UTF-8",
+    }
+)
+
+#: In which rows of a damaged book something is wrong (93), by TABLE.
+PARTS = MappingProxyType(
+    {
+        1: "the table book",
+        2: "the table tab, number {id} in the order of the names of tables",
+        3: "the table para, of paragraph {id}",
+        4: "the table corr, in the history of paragraph {id}",
+        5: "the table mark, of mark {id}",
+        6: "the table cache, of paragraph {id}",
+        7: "the table corr2, in the history of paragraph {id}",
+    }
+)
+
+#: Why a file can't be opened (98).
+UNOPENED = MappingProxyType(
+    {
+        Why.MISSING: "There is no file {path}. Check that the path is right.",
+        Why.NO_FOLDER: "There is no folder in which {path} could be made. Check that the path is"
+        " right.",
+        Why.FOLDER: "{path} is a folder and no file. Give the path of a file in it.",
+        Why.NO_FILE: "{path} is a pipe, a socket or a device, and no file. It was not opened. Give"
+        " the path of a file.",
+        Why.DENIED: "You aren't permitted to open {path}. Nothing was changed. Ask who owns it"
+        " for leave to read and write it and to write in its folder.",
+        Why.READ_ONLY: "{path} is on a disk that can only be read, and a book is opened where it can"
+        " be written. Nothing was changed. Copy the book to another disk.",
+        Why.NO_ROOM: "There is no room on the disk of {path}. Nothing was changed. Make room there,"
+        " and try again.",
+        Why.NO_DATABASE: "{path} is no book, since it isn't even a database. Nothing was changed."
+        " Check that the path is right.",
+        Why.IN_USE: "Another program has {path} open. Nothing was changed. End that one first.",
+        Why.LINKED: "The file {path} has another name too (a hard link). By each name its newest"
+        " work would be looked for in another place, so it is opened by none. Nothing was changed."
+        " Remove the other name; if one of them has a file ending in -wal beside it, keep that one.",
+        Why.OTHER_LOG: "The file {log} isn't that of {path} as it is: {path} is whole without it,"
+        " and damaged with it. It may be that an earlier copy was put in the place of the book."
+        " Nothing was changed. Keep both files; to go on with {path} as it is, move {log} away.",
+        Why.NO_LOG: "What stands at {log} is no file of its own, but a link, a folder, a pipe or"
+        " another such thing, and the newest work of {path} would be looked for there. Nothing was"
+        " changed. Move it away.",
+        Why.JOURNAL: "Beside {path} lies {journal}, which braildesk never makes: another program"
+        " was stopped while it changed that file, or somebody put it there. Nothing was changed."
+        " Keep both files, and go on with an earlier copy.",
+        Why.COMPUTED: "{path} was not opened, since it isn't made as books are: one of its tables"
+        " is a view or a virtual table, whose rows are computed and may have no end. Nothing was"
+        " changed. Ask whoever made it for the book itself.",
+        Why.NO_SCHEMA: "The list of the tables in {path} can't be read. Nothing was changed. Keep"
+        " the file as it is, and go on with an earlier copy.",
+        Why.CUT_SHORT: "The book {path} is cut short: its end is missing. Nothing was changed."
+        " Keep the file as it is, and go on with an earlier copy.",
+        Why.TOO_LARGE: f"{{path}} is too large for a table, which has at most"
+        f" {limits.TABLE_BYTES:,} bytes.",
+        Why.TOO_LARGE_FOR_BOOK: f"{{path}} has more than {limits.BOOK_BYTES:,} bytes, which is more"
+        " than a book has. It was not opened, and nothing was changed. Check that it is the right"
+        " file; if it is, braildesk itself opens books of any size.",
+        Why.NO_PATH: "{path} can't be a path for braildesk, which takes those in UTF-8 alone.",
+        Why.UNKNOWN: "{path} could not be opened. Check that the path is right, that the file may"
+        " be read and written, that its folder may be written in, that there is room on the disk,"
+        " and that no other program has the file open.",
+    }
+)

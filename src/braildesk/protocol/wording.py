@@ -1,0 +1,359 @@
+"""The sentence of a refusal, filled from what was asked and what was answered."""
+
+import unicodedata
+from collections.abc import Callable
+
+from braildesk.protocol import requests
+from braildesk.protocol.asked import (
+    Asked,
+    BookFile,
+    Line,
+    NewBook,
+    Pages,
+    Refusal,
+    TableFile,
+)
+from braildesk.protocol.book_files import journal_path, log_path
+from braildesk.protocol.codes import Code
+from braildesk.protocol.fields import plain
+from braildesk.protocol.sentences import CAUSES, LIMITS, PARTS, SENTENCES, UNOPENED
+from braildesk.text import limits
+from braildesk.text.characters import around, code_point, named, shortened
+
+
+def worded(refusal: Refusal) -> str:
+    """The sentence of a refusal."""
+    fields = _Fields(refusal)
+    sentence = SENTENCES.get(refusal.code)
+    if sentence is None:
+        return (
+            f"braildesk refused this by a code that isn't known here: {refusal.code}."
+        )
+    if not fields.nothing:
+        sentence = sentence.replace(" {nothing}", "")
+    return sentence.format_map(fields)
+
+
+def said_of_room(room: int | None) -> str:
+    """How little room there is on a disk, to stand after what is said of it."""
+    if room is None:
+        return ""
+    return f": it has room for {room:,} bytes" if room else ": there is no room on it"
+
+
+#: What was asked with a number, and what a sentence has if it wasn't.
+_GIVEN = {
+    "mark": "of this number",
+    "expect": "the one that was expected",
+    "volume": "of this number",
+    "width": "so many",
+    "lines": "so many",
+}
+
+
+class _Fields:
+    """What fills the fields of sentences, each when it is asked for."""
+
+    def __init__(self, refusal: Refusal) -> None:
+        self._refusal = refusal
+        self._asked = refusal.asked
+
+    def __getitem__(self, name: str) -> str:
+        if name in _GIVEN:
+            given = getattr(self._asked, name, None)
+            return _GIVEN[name] if given is None else str(given)
+        known = self._refusal if name in ("line", "version") else self
+        return str(getattr(known, name))
+
+    @property
+    def nothing(self) -> str:
+        """What it means for the book."""
+        match self._asked:
+            case requests.Type():
+                return "Nothing was added."
+            case requests.Mark():
+                return "No mark was put."
+            case requests.Command():
+                return "Nothing was changed."
+            case Line():
+                return "This line was not translated."
+        return ""
+
+    @property
+    def paragraph(self) -> str:
+        """The paragraph that is spoken of: the one that was answered, or that was asked for."""
+        match self._asked:
+            case _ if self._refusal.paragraph is not None:
+                return str(self._refusal.paragraph)
+            case requests.Type(after=int(after)):
+                return str(after)
+            case requests.Move(
+                paragraph=paragraph, after=int(after)
+            ) if after != paragraph:
+                return f"{paragraph}, or no paragraph {after}"
+            case requests.OfParagraph(paragraph=paragraph):
+                return str(paragraph)
+        return "of this number"
+
+    @property
+    def there(self) -> str:
+        """Which paragraphs the book has, after what it doesn't have."""
+        match self._refusal.count:
+            case None:
+                return ""
+            case 0:
+                return ": it has none yet"
+            case 1:
+                return ": it has paragraph 1 alone"
+        return f": it has the paragraphs 1 to {self._refusal.count}"
+
+    @property
+    def look(self) -> str:
+        """By what it is seen which paragraphs the book has, if that isn't said."""
+        if self._refusal.count is not None:
+            return ""
+        return " The request list shows which there are."
+
+    @property
+    def table(self) -> str:
+        """The table that is spoken of, by its name or its file."""
+        match self._asked:
+            case requests.Table(table=name) | requests.Supply(table=name):
+                return plain(name)
+            case requests.Type(table=name) | requests.Retable(table=name):
+                return plain(name)
+            case Line(table=path) | TableFile(path=path):
+                return path if path == "@en" else shortened(path, len(path))
+            case requests.OfParagraph():
+                return f"of paragraph {self.paragraph}"
+        return "of this name"
+
+    @property
+    def command(self) -> str:
+        """The request that was sent, at the front of a sentence."""
+        asked = self._asked
+        if not isinstance(asked, requests.Request):
+            return "This"
+        words = asked.in_words()
+        return words[:1].upper() + words[1:]
+
+    @property
+    def who(self) -> str:
+        """The name of a proofreader that was given."""
+        return (
+            shortened(self._asked.who)
+            if isinstance(self._asked, requests.CorrectBy)
+            else "This"
+        )
+
+    @property
+    def path(self) -> str:
+        """The path of a file."""
+        match self._asked:
+            case Pages(path=path) | TableFile(path=path):
+                return shortened(path, len(path))
+            case BookFile(path=path) | NewBook(path=path):
+                return shortened(path, len(path))
+        return "This file"
+
+    @property
+    def log(self) -> str:
+        """The path of the log beside the file of a book."""
+        return self._beside(log_path)
+
+    @property
+    def journal(self) -> str:
+        """The path of the journal beside the file of a book."""
+        return self._beside(journal_path)
+
+    def _beside(self, named: Callable[[str], str]) -> str:
+        match self._asked:
+            case Pages(path=path) | BookFile(path=path) | NewBook(path=path):
+                beside = named(path)
+                return shortened(beside, len(beside))
+        return "beside this file"
+
+    @property
+    def kind(self) -> str:
+        """What a text is."""
+        match self._asked:
+            case requests.Mark():
+                return "note"
+            case Line():
+                return "line"
+        return "text"
+
+    @property
+    def character(self) -> str:
+        """The character at the place that was answered."""
+        text, place = self._text_with_place()
+        return named(text[place]) if place < len(text) else "a character of it"
+
+    @property
+    def around(self) -> str:
+        """The text around that character."""
+        text, place = self._text_with_place()
+        return f": {around(text, place)}" if place < len(text) else ""
+
+    @property
+    def number(self) -> str:
+        """Which character that is, counted from 1."""
+        return str(self._text_with_place()[1] + 1)
+
+    def _text_with_place(self) -> tuple[str, int]:
+        """The text that is known, and the place in it; the place is outside of an unknown text."""
+        place = self._refusal.place or 0
+        if self._refusal.shown is not None:
+            return self._refusal.shown, place
+        text = _text(self._asked)
+        if self._refusal.code != Code.UNDEFINED:
+            return text, place
+        stored = unicodedata.normalize("NFC", text)
+        match self._asked:
+            case requests.Correct(start=start) if start <= place < start + len(stored):
+                return stored, place - start
+            case requests.Type():
+                return stored, place
+            case Line():
+                return text, place
+        return "", place
+
+    @property
+    def where(self) -> str:
+        """In which text a character stands that a table lacks."""
+        match self._asked:
+            case requests.Type():
+                return "the text"
+            case Line():
+                return "the line"
+            case requests.Correct() if self._text_with_place()[0]:
+                return "the new text"
+            case requests.Undo():
+                return "the print as it was before"
+        return f"paragraph {self.paragraph}"
+
+    @property
+    def cell(self) -> str:
+        """Which cell is spoken of, counted from 1."""
+        return str((self._refusal.cell or 0) + 1)
+
+    @property
+    def cause(self) -> str:
+        """What is wrong with a line of a table."""
+        return CAUSES.get(self._refusal.cause or 0, f"by cause {self._refusal.cause}")
+
+    @property
+    def line_shown(self) -> str:
+        """What stands on that line of the table."""
+        number = self._refusal.line or 0
+        match self._asked:
+            case requests.Table(text=text) | TableFile(text=text):
+                lines = text.split(b"\n")
+                if 1 <= number <= len(lines):
+                    line = (
+                        lines[number - 1].removesuffix(b"\r").decode(errors="replace")
+                    )
+                    return f" It reads {shortened(line, 80)}."
+        return ""
+
+    @property
+    def limit(self) -> str:
+        """What is full."""
+        sentence = LIMITS.get(
+            self._refusal.limit or 0, "The book holds no more of that."
+        )
+        return sentence.format_map(self)
+
+    @property
+    def part(self) -> str:
+        """In which rows of a file something is damaged."""
+        part = PARTS.get(self._refusal.table or 0, f"table {self._refusal.table}")
+        return part.format_map({"id": self._refusal.id})
+
+    @property
+    def unopened(self) -> str:
+        """Why a file can't be opened."""
+        return UNOPENED[self._refusal.why].format_map(self)
+
+    @property
+    def room(self) -> str:
+        """How little room there is on the disk, where that is so."""
+        return said_of_room(self._refusal.room)
+
+    @property
+    def length(self) -> str:
+        """What is too long, and how long it may be."""
+        text = _text(self._asked)
+        most = (
+            limits.NOTE_CHARACTERS if self.kind == "note" else limits.PRINT_CHARACTERS
+        )
+        if self.kind == "text":
+            text = unicodedata.normalize("NFC", text)
+        if len(text) > most:
+            return (
+                f"The {self.kind} has {len(text):,} characters, and may have {most:,}."
+            )
+        return f"The print of paragraph {self.paragraph} would have over {most:,} characters."
+
+    @property
+    def shorter(self) -> str:
+        """What to do about a text that is too long."""
+        if self.kind == "text":
+            return "Cut it, or type the rest as a paragraph of its own."
+        return "Cut it."
+
+    @property
+    def unreadable(self) -> str:
+        """Why the request can't be sent, or isn't in the language of the program."""
+        place = self._refusal.place
+        text = _text(self._asked)
+        if place is not None and place < len(text):
+            return (
+                f"Character {place + 1} of the {self.kind} is {code_point(text[place])}, which is"
+                f" only half of a character and can't be kept: {around(text, place)}."
+            )
+        if isinstance(self._asked, Line):
+            return f"The line has over {limits.LINE_BYTES:,} bytes."
+        return (
+            "This is no request that braildesk knows. Its numbers go from 0 to"
+            f" {limits.NUMBER:,}, and a paragraph is put at the front, at the end or after another."
+        )
+
+    @property
+    def span(self) -> str:
+        """Which characters or cells aren't there."""
+        match self._asked:
+            case requests.Mark(count=0):
+                return "A mark has to stand on one cell at least."
+            case requests.Mark(cell=first, count=count):
+                return self._missing("cell", first, count)
+            case requests.Correct(start=first, count=count):
+                return self._missing("character", first, count)
+            case requests.Where(place=place):
+                return self._missing("character", place, 1)
+            case requests.Whence(cell=cell):
+                return self._missing("cell", cell, 1)
+        return "The characters or cells are not all there."
+
+    def _missing(self, what: str, first: int, count: int) -> str:
+        if count > 1:
+            asked = f"the {what}s {first + 1} to {first + count}"
+        elif count == 1:
+            asked = f"{what} {first + 1}"
+        else:
+            asked = f"a place after {what} {first}"
+        sentence = f"Paragraph {self.paragraph} doesn't have {asked}"
+        if self._refusal.shown is None:
+            return f"{sentence}."
+        has = len(self._refusal.shown)
+        return f"{sentence}: it has {has:,} {what}{'' if has == 1 else 's'}."
+
+
+def _text(asked: Asked) -> str:
+    """The text or the note that was given."""
+    match asked:
+        case requests.Type(text=text) | requests.Correct(text=text) | Line(text=text):
+            return text
+        case requests.Mark(note=note):
+            return note
+    return ""

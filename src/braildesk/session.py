@@ -1,0 +1,610 @@
+"""A session with a book: requests go to the program, and values come back."""
+
+import threading
+import warnings
+from collections import deque
+from collections.abc import Callable, Generator, Iterable, Iterator, Sequence
+from dataclasses import replace
+from os import fspath
+from types import TracebackType
+from typing import Any, Literal, Self
+
+from braildesk import opening
+from braildesk import program as programs
+from braildesk.openfile import OpenFile
+from braildesk.pipe import Ending, Pipe
+from braildesk.program import StrPath
+from braildesk.protocol import requests
+from braildesk.protocol.answers import Answer
+from braildesk.protocol.asked import BookFile, Refusal
+from braildesk.protocol.codes import Code
+from braildesk.protocol.fields import Unwritable
+from braildesk.protocol.replies import Reply, Unreadable
+from braildesk.protocol.requests import Command, Request
+from braildesk.protocol.values import (
+    After,
+    Corrected,
+    Done,
+    Entry,
+    Mark,
+    Marked,
+    Paragraph,
+    Style,
+    Table,
+    Typed,
+)
+from braildesk.refusals import (
+    DeskError,
+    Displaced,
+    Failed,
+    Lost,
+    Refused,
+    SessionEnded,
+    refused,
+    refused_as,
+)
+from braildesk.text.characters import shortened
+from braildesk.waiting import waited
+
+#: How many requests are under way at most, and how many bytes of them wait to be written. More
+#: would be no faster, and if somebody stops in the middle, the more would be carried out.
+_AHEAD = 512
+_AHEAD_BYTES = 1 << 16
+#: How many are written at once if nothing has to be waited for.
+_GROUP = 128
+
+
+class Session:
+    """One session of braildesk with the book in a file, which is opened at once.
+
+    There is a method for each request of docs/FORMATS.md. A command is kept in the file before its
+    method returns. ``expect`` is the version that the book has to be at.
+
+    While another program has the book open, the session tries again for ``timeout`` seconds. It
+    belongs to the thread that opened it, and is closed by ``close`` or at the end of a ``with`` block.
+    """
+
+    # until it is opened
+    _is_closed = True
+
+    def __init__(
+        self,
+        path: StrPath,
+        program: StrPath | None = None,
+        *,
+        timeout: float = 0.0,
+    ) -> None:
+        self._book = BookFile(fspath(path))
+        self._program = program
+        self._pipe, self._file, self._seen = waited(self._open, timeout)
+        #: The requests of ``each`` whose answers weren't taken yet, in order.
+        self._sent: deque[Request[Any] | Refused] = deque()
+        self._is_streaming = False
+        self._thread = threading.get_ident()
+        self._is_closed = False
+        self._lost: Lost | None = None
+        self._acknowledged: Request[Any] | None = None
+        self._answered = 0
+
+    def __del__(self) -> None:
+        if not self._is_closed:
+            message = f"unclosed session with {self._book.path}"
+            warnings.warn(message, ResourceWarning, source=self)
+            self._pipe.abandon()
+            self._file.close()
+
+    def __enter__(self) -> Self:
+        return self
+
+    def __exit__(
+        self,
+        kind: type[BaseException] | None,
+        error: BaseException | None,
+        trace: TracebackType | None,
+    ) -> None:
+        try:
+            self.close()
+        except Lost as lost:
+            if error is None:
+                raise
+            error.add_note(lost.sentence)
+
+    def close(self) -> None:
+        """Ends the session. What was acknowledged is in the file.
+
+        Of the requests that ``each`` sent ahead, those that were begun are carried out.
+        """
+        if self._is_closed:
+            return
+        self._settle()
+        # looked at while nobody else can have it: once the program has ended, anybody may replace it
+        if self._acknowledged is not None and not self._file.is_at_its_path:
+            raise self._displaced()
+        self._is_closed = True
+        ending = self._pipe.close()
+        if ending.status:
+            raise self._lose(SessionEnded, _ended(ending))
+        self._file.close()
+
+    @property
+    def last_version(self) -> int:
+        """The version of the book that was last reported."""
+        return self._seen
+
+    @property
+    def pid(self) -> int:
+        """The number of the process in which the program runs."""
+        return self._pipe.pid
+
+    def ask(self, request: Request[Answer]) -> Answer:
+        """Sends a request, and gives what it is answered by; raises ``Refused`` or ``Lost``."""
+        return request.result.read(self.reply(request))
+
+    def reply(self, request: Request[Any]) -> Reply:
+        """Sends a request, and gives the reply as it came; raises ``Refused`` or ``Lost``."""
+        self._judge_free()
+        data = _encoded(request)
+        self._settle()
+        self._send(request, data)
+        reply = self._take(request)
+        if reply.word == "no":
+            raise self._explained(_refused(request, reply))
+        return reply
+
+    def each(
+        self,
+        asked: Iterable[Request[Answer]],
+        progress: Callable[[int], None] | None = None,
+    ) -> Generator[Answer | Refused, None, None]:
+        """Sends many requests ahead of their replies, and gives the answers in order.
+
+        The first of them are sent at once, and the others while the answers are taken. A refusal is
+        a value among the answers, and the requests after it go on. ``progress`` is called with the
+        number of answers so far. Until all are given, the session answers nothing else; if they
+        aren't all taken, requests that were sent already are still carried out.
+        """
+        self._judge_free()
+        self._settle()
+        answers = self._answers(iter(asked), progress)
+        next(answers)
+        return answers
+
+    def _answers(
+        self, source: Iterator[Request[Any]], progress: Callable[[int], None] | None
+    ) -> Generator[Any, None, None]:
+        """Nothing once the first requests are sent, and then the answers."""
+        self._is_streaming = True
+        count = 0
+        try:
+            is_more = self._send_ahead(source)
+            self._pipe.push()
+            yield None
+            while is_more:
+                value = self._next_value()
+                count += 1
+                if progress is not None:
+                    progress(count)
+                yield value
+                is_more = self._send_ahead(source)
+        finally:
+            self._is_streaming = False
+
+    def take_over(self) -> None:
+        """Has the session belong to the thread that calls this. No other one uses it by then."""
+        self._thread = threading.get_ident()
+
+    def tables(self) -> tuple[Table, ...]:
+        """The tables of the book, in the order of their names, with their texts as they are now."""
+        # imported here, since few sessions need what reads them
+        from braildesk.files import open_tables
+
+        self._settle()
+        with self._file.opened() as file:
+            found = open_tables(self._book, file)
+        if not self._file.is_at_its_path:
+            raise self._displaced()
+        return found
+
+    def _open(self) -> tuple[Pipe, OpenFile, int]:
+        """The pipes to the program, the file that it has open, and the version of the book."""
+        words = programs.session_words(self._book.path, self._program)
+        programs.judge(self._book, words[0])
+        while True:
+            file = OpenFile(self._book.path)
+            try:
+                pipe = _started(words)
+                version = _first_version(pipe, self._book)
+            except BaseException:
+                file.close()
+                raise
+            if file.is_at_its_path:
+                return pipe, file, version
+            # another file was put there while the program opened it
+            pipe.close()
+            file.close()
+
+    def _judge_free(self) -> None:
+        """Whether the session can take a request."""
+        self._judge_thread()
+        if self._is_streaming:
+            raise RuntimeError("the answers of each() are still being given")
+
+    def _judge_thread(self) -> None:
+        if threading.get_ident() != self._thread:
+            raise RuntimeError(
+                "A session can be used by the thread that opened it alone. Nothing was sent. Open"
+                " the book in the thread that uses it."
+            )
+
+    def _send_ahead(self, source: Iterator[Request[Any]]) -> bool:
+        """Sends requests as far ahead as there is room, and says whether any answer is to come."""
+        self._judge_open()
+        while len(self._sent) < _AHEAD and self._pipe.queued_bytes < _AHEAD_BYTES:
+            request = next(source, None)
+            if request is None:
+                break
+            try:
+                data = _encoded(request)
+            except Refused as refusal:
+                self._sent.append(refusal)
+            else:
+                self._send(request, data)
+        if self._pipe.queued >= _GROUP:
+            self._pipe.push()
+        return bool(self._sent)
+
+    def _send(self, request: Request[Any], data: bytes) -> None:
+        """Queues a request, whose reply is waited for after those of the earlier ones."""
+        with self._pipe.steps:
+            self._sent.append(request)
+            self._pipe.send(data)
+
+    def _next_value(self) -> Any:
+        """The answer to the first request that waits for one, or its refusal."""
+        request = self._sent[0]
+        if isinstance(request, Refused):
+            self._sent.popleft()
+            return request
+        reply = self._take(request)
+        if reply.word == "no":
+            return _refused(request, reply)
+        return request.result.read(reply)
+
+    def _judge_open(self) -> None:
+        """Whether the session can go on."""
+        self._judge_thread()
+        if self._lost is not None:
+            raise self._lost
+        if self._pipe.steps.are_interrupted:
+            raise self._lose(SessionEnded, _ended(self._pipe.close()))
+        if self._is_closed:
+            raise RuntimeError("the session is closed")
+
+    def _settle(self) -> None:
+        """Drops requests of ``each`` that weren't begun, and takes the replies to the others."""
+        self._judge_open()
+        with self._pipe.steps:
+            for _ in range(self._pipe.drop()):
+                while isinstance(self._sent.pop(), Refused):
+                    pass
+        while self._sent:
+            request = self._sent[0]
+            if isinstance(request, Refused):
+                self._sent.popleft()
+            else:
+                self._take(request)
+
+    def _take(self, request: Request[Any]) -> Reply:
+        """The reply to a request, which is the first that waits for one."""
+        try:
+            has_reply = self._pipe.has_reply()
+        except Unreadable as error:
+            self._pipe.kill()
+            self._pipe.close()
+            raise self._lose(SessionEnded, str(error)) from None
+        if not has_reply:
+            raise self._lose(SessionEnded, _ended(self._pipe.close()))
+        with self._pipe.steps:
+            reply = self._pipe.reply()
+            self._note(request, reply)
+        if _is_not_kept(reply):
+            room = opening.little_room(self._book.path)
+            self._pipe.close()
+            raise self._lose(
+                Lost, refused_as(Refusal(Code.NOT_KEPT, request, room=room)).sentence
+            )
+        if reply.word == "ok" and not self._file.is_at_its_path:
+            raise self._displaced()
+        return reply
+
+    def _note(self, request: Request[Any], reply: Reply) -> None:
+        """Notes the reply to a request; a command that isn't kept stays among those sent."""
+        self._answered += 1
+        if _is_not_kept(reply):
+            return
+        self._sent.popleft()
+        if reply.word != "no":
+            self._seen = reply.numbers[0]
+            if reply.word == "ok":
+                self._acknowledged = request
+
+    def _explained(self, refusal: Refused) -> Refused:
+        """The refusal with what the book shows, if its sentence needs that."""
+        query = _query_about(refusal)
+        try:
+            if refusal.code == Code.NO_PARAGRAPH:
+                count = len(self.ask(requests.List()))
+                return refused_as(replace(refusal.refusal, count=count))
+            if query is not None:
+                return refused_as(replace(refusal.refusal, shown=self.ask(query)))
+        except (Refused, Lost):
+            pass
+        return refusal
+
+    def _lose(self, kind: type[Lost], cause: str) -> Lost:
+        """The exception of a session that can't go on."""
+        self._is_closed = True
+        for _ in range(self._pipe.drop()):
+            # what was never written to the program isn't in the book
+            while isinstance(self._sent.pop(), Refused):
+                pass
+        waiting = tuple(each for each in self._sent if isinstance(each, Command))
+        kept = self._kept(waiting)
+        self._lost = self._lost_as(kind, cause, kept, waiting)
+        self._file.close()
+        return self._lost
+
+    def _lost_as(
+        self,
+        kind: type[Lost],
+        cause: str,
+        kept: str,
+        waiting: tuple[Command[Any], ...] = (),
+    ) -> Lost:
+        return kind(
+            cause, kept, self._acknowledged, self._answered, self._seen, waiting
+        )
+
+    def _displaced(self) -> Lost:
+        """The exception of a session whose file isn't at its path any more, with all of it saved."""
+        self._is_closed = True
+        self._pipe.drop()
+        self._pipe.close()
+        shown = shortened(self._book.path, len(self._book.path))
+        cause = (
+            f"The file of the book is no longer at {shown}: it was removed, renamed or replaced"
+            " while it was open."
+        )
+        try:
+            saved = self._file.save(self._program, self._seen)
+            kept = (
+                "All of the book, with what was kept last, is in the new file"
+                f" {shortened(saved, len(saved))}. Go on with that one, or look first what is at the"
+                " old path by now."
+            )
+        except DeskError as failed:
+            kept = (
+                "What was kept last isn't at that path, and it could not be saved in a new file:"
+                f" {failed.sentence} Copy what you typed last."
+            )
+        self._file.close()
+        self._lost = self._lost_as(Displaced, cause, kept)
+        return self._lost
+
+    def _kept(self, waiting: Sequence[Command[Any]]) -> str:
+        """What is in the book after all, and what may be."""
+        if self._acknowledged is not None:
+            known = (
+                f"The last command that was reported as kept is {self._acknowledged.in_words()}, by"
+                f" which the book came to version {self._seen}. All up to it is in the book."
+            )
+        elif waiting:
+            known = "No command of this session was reported as kept."
+        else:
+            known = "Nothing was changed by this session."
+        if not waiting:
+            return known
+        count = len(waiting) - 1
+        more = f" and {count:,} more commands are" if count else " is"
+        return (
+            f"{known} It is not known whether {waiting[0].in_words()}{more} in the book. Open the book again: if it is at"
+            f" version {self._seen}, nothing more is in it, and each command more makes that greater"
+            " by 1."
+        )
+
+    def put_table(self, table: str, text: bytes, *, expect: int | None = None) -> Done:
+        """Adds a table, or replaces its text."""
+        return self.ask(requests.Table(table, text, expect=expect))
+
+    def supply_table(self, table: str, *, expect: int | None = None) -> Done:
+        """Adds the supplied table, or replaces the text of a table by it."""
+        return self.ask(requests.Supply(table, expect=expect))
+
+    def add_paragraph(
+        self, after: After, table: str, text: str, *, expect: int | None = None
+    ) -> Typed:
+        """Types a new paragraph."""
+        return self.ask(requests.Type(after, table, text, expect=expect))
+
+    def correct(
+        self,
+        paragraph: int,
+        start: int,
+        count: int,
+        text: str,
+        *,
+        by: str | None = None,
+        expect: int | None = None,
+    ) -> Corrected:
+        """Puts a text in place of ``count`` characters from ``start`` on.
+
+        ``by`` is the name of the proofreader, which is kept with the correction.
+        """
+        if by is None:
+            return self.ask(
+                requests.Correct(paragraph, start, count, text, expect=expect)
+            )
+        return self.ask(
+            requests.CorrectBy(paragraph, start, count, text, who=by, expect=expect)
+        )
+
+    def undo(self, paragraph: int, *, expect: int | None = None) -> Corrected:
+        """Takes back the newest correction in force."""
+        return self.ask(requests.Undo(paragraph, expect=expect))
+
+    def add_mark(
+        self,
+        paragraph: int,
+        cell: int,
+        count: int,
+        note: str = "",
+        *,
+        expect: int | None = None,
+    ) -> Marked:
+        """Puts a mark on ``count`` cells from ``cell`` on."""
+        return self.ask(requests.Mark(paragraph, cell, count, note, expect=expect))
+
+    def resolve_mark(self, mark: int, *, expect: int | None = None) -> Done:
+        """Says that a mark is dealt with."""
+        return self.ask(requests.Resolve(mark, expect=expect))
+
+    def strike(self, paragraph: int, *, expect: int | None = None) -> Done:
+        """Takes a paragraph out of the volumes."""
+        return self.ask(requests.Strike(paragraph, expect=expect))
+
+    def restore(self, paragraph: int, *, expect: int | None = None) -> Done:
+        """Puts a struck paragraph back into the volumes."""
+        return self.ask(requests.Restore(paragraph, expect=expect))
+
+    def set_style(
+        self,
+        paragraph: int,
+        style: Style | Literal["body", "heading"],
+        *,
+        expect: int | None = None,
+    ) -> Done:
+        """Gives a paragraph a style."""
+        return self.ask(requests.Style(paragraph, Style(style), expect=expect))
+
+    def set_begins_volume(
+        self, paragraph: int, begins: bool, *, expect: int | None = None
+    ) -> Done:
+        """Says whether a paragraph begins a volume."""
+        return self.ask(requests.Volume(paragraph, begins, expect=expect))
+
+    def set_table(
+        self, paragraph: int, table: str, *, expect: int | None = None
+    ) -> Done:
+        """Gives a paragraph another table."""
+        return self.ask(requests.Retable(paragraph, table, expect=expect))
+
+    def move(self, paragraph: int, after: After, *, expect: int | None = None) -> Done:
+        """Puts a paragraph elsewhere."""
+        return self.ask(requests.Move(paragraph, after, expect=expect))
+
+    def print_of(self, paragraph: int) -> str:
+        """The print of a paragraph."""
+        return self.ask(requests.Print(paragraph))
+
+    def braille_of(self, paragraph: int) -> str:
+        """The braille of a paragraph, as characters of Braille Patterns."""
+        return self.ask(requests.Braille(paragraph))
+
+    def history_of(self, paragraph: int) -> tuple[Entry, ...]:
+        """The entries of a paragraph's history, in order."""
+        return self.ask(requests.History(paragraph))
+
+    def marks_of(self, paragraph: int) -> tuple[Mark, ...]:
+        """The marks of a paragraph, in the order of their numbers."""
+        return self.ask(requests.Marks(paragraph))
+
+    def output_position(self, paragraph: int, place: int) -> int:
+        """The first cell that was made for a place of the print."""
+        return self.ask(requests.Where(paragraph, place))
+
+    def input_position(self, paragraph: int, cell: int) -> int:
+        """The first place of the print that a cell was made from."""
+        return self.ask(requests.Whence(paragraph, cell))
+
+    def paragraphs(self) -> tuple[Paragraph, ...]:
+        """The paragraphs in the order of the book."""
+        return self.ask(requests.List())
+
+    def version(self) -> int:
+        """The version of the book."""
+        return self.ask(requests.Version())
+
+
+def _started(words: list[str]) -> Pipe:
+    """The pipes to the program that these words start."""
+    try:
+        return Pipe(words)
+    except OSError as error:
+        raise programs.cannot_run(words[0], error) from error
+
+
+def _first_version(pipe: Pipe, book: BookFile) -> int:
+    """Waits for the first reply, which comes if the book was opened."""
+    version = requests.Version()
+    try:
+        pipe.send(version.encoded())
+        has_reply = pipe.has_reply()
+    except Unreadable as error:
+        pipe.kill()
+        pipe.close()
+        raise Failed(str(error)) from None
+    except BaseException:
+        # by Ctrl-C, while the program looks at a file that may never end
+        pipe.kill()
+        pipe.close()
+        raise
+    if not has_reply:
+        ending = pipe.close()
+        raise programs.unopened(ending.status, ending.errors, book)
+    return version.result.read(pipe.reply())
+
+
+def _is_not_kept(reply: Reply) -> bool:
+    """Whether a command isn't kept, after which the program ends."""
+    return reply.word == "no" and reply.numbers[0] == Code.NOT_KEPT
+
+
+def _encoded(request: Request[Any]) -> bytes:
+    """The bytes of a request; ``Refused`` if it can't be written."""
+    try:
+        return request.encoded()
+    except Unwritable as fault:
+        refusal = Refusal(
+            fault.code, request, place=fault.place, line=fault.line, cause=fault.cause
+        )
+        raise refused_as(refusal) from None
+
+
+def _refused(request: Request[Any], reply: Reply) -> Refused:
+    code, *numbers = reply.numbers
+    return refused(code, request, numbers)
+
+
+def _query_about(refusal: Refused) -> Request[str] | None:
+    """The query that shows what a refusal speaks of, if the request doesn't have it."""
+    match refusal.code, refusal.asked:
+        case 5, requests.Mark(paragraph=paragraph) | requests.Whence(
+            paragraph=paragraph
+        ):
+            return requests.Braille(paragraph)
+        case 5, requests.OfParagraph(paragraph=paragraph):
+            return requests.Print(paragraph)
+        case 7, requests.Retable(paragraph=paragraph):
+            return requests.Print(paragraph)
+        case 9, _ if refusal.paragraph is not None:
+            return requests.Print(refusal.paragraph)
+    return None
+
+
+def _ended(ending: Ending) -> str:
+    """How the program ended before it should have."""
+    if ending.status < 0:
+        return f"The session was ended by signal {-ending.status}."
+    if ending.status == 3:
+        return "The session ended, since the file of the book could not be written or read."
+    return f"The session ended with status {ending.status}."

@@ -1,0 +1,101 @@
+"""Snapshots of a book that another program has open: its file and its log, copied while it is used.
+
+A program writes to the file of a book only to empty the log into it, and begins the log anew then.
+While neither happens the log only grows, so that the file and the log that are copied meanwhile hold
+every command that was kept before. What was being written to the end of the log is left out by the
+program that opens the copy, as after a crash.
+"""
+
+import os
+import tempfile
+import time
+from collections.abc import Iterator
+from contextlib import contextmanager
+from os import fspath
+from pathlib import Path
+from typing import BinaryIO
+
+from braildesk.held import copy_held, is_at_path, open_file
+from braildesk.program import StrPath
+from braildesk.protocol.asked import BookFile
+from braildesk.protocol.book_files import is_log, log_path
+from braildesk.protocol.sentences import Why
+from braildesk.refusals import Failed, cannot_open
+from braildesk.workshop import give_access
+
+#: How long a file stays as it is before it is copied, so that a later change shows in its times.
+_TICK = 0.02
+#: How long it is tried to copy a book between two moments at which its log is emptied.
+_SECONDS = 10.0
+#: The header of a log, which is another one once the log was emptied.
+_HEADER = 32
+
+
+@contextmanager
+def snapshot(path: StrPath) -> Iterator[Path]:
+    """A copy of a book in a temporary folder, while another program may have the book open.
+
+    It holds every command that was kept before this was called, and maybe some that were kept
+    meanwhile. Nothing is made or changed beside the book's file, and nobody has to wait.
+    """
+    book = BookFile(fspath(path))
+    with open_file(book) as file:
+        try:
+            folder = tempfile.TemporaryDirectory()
+        except OSError as error:
+            raise _not_copied(book, error) from error
+        with folder:
+            copied = Path(folder.name, "book")
+            try:
+                _copy(book, file, copied)
+            except OSError as error:
+                raise _not_copied(book, error) from error
+            yield copied
+
+
+def _copy(book: BookFile, file: BinaryIO, copied: Path) -> None:
+    """Copies a file and its log until the log wasn't emptied meanwhile."""
+    log = log_path(book.path)
+    until = time.monotonic() + _SECONDS
+    while True:
+        if not is_log(log):
+            raise cannot_open(book, Why.NO_LOG)
+        if not is_at_path(book, file):
+            raise cannot_open(book, Why.UNKNOWN)
+        before = _state(file, log)
+        time.sleep(_TICK)
+        if _state(file, log) == before:
+            copy_held(file, log, copied)
+            # so that a copy of the copy has the mode and owner of the book
+            with open(copied, "rb") as made:
+                give_access(made.fileno(), os.fstat(file.fileno()))
+            if _state(file, log) == before and is_at_path(book, file):
+                return
+            copied.unlink()
+            Path(f"{copied}-wal").unlink(missing_ok=True)
+        if time.monotonic() > until:
+            raise cannot_open(book, Why.IN_USE)
+
+
+def _state(file: BinaryIO, log: str) -> tuple[int, int, int, bytes]:
+    """What is another one once the log was emptied: size and times of the file, the log's header."""
+    found = os.fstat(file.fileno())
+    return found.st_size, found.st_mtime_ns, found.st_ctime_ns, _header(log)
+
+
+def _header(log: str) -> bytes:
+    """The header of a log; nothing where there is none yet."""
+    try:
+        flags = os.O_RDONLY | os.O_NOFOLLOW | os.O_NONBLOCK | os.O_CLOEXEC
+        with open(os.open(log, flags), "rb", buffering=0) as file:
+            return file.read(_HEADER)
+    except FileNotFoundError:
+        return b""
+
+
+def _not_copied(book: BookFile, error: OSError) -> Failed:
+    return Failed(
+        f"The book “{book.path}” could not be copied to a temporary folder, to be looked at while"
+        f" another program has it open: {error.strerror}. Nothing was changed. Let TMPDIR name a"
+        " folder with room for the book."
+    )

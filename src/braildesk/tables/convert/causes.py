@@ -1,0 +1,197 @@
+"""Why the cells of a word differ from those of liblouis."""
+
+from __future__ import annotations
+
+import enum
+import re
+from collections import Counter
+from collections.abc import Iterable, Mapping, Sequence
+from typing import Final
+
+from braildesk.tables.convert.operands import Cells
+from braildesk.tables.convert.oracle import Liblouis
+from braildesk.tables.convert.places import stripped
+from braildesk.tables.convert.running_text import Word
+from braildesk.tables import Table
+from braildesk.tables.entries import Kind, SignName
+
+_QUOTES: Final = re.compile("[\"'\u2018\u2019\u201c\u201d\u00ab\u00bb]")
+
+
+class Cause(enum.Enum):
+    """Why a word differs. All but the last are beyond the rules of a table of braildesk."""
+
+    PASSAGE = "passages of capitals"
+    CAPITALS = "signs of capitals within a word"
+    LETTER_SIGN = "a sign of letters before that of a capital"
+    NUMBER = "a blank within a number"
+    FIRST_MARK = "a number that begins with a mark"
+    QUOTES = "quotation marks that pair"
+    NEIGHBOURS = "what stands beyond the blank"
+    RULES = "rules that the table lacks"
+
+    @property
+    def is_beyond(self) -> bool:
+        """Whether rules of a table can't say it."""
+        return self is not Cause.RULES
+
+
+class Judge:
+    """Finds causes by the print, by the cells, and by what liblouis gives a word alone."""
+
+    def __init__(self, liblouis: Liblouis, table: Table) -> None:
+        self._liblouis: Final = liblouis
+        self._table: Final = table
+        self._lower: Final[Mapping[str, str]] = table.lower
+        self._number: Final = _sign(table, SignName.NUMBER)
+        self._capital: Final = _sign(table, SignName.CAPITAL)
+        self._capitals: Final = _sign(table, SignName.CAPITALS)
+        self._letters: Final = _sign_of_letters(table)
+        self._end: Final = self._end_of_capitals()
+
+    def causes(self, lines: Sequence[str], words: Sequence[Word]) -> list[Cause]:
+        """The cause of each word."""
+        alone = self._liblouis.ask(word.text for word in words)
+        return [
+            self._cause(lines[word.line], word, its)
+            for word, its in zip(words, alone, strict=True)
+        ]
+
+    def _cause(self, line: str, word: Word, alone: Cells | None) -> Cause:
+        by_neighbours = alone != word.theirs
+        before = line[: word.start].split()[-1:]
+        after = line[word.end :].split()[:1]
+        if by_neighbours and self._is_in_passage(word.text, before + after):
+            return Cause.PASSAGE
+        if self._capital and self._has_run_before_small(word.text):
+            return Cause.CAPITALS
+        if by_neighbours and _is_parted_number(word.text, before, after):
+            return Cause.NUMBER
+        if self._lacks_sign_of_letters(word):
+            return Cause.LETTER_SIGN
+        if self._is_of_signs_of_capitals(word):
+            return Cause.CAPITALS
+        if self._begins_with_mark(word):
+            return Cause.FIRST_MARK
+        if by_neighbours:
+            return Cause.QUOTES if _QUOTES.search(line) else Cause.NEIGHBOURS
+        return Cause.RULES
+
+    def _end_of_capitals(self) -> Cells:
+        """What liblouis has between a run of capitals and a small letter, if anything."""
+        if not self._capitals or not self._lower:
+            return ()
+        upper = max(self._lower, key="QXZ".find)
+        small = self._table.definitions[self._lower[upper]].cells
+        whole = self._liblouis.cells(upper * 3 + self._lower[upper])
+        if whole is None:
+            return ()
+        return stripped(whole, self._capitals + tuple(small) * 3, tuple(small)) or ()
+
+    def _is_of_signs_of_capitals(self, word: Word) -> bool:
+        """Whether a word with capitals is the same without all signs of capitals."""
+        if (
+            not self._capital
+            or word.ours is None
+            or self._lower.keys().isdisjoint(word.text)
+        ):
+            return False
+        ours, theirs = (
+            _without(_without(cells, self._end), self._capital)
+            for cells in (word.ours, word.theirs)
+        )
+        return ours == theirs
+
+    def _begins_with_mark(self, word: Word) -> bool:
+        """Whether liblouis has the sign of a number before a mark, where a table has it after."""
+        if not self._number or word.ours is None:
+            return False
+        for mark, digit in zip(word.text, word.text[1:]):
+            if (
+                digit.isdigit()
+                and not mark.isalnum()
+                and mark in self._table.definitions
+            ):
+                cells = tuple(self._table.definitions[mark].cells)
+                if _has(word.ours, cells + self._number) and _has(
+                    word.theirs, self._number + cells
+                ):
+                    return True
+        return False
+
+    def _is_in_passage(self, word: str, neighbours: Iterable[str]) -> bool:
+        return self._is_in_capitals(word) and any(
+            self._is_in_capitals(one) for one in neighbours
+        )
+
+    def _is_in_capitals(self, word: str) -> bool:
+        """Whether a word has capitals and no small letters."""
+        return any(one in self._lower for one in word) and word.upper() == word
+
+    def _has_run_before_small(self, word: str) -> bool:
+        """Whether two capitals or more stand before a small letter."""
+        capitals = 0
+        for one in word:
+            if one in self._lower:
+                capitals += 1
+            else:
+                if capitals > 1 and one.isalpha():
+                    return True
+                capitals = 0
+        return False
+
+    def _lacks_sign_of_letters(self, word: Word) -> bool:
+        """Whether liblouis has a sign of letters right before one of capitals, where no rule can have it."""
+        if not self._capital or not self._letters or word.ours is None:
+            return False
+        both = self._letters + self._capital
+        return _count(word.theirs, both) > _count(word.ours, both)
+
+
+def _is_parted_number(word: str, before: Sequence[str], after: Sequence[str]) -> bool:
+    return any(one[-1:].isdigit() and word[:1].isdigit() for one in before) or any(
+        one[:1].isdigit() and word[-1:].isdigit() for one in after
+    )
+
+
+def _sign(table: Table, name: SignName) -> Cells:
+    found = table.signs.get(name)
+    return tuple(found.cells) if found else ()
+
+
+def _sign_of_letters(table: Table) -> Cells:
+    """What most letters have before them where they stand alone."""
+    found: Counter[Cells] = Counter()
+    for rule in table.rules:
+        if rule.kind is Kind.WORD and len(rule.characters) == 1 and rule.cells:
+            definition = table.definitions[rule.characters]
+            sign = stripped(tuple(rule.cells), (), tuple(definition.cells))
+            if sign:
+                found[sign] += 1
+    return max(found, key=found.__getitem__, default=())
+
+
+def _has(cells: Cells, part: Cells) -> bool:
+    return _count(cells, part) > 0
+
+
+def _count(cells: Cells, part: Cells) -> int:
+    """How often a part stands in cells."""
+    size = len(part)
+    places = range(len(cells) - size + 1)
+    return sum(cells[place : place + size] == part for place in places)
+
+
+def _without(cells: Cells, part: Cells) -> Cells:
+    """Cells without those of a part, wherever it stands."""
+    left: list[int] = []
+    if not part:
+        return cells
+    at = 0
+    while at < len(cells):
+        if cells[at : at + len(part)] == part:
+            at += len(part)
+        else:
+            left.append(cells[at])
+            at += 1
+    return tuple(left)

@@ -1,0 +1,165 @@
+"""Characters in places: between edges of words, letters and digits, as liblouis is asked for them."""
+
+from __future__ import annotations
+
+import enum
+from collections.abc import Iterable, Sequence
+from dataclasses import dataclass, replace
+from typing import Final
+
+from braildesk.tables.convert.draft import TableDraft
+from braildesk.tables.convert.numbers import sample_digits
+from braildesk.tables.convert.operands import Cells
+from braildesk.tables.convert.places import Frame, ask_frames, stripped
+from braildesk.tables.convert.subject import Subject
+
+CLOSING: Final = ".,;:?!)]}\"'%\u00b0\u2019\u201d\u00bb\u2026"
+OPENING: Final = "([{\u201e\u201c\u201a\u2018\u00ab"
+"""Marks that come after other marks, and such as come before them."""
+
+
+class Side(enum.Enum):
+    """What stands beside a mark."""
+
+    EDGE = enum.auto()
+    LETTER = enum.auto()
+    DIGIT = enum.auto()
+
+
+Place = tuple[Side, Side]
+Wanted = dict[Place, Cells | None]
+
+
+@dataclass(frozen=True)
+class Probe:
+    """Characters in a place, with what stands there before and after them."""
+
+    characters: str
+    left: Side
+    right: Side
+    before: str
+    after: str
+
+    @property
+    def frame(self) -> Frame:
+        return Frame(self.before, self.characters, self.after)
+
+    @property
+    def line(self) -> str:
+        return self.before + self.characters + self.after
+
+    @property
+    def place(self) -> Place:
+        return self.left, self.right
+
+
+class Probes:
+    """The lines by which characters are asked for in their places.
+
+    Where numbers have no sign, a single digit may have one of its own, so two stand beside a character.
+    """
+
+    def __init__(self, subject: Subject, draft: TableDraft) -> None:
+        self._liblouis: Final = subject.liblouis
+        self._draft: Final = draft
+        carriers = subject.alphabet.carriers() or ("",)
+        digits = sample_digits(draft) or [""]
+        many = 1 if draft.signs.get("numsign") else 2
+        self._samples: Final = [
+            (
+                carriers[place % len(carriers)],
+                digits[place % len(digits)] * many,
+                digits[-1] * many,
+            )
+            for place in (0, 1)
+        ]
+
+    def of(self, characters: str, place: Place) -> list[Probe]:
+        """The characters in a place, beside two letters and digits. None where the table has none."""
+        left, right = place
+        if left is Side.EDGE and characters.startswith(" "):
+            return []
+        if right is Side.EDGE and characters.endswith(" "):
+            return []
+        inside = place == (Side.EDGE, Side.EDGE) and len(characters) == 1
+        probes = []
+        for letter, first, second in self._samples:
+            probe = Probe(
+                characters,
+                left,
+                right,
+                self._before(left, letter, first),
+                self._after(right, letter, second),
+            )
+            probes.append(self._beside_mark(probe) if inside else probe)
+        return [probe for probe in probes if self._is_whole(probe)]
+
+    def _before(self, side: Side, letter: str, digit: str) -> str:
+        """What stands before, within a line: a number at the beginning of one may be that of a list."""
+        if side is Side.LETTER or not letter:
+            return "" if side is Side.EDGE else letter * 2 or digit
+        return f"{letter * 2} {digit if side is Side.DIGIT else ''}"
+
+    def _after(self, side: Side, letter: str, digit: str) -> str:
+        if side is Side.EDGE:
+            return f" {letter * 2}" if letter else ""
+        return letter * 2 if side is Side.LETTER else digit
+
+    def _beside_mark(self, probe: Probe) -> Probe:
+        """A mark between edges, with another mark as one of them where it mostly stands so.
+
+        A closing mark comes after another one, an opening one before it, and any other mark stands
+        between blanks.
+        """
+        mark = probe.characters
+        for neighbour in ")!.":
+            if mark in CLOSING and neighbour in self._draft.cells and neighbour != mark:
+                return replace(probe, before=probe.before.rstrip() + neighbour)
+        for neighbour in "(\u201e\u00ab":
+            if mark in OPENING and neighbour in self._draft.cells and neighbour != mark:
+                return replace(probe, after=neighbour + probe.after.lstrip())
+        return probe
+
+    def ask(self, strings: Iterable[str], places: Sequence[Place]) -> None:
+        """Asks at once for what `wanted` then finds remembered."""
+        frames = [
+            probe.frame
+            for characters in strings
+            for place in places
+            for probe in self.of(characters, place)
+        ]
+        ask_frames(self._liblouis, frames)
+
+    def wanted(self, characters: str, place: Place) -> Cells | None:
+        """What liblouis gives for the characters in one place, whichever letter or digit stands there."""
+        found = {self._middle(probe) for probe in self.of(characters, place)}
+        return found.pop() if len(found) == 1 else None
+
+    def _middle(self, probe: Probe) -> Cells | None:
+        whole, before, after = self._liblouis.ask(probe.frame.texts)
+        if whole is None or before is None or after is None:
+            return None
+        found = stripped(whole, before, after)
+        if found is None and probe.right is Side.DIGIT:
+            digits = [cell for one in probe.after for cell in self._draft.cells[one]]
+            return self._going_on(stripped(whole, before, tuple(digits)))
+        return found
+
+    def _going_on(self, cells: Cells | None) -> Cells | None:
+        """A mark's cells before a digit without a sign, unless the sign of the number is among them.
+
+        No rule can take the sign away from the digit, so a number that begins with a mark is lost.
+        """
+        sign = self._draft.signs["numsign"]
+        if cells is None:
+            return None
+        starts = range(len(cells) - len(sign) + 1) if sign else range(0)
+        if any(cells[start : start + len(sign)] == sign for start in starts):
+            return None
+        return cells
+
+    def _is_whole(self, probe: Probe) -> bool:
+        return all(one in self._draft.cells for one in probe.line) and (
+            (probe.left is Side.EDGE or probe.before != "")
+            and (probe.right is Side.EDGE or probe.after != "")
+        )

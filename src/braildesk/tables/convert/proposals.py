@@ -1,0 +1,138 @@
+"""Rules that would set an example right, or a part of it.
+
+A rule begins where both liblouis and the table begin a piece, at the first wrong choice or shortly
+before it, and ends where liblouis begins one. Its cells are liblouis's, and it is bound to its place
+or to none.
+"""
+
+from __future__ import annotations
+
+from collections.abc import Iterator
+from dataclasses import dataclass
+from typing import Final
+
+from braildesk.tables.convert.chooser import ALWAYS, WORD, Choice, Chooser, Rule
+from braildesk.tables.convert.draft import MOST_CHARACTERS
+from braildesk.tables.convert.examples import NOWHERE, Example
+from braildesk.tables.convert.operands import MOST_CELLS, Cells
+
+LONGEST: Final = 20
+"""How many characters of a token a rule covers at most, but one that is the whole token."""
+
+BEGINNINGS: Final = 5
+"""At how many of the last choices up to the wrong one a rule may begin."""
+
+Proposal = tuple[Rule, bool]
+"""A rule, and whether nothing of the example is wrong with it."""
+
+
+@dataclass(frozen=True)
+class _Beginning:
+    """A place where a rule may begin, with what the table chooses there."""
+
+    start: int
+    end: int
+    kind: str | None
+
+
+def proposals(chooser: Chooser, example: Example) -> Iterator[Proposal]:
+    """The rules for an example that isn't right."""
+    wrong, beginnings = _up_to_wrong(example)
+    rest_is_right: dict[int, bool] = {}
+    for beginning in beginnings[-BEGINNINGS:]:
+        if beginning.start < example.first:
+            continue
+        sign = example.seen.sign(beginning.start)
+        for end in _ends(example, beginning, wrong):
+            cells = _cells_between(example, beginning.start, end, sign)
+            if cells is None:
+                continue
+            if end not in rest_is_right:
+                rest = chooser.cells(example.seen, end)
+                rest_is_right[end] = rest == example.wanted[example.starts[end] :]
+            for kind in _kinds(example, beginning, end):
+                characters = example.seen.folded[beginning.start : end]
+                yield (kind, characters, cells), rest_is_right[end]
+    if beginnings and beginnings[0].start == 0:
+        yield from _as_word(example)
+
+
+def _up_to_wrong(example: Example) -> tuple[int, list[_Beginning]]:
+    """The place of the first wrong choice, and the places up to it where a rule may begin."""
+    beginnings: list[_Beginning] = []
+    at = 0
+    for start, end, cells, kind in example.choices:
+        if example.starts[start] == at:
+            beginnings.append(_Beginning(start, end, kind))
+        after = at + len(cells)
+        if example.wanted[at:after] != cells or example.starts[end] not in (
+            NOWHERE,
+            after,
+        ):
+            return start, beginnings
+        at = after
+    return _start(example.choices[-1]), beginnings
+
+
+def _start(choice: Choice) -> int:
+    return choice[0]
+
+
+def _ends(example: Example, beginning: _Beginning, wrong: int) -> Iterator[int]:
+    """Where a rule may end: beyond the wrong place, and not before a longer one that is there."""
+    start = beginning.start
+    reach = start + min(LONGEST, example.seen.room(start))
+    for end in range(max(wrong + 1, beginning.end), min(example.last, reach) + 1):
+        if example.starts[end] != NOWHERE:
+            yield end
+
+
+def _cells_between(example: Example, start: int, end: int, sign: Cells) -> Cells | None:
+    """The cells of a rule, which the sign at its first place isn't part of."""
+    first, last = example.starts[start], example.starts[end]
+    cells = example.wanted[first:last]
+    if cells[: len(sign)] != sign or not 1 <= len(cells) - len(sign) <= MOST_CELLS:
+        return None
+    return cells[len(sign) :]
+
+
+def _kinds(example: Example, beginning: _Beginning, end: int) -> Iterator[str]:
+    """The kinds that a rule may have: that of its place, and for all places."""
+    characters = example.seen.folded[beginning.start : end]
+    own = example.seen.kind(beginning.start, end)
+    if " " in characters and not _is_sure(characters, own):
+        return
+    if own is not None:
+        yield own
+    is_chosen = end > beginning.end or beginning.kind in (None, ALWAYS)
+    # a word that stands alone doesn't show what its letters are within another
+    is_seen_within = own != WORD or not characters.isalpha()
+    if is_chosen and is_seen_within and " " not in characters.strip(" "):
+        yield ALWAYS
+
+
+def _is_sure(characters: str, kind: str | None) -> bool:
+    """Whether examples show what a rule with a blank does.
+
+    Words stand there without blanks, unless marks are at their ends, and with a neighbour only
+    where it matters.
+    """
+    inner = characters.strip(" ")
+    if not inner or characters[0] == " " and inner[0].isalpha():
+        return False
+    if characters[-1] == " " and inner[-1].isalpha():
+        return False
+    return " " not in inner or kind == WORD
+
+
+def _as_word(example: Example) -> Iterator[Proposal]:
+    """The whole token as a word, which is right whatever stands beside it."""
+    whole = len(example.seen.text)
+    sign = example.seen.sign(0)
+    if " " in example.seen.text or whole > MOST_CHARACTERS:
+        return
+    if example.seen.room(0) < whole or example.choices[0][1] > whole:
+        return
+    cells = _cells_between(example, 0, whole, sign)
+    if cells is not None:
+        yield (WORD, example.seen.folded, cells), True

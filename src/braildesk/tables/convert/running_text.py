@@ -1,0 +1,184 @@
+"""Running text in words: the cells of each word in its line, and the tokens of a manuscript."""
+
+from __future__ import annotations
+
+from collections import Counter
+from collections.abc import Iterable, Iterator, Sequence
+from dataclasses import dataclass
+from typing import Final
+
+from braildesk.tables.convert.chooser import Chooser
+from braildesk.tables.convert.operands import Cells
+from braildesk.tables.convert.oracle import Liblouis
+
+BLANK: Final = 0
+"""The cell without dots."""
+
+MOST_TOGETHER: Final = 60
+"""How many characters a word has at most that is learned with its neighbours."""
+
+
+@dataclass(frozen=True, slots=True)
+class Word:
+    """A word of a line, whose cells differ in the line from those of liblouis."""
+
+    line: int
+    """The place of its line among the lines."""
+    start: int
+    text: str
+    ours: Cells | None
+    """The cells, or None where they can't be told from those of its neighbours."""
+    theirs: Cells
+
+    @property
+    def end(self) -> int:
+        return self.start + len(self.text)
+
+
+@dataclass(frozen=True, slots=True)
+class Agreement:
+    """How many words and lines of a text have the cells of liblouis, and the words that haven't."""
+
+    words: int
+    lines: int
+    agreeing_lines: int
+    differences: tuple[Word, ...]
+    lacking: Counter[str]
+    """The characters without cells, each with the lines that it keeps from having braille."""
+    refused: int
+    """The lines without braille, which aren't among the others."""
+
+    @property
+    def share_of_words(self) -> float:
+        return 1 - len(self.differences) / self.words if self.words else 0.0
+
+    @property
+    def share_of_lines(self) -> float:
+        return self.agreeing_lines / self.lines if self.lines else 0.0
+
+
+def agreement(
+    liblouis: Liblouis,
+    chooser: Chooser,
+    lines: Sequence[str],
+    ours: Sequence[Cells | None],
+) -> Agreement:
+    """Compares the cells of each line, which are the program's, word by word."""
+    theirs = liblouis.ask(lines)
+    lacking: Counter[str] = Counter()
+    words = refused = compared = 0
+    unlike: list[tuple[int, Cells, Cells]] = []
+    for place, (line, have, want) in enumerate(zip(lines, ours, theirs, strict=True)):
+        if have is None or want is None:
+            lacking.update(chooser.lacking(line))
+            refused += 1
+            continue
+        compared += 1
+        words += sum(map(bool, line.split(" ")))
+        if have != want:
+            unlike.append((place, have, want))
+    differences = tuple(_differences(liblouis, chooser, lines, unlike))
+    alike = compared - len(unlike)
+    return Agreement(words, compared, alike, differences, lacking, refused)
+
+
+def _differences(
+    liblouis: Liblouis,
+    chooser: Chooser,
+    lines: Sequence[str],
+    unlike: Sequence[tuple[int, Cells, Cells]],
+) -> Iterator[Word]:
+    """The words of lines with other cells, and the whole line where none can be told apart."""
+    unclear = [
+        lines[place]
+        for place, have, want in unlike
+        if not len(_parted(have)) == len(_parted(want)) == len(lines[place].split(" "))
+    ]
+    pieces = dict(zip(unclear, liblouis.pieces(unclear), strict=True))
+    for place, have, want in unlike:
+        line = lines[place]
+        ours: Sequence[Cells | None] = _parted(have)
+        theirs: Sequence[Cells] = _parted(want)
+        if line in pieces:
+            choices = chooser.choices(chooser.print(line))
+            ours = _cut(line, [(start, cells) for start, _, cells, _ in choices])
+            theirs = _cut(line, _with_places(pieces[line]))
+        start = 0
+        for text, its, their in zip(line.split(" "), ours, theirs):
+            if text and its != their:
+                yield Word(place, start, text, its, their)
+            start += len(text) + 1
+
+
+def _parted(cells: Cells) -> list[Cells]:
+    """Cells in groups, between the blank cells."""
+    parts: list[list[int]] = [[]]
+    for cell in cells:
+        if cell == BLANK:
+            parts.append([])
+        else:
+            parts[-1].append(cell)
+    return [tuple(part) for part in parts]
+
+
+def _with_places(pieces: Iterable[tuple[str, Cells]]) -> list[tuple[int, Cells]]:
+    found = []
+    place = 0
+    for text, cells in pieces:
+        found.append((place, cells))
+        place += len(text)
+    return found
+
+
+def _cut(line: str, pieces: Sequence[tuple[int, Cells]]) -> list[Cells]:
+    """The cells of each word by where pieces begin: a piece counts to the word in which it begins."""
+    found = []
+    start = 0
+    for word in line.split(" "):
+        end = start + len(word)
+        inner = [its for place, its in pieces if start <= place < end]
+        found.append(_without_blanks([cell for its in inner for cell in its]))
+        start = end + 1
+    return found
+
+
+def _without_blanks(cells: Sequence[int]) -> Cells:
+    first, last = 0, len(cells)
+    while first < last and cells[first] == BLANK:
+        first += 1
+    while first < last and cells[last - 1] == BLANK:
+        last -= 1
+    return tuple(cells[first:last])
+
+
+def tokens(liblouis: Liblouis, lines: Sequence[str]) -> Counter[str]:
+    """The tokens of some lines, by how often they come.
+
+    A token to which liblouis gives other cells in its line than alone is counted with its
+    neighbours too.
+    """
+    counted = Counter(token for line in lines for token in line.split(" ") if token)
+    liblouis.ask(counted)
+    for line in lines:
+        counted.update(_in_company(liblouis, line))
+    return counted
+
+
+def _in_company(liblouis: Liblouis, line: str) -> Iterator[str]:
+    words = line.split(" ")
+    cells = liblouis.cells(line)
+    parts = _parted(cells or ())
+    if len(parts) != len(words):
+        (pieces,) = liblouis.pieces([line])
+        parts = _cut(line, _with_places(pieces))
+    for place, (word, its) in enumerate(zip(words, parts)):
+        if word and liblouis.cells(word) != its:
+            for first, after in ((-1, 1), (0, 2), (-1, 2)):
+                first, after = place + first, place + after
+                together = " ".join(words[max(first, 0) : after])
+                if first >= 0 and after <= len(words) and _is_plain(together):
+                    yield together
+
+
+def _is_plain(text: str) -> bool:
+    return len(text) <= MOST_TOGETHER and "  " not in text and text == text.strip()

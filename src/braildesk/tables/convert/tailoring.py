@@ -1,0 +1,285 @@
+"""A table made for a manuscript: that of `making`, with rules learned from words and the manuscript.
+
+A tenth of the manuscript is held back at first, so that it shows what the table is worth on text that
+it wasn't made for. After that the tenth is learned from too.
+"""
+
+from __future__ import annotations
+
+from collections import Counter
+from collections.abc import Callable, Iterable, Mapping, Sequence
+from dataclasses import dataclass, replace
+from pathlib import Path
+from tempfile import TemporaryDirectory
+from typing import Final
+
+from braildesk.tables import Table, read
+from braildesk.tables.convert.addition import Addition
+from braildesk.tables.convert.causes import Cause, Judge
+from braildesk.tables.convert.chooser import Chooser
+from braildesk.tables.convert.draft import MOST_LINES, Origin, ROOM_FOR_COMMENTS
+from braildesk.tables.convert.examples import Example, Progress, examples
+from braildesk.tables.convert.learning import BOOK_ROUNDS, Learned, Learner
+from braildesk.tables.convert.making import Made, make
+from braildesk.tables.convert.operands import Cells
+from braildesk.tables.convert.oracle import Liblouis
+from braildesk.tables.convert.running_text import Agreement, agreement, tokens
+from braildesk.tables.convert.source import read_source
+from braildesk.tables.convert.subject import Subject, read_subject
+from braildesk.tables.convert.trial import ProgramTrial
+from braildesk.tables.convert.word_list import (
+    Shelf,
+    WordList,
+    borne_out,
+    keep,
+    kept,
+    learned_from_list,
+    list_examples,
+    name_of,
+)
+
+HELD_BACK: Final = 10
+"""Each paragraph of so many is held back."""
+
+FEWEST_PARAGRAPHS: Final = 20
+"""With fewer paragraphs none is held back."""
+
+EACH_TIME: Final = 0.25
+"""What a token of the manuscript counts more than one of the list, each time that it comes."""
+
+FROM_LIST: Final = "Learned from the word list"
+FROM_MANUSCRIPT: Final = "Learned from the manuscript"
+
+Report = Callable[[str], Progress]
+"""Takes what is counted, in words, and gives what takes how many are done."""
+
+
+@dataclass(frozen=True)
+class Manuscript:
+    """What a table is made for."""
+
+    name: str
+    paragraphs: Sequence[str]
+
+
+@dataclass(frozen=True)
+class Means:
+    """What a table is made with: a list of words, where there is one, and where rules are kept.
+
+    What is added comes after the lines of the table, and is compared with nothing.
+    """
+
+    words: WordList | None
+    shelf: Shelf | None
+    report: Report
+    addition: Addition | None = None
+
+
+@dataclass(frozen=True)
+class Figures:
+    """How the program's cells compare with liblouis's on a text, and why words differ."""
+
+    agreement: Agreement
+    causes: tuple[Cause, ...]
+    """The cause of each word that differs."""
+
+    @property
+    def by_cause(self) -> dict[Cause, Counter[str]]:
+        """The words that differ by their causes, the most frequent cause first."""
+        found: dict[Cause, Counter[str]] = {}
+        for cause, _ in Counter(self.causes).most_common():
+            found[cause] = Counter()
+        for word, cause in zip(self.agreement.differences, self.causes, strict=True):
+            found[cause][word.text] += 1
+        return found
+
+    @property
+    def share_within_rules(self) -> float:
+        """The share of words that agree, those aside that no table of braildesk can write so."""
+        beyond = sum(cause.is_beyond for cause in self.causes)
+        words = self.agreement.words - beyond
+        return 1 - (len(self.causes) - beyond) / words if words else 0.0
+
+
+@dataclass(frozen=True)
+class Tailored:
+    """A table that was made for a manuscript."""
+
+    made: Made
+    subject: Subject
+    manuscript: Manuscript
+    words: WordList | None
+    addition: Addition | None
+    from_list: int
+    """How many rules were learned from the list, and from the manuscript."""
+    from_manuscript: int
+    own: Figures
+    held_back: Figures | None
+
+
+def figures(
+    liblouis: Liblouis, table: Table, lines: Sequence[str], ours: Sequence[Cells | None]
+) -> Figures:
+    """Compares the cells of lines, which are the program's, with liblouis's."""
+    found = agreement(liblouis, Chooser(table), lines, ours)
+    causes = Judge(liblouis, table).causes(lines, found.differences)
+    return Figures(found, tuple(causes))
+
+
+def tailor(table: Path, manuscript: Manuscript, means: Means) -> Tailored:
+    """Makes a table for a manuscript."""
+    source = read_source(table)
+    with Liblouis(table) as liblouis, TemporaryDirectory() as name:
+        subject = read_subject(source, liblouis)
+        return _Tailoring(subject, manuscript, means, Path(name)).run()
+
+
+class _Tailoring:
+    """The steps by which a table is made for a manuscript."""
+
+    def __init__(
+        self, subject: Subject, manuscript: Manuscript, means: Means, folder: Path
+    ) -> None:
+        self._subject: Final = subject
+        self._liblouis: Final = subject.liblouis
+        self._manuscript: Final = manuscript
+        self._means: Final = means
+        self._trial: Final = ProgramTrial(folder)
+        self._made: Final = make(subject, self._trial)
+        self._chooser: Final = Chooser(read(self._made.draft.text().encode()).table)
+        self._most: Final = MOST_LINES - ROOM_FOR_COMMENTS - len(self._made.draft.cells)
+        carriers = subject.alphabet.carriers()
+        self._frame: Final = carriers[0] * 2 if carriers else ""
+
+    def run(self) -> Tailored:
+        paragraphs = self._manuscript.paragraphs
+        of_list = self._list_examples()
+        from_list = self._from_list(of_list)
+        first, back = _parts(paragraphs)
+        learned = self._from_manuscript(first, of_list)
+        held_back = None
+        if back:
+            held_back = self._figures(from_list, learned, first, back)
+            learned |= self._from_manuscript(paragraphs, of_list)
+        own = self._figures(from_list, learned, paragraphs, paragraphs)
+        return Tailored(
+            self._made_with(from_list, learned, paragraphs),
+            self._subject,
+            self._manuscript,
+            self._means.words,
+            self._means.addition,
+            len(from_list.keys() - learned.keys()),
+            len(learned),
+            own,
+            held_back,
+        )
+
+    def _list_examples(self) -> list[Example]:
+        if self._means.words is None:
+            return []
+        return list_examples(
+            self._means.words,
+            self._liblouis,
+            self._chooser,
+            self._frame,
+            self._means.report("words of the list asked for"),
+        )
+
+    def _from_list(self, found: Sequence[Example]) -> Learned:
+        """The rules of the word list: those that were kept, or else learned now."""
+        words, shelf = self._means.words, self._means.shelf
+        if words is None:
+            return {}
+        name = name_of(words, self._made.draft, self._liblouis.version)
+        known = kept(shelf, name, self._made.draft) if shelf else None
+        if known is not None:
+            return borne_out(self._chooser, found, known)
+        report = self._means.report("rounds of learning from the list")
+        learned = learned_from_list(self._chooser, found, self._most, report)
+        if shelf:
+            keep(shelf, name, learned)
+        return learned
+
+    def _from_manuscript(
+        self, paragraphs: Sequence[str], of_list: Sequence[Example]
+    ) -> Learned:
+        """Learns from the tokens of paragraphs, so that no word of the list is spoiled."""
+        weights = weights_of(tokens(self._liblouis, paragraphs))
+        own = examples(
+            self._liblouis,
+            self._chooser,
+            weights,
+            self._frame,
+            self._means.report("words of the manuscript asked for"),
+        )
+        for example in own:
+            example.choose(self._chooser)
+        others = [one for one in of_list if one.seen.text not in weights]
+        report = self._means.report("rounds of learning from the manuscript")
+        learner = Learner(self._chooser, [*others, *own], self._most)
+        return learner.learn(BOOK_ROUNDS, report)
+
+    def _figures(
+        self,
+        from_list: Learned,
+        learned: Learned,
+        paragraphs: Sequence[str],
+        compared: Sequence[str],
+    ) -> Figures:
+        draft = self._made_with(from_list, learned, paragraphs).draft
+        table = read(draft.text().encode()).table
+        ours = self._trial.cells(draft, compared)
+        return figures(self._liblouis, table, compared, ours)
+
+    def _made_with(
+        self, from_list: Learned, learned: Learned, paragraphs: Sequence[str]
+    ) -> Made:
+        """The table with the learned rules, each with the words of the manuscript that it is for."""
+        draft = self._made.draft.copy()
+        uses = uses_of_rules(self._chooser, paragraphs)
+        for rules, sentence in ((from_list, FROM_LIST), (learned, FROM_MANUSCRIPT)):
+            for (kind, characters), _ in rules.items():
+                cells = self._chooser.cells_of(kind, characters)
+                if cells is not None:
+                    mark = _mark(uses[kind, characters])
+                    draft.add_rule(kind, characters, cells, Origin(sentence, mark))
+        return replace(self._made, draft=draft)
+
+
+def weights_of(counted: Mapping[str, int]) -> dict[str, float]:
+    """What each token of a manuscript counts: one, and more the more often it comes."""
+    return {token: 1 + EACH_TIME * count for token, count in counted.items()}
+
+
+def _mark(uses: int) -> str:
+    return f"for {uses:,} {'word' if uses == 1 else 'words'} of the manuscript"
+
+
+def _parts(paragraphs: Sequence[str]) -> tuple[Sequence[str], Sequence[str]]:
+    """The paragraphs that are learned from at first, and those held back."""
+    if len(paragraphs) < FEWEST_PARAGRAPHS:
+        return paragraphs, ()
+    back = paragraphs[HELD_BACK - 1 :: HELD_BACK]
+    first = [one for place, one in enumerate(paragraphs, start=1) if place % HELD_BACK]
+    return first, back
+
+
+def uses_of_rules(
+    chooser: Chooser, paragraphs: Iterable[str]
+) -> Counter[tuple[str, str]]:
+    """In how many words of some paragraphs each rule is chosen."""
+    counted = Counter(
+        token for line in paragraphs for token in line.split(" ") if token
+    )
+    uses: Counter[tuple[str, str]] = Counter()
+    for token, count in counted.items():
+        if not chooser.lacking(token):
+            seen = chooser.print(token)
+            chosen = {
+                (kind, seen.folded[start:end])
+                for start, end, _, kind in chooser.choices(seen)
+                if kind is not None
+            }
+            for key in chosen:
+                uses[key] += count
+    return uses

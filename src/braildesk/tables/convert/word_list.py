@@ -1,0 +1,156 @@
+"""A list of words to learn from, and the rules that were learned from it, kept from book to book.
+
+What was kept is never trusted: it is read as the lines of a table are, its head has to say what it was
+learned from, and a rule stays only if a word of the list bears it out.
+"""
+
+from __future__ import annotations
+
+import hashlib
+import zlib
+from collections.abc import Iterable, Sequence
+from dataclasses import dataclass
+from pathlib import Path
+from typing import Final, Protocol
+
+from braildesk.tables import Rule as TableRule, read
+from braildesk.tables.convert.chooser import Chooser
+from braildesk.tables.convert.draft import TableDraft
+from braildesk.tables.convert.examples import Example, Progress, examples
+from braildesk.tables.convert.learning import LIST_ROUNDS, Learned, Learner
+from braildesk.tables.convert.operands import write_characters, write_dots
+from braildesk.tables.convert.oracle import Liblouis
+from braildesk.tables.convert.words import forms_in
+
+METHOD: Final = 1
+"""Counted up with each change of what is learned from a list."""
+
+MOST_FORMS: Final = 120_000
+"""How many words are learned from; of a longer list they are taken by a digest."""
+
+LESS: Final = 0.3
+"""What a form with an apostrophe counts, so that those of a word don't outweigh the word."""
+
+
+class Shelf(Protocol):
+    """Where files are kept by their names. What can't be read or written is an OSError."""
+
+    def read(self, name: str) -> bytes | None:
+        """The bytes of a file, or None where there is none."""
+
+    def write(self, name: str, data: bytes) -> None:
+        """Gives a file these bytes."""
+
+
+@dataclass(frozen=True)
+class WordList:
+    """Words with what each counts."""
+
+    path: Path
+    weights: dict[str, float]
+
+    @classmethod
+    def of(cls, path: Path) -> WordList:
+        """The list in a file."""
+        forms = forms_in(path)
+        each = -(-len(forms) // MOST_FORMS) or 1
+        taken = [form for form in forms if zlib.crc32(form.encode()) % each == 0]
+        weights = {form: 1 if form.isalpha() else LESS for form in taken}
+        return cls(path, weights)
+
+    @property
+    def digest(self) -> str:
+        return _digest("\n".join(self.weights))
+
+
+def list_examples(
+    words: WordList,
+    liblouis: Liblouis,
+    chooser: Chooser,
+    frame: str,
+    progress: Progress,
+) -> list[Example]:
+    """The words of a list as examples."""
+    return examples(liblouis, chooser, words.weights, frame, progress)
+
+
+def name_of(words: WordList, draft: TableDraft, version: str) -> str:
+    """The name under which rules are kept that a version of liblouis gave by a list for a draft."""
+    return _digest(f"{METHOD}\n{version}\n{words.digest}\n{draft.text()}")
+
+
+def learned_from_list(
+    chooser: Chooser, found: Sequence[Example], most: int, progress: Progress
+) -> Learned:
+    """Learns from the words of a list."""
+    for example in found:
+        example.choose(chooser)
+    return Learner(chooser, found, most).learn(LIST_ROUNDS, progress)
+
+
+def keep(shelf: Shelf, name: str, rules: Learned) -> None:
+    """Keeps rules, unless there is no place for them, which costs time and nothing else."""
+    lines = [
+        f"{kind} {write_characters(characters)} {write_dots(cells)}\n"
+        for (kind, characters), cells in rules.items()
+    ]
+    try:
+        shelf.write(name, "".join([_head(name), *lines]).encode())
+    except OSError:
+        pass
+
+
+def kept(shelf: Shelf, name: str, draft: TableDraft) -> Learned | None:
+    """The rules that were kept, or None where there are none that could be of this draft."""
+    try:
+        data = shelf.read(name)
+    except OSError:
+        return None
+    if data is None or not data.startswith(_head(name).encode()):
+        return None
+    before = draft.text_without_rules().encode()
+    reading = read(before + data)
+    own = len(read(before).table.definitions)
+    table = reading.table
+    if reading.faults or len(table.definitions) != own:
+        return None
+    return {_key(rule): tuple(table.cells_of(rule)) for rule in table.rules}
+
+
+def borne_out(chooser: Chooser, found: Sequence[Example], rules: Learned) -> Learned:
+    """Adds rules to a chooser, and takes back those that no word of a list bears out."""
+    older = {key: chooser.cells_of(*key) for key in rules}
+    for key, cells in rules.items():
+        chooser.add((*key, cells))
+    for example in found:
+        example.choose(chooser)
+    good = _chosen_rightly(found)
+    for key in rules.keys() - good:
+        chooser.put_back(*key, older[key])
+    if not rules.keys() <= good:
+        for example in found:
+            example.choose(chooser)
+    return {key: rules[key] for key in rules if key in good}
+
+
+def _chosen_rightly(found: Iterable[Example]) -> set[tuple[str, str]]:
+    """The rules that are chosen in words that are right."""
+    return {
+        (kind, example.seen.folded[start:end])
+        for example in found
+        if example.is_right
+        for start, end, _, kind in example.choices
+        if kind is not None
+    }
+
+
+def _key(rule: TableRule) -> tuple[str, str]:
+    return str(rule.kind), rule.characters
+
+
+def _head(name: str) -> str:
+    return f"# braildesk: rules learned from a word list, {name}\n"
+
+
+def _digest(text: str) -> str:
+    return hashlib.sha256(text.encode()).hexdigest()

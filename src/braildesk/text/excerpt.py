@@ -1,0 +1,69 @@
+"""Some words of a text, and as many of those around them as a line has room for."""
+
+from collections.abc import Callable
+
+from braildesk.text.cells import BLANKS
+from braildesk.text.characters import visible
+from braildesk.text.sequences import sequences
+from braildesk.text.wrapping import columns, measure
+
+_CUT = "…"
+
+
+def excerpt(text: str, start: int, stop: int, width: int) -> str:
+    """A line of a text: the words from one place to another in brackets, and words around them.
+
+    Where words are left out stands an ellipsis, also within the brackets where they are too long.
+    """
+    words = f"[{_both_ends(visible(text[start:stop]), width - 2)}]"
+    room = width - columns(words)
+    before, after = visible(text[:start]), visible(text[stop:])
+    front = ending(before, max(room // 2, room - columns(after)))
+    return front + words + opening(after, room - columns(front))
+
+
+def opening(text: str, width: int) -> str:
+    """The first words of a text, in a line of a width."""
+    size_of = measure(text)
+    if size_of(text) <= width:
+        return text
+    if size_of is len and width > 0:
+        # each character is a sequence of one column
+        blank = max(text.rfind(each, 1, width) for each in BLANKS)
+        return text[: blank if blank > 0 else width - 1] + _CUT
+    return "".join(_fitting(sequences(text), width, size_of))
+
+
+def ending(text: str, width: int) -> str:
+    """The last words of a text, in a line of a width."""
+    size_of = measure(text)
+    if size_of(text) <= width:
+        return text
+    if size_of is len and width > 0:
+        front = len(text) - width
+        blanks = (text.find(each, front, -1) for each in BLANKS)
+        blank = min((each for each in blanks if each >= 0), default=front)
+        return _CUT + text[blank + 1 :]
+    return "".join(reversed(_fitting(sequences(text)[::-1], width, size_of)))
+
+
+def _both_ends(text: str, width: int) -> str:
+    """The first and the last words of a text, in a line of a width."""
+    if columns(text) <= width:
+        return text
+    front = opening(text, width // 2)
+    return front + ending(text, width - columns(front)).removeprefix(_CUT)
+
+
+def _fitting(pieces: list[str], width: int, size_of: Callable[[str], int]) -> list[str]:
+    """The front of a text in pieces that doesn't fit whole, up to a blank."""
+    if width <= 0:
+        return []
+    left = width - columns(_CUT)
+    taken = blank = 0
+    while (size := size_of(pieces[taken])) <= left:
+        left -= size
+        taken += 1
+        if pieces[taken] in BLANKS:
+            blank = taken
+    return [*pieces[: blank or taken], _CUT]

@@ -1,0 +1,84 @@
+"""Text in lines of a width, broken between words."""
+
+import re
+import unicodedata
+from collections.abc import Callable
+from functools import lru_cache
+
+from braildesk.text.cells import BLANKS
+from braildesk.text.sequences import JOINING_JAMO, sequences
+
+# the most that a tab takes
+TAB_COLUMNS = 8
+_BLANKS = "".join(BLANKS)
+# a text that ends in blanks would be looked through from each of them to its end
+_WORD = re.compile(f"([{_BLANKS}]*)([^{_BLANKS}]+)")
+# characters of one column each: Latin letters, the signs that stand among them, and braille
+_NARROW = re.compile("[ -~\u00a0-\u02ff\u2010-\u2027\u2800-\u28ff]*")
+_UNSEEN = ("Mn", "Me")
+
+
+def columns(text: str) -> int:
+    """How many columns of a terminal a text takes."""
+    if _NARROW.fullmatch(text):
+        return len(text)
+    return sum(map(_columns_of, text))
+
+
+def measure(text: str) -> Callable[[str], int]:
+    """What gives the columns that a part of a text takes."""
+    return len if _NARROW.fullmatch(text) else columns
+
+
+def wrap(text: str, width: int, indent: str = "") -> list[str]:
+    """The lines of a text, the later ones after an indent, none over the width.
+
+    Lines are broken at blanks, those of braille too, and the blanks at which they are broken are
+    left out. A word that is longer than a line is cut, and no combining sequence is. An empty text
+    is one empty line.
+    """
+    text = text.rstrip(_BLANKS)
+    size_of = measure(text)
+    if size_of(text) <= width:
+        return [text]
+    lines = [""]
+    taken = 0
+    for blanks, word in _WORD.findall(text):
+        size = size_of(blanks) + size_of(word)
+        if taken + size <= width:
+            lines[-1] += blanks + word
+            taken += size
+            continue
+        longer = lines[-1] + blanks + word
+        if lines[-1].strip():
+            lines.append("")
+            longer = indent + word
+        lines[-1:] = _cut(longer, width, indent)
+        taken = columns(lines[-1])
+    return lines
+
+
+def _cut(line: str, width: int, indent: str) -> list[str]:
+    """A line in lines of the width, the later ones after the indent."""
+    if columns(line) <= width:
+        return [line]
+    pieces = [""]
+    taken = 0
+    for sequence in sequences(line):
+        size = columns(sequence)
+        if taken + size > width and pieces[-1] not in ("", indent):
+            pieces.append(indent)
+            taken = len(indent)
+        pieces[-1] += sequence
+        taken += size
+    return pieces
+
+
+# the same few hundred characters stand all over a text
+@lru_cache(maxsize=4096)
+def _columns_of(character: str) -> int:
+    if character == "\t":
+        return TAB_COLUMNS
+    if unicodedata.category(character) in _UNSEEN or ord(character) in JOINING_JAMO:
+        return 0
+    return 2 if unicodedata.east_asian_width(character) in "WF" else 1

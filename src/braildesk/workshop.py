@@ -1,0 +1,218 @@
+"""Files that are made whole before they get their names.
+
+A file is made in a folder beside the place where it is to be, under a name that begins with a full
+stop. Who makes it holds a lock of that folder, so that what is left by a program that was killed is
+known, and is cleared away by the next one that makes a file there.
+"""
+
+import errno
+import fcntl
+import os
+import stat
+from collections.abc import Iterator
+from contextlib import contextmanager, suppress
+from pathlib import Path
+from typing import BinaryIO, Self
+
+_PREFIX = ".braildesk-"
+#: The file that is made, and the log that the program puts beside it. Nothing else is cleared away.
+_MADE = "book"
+_NAMES = frozenset({_MADE, f"{_MADE}-wal"})
+#: The numbers of `renameat2`: paths are those of this process, and nothing is replaced.
+_HERE, _NO_REPLACE = -100, 1
+#: What a system says of that where it, or the file system, doesn't have it.
+_NOT_KNOWN = (errno.EINVAL, errno.ENOSYS, errno.EOPNOTSUPP)
+_CHUNK = 1 << 20
+
+
+class Swapped(OSError):
+    """A file that was being made isn't at its path any more."""
+
+    def __init__(self) -> None:
+        what = "another program put something else in the place of what was made"
+        super().__init__(errno.ESTALE, what)
+
+    def __reduce__(self) -> tuple[type[Self], tuple[()]]:
+        return type(self), ()
+
+
+@contextmanager
+def made_beside(target: str) -> Iterator[Path]:
+    """Where a file is to be made that is put at the target then, and is on the same disk."""
+    parent = os.path.dirname(target)
+    _clear(parent)
+    descriptor, folder = _own_folder(parent)
+    try:
+        yield Path(folder, _MADE)
+    finally:
+        _remove(descriptor, folder)
+        os.close(descriptor)
+
+
+def create(path: Path) -> BinaryIO:
+    """A new file, which is its owner's alone until it is given its access."""
+    flags = os.O_RDWR | os.O_CREAT | os.O_EXCL | os.O_NOFOLLOW | os.O_CLOEXEC
+    return open(os.open(path, flags, 0o600), "r+b")
+
+
+def open_made(made: Path, like: os.stat_result) -> BinaryIO:
+    """A file that was made, open once more; ``Swapped`` where another one is at its path.
+
+    Who may write in the folder beside which it is made may put a folder with a link in its place.
+    """
+    flags = os.O_RDONLY | os.O_NOFOLLOW | os.O_NONBLOCK | os.O_CLOEXEC
+    try:
+        file = open(os.open(made, flags), "rb")
+    except OSError as error:
+        raise Swapped from error
+    if not os.path.samestat(os.fstat(file.fileno()), like):
+        file.close()
+        raise Swapped
+    return file
+
+
+def put(made: Path, target: str) -> None:
+    """Gives a file its name, which nothing may have yet (``FileExistsError``)."""
+    try:
+        _rename(made, target)
+    except OSError as error:
+        if error.errno not in _NOT_KNOWN:
+            raise
+        os.link(made, target)
+        made.unlink()
+    _sync_folder(target)
+
+
+def put_over(made: Path, target: str) -> None:
+    """Gives a file the name of another, which is no more then, nor is the log beside it."""
+    log, aside = f"{target}-wal", f"{made}-wal"
+    # it belongs to the older file, and would damage the new one
+    with suppress(FileNotFoundError):
+        os.replace(log, aside)
+    try:
+        os.replace(made, target)
+    except OSError:
+        with suppress(FileNotFoundError):
+            os.replace(aside, log)
+        raise
+    _sync_folder(target)
+
+
+def give_access(file: int, like: os.stat_result) -> None:
+    """Gives a file the mode of another, and its group and owner where this process may.
+
+    A group that isn't that of the other file gets no more than anybody.
+    """
+    mode = like.st_mode & 0o777
+    try:
+        os.fchown(file, -1, like.st_gid)
+    except OSError:
+        mode &= ~stat.S_IRWXG | (mode & stat.S_IRWXO) << 3
+    with suppress(OSError):
+        os.fchown(file, like.st_uid, -1)
+    with suppress(OSError):
+        os.fchmod(file, mode)
+
+
+def copy_bytes(source: int, target: int) -> None:
+    """Copies a file to an empty one, with its holes, and has it on the disk."""
+    size = os.fstat(source).st_size
+    place = 0
+    while place < size:
+        try:
+            place = os.lseek(source, place, os.SEEK_DATA)
+        except OSError as error:
+            if error.errno == errno.ENXIO:
+                break
+            raise
+        stop = os.lseek(source, place, os.SEEK_HOLE)
+        while place < stop and (
+            data := os.pread(source, min(_CHUNK, stop - place), place)
+        ):
+            place += os.pwrite(target, data, place)
+    os.ftruncate(target, size)
+    os.fsync(target)
+
+
+def _own_folder(parent: str) -> tuple[int, str]:
+    """A new folder, and its descriptor, by which it is locked."""
+    import tempfile  # which few sessions need
+
+    while True:
+        folder = tempfile.mkdtemp(prefix=_PREFIX, dir=parent)
+        descriptor = os.open(folder, os.O_RDONLY | os.O_DIRECTORY | os.O_NOFOLLOW)
+        if _is_locked(descriptor) and os.path.exists(folder):
+            return descriptor, folder
+        # another program took it for one that was left
+        os.close(descriptor)
+
+
+def _is_locked(descriptor: int) -> bool:
+    """Locks a folder, unless another program has the lock of it."""
+    try:
+        fcntl.flock(descriptor, fcntl.LOCK_EX | fcntl.LOCK_NB)
+    except BlockingIOError:
+        return False
+    except OSError:
+        # a file system without such locks, on which nothing is cleared away
+        return True
+    return True
+
+
+def _clear(parent: str) -> None:
+    """Clears away the folders of programs that were killed."""
+    with suppress(OSError), os.scandir(parent) as entries:
+        for entry in entries:
+            if entry.name.startswith(_PREFIX) and entry.is_dir(follow_symlinks=False):
+                with suppress(OSError):
+                    _clear_left(entry.path)
+
+
+def _clear_left(folder: str) -> None:
+    """Clears away a folder of one's own, unless somebody works in it."""
+    descriptor = os.open(folder, os.O_RDONLY | os.O_DIRECTORY | os.O_NOFOLLOW)
+    try:
+        if os.fstat(descriptor).st_uid == os.geteuid():
+            fcntl.flock(descriptor, fcntl.LOCK_EX | fcntl.LOCK_NB)
+            _remove(descriptor, folder)
+    finally:
+        os.close(descriptor)
+
+
+def _remove(descriptor: int, folder: str) -> None:
+    """Removes a folder that has no other files than are made here."""
+    with suppress(OSError):
+        names = os.listdir(descriptor)
+        if _NAMES.issuperset(names):
+            for name in names:
+                os.unlink(name, dir_fd=descriptor)
+            os.rmdir(folder)
+
+
+def _rename(made: Path, target: str) -> None:
+    """Renames a file where nothing has the new name."""
+    import ctypes  # which few sessions need
+
+    library = ctypes.CDLL(None, use_errno=True)
+    try:
+        rename = library.renameat2
+    except AttributeError:
+        raise OSError(errno.ENOSYS, os.strerror(errno.ENOSYS)) from None
+    words = os.fsencode(made), os.fsencode(target)
+    if rename(_HERE, words[0], _HERE, words[1], _NO_REPLACE):
+        number = ctypes.get_errno()
+        raise OSError(number, os.strerror(number), target)
+
+
+def _sync_folder(path: str) -> None:
+    """Has the name of a file on the disk."""
+    try:
+        folder = os.open(os.path.dirname(path), os.O_RDONLY | os.O_DIRECTORY)
+    except PermissionError:
+        # a folder that may be written in and not be read
+        os.sync()
+        return
+    try:
+        os.fsync(folder)
+    finally:
+        os.close(folder)

@@ -1,0 +1,93 @@
+"""The command line: its words are parsed, a command runs, and what went wrong is said once."""
+
+import sys
+from argparse import Namespace
+from collections.abc import Collection, Sequence
+from contextlib import suppress
+
+from scribe.cli.commands import COMMANDS, command
+from scribe.cli.endings import ended
+from scribe.cli.parser import Parser, TextAsked, WordsRefused, unknown_command
+from scribe.words.console import Console, InputFailed, OutputFailed
+from scribe.words.failures import in_sentences
+from scribe.words.status import Status, Stop
+
+DESCRIPTION = """\
+Works on a braildesk book: a file of print, its braille, and the marks on it.
+scribe COMMAND --help says more of a command, with an example."""
+STATUSES = """\
+statuses:
+  0  done
+  1  the words are refused
+  2  something is refused: a request, a book, a table, a text
+  3  something failed: a file, the disk, standard input or output, scribe itself
+After Ctrl-C (SIGINT), SIGTERM and SIGHUP scribe says what is so, and ends by that signal."""
+
+
+def make_parser(names: Collection[str] = COMMANDS.keys()) -> Parser:
+    """The parser of the words of some commands; where these are none, all are listed."""
+    parser = Parser(prog="scribe", description=DESCRIPTION, epilog=STATUSES)
+    parser.add_version()
+    subparsers = parser.add_subparsers(
+        title="commands", metavar="COMMAND", dest="command", required=True
+    )
+    asked = [name for name in COMMANDS if name in names]
+    for name in asked:
+        its = command(name)
+        its.add_parser(subparsers).set_defaults(run=its.run)
+    for name, (_, does) in () if asked else COMMANDS.items():
+        subparsers.add_parser(name, help=does)
+    return parser
+
+
+def run_words(words: Sequence[str], console: Console) -> Status:
+    """Runs the command that the words ask for, and says what kept it from being done."""
+    parser, arguments = make_parser(words[:1]), Namespace()
+    try:
+        if words and not words[0].startswith("-") and words[0] not in COMMANDS:
+            parser.refuse(unknown_command(words[0], list(COMMANDS)))
+        arguments = parser.parse_args(words)
+        with in_sentences():
+            status: Status = arguments.run(arguments, console)
+            console.flush()
+        return status
+    except TextAsked as asked:
+        console.show(*asked.text.rstrip("\n").split("\n"))
+        return Status.DONE
+    except WordsRefused as refused:
+        console.say(refused.sentence, *refused.usage.split("\n"))
+        return Status.WORDS_REFUSED
+    except Stop as stop:
+        console.say(*stop.lines)
+        return stop.status
+    except InputFailed as failed:
+        console.say(failed.sentence)
+        return Status.FAILED
+    except Exception as failure:
+        # imported here, since a command that only shows its help doesn't need the client
+        from scribe.cli.failed import said_of
+
+        said = said_of(failure, arguments)
+        if said is None:
+            raise
+        status, sentences = said
+        console.say(*sentences)
+        return status
+
+
+def main() -> int:
+    """Runs the words of this process, and gives its status."""
+    return ended(_run_process)
+
+
+def _run_process() -> int:
+    console = Console.of_process()
+    try:
+        status = run_words(sys.argv[1:], console)
+        console.flush()
+        return status
+    except BaseException:
+        # what was shown comes before what is said of the end
+        with suppress(OutputFailed):
+            console.flush()
+        raise

@@ -1,0 +1,65 @@
+"""The commands, in the order in which help lists them. Each is imported when it is run."""
+
+from argparse import ArgumentParser, Namespace
+from collections.abc import Mapping
+from importlib import import_module
+from typing import TYPE_CHECKING, Protocol, cast
+
+if TYPE_CHECKING:
+    from scribe.cli.parser import Subparsers
+    from scribe.words.console import Console
+    from scribe.words.status import Status
+
+# the module of the commands that send one request each
+_EDITS = "edits"
+#: Each command by its name: the module of this folder that has it, and what it does.
+COMMANDS: Mapping[str, tuple[str, str]] = {
+    "new": ("new", "Makes a new book with a table in it."),
+    "edit": ("edit", "Shows the book on the screen, to work on."),
+    "run": (
+        "run",
+        "Answers the requests of standard input, with a sentence after each refusal.",
+    ),
+    "talk": ("talk", "Works on a book at a prompt, in words."),
+    "table": ("table", "Puts a table into the book."),
+    "check-table": ("check_table", "Shows all that is wrong with a table."),
+    "try": ("try_table", "Tries a table on print that is typed."),
+    "import": ("import_text", "Types the paragraphs of a text file."),
+    "show": ("show", "Shows print, braille and marks."),
+    "find": ("find", "Finds words or cells in the book."),
+    "change": ("change", "Puts words in place of others."),
+    "mark": ("mark", "Puts a mark on words, with a note."),
+    "marks": ("marks", "Shows all marks with their words and notes."),
+    "undo": ("edits", "Takes back the newest correction of a paragraph."),
+    "resolve": ("edits", "Says that a mark is dealt with."),
+    "strike": ("edits", "Takes a paragraph out of the volumes."),
+    "restore": ("edits", "Puts a struck paragraph back into the volumes."),
+    "heading": ("edits", "Makes a paragraph a heading."),
+    "body": ("edits", "Makes a paragraph body text."),
+    "volume": ("edits", "Says whether a paragraph begins a volume."),
+    "move": ("edits", "Puts a paragraph elsewhere in the book."),
+    "retable": ("edits", "Gives a paragraph another table."),
+    "pages": ("pages", "Says what stands on which page and line."),
+    "export": ("export", "Writes all volumes as pages for an embosser."),
+    "proof": ("proof", "Writes pages for those who read print."),
+    "copy": ("copy", "Copies a book whole, and opens the copy."),
+    "bring": ("bring", "Brings a table of liblouis over."),
+    "tune": ("tune", "Compares a book's words with liblouis, and mends its table."),
+}
+
+
+class Command(Protocol):
+    """A module of this folder, which has these two functions, or an object with these methods."""
+
+    def add_parser(self, subparsers: "Subparsers") -> ArgumentParser:
+        """Adds the command's words, with `scribe.cli.parser.command_parser`, and returns its parser."""
+
+    def run(self, arguments: Namespace, console: "Console") -> "Status":
+        """Does what the words ask for. What it lets through, `scribe.cli` turns into a sentence."""
+
+
+def command(name: str) -> Command:
+    """The command of a name."""
+    module, _ = COMMANDS[name]
+    found = import_module(f"{__name__}.{module}")
+    return cast(Command, found.EDITS[name] if module == _EDITS else found)

@@ -1,0 +1,73 @@
+"""`scribe copy`: a copy of a book that opens as the same book."""
+
+from argparse import ArgumentParser, Namespace
+from pathlib import Path
+
+from braildesk import CannotOpen, Why, copy
+from braildesk.making import FileIsThere
+from braildesk.opening import may_be_book
+from braildesk.protocol.asked import BookFile
+from braildesk.snapshot import snapshot
+
+from scribe.cli.parser import Subparsers, add_file, command_parser
+from scribe.words.console import Console
+from scribe.words.status import Status, Stop
+
+MORE = """\
+The copy has what stands in the file FILE-wal too, is opened, and gets its name only
+then. A file that is there already is left as it is, unless --overwrite says that the
+copy takes its place, which only that of a book can be, and of none that is open. Of a
+book that another program has open, the copy has all that was kept before."""
+
+
+def add_parser(subparsers: Subparsers) -> ArgumentParser:
+    """Adds the words of `copy`."""
+    parser = command_parser(
+        subparsers,
+        "copy",
+        "scribe copy moon.braildesk moon-copy.braildesk",
+        MORE,
+    )
+    add_file(parser, wait=0.0)
+    parser.add_argument("to", metavar="TO", type=Path, help="the file of the copy")
+    parser.add_argument(
+        "--overwrite",
+        action="store_true",
+        help="put the copy in the place of a book that is there",
+    )
+    return parser
+
+
+def run(arguments: Namespace, console: Console) -> Status:
+    """Copies the book."""
+    to = arguments.to
+    if arguments.overwrite and not may_be_book(to):
+        raise Stop(
+            f"“{to}” is no book, and was left as it is. Take another path for the copy."
+        )
+    try:
+        version, is_open = _copied(arguments)
+    except FileIsThere as taken:
+        raise Stop(f"{taken.sentence} --overwrite replaces a book.") from taken
+    console.show(f"{to} is a copy of {arguments.file}, at version {version:,}.")
+    if is_open:
+        console.say(f"Another program has {arguments.file} open, and goes on with it.")
+    return Status.DONE
+
+
+def _copied(arguments: Namespace) -> tuple[int, bool]:
+    """The version of the copy, and whether another program has the book open."""
+    to, replaces = arguments.to, arguments.overwrite
+    try:
+        version = copy(arguments.file, to, overwrite=replaces, timeout=arguments.wait)
+        return version, False
+    except CannotOpen as refusal:
+        if refusal.why is not Why.IN_USE or _is_of(refusal, to):
+            raise
+    with snapshot(arguments.file) as copied:
+        return copy(copied, to, overwrite=replaces), True
+
+
+def _is_of(refusal: CannotOpen, path: Path) -> bool:
+    """Whether it is this file that can't be opened."""
+    return isinstance(refusal.asked, BookFile) and refusal.asked.path == str(path)

@@ -1,0 +1,101 @@
+"""`scribe edit`: the book on the screen."""
+
+import shutil
+import sys
+from argparse import ArgumentParser, Namespace
+from dataclasses import replace
+from io import TextIOWrapper
+from typing import TYPE_CHECKING
+
+from braildesk import Lost
+
+from scribe.cli.page_size import add_page_size, page_size_of
+from scribe.cli.parser import Subparsers, add_file, command_parser, words
+from scribe.prompt.typed_lines import are_typed
+from scribe.words.console import Console
+from scribe.words.status import Interrupted, Status, Stop
+
+if TYPE_CHECKING:
+    from scribe.screen.desk import Desk
+    from scribe.screen.terminal import Screen
+
+MORE = """\
+The paragraphs are listed, and of the chosen one the print and the braille are shown. The
+arrow keys move, Enter edits the print, ? shows all keys, q ends. What is said to be kept
+is in the book. Text that wasn't sent is kept in ~/.local/state/braildesk, and is
+offered at the next opening. NO_COLOR is obeyed: there are no colours."""
+EXAMPLE = "scribe edit moon.braildesk --by anna"
+
+
+def add_parser(subparsers: Subparsers) -> ArgumentParser:
+    """Adds the words of `edit`."""
+    parser = command_parser(subparsers, "edit", EXAMPLE, MORE)
+    add_file(parser, wait=0)
+    parser.add_argument(
+        "--by",
+        metavar="WHO",
+        type=words,
+        help="the proofreader, whose name corrections keep",
+    )
+    add_page_size(parser)
+    return parser
+
+
+def run(arguments: Namespace, console: Console) -> Status:
+    """Shows the book until the person ends it."""
+    if not are_typed():
+        raise Stop(
+            "scribe edit needs a terminal, with which nothing else is read or written. scribe"
+            " run and scribe talk work without one. Nothing was changed."
+        )
+    try:
+        # imported here, since only this command needs prompt_toolkit
+        from scribe.screen.desk import Desk
+        from scribe.screen.state import Size
+        from scribe.screen.encoding import encoding_of, is_plain
+        from scribe.screen.terminal import Screen, first_environment
+    except ImportError:
+        raise Stop(
+            "scribe edit needs prompt_toolkit, which is not installed. Debian has it as"
+            " python3-prompt-toolkit. scribe talk works without it.",
+            Status.FAILED,
+        ) from None
+    desk = Desk(arguments.file, arguments.wait)
+    columns, lines = shutil.get_terminal_size()
+    environment = first_environment()
+    is_ascii = is_plain(environment)
+    encoding = encoding_of(environment, sys.stdout.encoding)
+    _take_encoding(encoding)
+    state = desk.first_state(Size(columns, lines), arguments.by, is_ascii)
+    state = replace(state, page_size=page_size_of(arguments), encoding=encoding)
+    screen = Screen(desk, state)
+    screen.run()
+    return _end(desk, screen, arguments.file.name, console)
+
+
+def _end(desk: "Desk", screen: "Screen", name: str, console: Console) -> Status:
+    """Closes the book, and says how its session ended, where somebody is there to read it."""
+    try:
+        desk.close()
+    except Lost as lost:
+        if not screen.is_hung_up:
+            console.say(lost.sentence)
+        return Status.FAILED
+    if screen.is_hung_up:
+        return Status.FAILED
+    if screen.state.is_lost:
+        lines_said = screen.state.pages.lines if screen.state.pages else ()
+        console.say(*(screen.unseen or lines_said))
+        return Status.FAILED
+    console.show(f"{name} is at version {screen.state.version:,}.")
+    console.say(*screen.unseen)
+    if screen.ended_by is not None:
+        raise Interrupted(screen.ended_by, is_said=True)
+    return Status.DONE
+
+
+def _take_encoding(encoding: str) -> None:
+    """Has keys and the screen be in an encoding."""
+    for stream in (sys.stdin, sys.stdout):
+        if isinstance(stream, TextIOWrapper):
+            stream.reconfigure(encoding=encoding)

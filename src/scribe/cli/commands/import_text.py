@@ -1,0 +1,97 @@
+"""`scribe import`: the paragraphs of a text file, typed into the book."""
+
+from argparse import ArgumentParser, Namespace
+from pathlib import Path
+
+from braildesk.desk.earlier import NoneCutShort, Way, leave
+from braildesk.desk.import_text import Import
+
+from scribe.cli.parser import Subparsers, add_file, after, command_parser, number
+from scribe.words.console import Console
+from scribe.words.import_text import import_in_words, trial_in_words
+from scribe.words.status import Status, Stop
+
+MORE = """\
+Blank lines part the paragraphs, and the lines between them are joined; with --lines each
+line is a paragraph. The text is UTF-8. Before anything is typed all of it is judged: each
+character that the table lacks and each paragraph that is too long is shown with its line
+and column. If the typing is cut short, also by a terminal that is closed, --continue types
+the rest; --from goes on at a line of the text. A text that stands there already, or of
+which a part does, isn't typed once more without --again."""
+EXAMPLE = """\
+echo 'The sun is farther away.' > sun.txt && scribe import moon.braildesk sun.txt"""
+
+
+def add_parser(subparsers: Subparsers) -> ArgumentParser:
+    parser = command_parser(subparsers, "import", EXAMPLE, MORE)
+    add_file(parser)
+    parser.add_argument("text", metavar="TEXT", type=Path, help="the text file")
+    parser.add_argument("--lines", action="store_true", help="each line is a paragraph")
+    parser.add_argument(
+        "--table",
+        metavar="NAME",
+        help="the table; else that of the paragraph before, else the book's only one",
+    )
+    parser.add_argument(
+        "--after",
+        metavar="AFTER",
+        type=after,
+        default="end",
+        help="front, end, or the number of the paragraph after which the text goes",
+    )
+    parser.add_argument(
+        "--dry-run", action="store_true", help="judge the text, and type nothing"
+    )
+    parser.add_argument(
+        "--from", dest="line", metavar="LINE", type=number, help="begin at this line"
+    )
+    _add_ways(parser)
+    return parser
+
+
+def _add_ways(parser: ArgumentParser) -> None:
+    """Adds the words that say what is done about an earlier import of the text."""
+    ways = parser.add_mutually_exclusive_group()
+    for option, way, does in (
+        ("--continue", Way.GO_ON, "type the rest of an import that was cut short"),
+        ("--again", Way.AGAIN, "type what stands there already once more"),
+        ("--leave", Way.LEAVE, "leave out the rest of an import that was cut short"),
+    ):
+        ways.add_argument(
+            option,
+            dest="way",
+            action="store_const",
+            const=way,
+            default=Way.ASK,
+            help=does,
+        )
+
+
+def run(arguments: Namespace, console: Console) -> Status:
+    """Imports the text, or judges it, or leaves out what an earlier import of it didn't type."""
+    path = arguments.text
+    if arguments.way is Way.LEAVE:
+        return _left_out(arguments.file, path, console)
+    job = Import(
+        arguments.file,
+        path,
+        arguments.lines,
+        arguments.table,
+        arguments.after,
+        arguments.line,
+        arguments.way,
+        arguments.wait,
+    )
+    if arguments.dry_run:
+        return trial_in_words(job, console)
+    status, _ = import_in_words(job, console)
+    return status
+
+
+def _left_out(book: Path, path: Path, console: Console) -> Status:
+    try:
+        leave(book, path)
+    except NoneCutShort as none:
+        raise Stop(f"No import of {path} is known that was cut short.") from none
+    console.show(f"The rest of {path} is left out. What is in the book stays there.")
+    return Status.DONE

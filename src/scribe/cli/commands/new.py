@@ -1,0 +1,42 @@
+"""`scribe new`: a new book with a table in it."""
+
+from argparse import ArgumentParser, Namespace
+
+from braildesk import new_book, requests
+from braildesk.desk.tables import SUPPLIED, table_file, table_request
+
+from scribe.cli.parser import Subparsers, add_file, command_parser
+from scribe.words.console import Console
+from scribe.words.status import Status
+
+EVERYDAY = "ueb"
+MORE = """\
+Its table is ueb where that is installed with scribe, else en, the one that the program
+supplies. A file that has a book already is left as it is, and where anything fails no
+file is made."""
+
+
+def add_parser(subparsers: Subparsers) -> ArgumentParser:
+    """Adds the words of `new`."""
+    parser = command_parser(
+        subparsers,
+        "new",
+        "scribe new tides.braildesk",
+        MORE,
+    )
+    add_file(parser)
+    return parser
+
+
+def run(arguments: Namespace, console: Console) -> Status:
+    """Makes a book, and puts a table into it."""
+    request = first_table()
+    new_book(arguments.file, holding=[request], timeout=arguments.wait)
+    console.show(f"{arguments.file} is a new book with the table {request.table}.")
+    return Status.DONE
+
+
+def first_table() -> requests.Table | requests.Supply:
+    """The table that a new book has."""
+    name = EVERYDAY if table_file(EVERYDAY) else SUPPLIED
+    return table_request(name, None)

@@ -1,0 +1,84 @@
+"""`scribe proof`: the pages of a book with the print under the cells, for those who read print."""
+
+from argparse import ArgumentParser, Namespace
+from collections.abc import Iterable, Iterator
+from pathlib import Path
+
+from braildesk.desk.proof import ProofPage, proof_pages
+from braildesk.desk.whole_file import Access, MayNotLast, write_whole
+
+from scribe.cli.looking import looked_at
+from scribe.cli.page_size import add_page_size, page_size_of
+from scribe.cli.parser import Subparsers, add_file, command_parser
+from scribe.words.console import Console
+from scribe.words.proof_html import Proof
+from scribe.words.status import Status, Stop
+
+MORE = """\
+PROOF is one file of HTML for any browser: each page as it will be embossed, the print
+word by word under the cells, and the marks with their notes beside the lines. A browser
+prints one page on each sheet. --print-first puts the print above the cells, --ascii shows
+the cells in Braille ASCII, --marks-only shows only pages with open marks, and a screen
+reader reads the print alone unless --speak-cells is given."""
+EXAMPLE = "scribe proof moon.braildesk moon.html --width 30 --lines 10"
+
+
+def add_parser(subparsers: Subparsers) -> ArgumentParser:
+    """Adds the words of `proof`."""
+    parser = command_parser(subparsers, "proof", EXAMPLE, MORE)
+    add_file(parser, wait=0.0)
+    parser.add_argument("proof", metavar="PROOF", type=Path, help="the file of HTML")
+    add_page_size(parser)
+    for word, does in (
+        ("--print-first", "the print above the cells"),
+        ("--ascii", "the cells in Braille ASCII"),
+        ("--marks-only", "only the pages with open marks"),
+        ("--speak-cells", "have screen readers read the cells too"),
+    ):
+        parser.add_argument(word, action="store_true", help=does)
+    parser.add_argument(
+        "--language",
+        metavar="CODE",
+        default="",
+        help="the language of the print, as en or de, by which it is spoken",
+    )
+    return parser
+
+
+def run(arguments: Namespace, console: Console) -> Status:
+    """Writes the proof."""
+    page_size = page_size_of(arguments)
+    shown = Proof(
+        title=arguments.file.name.removesuffix(".braildesk"),
+        page_size=page_size,
+        language=arguments.language,
+        is_ascii=arguments.ascii,
+        has_print_first=arguments.print_first,
+        has_spoken_cells=arguments.speak_cells,
+    )
+    with looked_at(arguments, console) as (session, _):
+        pages = list(_wanted(proof_pages(session, page_size), arguments.marks_only))
+    if not pages:
+        raise Stop(_nothing(arguments.marks_only))
+    text = "".join(shown.html(pages)).encode()
+    try:
+        write_whole(arguments.proof, text, Access.of(arguments.file))
+    except MayNotLast as error:
+        raise Stop(error.sentence_about(arguments.proof), Status.FAILED) from error
+    except OSError as error:
+        raise Stop(
+            f"{arguments.proof} could not be written: {error.strerror}.", Status.FAILED
+        ) from error
+    count = "1 page" if len(pages) == 1 else f"{len(pages):,} pages"
+    console.show(f"{arguments.proof}: {count}.")
+    return Status.DONE
+
+
+def _wanted(pages: Iterable[ProofPage], marks_only: bool) -> Iterator[ProofPage]:
+    return (page for page in pages if page.has_open_mark or not marks_only)
+
+
+def _nothing(marks_only: bool) -> str:
+    if marks_only:
+        return "No page has an open mark, so no proof was written."
+    return "The book has no page, so no proof was written."

@@ -1,0 +1,149 @@
+"""`scribe tune`: the words of a book compared with liblouis, and rules that mend its table."""
+
+from argparse import ArgumentParser, Namespace
+from collections import Counter
+from collections.abc import Sequence
+from dataclasses import dataclass
+
+from braildesk import Paragraph, Session, Table, read_tables
+from braildesk.desk.contracted import means_for
+from braildesk.desk.readings import prints
+from braildesk.protocol import requests
+from braildesk.tables.convert.naming import named_table
+from braildesk.tables.convert.oracle import NoLiblouis
+from braildesk.tables.convert.source import NoTable
+from braildesk.tables.convert.tuning import Tuned, tune
+from braildesk.text.wrapping import wrap
+
+from scribe.cli.parser import Subparsers, add_file, command_parser, readable
+from scribe.cli.width import add_width
+from scribe.words.changes import at_version
+from scribe.words.console import Console
+from scribe.words.status import Status, Stop
+from scribe.words.tuning import apart_lines, difference_lines, mend_lines, share_line
+
+MORE = """\
+TABLE is a table that liblouis has, by its name, its title or its file. Every word whose
+braille isn't that of liblouis in its paragraph is shown, by causes, with how often it
+stands there. Rules that mend words are shown, each with what else it changes in the book.
+With --apply they are put into the book's table. What no rule mends is shown by its
+paragraphs, to be proofread. Struck paragraphs are left out."""
+EXAMPLE = """\
+scribe tune moon.braildesk en-ueb-g1.ctb
+scribe tune moon.braildesk en-ueb-g1.ctb --apply"""
+_INDENT = "    "
+
+
+def add_parser(subparsers: Subparsers) -> ArgumentParser:
+    """Adds the words of `tune`."""
+    parser = command_parser(
+        subparsers,
+        "tune",
+        EXAMPLE,
+        MORE,
+    )
+    add_file(parser)
+    parser.add_argument("source", metavar="TABLE", help="the table of liblouis")
+    parser.add_argument(
+        "--table",
+        metavar="NAME",
+        help="the table of the book; else the one that its paragraphs have",
+    )
+    parser.add_argument(
+        "--words",
+        metavar="LIST",
+        type=readable,
+        help="words, one on a line, that no rule spoils; else the installed list",
+    )
+    parser.add_argument(
+        "--apply", action="store_true", help="put the rules into the book's table"
+    )
+    add_width(parser)
+    return parser
+
+
+@dataclass(frozen=True)
+class _Book:
+    """What is compared: the paragraphs that have a table, at a version."""
+
+    version: int
+    table: Table
+    numbers: Sequence[int]
+    texts: Sequence[str]
+
+
+def run(arguments: Namespace, console: Console) -> Status:
+    """Shows what differs and what mends it, and mends it where that is asked for."""
+    try:
+        source = named_table(arguments.source)
+    except NoTable as found:
+        raise Stop(found.sentence, more=found.more) from found
+    book = _book(arguments)
+    try:
+        means = means_for(source, arguments.words, console.progress)
+        tuned = tune(book.table, book.texts, source, means)
+    except (NoLiblouis, NoTable) as failed:
+        raise Stop(str(failed)) from failed
+    head = (
+        f"The table {book.table.name} of {arguments.file.name} is compared with {source.name} of"
+        f" liblouis {tuned.liblouis}."
+    )
+    lines = [head, *_found(tuned, book)]
+    for line in lines:
+        console.show(*wrap(line, arguments.width, _INDENT))
+    if tuned.mends:
+        _end(arguments, book, tuned, console)
+    return Status.DONE
+
+
+def _found(tuned: Tuned, book: _Book) -> list[str]:
+    lines = [share_line(tuned.before), *difference_lines(tuned.before)]
+    if tuned.before.causes:
+        lines += mend_lines(tuned)
+    if tuned.mends:
+        lines.append(f"With them: {share_line(tuned.after)}")
+    return [*lines, *apart_lines(tuned.after, book.numbers)]
+
+
+def _end(arguments: Namespace, book: _Book, tuned: Tuned, console: Console) -> None:
+    """Puts the rules into the book's table, or says that nothing was changed."""
+    if not arguments.apply:
+        console.say(
+            "Nothing was changed. With --apply the rules are put into the book."
+        )
+        return
+    request = requests.Table(book.table.name, tuned.text, expect=book.version)
+    with Session(arguments.file, timeout=arguments.wait) as session:
+        done = session.ask(request)
+    console.show(
+        f"The rules are in the table {book.table.name}.", at_version(done.version)
+    )
+
+
+def _book(arguments: Namespace) -> _Book:
+    """The paragraphs that have the table, and its text, as they are now."""
+    with Session(arguments.file, timeout=arguments.wait) as session:
+        paragraphs = [each for each in session.paragraphs() if not each.struck]
+        name = _table_name(arguments.table, paragraphs)
+        having = [each for each in paragraphs if each.table == name]
+        texts = list(prints(session, having))
+        version = session.last_version
+    # read last, so that a table which was changed meanwhile isn't taken for that of this version
+    tables = {
+        each.name: each for each in read_tables(arguments.file, timeout=arguments.wait)
+    }
+    return _Book(version, tables[name], [each.id for each in having], texts)
+
+
+def _table_name(asked: str | None, paragraphs: Sequence[Paragraph]) -> str:
+    """The table that is asked for, or else the only one that paragraphs have."""
+    used = Counter(each.table for each in paragraphs)
+    if asked is not None and asked not in used:
+        raise Stop(f"No paragraph of the book has the table {asked}.")
+    if not used:
+        raise Stop("The book has no paragraph, so there is nothing to compare.")
+    if asked is None and len(used) > 1:
+        raise Stop(
+            f"Paragraphs of the book have the tables {', '.join(used)}. Say which by --table."
+        )
+    return asked or next(iter(used))

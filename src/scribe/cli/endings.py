@@ -1,0 +1,134 @@
+"""How the process of scribe ends: by a status, or by the signal that told it to end.
+
+Whatever happens, somebody reads a sentence about it, and no status says more than is so.
+"""
+
+import os
+import signal
+import sys
+from collections.abc import Callable
+from contextlib import suppress
+from pathlib import Path
+from types import FrameType
+
+from braildesk.text.characters import visible
+from braildesk.version import version
+
+from scribe.words.console import OutputFailed
+from scribe.words.status import Interrupted, Status, number_of, stopped_by
+
+_DETAILS = "fault.txt"
+_SIGNALS = (signal.SIGINT, signal.SIGTERM, signal.SIGHUP)
+_IN_THE_BOOK = "What was reported as kept is in the book, and what was asked after that may be there too."
+
+
+def ended(run: Callable[[], int]) -> int:
+    """What a run of the process ends with: its status, if no signal ends the process first."""
+    open_closed()
+    try:
+        _take_signals()
+        status = _status(run)
+        _leave_signals()
+    except KeyboardInterrupt as cause:
+        _end_by_signal(cause)
+        return Status.FAILED
+    return status
+
+
+def _status(run: Callable[[], int]) -> int:
+    try:
+        return run()
+    except OutputFailed as failed:
+        if not failed.reader_left:
+            say_last(failed.sentence)
+    except Exception as fault:
+        say_last(of_fault(fault))
+    return Status.FAILED
+
+
+def open_closed() -> None:
+    """Opens standard input, output and errors on nothing where they are closed.
+
+    Else the next file that is opened would be taken for one of them.
+    """
+    for number in range(3):
+        try:
+            os.fstat(number)
+        except OSError:
+            os.open(os.devnull, os.O_RDWR)
+
+
+def of_fault(fault: Exception) -> str:
+    """What is said of an exception that nobody expected, whose details are kept in a file."""
+    if isinstance(fault, MemoryError):
+        return f"There was no memory for this. {_IN_THE_BOOK} Close other programs, and try again."
+    import traceback  # which nobody hopes for
+
+    last = traceback.extract_tb(fault.__traceback__)[-1:]
+    places = [f", {Path(each.filename).name} line {each.lineno}" for each in last]
+    what = f"scribe has a fault of its own and stopped ({type(fault).__name__}{''.join(places)})."
+    try:
+        path = _kept(fault)
+    except OSError as error:
+        return (
+            f"{what} {_IN_THE_BOOK} Please report it. Its details could not be written to a file:"
+            f" {error.strerror}."
+        )
+    return (
+        f"{what} {_IN_THE_BOOK} Please report it with its details, which are in {path}."
+    )
+
+
+def say_last(sentence: str) -> None:
+    """Says a sentence where standard error is there, and nothing else may be."""
+    with suppress(OSError):
+        os.write(2, f"{visible(sentence)}\n".encode(errors="backslashreplace"))
+
+
+def _kept(fault: Exception) -> Path:
+    """The file in which the details of a fault are kept, in place of those of the last one."""
+    command = " ".join(sys.argv[1:2])
+    about = visible(f"scribe {version()} {command}, Python {sys.version}")
+    import traceback
+    from braildesk.desk.own_folder import OwnFolder
+    from braildesk.desk.state_folder import state_folder
+
+    lines = "".join(traceback.format_exception(fault))
+    folder = OwnFolder(state_folder())
+    folder.write(_DETAILS, f"{about}\n{lines}".encode(errors="backslashreplace"))
+    return folder.path / _DETAILS
+
+
+def _take_signals() -> None:
+    """Has signals that end a process end it in order, unless it was started to ignore them."""
+    for number in _SIGNALS:
+        if signal.getsignal(number) in (signal.SIG_DFL, signal.default_int_handler):
+            signal.signal(number, _interrupted)
+
+
+def _leave_signals() -> None:
+    """Has signals end the process as the system does, once nothing is left to be said."""
+    for number in _SIGNALS:
+        if signal.getsignal(number) is _interrupted:
+            signal.signal(number, signal.SIG_DFL)
+
+
+def _interrupted(number: int, frame: FrameType | None) -> None:
+    """What a signal does: the first one stops the work, and no second one cuts short its end."""
+    for each in _SIGNALS:
+        if signal.getsignal(each) is _interrupted:
+            signal.signal(each, _nothing)
+    raise Interrupted(signal.Signals(number))
+
+
+def _nothing(number: int, frame: FrameType | None) -> None:
+    """What a signal does while scribe ends by an earlier one."""
+
+
+def _end_by_signal(cause: KeyboardInterrupt) -> None:
+    """Says what is so, unless it was said, and ends the process by the signal that stopped it."""
+    if not (isinstance(cause, Interrupted) and cause.is_said):
+        say_last(f"{stopped_by(cause)} {_IN_THE_BOOK}")
+    number = number_of(cause)
+    signal.signal(number, signal.SIG_DFL)
+    os.kill(os.getpid(), number)

@@ -1,0 +1,175 @@
+"""The words of the command line: a parser that speaks in sentences, and what its words are."""
+
+import argparse
+from collections.abc import Callable, Sequence
+from pathlib import Path
+from typing import TYPE_CHECKING, Any, NoReturn, TypeVar
+
+from braildesk.desk import USUAL_WAIT
+from braildesk.version import version
+
+from scribe.cli.commands import COMMANDS
+from scribe.words import typed
+
+if TYPE_CHECKING:
+    from braildesk import After
+
+# The object on which a command calls add_parser.
+Subparsers = Any
+Value = TypeVar("Value")
+
+
+class WordsRefused(Exception):
+    """The words of the command line are refused."""
+
+    def __init__(self, sentence: str, usage: str) -> None:
+        super().__init__(sentence)
+        self.sentence = sentence
+        self.usage = usage
+
+
+class TextAsked(Exception):
+    """The words ask for a text, as that of the help, and nothing else is done."""
+
+    def __init__(self, text: str) -> None:
+        super().__init__(text)
+        self.text = text
+
+
+class _Help(argparse.Action):
+    def __call__(self, parser: argparse.ArgumentParser, *_: Any) -> NoReturn:
+        raise TextAsked(parser.format_help())
+
+
+class _Version(argparse.Action):
+    def __call__(self, parser: argparse.ArgumentParser, *_: Any) -> NoReturn:
+        raise TextAsked(f"{parser.prog} {version()}")
+
+
+class Parser(argparse.ArgumentParser):
+    """A parser that raises what it has to say, so that a command is tried without a process."""
+
+    def __init__(self, **options: Any) -> None:
+        options.setdefault("formatter_class", argparse.RawDescriptionHelpFormatter)
+        super().__init__(add_help=False, allow_abbrev=False, **options)
+        self.add_argument(
+            "-h",
+            "--help",
+            action=_Help,
+            nargs=0,
+            help="say what this does, with an example",
+        )
+
+    def add_version(self) -> None:
+        """Adds the option that shows the version."""
+        self.add_argument(
+            "--version", action=_Version, nargs=0, help="show the version of scribe"
+        )
+
+    def refuse(self, sentence: str) -> NoReturn:
+        """Refuses the words with a sentence."""
+        raise WordsRefused(sentence, self.format_usage().strip())
+
+    def error(self, message: str) -> NoReturn:
+        """Refuses the words with what argparse says of them, as a sentence."""
+        self.refuse(message[:1].upper() + message[1:].rstrip(".") + ".")
+
+
+def command_parser(
+    subparsers: Subparsers, name: str, example: str, more: str = ""
+) -> argparse.ArgumentParser:
+    """Adds a command's parser: its help is the sentence of `COMMANDS`, and an example.
+
+    The example is one or more lines for a shell, which run as they stand in the folder that the
+    tests make for them.
+    """
+    _, does = COMMANDS[name]
+    description = f"{does}\n\n{more}" if more else does
+    lines = "\n".join(f"  {line}" for line in example.splitlines())
+    parser: argparse.ArgumentParser = subparsers.add_parser(
+        name, help=does, description=description, epilog=f"example:\n{lines}"
+    )
+    return parser
+
+
+def add_file(parser: argparse.ArgumentParser, wait: float = USUAL_WAIT) -> None:
+    """Adds the word FILE: the file of a book, as the path `arguments.file`.
+
+    `arguments.wait` is how many seconds it is waited for.
+    """
+    parser.add_argument("file", metavar="FILE", type=Path, help="the file of the book")
+    parser.add_argument(
+        "--wait",
+        metavar="SECONDS",
+        type=seconds,
+        default=wait,
+        help="how long to wait for a book that another program has open;"
+        f" {wait:g} where it isn't given",
+    )
+
+
+def add_paragraph(parser: argparse.ArgumentParser) -> None:
+    """Adds the word PARA: the number of a paragraph, as `arguments.paragraph`."""
+    parser.add_argument(
+        "paragraph", metavar="PARA", type=number, help="the number of the paragraph"
+    )
+
+
+def argument(read: Callable[[str], Value]) -> Callable[[str], Value]:
+    """What reads a word of the command line as it is read where it is typed."""
+
+    def read_word(word: str) -> Value:
+        try:
+            return read(word)
+        except typed.InvalidInput as fault:
+            raise argparse.ArgumentTypeError(str(fault)) from fault
+
+    return read_word
+
+
+number = argument(typed.number)
+text = argument(typed.text)
+words = argument(typed.words)
+
+
+def seconds(word: str) -> float:
+    """The seconds that a word is: decimal digits, with a point among them or not."""
+    if not (word.isascii() and word.replace(".", "", 1).isdigit() and len(word) <= 8):
+        raise argparse.ArgumentTypeError(f"{word!r} is no number of seconds")
+    return float(word)
+
+
+def after(word: str) -> "After":
+    """Where a paragraph is put: front, end, or the number of the one before it."""
+    if word == "front":
+        return "front"
+    if word == "end":
+        return "end"
+    try:
+        return number(word)
+    except argparse.ArgumentTypeError:
+        raise argparse.ArgumentTypeError(
+            f"{word!r} is none of front, end and the number of a paragraph"
+        ) from None
+
+
+def unknown_command(word: str, names: Sequence[str]) -> str:
+    """What is said of a word that is no command."""
+    # imported here, since it knows all requests of a book
+    from scribe.words.elsewhere import AT_SHELL, hint
+
+    said = hint(word, names, AT_SHELL)
+    return f"There is no command {word}.{said} The commands are {', '.join(names)}."
+
+
+def readable(word: str) -> Path:
+    """The path of a file."""
+    path = Path(word)
+    try:
+        is_file = path.is_file()
+    except (OSError, ValueError) as cause:
+        why = (isinstance(cause, OSError) and cause.strerror) or cause
+        raise argparse.ArgumentTypeError(f"{word} can't be read: {why}") from cause
+    if not is_file:
+        raise argparse.ArgumentTypeError(f"there is no file {word}")
+    return path

@@ -1,0 +1,1 @@
+"""The prompts of `scribe talk` and `scribe try`."""

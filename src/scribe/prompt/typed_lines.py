@@ -1,0 +1,211 @@
+"""Lines that a person types.
+
+At a terminal they are edited by readline, with a history that isn't kept on disk. A terminal left
+alone collects a line before any program sees it, and drops what comes after its first 4,095 bytes.
+So it is taken out of that mode for as long as lines are read, and what is pasted while something
+else goes on is kept as well.
+"""
+
+import locale
+import os
+import signal
+import sys
+import termios
+from collections.abc import Callable, Iterator
+from contextlib import AbstractContextManager, contextmanager, suppress
+from io import TextIOWrapper
+from types import FrameType, TracebackType
+from typing import Protocol, Self
+
+from scribe.words.console import Console
+from scribe.words.status import Interrupted, Status, Stop
+
+# where a terminal that collects lines cuts them, by n_tty(4)
+CUT_BYTES = 4_095
+# how often, in seconds, it is asked whether something came about before a line is begun
+_TICK = 0.5
+_SETTINGS = (
+    # pasted lines are lines of their own, and nothing is written that isn't text
+    "set enable-bracketed-paste off",
+    "set enable-meta-key off",
+    "set input-meta on",
+    "set output-meta on",
+    "set convert-meta off",
+    # a tab is a character like any other
+    "tab: self-insert",
+)
+
+
+class GivenUp(Exception):
+    """The person gave up the line, by Ctrl-C."""
+
+
+class Due(Exception):
+    """Something came about while no line was begun."""
+
+
+def never() -> bool:
+    """Nothing comes about."""
+    return False
+
+
+class Lines(Protocol):
+    """Where lines come from."""
+
+    def line(
+        self,
+        prompt: str,
+        is_kept: bool = False,
+        is_due: Callable[[], bool] = never,
+    ) -> bytes | None:
+        """The next line without its ending, or None at the end; GivenUp where it is given up.
+
+        A line that is kept is one of those that the arrow keys bring back. At a terminal it is
+        asked now and then whether something is due, until the line is begun, and Due is raised.
+        """
+
+
+class PipedLines:
+    """Lines that come from no terminal, or while nothing is shown at one, so without a prompt."""
+
+    def __init__(self, console: Console) -> None:
+        self._console = console
+        self._may_be_cut = console.input.isatty()
+
+    def line(
+        self,
+        prompt: str,
+        is_kept: bool = False,
+        is_due: Callable[[], bool] = never,
+    ) -> bytes | None:
+        """The next line."""
+        line = self._console.read_line()
+        if self._may_be_cut and len(line) >= CUT_BYTES:
+            raise Stop(
+                f"The terminal may have cut this line after {CUT_BYTES:,} bytes. Nothing was sent."
+            )
+        return line.removesuffix(b"\n") if line else None
+
+
+class TypedLines(AbstractContextManager["TypedLines"]):
+    """Lines that are typed at a terminal, and edited while they are."""
+
+    def __init__(self) -> None:
+        _read_utf8()
+        # imported here, since it prepares the terminal and takes the locale of this moment
+        try:
+            import readline
+        except ImportError:
+            raise Stop(
+                f"{sys.executable}, by which scribe runs, lacks the module readline, without"
+                " which lines can't be typed. Run scribe by another Python.",
+                Status.FAILED,
+            ) from None
+        self._readline = readline
+        for setting in _SETTINGS:
+            readline.parse_and_bind(setting)
+        readline.set_auto_history(False)
+        self._before = termios.tcgetattr(0)
+
+    def __enter__(self) -> Self:
+        self._interrupted = signal.signal(signal.SIGINT, _nothing)
+        self._set(echoes=False)
+        return self
+
+    def __exit__(
+        self,
+        kind: type[BaseException] | None,
+        error: BaseException | None,
+        trace: TracebackType | None,
+    ) -> None:
+        # a terminal that was closed needs no care
+        with suppress(termios.error):
+            termios.tcsetattr(0, termios.TCSADRAIN, self._before)
+        signal.signal(signal.SIGINT, self._interrupted)
+
+    def line(
+        self,
+        prompt: str,
+        is_kept: bool = False,
+        is_due: Callable[[], bool] = never,
+    ) -> bytes | None:
+        """The next line, edited by readline."""
+        try:
+            with self._typing(), self._asking(is_due):
+                line = input(prompt)
+        except EOFError:
+            print()
+            return None
+        except Due:
+            print()
+            raise
+        except Interrupted:
+            print()
+            raise
+        except KeyboardInterrupt:
+            print()
+            raise GivenUp from None
+        if is_kept and line:
+            # where the system has no locale with UTF-8, only lines of ASCII come back
+            with suppress(UnicodeEncodeError):
+                self._readline.add_history(line)
+        return line.encode("utf-8", "surrogateescape")
+
+    @contextmanager
+    def _typing(self) -> Iterator[None]:
+        """While a line is typed it is shown, and Ctrl-C gives it up."""
+        self._set(echoes=True)
+        signal.signal(signal.SIGINT, signal.default_int_handler)
+        try:
+            yield
+        finally:
+            signal.signal(signal.SIGINT, _nothing)
+            self._set(echoes=False)
+
+    @contextmanager
+    def _asking(self, is_due: Callable[[], bool]) -> Iterator[None]:
+        """While a line isn't begun it is asked whether something is due."""
+
+        def ask(number: int, frame: FrameType | None) -> None:
+            if not self._readline.get_line_buffer() and is_due():
+                raise Due
+
+        if is_due is never:
+            yield
+            return
+        before = signal.signal(signal.SIGALRM, ask)
+        signal.setitimer(signal.ITIMER_REAL, _TICK, _TICK)
+        try:
+            yield
+        finally:
+            signal.setitimer(signal.ITIMER_REAL, 0)
+            signal.signal(signal.SIGALRM, before)
+
+    def _set(self, echoes: bool) -> None:
+        mode = termios.tcgetattr(0)
+        mode[3] &= ~termios.ICANON
+        mode[3] = mode[3] | termios.ECHO if echoes else mode[3] & ~termios.ECHO
+        mode[6][termios.VMIN], mode[6][termios.VTIME] = 1, 0
+        termios.tcsetattr(0, termios.TCSADRAIN, mode)
+
+
+def are_typed() -> bool:
+    """Whether a person sits at a terminal that shows what is typed."""
+    streams = (sys.stdin, sys.stdout)
+    return all(stream is not None and stream.isatty() for stream in streams)
+
+
+def _read_utf8() -> None:
+    """Has lines read as UTF-8 whatever the locale says, as a book is."""
+    for stream in (sys.stdin, sys.stdout):
+        if isinstance(stream, TextIOWrapper):
+            stream.reconfigure(encoding="utf-8", errors="surrogateescape")
+    if locale.nl_langinfo(locale.CODESET) != "UTF-8":
+        # readline takes the environment's locale while it reads a line, and the process's beside it
+        os.environ["LC_ALL"] = "C.UTF-8"
+        with suppress(locale.Error):
+            locale.setlocale(locale.LC_CTYPE, "C.UTF-8")
+
+
+def _nothing(number: int, frame: FrameType | None) -> None:
+    """What Ctrl-C does while the program answers: the answer is waited for."""

@@ -1,0 +1,108 @@
+"""What is done with the session closed: an export, and an import."""
+
+from collections.abc import Callable, Iterable
+from dataclasses import dataclass, replace
+from io import BytesIO, StringIO
+from pathlib import Path
+
+from braildesk import DeskError
+from braildesk.desk import USUAL_WAIT
+from braildesk.desk.earlier import Undecided
+from braildesk.desk.export import Job
+from braildesk.desk.import_text import Import
+
+from scribe.screen.actions import ExportTo, ImportFrom, LeaveImport
+from scribe.screen.state import Question
+from scribe.words.console import Console
+from scribe.words.export import export_in_words
+from scribe.words.failures import in_sentences
+from scribe.words.import_text import import_in_words, question as import_question
+from scribe.words.status import Interrupted, Stop
+
+
+@dataclass(frozen=True)
+class Ending:
+    """What is shown of an action, and what was kept by it, if anything was."""
+
+    title: str
+    lines: tuple[str, ...]
+    kept: str = ""
+    #: What is asked before a text is imported that was imported before.
+    question: Question | None = None
+
+
+class Heard(StringIO):
+    """A stream whose lines are reported as they are written."""
+
+    def __init__(self, report: Callable[[str], None]) -> None:
+        super().__init__()
+        self._report = report
+
+    def writelines(self, lines: Iterable[str]) -> None:  # type: ignore[override]
+        """Writes lines."""
+        for line in lines:
+            self.write(line)
+            self._report(line.rstrip("\n"))
+
+    def isatty(self) -> bool:
+        """Whether a person follows it, as one does here."""
+        return True
+
+
+def done_in_background(
+    path: Path,
+    action: ExportTo | ImportFrom,
+    report: Callable[[str], None],
+    check: Callable[[], None],
+) -> Ending:
+    """Does an action as the command of the same name does, until the check has it end."""
+    shown, said = Heard(report), Heard(report)
+    console = Console(BytesIO(), shown, said, check)
+    question, kept = None, ""
+    try:
+        with in_sentences():
+            if isinstance(action, ExportTo):
+                export_in_words(
+                    Job(path, action.folder, action.page_size, USUAL_WAIT), console
+                )
+            else:
+                kept, question = _imported(path, action, console)
+    except Stop as stop:
+        console.say(*stop.lines)
+    except DeskError as failed:
+        console.say(failed.sentence)
+    except Interrupted:
+        # it was said what became of it
+        pass
+    what = "Export." if isinstance(action, ExportTo) else "Import."
+    lines = (*shown.getvalue().splitlines(), *said.getvalue().splitlines())
+    return Ending(what, lines, kept, question)
+
+
+def _imported(
+    path: Path, action: ImportFrom, console: Console
+) -> tuple[str, Question | None]:
+    """What was kept by an import, or what is asked before it is done."""
+    job = Import(
+        path,
+        action.path,
+        table=action.table,
+        after=action.after,
+        way=action.way,
+        wait=USUAL_WAIT,
+    )
+    try:
+        _, kept = import_in_words(job, console)
+    except Undecided as undecided:
+        return "", question_about(undecided, action)
+    return kept, None
+
+
+def question_about(undecided: Undecided, action: ImportFrom) -> Question:
+    """What is asked before a text is imported that was imported before, in part or whole."""
+    yes = replace(action, way=undecided.way)
+    asked = import_question(undecided)
+    if undecided.note is None:
+        return Question(asked, yes=yes)
+    no = LeaveImport(undecided.note)
+    return Question(asked, yes=yes, no=no, more="l leaves it for later.")

@@ -1,0 +1,124 @@
+"""What keys did to the book, and how each of that is taken back."""
+
+from collections.abc import Sequence
+from dataclasses import dataclass, replace
+from typing import Any
+
+from braildesk import After, Mark, Paragraph, Style, requests
+from braildesk.protocol.requests import Command
+from braildesk.text.spans import Span
+
+_STRUCK = "The book keeps it, struck."
+_ALL_STRUCK = "The book keeps them, struck."
+_RESOLVED = "The book keeps it, resolved."
+_PUT_AGAIN = "It stays resolved, and a new mark stands in its place."
+
+
+@dataclass(frozen=True)
+class Deed:
+    """What was done, and the commands that take it back; none where the book has no way back.
+
+    What the book keeps all the same is in words. The paragraph is the one to be shown then.
+    """
+
+    what: str
+    back: tuple[Command[Any], ...] = ()
+    left: str = ""
+    paragraph: int | None = None
+    #: The mark that was resolved, in whose place a new one is put.
+    mark: int | None = None
+
+    @property
+    def sentence(self) -> str:
+        """What is said once it was taken back."""
+        return f"Taken back: {self.what}. {self.left}".rstrip()
+
+
+def deed_of(
+    command: Command[Any], answer: Any, book: Sequence[Paragraph]
+) -> Deed | None:
+    """What a command did to a book that was so before; none where it took something back."""
+    match command:
+        case requests.Undo() | requests.Resolve():
+            return None
+        case requests.Type():
+            return typed([answer.id], "typed")
+        case requests.Mark():
+            back = requests.Resolve(answer.id)
+            what = f"mark {answer.id} was put"
+            return Deed(what, (back,), _RESOLVED, command.paragraph)
+        case requests.Table() | requests.Supply():
+            return Deed(f"table {command.table} was put into the book")
+        case requests.OfParagraph():
+            place = [each.id for each in book].index(command.paragraph)
+            before: After = book[place - 1].id if place else "front"
+            return _of_paragraph(command, book[place], before)
+    raise TypeError(f"no command of a book: {command!r}")
+
+
+def _of_paragraph(command: Command[Any], was: Paragraph, before: After) -> Deed:
+    """What a command did to a paragraph that was so, and stood after another one."""
+    name, number = f"paragraph {was.id}", was.id
+    match command:
+        case requests.Correct():
+            return Deed(f"{name} was corrected", (requests.Undo(number),))
+        case requests.Strike():
+            return Deed(f"{name} was struck", (requests.Restore(number),))
+        case requests.Restore():
+            return Deed(f"{name} was restored", (requests.Strike(number),))
+        case requests.Style():
+            what = "a heading" if command.style is Style.HEADING else "body text"
+            old = requests.Style(number, was.style)
+            return Deed(f"{name} was made {what}", (old,))
+        case requests.Volume():
+            what = "begin a volume" if command.begins else "begin no volume"
+            turned = requests.Volume(number, was.begins_volume)
+            return Deed(f"{name} was made to {what}", (turned,))
+        case requests.Retable():
+            what = f"{name} was given the table {command.table}"
+            return Deed(what, (requests.Retable(number, was.table),))
+        case requests.Move():
+            return Deed(f"{name} was moved", (requests.Move(number, before),))
+    raise TypeError(f"no command of a paragraph: {command!r}")
+
+
+def resolved(mark: Mark, paragraph: int, cells: Span) -> Deed:
+    """A mark on cells that was resolved; one on no cells can't be put there again."""
+    what, count = f"mark {mark.id} was resolved", cells.stop - cells.start
+    if count < 1:
+        return Deed(what)
+    back = requests.Mark(paragraph, cells.start, count, mark.note)
+    return Deed(what, (back,), _PUT_AGAIN, paragraph, mark.id)
+
+
+def typed(numbers: Sequence[int], how: str) -> Deed:
+    """Paragraphs that one key typed, or imported."""
+    back = tuple(map(requests.Strike, numbers))
+    if len(numbers) == 1:
+        return Deed(f"paragraph {numbers[0]} was {how}", back, _STRUCK)
+    what = f"{len(numbers):,} paragraphs were {how}, {numbers[0]} to {numbers[-1]}"
+    return Deed(what, back, _ALL_STRUCK)
+
+
+def together(deeds: Sequence[Deed]) -> Deed:
+    """What one key did by several commands: a correction perhaps, and new paragraphs."""
+    backs = [command for each in reversed(deeds) for command in each.back]
+    new = [each.paragraph for each in backs if isinstance(each, requests.Strike)][::-1]
+    if not new:
+        return deeds[0]
+    all_new = typed(new, "typed")
+    others = [each.what for each in deeds if each.left != _STRUCK]
+    return Deed(", and ".join([*others, all_new.what]), tuple(backs), all_new.left)
+
+
+def without(taken: Deed, earlier: Sequence[Deed], done: Deed) -> tuple[Deed, ...]:
+    """The deeds before one that was taken back by doing another.
+
+    Where a mark was put again it has another number, by which it is resolved.
+    """
+    if taken.mark is None:
+        return tuple(earlier)
+    old = (requests.Resolve(taken.mark),)
+    return tuple(
+        replace(each, back=done.back) if each.back == old else each for each in earlier
+    )

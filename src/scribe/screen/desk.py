@@ -1,0 +1,830 @@
+"""A book that is open on the screen: keys are carried out, and the state after them is given."""
+
+import signal
+from collections.abc import Callable
+from dataclasses import replace
+from pathlib import Path
+from typing import Any
+
+from braildesk import (
+    DeskError,
+    Displaced,
+    Lost,
+    Refused,
+    Session,
+    VersionConflict,
+    requests,
+)
+from braildesk.desk.aftermath import found_again
+from braildesk.desk.draft import Aim, Draft
+from braildesk.desk.drafts import Drafts, NotKept
+from braildesk.desk.earlier import PartIsThere, to_go_on
+from braildesk.desk.readings import ParagraphReading, answers
+from braildesk.desk.tables import table_request
+from braildesk.desk.unfinished import NotSeen, Unfinished
+from braildesk.protocol.requests import Command, Request
+from braildesk.text.cells import braille_patterns
+from braildesk.text.characters import visible
+from braildesk.text.excerpt import opening
+from braildesk.text.sequences import composed
+from braildesk.text.spans import Span
+
+from scribe.screen import deeds, finding, keys, pagelook, pager, taking_back
+from scribe.screen.actions import (
+    Action,
+    BringBack,
+    ExportTo,
+    GiveTable,
+    GiveUp,
+    ImportFrom,
+    LeaveImport,
+    OpenAgain,
+    PutBy,
+    PutOff,
+    Quit,
+    ShowHistory,
+    ShowPage,
+    TakeBack,
+    ToFound,
+    ToMark,
+    TypeAll,
+)
+from scribe.screen.background import done_in_background, question_about
+from scribe.screen.deeds import Deed
+from scribe.screen.draft import draft_of, draft_of_pasted, field_of
+from scribe.screen.field import Field, Purpose
+from scribe.screen.highlighting import cells_of_marks, highlighted
+from scribe.screen.in_hand import left_here, with_mark_in_hand
+from scribe.screen.keys import Step
+from scribe.screen.preview import Tables
+from scribe.screen.sentences import kept
+from scribe.screen.state import Opening, Pages, Pane, Question, Size, State
+from scribe.screen.unsent import Unsent
+from scribe.words.drafts import not_kept, what_for
+from scribe.words.failures import in_sentences, of_system
+from scribe.words.import_text import came_to, not_seen
+from scribe.words.paragraph import quoted
+from scribe.words.queries import shown
+from scribe.words.status import Interrupted, Stop
+
+_SHOWS_KEYS = "? shows all keys."
+_PASTED = (
+    "Pasted text goes in after Enter or o. No key of it was obeyed. U brings it back, for a new"
+    " paragraph."
+)
+# the first words of a listed paragraph are kept as long as any line may be
+_WORDS = 300
+
+
+class _Interrupted(Exception):
+    """The session failed in the middle of a step, with the state in which it did."""
+
+    def __init__(self, state: State, cause: Lost | Refused) -> None:
+        super().__init__()
+        self.state = state
+        self.cause = cause
+
+
+class Desk:
+    """The session with a book, and the texts of its tables."""
+
+    def __init__(self, path: Path, wait: float = 0.0) -> None:
+        self.path = path
+        #: How many seconds the book is waited for where another program has it open.
+        self._wait = wait
+        self.drafts = Drafts(path)
+        self.tables = Tables()
+        self._session: Session
+        self._unsent = Unsent(self.drafts)
+        self._notices = self._take_up()
+        #: The signal by which the work with the session closed is to end.
+        self._stopped_by: signal.Signals | None = None
+        #: The volume that was laid out last.
+        self._laid: pagelook.Volume | None = None
+        self._open()
+
+    @property
+    def pid(self) -> int:
+        """The number of the process of the session."""
+        return self._session.pid
+
+    def take_over(self) -> None:
+        """Has the session belong to the thread that calls this, before or after work aside."""
+        self._session.take_over()
+
+    def close(self) -> None:
+        """Ends the session; what was kept is in the book."""
+        self._session.close()
+
+    def first_state(self, size: Size, by: str | None, is_ascii: bool) -> State:
+        """The screen as it is at the opening, with the text that waits from before."""
+        state = State(
+            self.path.name,
+            self._session.last_version,
+            self._session.paragraphs(),
+            self.tables.names,
+            size,
+            by=by,
+            is_ascii=is_ascii,
+            message=self._greeting(),
+        )
+        state = self._reminded(self._offered(state, self._unsent.waiting))
+        return self.refreshed(state)
+
+    def press(self, state: State, key: str) -> State:
+        """The state after a key, once what it asks for was answered."""
+        asked = state.question.draft if state.question else None
+        found = self._taken(keys.step(state, key))
+        if asked is not None and found.typed is not None:
+            found = self._taken_up(found, asked)
+        return found.after(state)
+
+    def paste(self, state: State, text: str) -> State:
+        """The state after text was pasted, with what its table lacks before it is sent."""
+        step = keys.pasted(state, text)
+        question = step.state.question
+        if question is not None and question.lines and not state.question:
+            fault = self.tables.first_fault(state.table or "", question.lines)
+            if fault:
+                sentence = f"{fault} {question.sentence}"
+                question = replace(question, sentence=sentence)
+                step = Step(replace(step.state, question=question))
+        return self._taken(step).after(state)
+
+    def resized(self, state: State, size: Size) -> State:
+        """The state on a terminal of another size."""
+        place, span = state.place, state.anchor
+        state = replace(state, size=size).at(state.chosen, place)
+        return self._taken(Step(replace(state, anchor=span)))
+
+    def previewed(self, state: State) -> State:
+        """The state with the braille of what is typed."""
+        typed = state.shown
+        if typed is None or not typed.purpose.is_print:
+            return state
+        return replace(state, preview=self.tables.preview(*preview_of(state, typed)))
+
+    def lost(self, state: State) -> State:
+        """The state where the session was seen to end: nothing else is sent."""
+        try:
+            self._session.version()
+        except Lost as lost:
+            return self._after_loss(state, lost)
+        return state
+
+    def save_draft(self, state: State) -> State:
+        """Keeps what is typed until the book has it, and takes it away once nothing waits."""
+        if state.question is not None and state.question.draft is not None:
+            return state
+        try:
+            self._unsent.keep(draft_of(state))
+        except NotKept as fault:
+            return state.saying(not_kept(fault))
+        return state
+
+    def away(self, state: State, report: Callable[[str], None]) -> State:
+        """Does what takes long or needs the session closed, in a thread of its own."""
+        self.take_over()
+        action = state.away
+        assert action is not None
+        state = replace(state, away=None, message="")
+        if isinstance(action, TakeBack):
+            return self._all_taken_back(state, report)
+        if isinstance(action, ShowPage):
+            return self._laid_out(state, report)
+        try:
+            self._session.close()
+            ending = done_in_background(self.path, action, report, self._check)
+            self._open()
+            before = state
+            state = self._opened_again(state)
+        except Lost as lost:
+            return self._after_loss(state, lost)
+        except (DeskError, Stop) as failed:
+            return _closed(state, failed.sentence)
+        except OSError as failure:
+            return _closed(state, of_system(failure))
+        if ending.kept:
+            state = replace(state, kept=f"kept: {ending.kept}")
+        elif len(state.book) > len(before.book):
+            # an import that was cut short
+            count = len(state.book) - len(before.book)
+            what = "1 paragraph" if count == 1 else f"{count:,} paragraphs"
+            state = replace(state, kept=f"kept: {what} of the import")
+        if ending.question:
+            state = replace(state, question=ending.question)
+        state = taking_back.with_imported(before, state)
+        lines = (*_changed_between(before, state), *ending.lines)
+        if lines:
+            state = replace(state, pages=Pages(ending.title, lines))
+        return self.refreshed(state)
+
+    def stop(self, number: signal.Signals) -> None:
+        """Has the work with the session closed end before its next step."""
+        self._stopped_by = number
+
+    def _check(self) -> None:
+        if self._stopped_by is not None:
+            raise Interrupted(self._stopped_by)
+
+    def refreshed(self, state: State) -> State:
+        """The state with all that is drawn of the listed and the chosen paragraphs."""
+        unread = [each for each in state.listed if each.id not in state.openings]
+        if unread:
+            openings = {**state.openings, **self._openings([p.id for p in unread])}
+            state = replace(state, openings=openings)
+        paragraph = state.paragraph
+        if paragraph is None:
+            return replace(state, reading=None, highlighted=None)
+        if state.reading is None or state.reading.paragraph != paragraph:
+            text, cells, marks = answers(self._session, _of(paragraph.id))
+            reading = ParagraphReading(paragraph, text, cells, marks)
+            marked = cells_of_marks(self._session, reading)
+            state = replace(
+                state, reading=reading, marked_cells=marked, highlighted=None
+            )
+        assert state.reading is not None
+        if state.highlighted is None:
+            its = state.reading
+            whole = its.text if state.pane is Pane.PRINT else its.braille
+            place = max(0, min(state.place, len(whole) - 1))
+            light = highlighted(self._session, its, state.pane, place)
+            state = replace(state, place=place, highlighted=light)
+        return state
+
+    def _take_up(self) -> tuple[str, ...]:
+        """Reads what waits from before, and says what of it can't be read."""
+        notices = []
+        try:
+            self.drafts.take_in()
+        except NotKept as fault:
+            notices.append(not_kept(fault))
+        try:
+            self._unsent.read()
+        except NotKept as fault:
+            notices.append(not_kept(fault))
+        return tuple(notices)
+
+    def _reminded(self, state: State) -> State:
+        """Asks about an import that was cut short, or says so where something else is asked."""
+        for found in to_go_on(self.drafts, self._session, state.book):
+            if isinstance(found, Unfinished) and state.question is None:
+                action = ImportFrom(Path(found.note.text), found.after)
+                question = question_about(PartIsThere(found), action)
+                said = "" if state.message == _SHOWS_KEYS else state.message
+                state = replace(state, message=said, question=question)
+                continue
+            sentences = [state.message]
+            match found:
+                case Unfinished():
+                    go_on = "i and the name of that file go on."
+                    sentences += [came_to(found), go_on]
+                case NotSeen():
+                    leave = "scribe import with --leave leaves the rest out."
+                    sentences += [not_seen(found), leave]
+                case NotKept():
+                    sentences.append(not_kept(found))
+            state = state.saying(" ".join(filter(None, sentences)))
+        return state
+
+    def _greeting(self) -> str:
+        found = " ".join(self._notices)
+        return found or ("" if self._unsent.waiting else _SHOWS_KEYS)
+
+    def _openings(self, numbers: list[int]) -> dict[int, Opening]:
+        asked: list[Request[Any]] = []
+        for number in numbers:
+            asked += [requests.Print(number), requests.Marks(number)]
+        found = iter(list(answers(self._session, asked)))
+        return {
+            number: Opening(
+                opening(text, _WORDS), sum(not mark.resolved for mark in marks)
+            )
+            for number, text, marks in zip(numbers, found, found)
+        }
+
+    def _open(self) -> None:
+        """Opens the session, and reads the tables that the book has."""
+        session = Session(self.path, timeout=self._wait)
+        try:
+            found = session.tables()
+        except BaseException:
+            session.close()
+            raise
+        self._session = session
+        for table in found:
+            self.tables.put(table.name, table.text)
+
+    def _opened_again(self, state: State) -> State:
+        book = self._session.paragraphs()
+        number = state.paragraph.id if state.paragraph else None
+        # what others did may be in the way of taking back what was done here
+        is_same = state.version == self._session.last_version
+        state = replace(
+            state,
+            version=self._session.last_version,
+            book=book,
+            tables=self.tables.names,
+            openings={},
+            reading=None,
+            deeds=state.deeds if is_same else (),
+        )
+        places = [n for n, each in enumerate(book) if each.id == number]
+        return state.at(places[0], state.place) if places else state.at(0)
+
+    def _offered(self, state: State, saved: Draft | None) -> State:
+        """Asks whether a text that waits is taken up, unless the book has it by now."""
+        if saved is None:
+            return state
+        where = self._where_kept(state, saved)
+        if where:
+            newest = max(each.id for each in state.book)
+            is_edit = saved.aim is Aim.EDIT
+            rest = saved.after_first_line((is_edit and saved.paragraph) or newest)
+            if rest is None:
+                said = f"What was typed last is in the book, {where}: {quoted(saved.text)}."
+                said = f"{state.message} {said}" if state.message else said
+                return self.save_draft(state.saying(said))
+            saved = rest
+        return self._asked_about(state, saved)
+
+    def _asked_about(
+        self, state: State, saved: Draft, became: str = "was typed and not sent"
+    ) -> State:
+        """Asks whether a text that waits is taken up, at its paragraph."""
+        places = [n for n, each in enumerate(state.book) if each.id == saved.paragraph]
+        changed = ""
+        if places:
+            state = state.at(places[0])
+            now = self._session.print_of(state.book[places[0]].id)
+            if not saved.aim.is_new and now != saved.before:
+                changed = " The print there has been changed since."
+        amount = _amount(saved)
+        sentence = (
+            f"{what_for(saved)} {became}: {quoted(saved.joined)}.{amount}{changed}"
+        )
+        field = field_of(saved)
+        if saved.aim is Aim.NOTE and places:
+            state = self._on_cells(state, saved)
+        elif not places and not saved.aim.is_new:
+            field = Field(Purpose.AFTER, saved.text, len(saved.text))
+        table = saved.table if saved.table in state.tables else None
+        state = replace(state, table=table or state.table)
+        asked = f"{sentence} Shall it be typed further?"
+        question = Question(asked, draft=field, more="l leaves it for later.")
+        return replace(state, question=question)
+
+    def _where_kept(self, state: State, saved: Draft) -> str:
+        """Where a text that waits, or its first line, is in the book, in words; or nothing.
+
+        It may be there where the session ended after it was kept, and before that was reported.
+        """
+        numbers = [each.id for each in state.book]
+        if saved.version is None or state.version <= saved.version or not numbers:
+            return ""
+        text = composed(saved.first_line)
+        if saved.aim.is_new:
+            newest = max(numbers)
+            is_there = composed(self._session.print_of(newest)) == text
+            return f"as paragraph {newest}" if is_there else ""
+        number = saved.paragraph
+        if number is None or number not in numbers:
+            return ""
+        if saved.aim is Aim.EDIT:
+            is_there = composed(self._session.print_of(number)) == text
+            return f"in paragraph {number}" if is_there else ""
+        marks = self._session.marks_of(number)
+        is_there = bool(marks) and marks[-1].note == saved.text
+        return f"as mark {marks[-1].id}" if is_there else ""
+
+    def _on_cells(self, state: State, saved: Draft) -> State:
+        """The state with the cells chosen on which a note would stand."""
+        cells = saved.cells or Span(0, 1)
+        assert state.paragraph is not None
+        if cells.stop > len(self._session.braille_of(state.paragraph.id)):
+            cells = Span(0, 1)
+        return replace(
+            state,
+            pane=Pane.CELLS,
+            anchor=cells.start,
+            place=cells.stop - 1,
+            highlighted=None,
+        )
+
+    def _taken(self, step: Step) -> State:
+        """The state after a step: what it asks for is sent, and what is drawn is asked for."""
+        state = step.state
+        try:
+            with in_sentences():
+                state = self._done(state, step.asked)
+        except _Interrupted as interrupted:
+            state = self._after_failure(interrupted.state, interrupted.cause)
+        except Stop as stop:
+            state = state.saying(stop.sentence)
+        except (Lost, Refused) as failed:
+            state = self._after_failure(state, failed)
+        if not (state.is_lost or state.is_over or state.away):
+            state = self._drawn(state)
+        return state if state.typed else self.save_draft(state)
+
+    def _done(self, state: State, asked: Command[Any] | Action | None) -> State:
+        if isinstance(asked, requests.Undo):
+            taken = f"Taken back: the newest correction of paragraph {asked.paragraph}."
+            return taking_back.saying_first(taken, self._sent(state, asked))
+        if isinstance(asked, requests.Resolve):
+            found = self._sent(state, asked)
+            said = f"Mark {asked.mark} is resolved." if found.message else ""
+            return taking_back.saying_first(said, found)
+        if isinstance(asked, Command):
+            return self._sent(state, asked)
+        return state if asked is None else self._run(state, asked)
+
+    def _drawn(self, state: State) -> State:
+        try:
+            return self.refreshed(state)
+        except (Lost, Refused) as failed:
+            return self._after_failure(state, failed)
+
+    def _after_failure(self, state: State, failed: Lost | Refused) -> State:
+        if isinstance(failed, Lost):
+            return self._after_loss(state, failed)
+        if isinstance(failed, VersionConflict):
+            said = "Another program changed the book, so it was opened again."
+            return self._opened_anew(state, said)
+        return state.saying(failed.sentence)
+
+    def _opened_anew(self, state: State, said: str) -> State:
+        """The book as it is now, in another session, with what was typed offered again."""
+        waits = draft_of(state) or self._unsent.waiting
+        try:
+            self._session.close()
+            self._open()
+            found = replace(state, typed=None, preview=None, question=None, pages=None)
+            found = self._opened_again(replace(found, is_lost=False))
+            is_same = found.version == state.version
+            now = f"It is at version {found.version:,}" + (
+                ", as the screen said last."
+                if is_same
+                else f" now; the screen said {state.version:,} last."
+            )
+            return self._offered(found.saying(f"{said} {now}"), waits)
+        except Lost as lost:
+            return self._ended(state, lost.sentence)
+        except DeskError as failed:
+            return _closed(state, failed.sentence)
+        except OSError as failure:
+            return _closed(state, of_system(failure))
+
+    def _after_loss(self, state: State, lost: Lost) -> State:
+        """The book opened again after its session ended by itself, and what it has is said."""
+        state = self.save_draft(state)
+        if isinstance(lost, Displaced):
+            return self._ended(state, lost.sentence)
+        waits = draft_of(state) or self._unsent.waiting
+        unsaved = state.message if waits != self._unsent.waiting else ""
+        try:
+            self._open()
+            found_words = found_again(self._session, lost)
+            said = f"{lost.cause} {found_words} {unsaved}".strip()
+            found = replace(state, typed=None, preview=None, question=None, pages=None)
+            found = self._opened_again(found).saying(said)
+            return self.refreshed(self._offered(found, waits))
+        except DeskError as failed:
+            return self._ended(state, lost.sentence, failed.sentence)
+        except OSError as failure:
+            return self._ended(state, lost.sentence, of_system(failure))
+
+    def _ended(self, state: State, *sentences: str) -> State:
+        """What the screen says where the session ended and the book could not be opened again."""
+        lines = list(sentences)
+        if state.typed is not None and state.typed.text:
+            lines += [
+                "This was typed, and was not reported as kept:",
+                visible(state.typed.text),
+            ]
+        waiting = self._unsent.waiting
+        if waiting is not None and waiting == draft_of(state):
+            lines.append(
+                "It is kept, and is offered when the book is opened again. Until then it is in"
+                f" {self.drafts.place}."
+            )
+        elif state.message:
+            lines.append(state.message)
+        pages = Pages("The session ended.", tuple(lines))
+        return replace(state, is_lost=True, pages=pages)
+
+    def _sent(self, state: State, command: Command[Any]) -> State:
+        """Sends a command; only what its `ok` says is said to be kept."""
+        # what is sent is kept until the book has it
+        state = self.save_draft(state)
+        before, typed = state, state.typed
+        try:
+            resolving = self._resolving(state, command)
+            answer = self._session.ask(command)
+            deed = resolving or deeds.deed_of(command, answer, state.book)
+            state = replace(
+                state,
+                version=self._session.last_version,
+                kept=kept(command, answer),
+                typed=None,
+                preview=None,
+                deeds=(*state.deeds, deed) if deed else state.deeds,
+            )
+            number = getattr(command, "paragraph", None)
+            if isinstance(command, requests.Type):
+                number = answer.id
+            elif isinstance(command, requests.Resolve) and before.reading:
+                number = before.reading.paragraph.id
+            elif typed is not None and typed.purpose is Purpose.EDIT:
+                state = replace(state, pane=Pane.PRINT, place=typed.place)
+            state = self._changed(state, number, before)
+            if isinstance(command, requests.Resolve):
+                state = left_here(state)
+            return state
+        except (Lost, Refused) as failed:
+            raise _Interrupted(state, failed) from failed
+
+    def _resolving(self, state: State, command: Command[Any]) -> Deed | None:
+        """How a mark that is about to be resolved is put again; its cells are found before."""
+        its = state.reading
+        if its is None or not isinstance(command, requests.Resolve):
+            return None
+        marks = tuple(m for m in its.marks if m.id == command.mark and not m.resolved)
+        cells = cells_of_marks(self._session, replace(its, marks=marks))
+        if not cells:
+            return None
+        return deeds.resolved(marks[0], its.paragraph.id, cells[0])
+
+    def _taking_back(self, state: State, action: TakeBack) -> State:
+        """Takes back what a key last did; what takes many commands is done beside the screen."""
+        *earlier, deed = state.deeds
+        if len(deed.back) > 1:
+            return replace(state, away=action, message="Please wait.")
+        if deed.paragraph is not None:
+            state = self.refreshed(taking_back.at_paragraph(state, deed.paragraph))
+        state = self._sent(state, replace(deed.back[0], expect=state.version))
+        left = deeds.without(deed, earlier, state.deeds[-1])
+        return taking_back.saying_first(deed.sentence, replace(state, deeds=left))
+
+    def _all_taken_back(self, state: State, report: Callable[[str], None]) -> State:
+        """Takes back what a key did by many commands, as far as none is refused."""
+        deed = state.deeds[-1]
+        said, done, count = deed.sentence, 0, len(deed.back)
+        try:
+            for command in deed.back:
+                self._check()
+                asked = replace(command, expect=state.version)
+                answer = self._session.ask(asked)
+                done += 1
+                version = self._session.last_version
+                state = replace(state, version=version, kept=kept(asked, answer))
+                report(f"{done:,} of {count:,} done.")
+        except Lost as lost:
+            return self._after_loss(taking_back.so_far(state, done), lost)
+        except Refused as refused:
+            said = f"{done:,} of {count:,} done. {refused.sentence}"
+        except Interrupted:
+            said = f"{done:,} of {count:,} done."
+        book = self._session.paragraphs()
+        state = replace(state, book=book, openings={}, reading=None, highlighted=None)
+        return self._drawn(taking_back.so_far(state, done).saying(said))
+
+    def _changed(self, state: State, number: int | None, before: State) -> State:
+        """The state after a paragraph was changed, with that one chosen."""
+        openings = {k: v for k, v in state.openings.items() if k != number}
+        book = self._session.paragraphs()
+        state = replace(
+            state, book=book, openings=openings, reading=None, highlighted=None
+        )
+        places = [n for n, each in enumerate(book) if each.id == number]
+        chosen = places[0] if places else state.chosen
+        was = before.reading
+        place = state.place if was and was.paragraph.id == number else 0
+        state = self.refreshed(state.at(chosen, place))
+        return with_mark_in_hand(state, before)
+
+    def _run(self, state: State, action: Action) -> State:
+        match action:
+            case Quit():
+                return replace(state, is_over=True)
+            case ToFound():
+                return finding.to_found(self._session, state, action)
+            case ToMark():
+                return finding.to_mark(self._session, state, action)
+            case ShowHistory():
+                assert state.paragraph is not None
+                number = state.paragraph.id
+                lines = shown(self._session, requests.History(number))
+                title = f"History of paragraph {number}."
+                return replace(state, pages=Pages(title, tuple(lines)))
+            case ShowPage():
+                return self._to_page(state)
+            case GiveTable():
+                return self._with_table(state, action.name)
+            case TypeAll():
+                return self._typed_all(state, action)
+            case ExportTo() | ImportFrom():
+                return replace(state, away=action, message="Please wait.")
+            case LeaveImport():
+                return self._left_out(state, action)
+            case TakeBack():
+                return self._taking_back(state, action)
+            case GiveUp() | PutOff() | BringBack() | PutBy():
+                return self._with_text(state, action)
+            case OpenAgain():
+                return self._opened_anew(state, "The book is open again.")
+
+    def _left_out(self, state: State, action: LeaveImport) -> State:
+        self.drafts.end_import(action.note)
+        said = f"The rest of {action.note.name} is left out. What is in the book stays there."
+        return state.saying(said)
+
+    def _with_text(
+        self, state: State, action: GiveUp | PutOff | BringBack | PutBy
+    ) -> State:
+        """What becomes of a text that isn't sent."""
+        match action:
+            case GiveUp():
+                return self._given_up(state)
+            case BringBack():
+                return self._brought_back(state, action.place)
+            case PutBy():
+                return self._put_by(state, action.text)
+        self._unsent.put_off()
+        said = "The text waits for the next opening. U asks about it before."
+        return replace(state, question=None, anchor=None).saying(said)
+
+    def _given_up(self, state: State) -> State:
+        """Gives up the lines that were pasted, what is typed, or the text that waits."""
+        asked = state.question
+        if asked is not None and asked.draft is not None:
+            state = replace(state, typed=asked.draft, question=None)
+        draft = draft_of(state)
+        fault = self._unsent.put_by(draft) if draft else ""
+        if asked is not None and asked.lines:
+            how = fault or "After Enter or Escape, U brings it back."
+            said = f"The pasted text was left out. Nothing was sent. {how}"
+            return replace(state, question=None).saying(said)
+        said = "Given up. Nothing was sent."
+        if draft is not None:
+            said = f"{said} {fault or 'U brings it back.'}"
+        given_up = replace(state, typed=None, preview=None, question=None, anchor=None)
+        return given_up.saying(said)
+
+    def _taken_up(self, state: State, text: Field) -> State:
+        """The state in which a text is typed further, which waits from now on."""
+        draft = draft_of(state)
+        try:
+            if draft is not None:
+                self._unsent.take_up(draft, text.text)
+        except NotKept as fault:
+            return state.saying(not_kept(fault))
+        return state
+
+    def _brought_back(self, state: State, place: int) -> State:
+        """Asks about a text that was given up, or left for later."""
+        texts = self._unsent.texts()
+        if not texts:
+            return state.saying("No text was given up in this book.")
+        place %= len(texts)
+        state = replace(state, question=None)
+        state = self._asked_about(state, texts[place], "was set aside")
+        assert state.question is not None
+        sentence = f"{place + 1} of {len(texts)}. {state.question.sentence}"
+        more = "U asks about the one before." if len(texts) > 1 else ""
+        asked = replace(state.question, sentence=sentence, older=place + 1, more=more)
+        return replace(state, question=asked)
+
+    def _put_by(self, state: State, text: str) -> State:
+        """Keeps a text that was pasted where nothing is typed, so that it can be typed."""
+        fault = self._unsent.put_by(draft_of_pasted(state, text))
+        return state.saying(f"{_PASTED} {fault}".rstrip())
+
+    def _to_page(self, state: State) -> State:
+        """The page of the cursor's words; one of a long volume once that is laid out aside."""
+        its, here = state.paragraph, state.highlighted
+        assert its is not None and here is not None
+        volume = pagelook.volume_of(state, its)
+        if volume is None:
+            return state.saying(f"Paragraph {its.id} is struck, and stands on no page.")
+        if self._laid is None or not self._laid.is_of(volume):
+            if volume.is_long:
+                return replace(state, away=ShowPage(), message="Please wait.")
+            self._laid = pagelook.laid_out(self._session, volume, lambda *_: None)
+        is_cell = state.pane is Pane.CELLS
+        says = f"{'cell' if is_cell else 'character'} {state.place + 1}"
+        sought = pagelook.Sought(its, here.cells.start, says)
+        found = pagelook.page_of(self._session, self._laid, sought)
+        if found.line is None:
+            return state.saying(found.title)
+        lines = found.lines
+        if not state.is_ascii:
+            lines = tuple(map(braille_patterns, lines))
+        pages = pager.at_line(Pages(found.title, lines), state.size, found.line)
+        return replace(state, pages=pages)
+
+    def _laid_out(self, state: State, report: Callable[[str], None]) -> State:
+        """Lays out the volume of the cursor's words, and shows their page."""
+
+        def tell(done: int, count: int) -> None:
+            self._check()
+            report(f"{done:,} of {count:,} paragraphs are laid out.")
+
+        assert state.paragraph is not None
+        volume = pagelook.volume_of(state, state.paragraph)
+        assert volume is not None
+        try:
+            self._laid = pagelook.laid_out(self._session, volume, tell)
+            return self._to_page(state)
+        except (Lost, Refused) as failed:
+            return self._after_failure(state, failed)
+        except Interrupted:
+            return state
+
+    def _with_table(self, state: State, name: str) -> State:
+        """Puts an installed table into the book where it has none of that name, then gives it."""
+        if name not in state.tables:
+            request = table_request(name, None)
+            text = request.text if isinstance(request, requests.Table) else None
+            answer = self._session.ask(replace(request, expect=state.version))
+            self.tables.put(name, text)
+            deed = deeds.deed_of(request, answer, state.book)
+            state = replace(
+                state,
+                version=self._session.last_version,
+                kept=kept(request, answer),
+                tables=self.tables.names,
+                deeds=(*state.deeds, deed) if deed else state.deeds,
+            )
+        if state.paragraph is None:
+            said = f"New paragraphs have the table {name}. o types the first one."
+            return replace(state, table=name).saying(said)
+        number = state.paragraph.id
+        return self._sent(state, requests.Retable(number, name, expect=state.version))
+
+    def _typed_all(self, state: State, action: TypeAll) -> State:
+        """Types paragraphs until one is refused; that one and those after it stay typed."""
+        before = len(state.deeds)
+        for count, line in enumerate(action.lines):
+            lines = action.lines[count:]
+            rest = " ".join(lines)
+            field = Field(Purpose.AFTER if count else action.purpose, rest, len(rest))
+            asked = keys.entered(state, replace(field, text=line)).asked
+            if not isinstance(asked, Command):
+                # the first line leaves the paragraph as it is
+                continue
+            about = keys.about_lines(field.purpose, lines)
+            waiting = replace(state, typed=field, question=about)
+            try:
+                state = replace(self._sent(waiting, asked), question=None)
+            except _Interrupted as interrupted:
+                if isinstance(interrupted.cause, Lost) or not interrupted.state.typed:
+                    raise
+                said = f"{count} typed. {interrupted.cause.sentence}"
+                state = replace(interrupted.state, question=None).saying(said)
+                return taking_back.done_by_one_key(state, before)
+        return taking_back.done_by_one_key(
+            replace(state, typed=None, preview=None), before
+        )
+
+
+def preview_of(state: State, typed: Field) -> tuple[str, str, str]:
+    """The table by which print that is typed is translated, the text as typed, and its print."""
+    table = state.table
+    if typed.purpose is Purpose.EDIT and state.paragraph:
+        table = state.paragraph.table
+    return table or "", typed.text, keys.print_of(state, typed)
+
+
+def _amount(saved: Draft) -> str:
+    """How much text it is, where that isn't seen from its first words."""
+    lines = saved.text.count("\n") + 1
+    if lines == 1 and quoted(saved.text) == f"“{visible(saved.text)}”":
+        return ""
+    of_lines = f", {lines:,} lines" if lines > 1 else ""
+    return f" It has {len(saved.text):,} characters{of_lines}."
+
+
+def _of(number: int) -> list[Request[Any]]:
+    return [requests.Print(number), requests.Braille(number), requests.Marks(number)]
+
+
+def _changed_between(before: State, after: State) -> tuple[str, ...]:
+    """What is said where the book has been changed by more than the paragraphs of an import."""
+    typed = len(after.book) - len(before.book)
+    if after.version - before.version == typed:
+        return ()
+    return (
+        f"Another program changed the book meanwhile. It is at version {after.version:,} now,"
+        " and is shown as it is.",
+    )
+
+
+def _closed(state: State, sentence: str) -> State:
+    """The state where the book could not be opened again."""
+    before = state.pages.lines if state.is_lost and state.pages else ()
+    # what was said before is still true, and is said once
+    lines = dict.fromkeys((*sentence.split("\n"), *before))
+    return replace(
+        state, is_lost=True, pages=Pages("The book is closed.", tuple(lines))
+    )

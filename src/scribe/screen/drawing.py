@@ -1,0 +1,324 @@
+"""The lines of the screen, as a function of its state."""
+
+import unicodedata
+from dataclasses import dataclass
+
+from braildesk import Mark, Style
+from braildesk.desk.readings import ParagraphReading
+from braildesk.text.cells import braille_ascii
+from braildesk.text.characters import code_and_name, visible
+from braildesk.text.excerpt import opening
+from braildesk.text.wrapping import columns, wrap
+
+from scribe.screen import pager
+from scribe.screen.body import body
+from scribe.screen.encoding import has
+from scribe.screen.field import Field, Purpose
+from scribe.screen.lines import Area, CHOSEN, HEAD, Line, PLAIN, Piece, filled
+from scribe.screen.rows import shown
+from scribe.screen.state import Highlighted, Pages, Pane, Question, Size, State
+from scribe.words.paragraph import mark_line, title
+
+# what is most needed comes first, since a narrow screen shows only the front of it
+HINT = (
+    "? keys  q ends  Enter edits  o new  u undo  Tab cells  m mark  n next mark  / find"
+    "  x export"
+)
+PROMPTS = {
+    Purpose.NOTE: "Note of the mark: ",
+    Purpose.NUMBER: "Go to paragraph: ",
+    Purpose.TABLE: "Table: ",
+    Purpose.WORDS: "Find: ",
+    Purpose.SIZE: "Cells and lines: ",
+    Purpose.FOLDER: "Export to the folder: ",
+    Purpose.TEXT_FILE: "Import the text file: ",
+}
+
+
+# what is always seen of the book: the chosen paragraph, the line below the list, a line of the print
+# and one of the braille; beside what is said that is long, the first and the third of these
+_LEAST_OF_BOOK = 4
+_LEAST_BESIDE_SAID = 2
+# as many columns of what is typed are seen after a whole prompt
+_LEAST_TYPED = 16
+
+
+@dataclass(frozen=True)
+class Drawing:
+    """All lines of the screen, and where the terminal's cursor stands: a line and a character."""
+
+    lines: tuple[Line, ...]
+    cursor: tuple[int, int]
+
+    def texts(self) -> list[str]:
+        """The lines as text alone."""
+        return ["".join(piece.text for piece in line).rstrip() for line in self.lines]
+
+
+def draw(state: State) -> Drawing:
+    """The screen: a title, the book and the chosen paragraph, and what is said below."""
+    bottom = _bottom(state)
+    room = max(0, state.size.lines - 1 - len(bottom.lines))
+    middle = _pages(state, state.pages, room) if state.pages else _middle(state, room)
+    areas = [Area([_title(state)]), middle, bottom]
+    lines: list[Line] = []
+    cursor = (0, 0)
+    for area in areas:
+        if area.cursor is not None:
+            cursor = (len(lines) + area.cursor[0], area.cursor[1])
+        lines += area.lines
+    return Drawing(tuple(lines[: state.size.lines]), cursor)
+
+
+def _title(state: State) -> Line:
+    paragraph = state.paragraph
+    table = paragraph.table if paragraph else state.table
+    parts = [state.name, f"version {state.version:,}"]
+    if table:
+        parts.append(f"table {table}")
+    # the sentence below may speak of something later
+    parts.append(f"last {state.kept}" if state.kept else "nothing kept yet")
+    # what was last kept stands there at any width
+    while len(parts) > 1 and columns(visible(", ".join(parts))) > state.size.columns:
+        parts.pop(0)
+    text = visible(", ".join(parts))
+    if columns(text) > state.size.columns:
+        text = text.removeprefix("last ")
+    text = opening(text, state.size.columns)
+    return (Piece(text + " " * (state.size.columns - columns(text)), HEAD),)
+
+
+def _middle(state: State, room: int) -> Area:
+    if not state.book and not (state.typed and state.typed.purpose.is_print):
+        text = "The book has no paragraphs. o types the first one, i imports a text."
+        if not state.tables:
+            text = "The book has no table and no paragraphs. t puts a table into it."
+        lines: list[Line] = [(Piece(each),) for each in wrap(text, state.size.columns)]
+        return Area(filled(lines, room), (0, 0))
+    listed = _listed(state, min(state.list_lines, max(1, room - 3)))
+    above = [*listed, _rule(state)] if room >= _LEAST_OF_BOOK else listed
+    below = body(state, room - len(above))
+    cursor = below.cursor and (len(above) + below.cursor[0], below.cursor[1])
+    return Area(filled([*above, *below.lines], room), cursor)
+
+
+def _listed(state: State, count: int) -> list[Line]:
+    """So many lines of the list, the chosen paragraph among them: number, style, flags, first words."""
+    top = max(state.top, state.chosen - count + 1)
+    lines: list[Line] = []
+    for place, paragraph in enumerate(state.book[top : top + count], top):
+        its = state.openings.get(paragraph.id)
+        marks = its.open_marks if its else 0
+        flags = [
+            "heading" if paragraph.style is Style.HEADING else "body",
+            "volume" if paragraph.begins_volume else "",
+            "struck" if paragraph.struck else "",
+            f"{marks} open {'mark' if marks == 1 else 'marks'}" if marks else "",
+        ]
+        sign = ">" if place == state.chosen else " "
+        words = its.words if its else ""
+        head = f"{sign}{paragraph.id:>5} {', '.join(filter(None, flags))}: "
+        text = opening(head + visible(words), state.size.columns - 1)
+        lines.append((Piece(text, CHOSEN if place == state.chosen else PLAIN),))
+    return lines + [(Piece(""),)] * (count - len(lines))
+
+
+def _rule(state: State) -> Line:
+    paragraph, typed = state.paragraph, state.typed
+    if typed and typed.purpose.is_new:
+        where = "after" if typed.purpose is Purpose.AFTER else "before"
+        name = f" {where} paragraph {paragraph.id}" if paragraph else ""
+        text = f"New paragraph{name}, table {state.table}"
+    elif paragraph:
+        text = title(paragraph, True)
+        text += ", being edited" if typed and typed.purpose is Purpose.EDIT else ""
+    else:
+        text = ""
+    text = opening(f"-- {text} ", state.size.columns)
+    return (Piece(text + "-" * (state.size.columns - columns(text))),)
+
+
+def _pages(state: State, pages: Pages, room: int) -> Area:
+    """Lines that are looked at in place of the book, in the room that is left by what is said."""
+    size = Size(state.size.columns, room + pager.OTHERS)
+    found = pager.seen(pager.fitted(pages, size), size)
+    lines: list[Line] = [
+        (Piece(line, CHOSEN if place == found.cursor else PLAIN),)
+        for place, line in enumerate([*found.head, *found.lines])
+    ]
+    return Area(filled(lines, room), (found.cursor, 0))
+
+
+def _bottom(state: State) -> Area:
+    """Where the cursor is in words, the marks there, what is said, and what is typed."""
+    if state.question and not state.is_lost:
+        return _asked(state, state.question)
+    typed = None if state.is_lost else state.typed
+    width = state.size.columns
+    if typed and not typed.purpose.is_print:
+        text, place = _tail(PROMPTS[typed.purpose], typed, width)
+        lines = _below(state, state.size.lines - 2)
+        return Area([(Piece(line),) for line in [*lines, text]], (len(lines), place))
+    lines = _below(state, state.size.lines - 1)
+    # the keys are what is needed least
+    if len(lines) < state.size.lines - 1 - _LEAST_OF_BOOK:
+        lines.append(opening(_hint(state), width))
+    return Area([(Piece(line),) for line in lines])
+
+
+def _asked(state: State, question: Question) -> Area:
+    """A question after what is said, on all lines but the first where it needs them."""
+    width, most = state.size.columns, state.size.lines - 1
+    how = f"y is yes, n is no. {question.more}".rstrip()
+    asked = wrap(f"{visible(question.sentence)} {how}", width)
+    if len(asked) > most:
+        # how it is answered stands at its end
+        asked = [*_at_most(asked, most - 2, width), *asked[-2:]]
+    lines = [*_message(state, most - len(asked)), *asked]
+    return Area([(Piece(line),) for line in lines], (len(lines) - 1, 0))
+
+
+def _hint(state: State) -> str:
+    """Which keys are needed most."""
+    if state.is_lost:
+        return "Enter opens the book again  q ends  Up, Down look further"
+    if state.away:
+        return "Please wait. Keys do nothing until this is done."
+    if state.typed:
+        return "Enter keeps it  Escape leaves the book as it was"
+    if state.anchor is not None and not state.pages:
+        return "m marks these cells  Left, Right choose more  Space gives them up"
+    if state.pages:
+        return "Escape goes back  Up, Down, Page Up, Page Down look further"
+    return HINT
+
+
+def _tail(prompt: str, typed: Field, width: int) -> tuple[str, int]:
+    """The line of a field, its front cut where it is too long, and the cursor in it."""
+    if columns(prompt) > max(width // 2, width - _LEAST_TYPED):
+        prompt = opening(prompt, width // 2 - 1) + " "
+    before = "".join(map(shown, typed.text[: typed.place]))
+    while columns(prompt + before) >= width - 1 and before:
+        before = before[1:]
+    line = prompt + before
+    after = "".join(map(shown, typed.text[typed.place :]))
+    while columns(line + after) > width - 1 and after:
+        after = after[:-1]
+    return line + after, len(line)
+
+
+def _below(state: State, room: int) -> list[str]:
+    """What the cursor stands on, the marks there, and what is said, where the book leaves room."""
+    said = _said(state, room - _LEAST_BESIDE_SAID)
+    if state.pages:
+        return said
+    rest = max(0, room - _LEAST_OF_BOOK - len(said))
+    # what is said besides leaves room for the book
+    most = max(1, state.size.lines // 4 - max(0, len(said) - 1))
+    marks = _mark_lines(state, _marks(state), min(most, rest))
+    return [*_place_lines(state)[: rest - len(marks)], *marks, *said]
+
+
+def _said(state: State, most: int) -> list[str]:
+    """What the table lacks of what is typed, and what is said, in at most so many lines."""
+    message = _message(state, most)
+    fault = _fault(state)
+    if not fault or state.pages:
+        return message
+    width = state.size.columns
+    return [*_at_most(wrap(fault, width), most - len(message), width), *message]
+
+
+def _fault(state: State) -> str:
+    """What the table lacks of what is typed."""
+    is_print = state.typed is not None and state.typed.purpose.is_print
+    return state.preview.fault if state.preview and is_print else ""
+
+
+def _message(state: State, most: int) -> list[str]:
+    """What is said, in at most so many lines."""
+    if not state.message:
+        return []
+    lines = wrap(visible(state.heard), state.size.columns)
+    return _at_most(lines, most, state.size.columns)
+
+
+def _place_lines(state: State) -> list[str]:
+    """In words: what the cursor stands on; nothing where something is typed in its place."""
+    is_print = state.typed is not None and state.typed.purpose.is_print
+    if is_print or state.reading is None or state.highlighted is None:
+        return [] if _fault(state) else [""]
+    line = _cursor_in_words(state, state.reading, state.highlighted)
+    return [opening(line, state.size.columns)]
+
+
+def _marks(state: State) -> tuple[Mark, ...]:
+    """The marks where the cursor is, also while the print is edited there."""
+    is_new = state.typed is not None and state.typed.purpose.is_new
+    return () if is_new else state.marks_here
+
+
+def _mark_lines(state: State, marks: tuple[Mark, ...], most: int) -> list[str]:
+    """Marks in at most so many lines, of which the first has all that the others leave."""
+    if not marks or most < 1:
+        return []
+    assert state.reading is not None
+    text, width = state.reading.text, state.size.columns
+    first = wrap(_how_many(marks) + mark_line(marks[0], text), width)
+    others = [wrap(mark_line(mark, text), width) for mark in marks[1:]]
+    if len(first) + sum(map(len, others)) > most:
+        others = [_at_most(each, 1, width) for each in others[: most // 3]]
+    first = _at_most(first, most - sum(map(len, others)), width)
+    return [*first, *(line for each in others for line in each)]
+
+
+def _how_many(marks: tuple[Mark, ...]) -> str:
+    """How many marks there are where there are several, and how many of them are open."""
+    if len(marks) == 1:
+        return ""
+    count = sum(not mark.resolved for mark in marks)
+    return f"{len(marks)} marks here{f', {count} open' if count < len(marks) else ''}. "
+
+
+def _cursor_in_words(
+    state: State, reading: ParagraphReading, highlighted: Highlighted
+) -> str:
+    """What the cursor stands on, what belongs to that, and the places of both, counted from 1."""
+    if not reading.text:
+        return "The paragraph is empty."
+    words = _words(
+        reading.text[highlighted.words.start : highlighted.words.stop], state.encoding
+    )
+    cells = reading.braille[highlighted.cells.start : highlighted.cells.stop]
+    cells = braille_ascii(cells) if state.is_ascii else cells
+    places = [highlighted.words.counted("character"), highlighted.cells.counted("cell")]
+    if state.pane is Pane.PRINT:
+        text = f"{words} {cells}, {', '.join(places)}"
+    else:
+        text = f"{cells} {words}, {', '.join(reversed(places))}"
+    if state.anchor is not None and state.chosen_cells:
+        count = state.chosen_cells.stop - state.chosen_cells.start
+        text = f"{count} {'cell' if count == 1 else 'cells'} chosen, at {text}"
+    return text
+
+
+def _words(text: str, encoding: str) -> str:
+    """Some characters in quotation marks, or by their names where they can't be seen there."""
+    is_unseen = (
+        len(text) == 1 and text != " " and unicodedata.category(text)[0] in "CZM"
+    )
+    if is_unseen or not has(encoding, text):
+        return " and ".join(map(code_and_name, text))
+    return f"“{visible(text)}”"
+
+
+def _at_most(lines: list[str], count: int, width: int) -> list[str]:
+    """Some lines, or the first of them where they are more, with a sign that others follow."""
+    if len(lines) <= count:
+        return lines
+    if count < 1:
+        return []
+    last = lines[count - 1]
+    while columns(last) >= width:
+        last = last[:-1]
+    return [*lines[: count - 1], last + "…"]

@@ -1,0 +1,88 @@
+"""The cursor at what was looked for, and what is said of the way there."""
+
+from dataclasses import replace
+
+from braildesk import Session
+from braildesk.desk.find import alike, unlike
+from braildesk.text.cells import NotCells, braille_patterns
+from braildesk.text.characters import code_and_name
+from braildesk.text.sequences import composed
+from braildesk.text.spans import find_spans
+
+from scribe.screen import search
+from scribe.screen.actions import ToFound, ToMark
+from scribe.screen.in_hand import at_mark
+from scribe.screen.state import Pane, State
+from scribe.words.find import in_words
+from scribe.words.paragraph import quoted
+
+
+def to_found(session: Session, state: State, action: ToFound) -> State:
+    """The state with the cursor at the next place of words, or of cells while it is on cells."""
+    sought = action.sought
+    if state.pane is Pane.CELLS:
+        return _to_cells(session, state, sought)
+    finds_alike = action.is_again and state.finds_alike
+    state = replace(state, finds_alike=finds_alike)
+    form = alike if finds_alike else composed
+    found = search.next_words(session, state, sought, form)
+    if found is None:
+        return _with_others_alike(session, state, sought)
+    return _at_found(state, found, sought)
+
+
+def to_mark(session: Session, state: State, action: ToMark) -> State:
+    """The state with the cursor at the next open mark, or at the one before."""
+    here = state
+    if state.pane is Pane.CELLS:
+        place = state.highlighted.words.start if state.highlighted else 0
+        here = replace(state, pane=Pane.PRINT, place=place)
+    found = search.next_mark(session, here, action.is_back)
+    if found is None:
+        return state.saying("The book has no open marks.")
+    return at_mark(replace(here, anchor=None), found, action.is_back)
+
+
+def _to_cells(session: Session, state: State, sought: str) -> State:
+    try:
+        cells = braille_patterns(sought)
+    except NotCells as fault:
+        character = code_and_name(str(fault))
+        return state.saying(
+            f"{character} is no cell in Braille ASCII or Unicode. Tab goes to the print."
+        )
+    found = search.next_words(session, state, cells)
+    if found is None:
+        said = f"{quoted(sought)} stands nowhere in the cells of the book."
+        return state.saying(said)
+    return _at_found(state, found, sought)
+
+
+def _with_others_alike(session: Session, state: State, sought: str) -> State:
+    """What is said of words that stand nowhere: where there are others like them, to go to."""
+    found = search.next_words(session, state, sought, alike)
+    if found is None:
+        said = f"{quoted(sought)} stands nowhere in the print of the book."
+        return state.saying(said)
+    spot = found.spot
+    number = state.book[spot.chosen].id
+    text = session.print_of(number)
+    places = find_spans(text, sought, alike)
+    place = next(each for each in places if each.start == spot.place)
+    how = in_words(unlike(sought, text[place.start : place.stop]))
+    said = (
+        f"{quoted(sought)} stands nowhere as typed; with {how} it is in paragraph {number}:"
+        " * goes there."
+    )
+    return replace(state, finds_alike=True).saying(said)
+
+
+def _at_found(state: State, found: search.Found, sought: str) -> State:
+    """The state with the cursor at what was looked for."""
+    spot = found.spot
+    said = ""
+    if found.is_same:
+        said = f"{quoted(sought)} stands nowhere else in the book."
+    elif found.is_around:
+        said = f"{quoted(sought)} stands nowhere further on: this is the first in the book."
+    return state.at(spot.chosen, spot.place).saying(said)

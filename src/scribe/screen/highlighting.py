@@ -1,0 +1,60 @@
+"""Which cells belong to a character or to a mark, and which characters to a cell."""
+
+from braildesk import Session
+from braildesk.desk.places import words_of
+from braildesk.desk.readings import ParagraphReading, answers
+from braildesk.protocol.requests import Where
+from braildesk.text.sequences import seams
+from braildesk.text.spans import Span
+
+from scribe.screen.state import Highlighted, Pane
+
+_NOTHING = Highlighted(Span(0, 0), Span(0, 0))
+
+
+def highlighted(
+    session: Session, reading: ParagraphReading, pane: Pane, place: int
+) -> Highlighted:
+    """What is highlighted where the cursor stands on a character, or on a cell."""
+    text, cells = reading.text, reading.braille
+    if not text or not cells:
+        return _NOTHING
+    if pane is Pane.CELLS:
+        cell = Span(place, place + 1)
+        return Highlighted(
+            words_of(session, reading.paragraph.id, cell, text, cells), cell
+        )
+    after = min(each for each in seams(text) if each > place)
+    return Highlighted(Span(place, after), _cells(session, reading, place, after))
+
+
+def _cells(session: Session, reading: ParagraphReading, place: int, after: int) -> Span:
+    """The cells of a character, with the signs before it."""
+    number = reading.paragraph.id
+    start = session.output_position(number, place)
+    for later in range(after, len(reading.text)):
+        stop = session.output_position(number, later)
+        if stop != start:
+            return Span(start, stop)
+    return Span(start, len(reading.braille))
+
+
+def cells_of_marks(session: Session, reading: ParagraphReading) -> tuple[Span, ...]:
+    """The cells of the open marks, with the signs before them."""
+    text, number = reading.text, reading.paragraph.id
+    spans = {(mark.start, mark.stop) for mark in reading.marks if not mark.resolved}
+    asked = {
+        place for start, stop in spans for place in (start, max(start, stop - 1), stop)
+    }
+    places = sorted(place for place in asked if place < len(text))
+    found = answers(session, (Where(number, place) for place in places))
+    cells = dict(zip(places, found))
+    cells[len(text)] = len(reading.braille)
+
+    def after(start: int, stop: int) -> int:
+        """The cell after a mark, and after all that was made with its last character."""
+        if start < stop < len(text) and cells[stop] == cells[stop - 1]:
+            return _cells(session, reading, stop - 1, stop).stop
+        return cells[stop]
+
+    return tuple(Span(cells[start], after(start, stop)) for start, stop in spans)

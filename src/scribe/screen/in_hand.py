@@ -1,0 +1,76 @@
+"""The mark in hand: which one is worked on once the cursor or the print has changed."""
+
+from dataclasses import replace
+
+from braildesk import Mark
+
+from scribe.screen.field import Purpose
+from scribe.screen.search import Found
+from scribe.screen.state import InHand, State
+
+_FIRST = "No open mark up to the end of the book: this is the first in it."
+_LAST = "No open mark up to the front of the book: this is the last in it."
+
+
+def at_mark(state: State, found: Found, is_back: bool) -> State:
+    """The state with the cursor at an open mark that was looked for, which is in hand there."""
+    spot = found.spot
+    # a mark without words may stand after the last character
+    place = max(0, min(spot.place, state.book[spot.chosen].length - 1))
+    has_moved = (spot.chosen, place) != (state.chosen, state.place)
+    state = _holding(state.at(spot.chosen, place), spot.mark)
+    if found.is_same:
+        return state.saying("The book has no other open mark.")
+    if found.is_around:
+        return state.saying(_LAST if is_back else _FIRST)
+    return state if has_moved else state.saying(f"Mark {spot.mark} begins here too.")
+
+
+def with_mark_in_hand(state: State, before: State) -> State:
+    """The state after a command, with the mark in hand that was worked on before it.
+
+    That is the open mark on which an edit began, so that r resolves it wherever in its paragraph
+    the edit ended; or else one that the command put, or one that it touched elsewhere. Other marks
+    that were touched are said.
+    """
+    if state.reading is None or before.reading is None:
+        return state
+    if state.reading.paragraph.id != before.reading.paragraph.id:
+        return state
+    old = {mark.id: mark.touched for mark in before.reading.marks}
+    touched = [m for m in state.reading.marks if m.touched and old.get(m.id) is False]
+    put = [mark for mark in state.reading.marks if mark.id not in old]
+    begun = None
+    if before.typed is not None and before.typed.purpose is Purpose.EDIT:
+        begun = next((m for m in before.marks_here if not m.resolved), None)
+    if begun is not None:
+        state = _holding(state, begun.id)
+    elif put:
+        state = _holding(state, put[-1].id)
+    elif touched and not set(touched) & set(state.marks_here):
+        state = _holding(state, touched[0].id)
+    others = [mark for mark in touched if mark not in state.marks_here]
+    return state.saying(_touched(others)) if others else state
+
+
+def left_here(state: State) -> State:
+    """The state after a mark was resolved: others that are still open here are said."""
+    count = sum(not mark.resolved for mark in state.marks_here)
+    if not count:
+        return state
+    left = "1 open mark is" if count == 1 else f"{count} open marks are"
+    first = state.marks_here[0].id
+    return state.saying(f"{left} left here; r resolves mark {first}.")
+
+
+def _holding(state: State, mark: int) -> State:
+    assert state.paragraph is not None
+    held = InHand(mark, state.paragraph.id, state.pane, state.place)
+    return replace(state, in_hand=held)
+
+
+def _touched(marks: list[Mark]) -> str:
+    numbers = [str(mark.id) for mark in marks]
+    if len(numbers) == 1:
+        return f"This touched mark {numbers[0]}."
+    return f"This touched the marks {', '.join(numbers[:-1])} and {numbers[-1]}."

@@ -1,0 +1,683 @@
+"""What each key asks for: a function from the state to the state after it, and what goes with it."""
+
+from collections.abc import Callable, Sequence
+from dataclasses import dataclass, replace
+from typing import Any
+
+from braildesk import After, Paragraph, Style, requests
+from braildesk.desk.correction import replaced, smallest_correction
+from braildesk.protocol.requests import Command
+from braildesk.text.characters import control_refused
+from braildesk.text.sequences import composed, seams
+
+from scribe.screen import pager
+from scribe.screen.actions import (
+    Action,
+    BringBack,
+    ExportTo,
+    GiveTable,
+    GiveUp,
+    ImportFrom,
+    OpenAgain,
+    PutBy,
+    PutOff,
+    Quit,
+    ShowHistory,
+    ShowPage,
+    TakeBack,
+    ToFound,
+    ToMark,
+    TypeAll,
+)
+from scribe.screen.draft import draft_of
+from scribe.screen.field import Cut, Field, Purpose
+from scribe.screen.state import Pages, Pane, Question, State
+from scribe.words.page_size import NoSize, described, typed_page_size
+from scribe.words.paragraph import quoted
+from scribe.words.typed import typed_path
+
+_NOTHING_WHILE_TYPING = (
+    "That key does nothing here. Enter ends what is typed, Escape gives it up."
+)
+_NO_ANSWER = "That key is no answer to the question."
+_NOT_ENTER = "The end of the pasted line was left out. Enter ends what is typed."
+_ASKED_LATER = "Nothing was typed. It is asked again when the book is opened."
+_STAYS_GIVEN_UP = "Nothing was sent. U asks about it again."
+# what is said before it is done, since the book keeps it
+_OF_MARK = "The book keeps each mark: r resolves it, and nothing takes it out."
+_OF_TABLE = "A table that the book lacks is put into it, and stays there."
+_OF_IMPORT = "The book keeps what is imported. u strikes it, and nothing takes it out."
+
+
+@dataclass(frozen=True)
+class Step:
+    """What a key asks for: the state after it, and a command or an action that goes with it."""
+
+    state: State
+    asked: Command[Any] | Action | None = None
+
+
+def step(state: State, key: str) -> Step:
+    """What a key asks for in a state. A key is a character, or the name of another key."""
+    if _is_cut(key):
+        return Step(state.saying("What came isn't UTF-8, and was left out."))
+    state = replace(state, message="")
+    if state.is_lost and key in ("q", "escape"):
+        return Step(state, Quit())
+    if state.is_lost and key == "enter":
+        return Step(state, OpenAgain())
+    if state.question and not state.is_lost:
+        return _answered(state, state.question, key)
+    if state.pages:
+        return Step(_looking(state, state.pages, key))
+    if state.typed:
+        return _typing(state, state.typed, key)
+    bound = KEYS.get(key)
+    if bound is None:
+        return Step(state.saying("That key does nothing here. ? shows all keys."))
+    if bound.needs_paragraph and state.paragraph is None:
+        return Step(state.saying("The book has no paragraphs yet."))
+    return bound.does(state)
+
+
+def pasted(state: State, text: str) -> Step:
+    """What text that is pasted asks for: lines of a new paragraph may become several."""
+    if _is_cut(text):
+        return Step(state.saying("What came isn't UTF-8, and was left out."))
+    typed = state.typed
+    if typed is None or state.question or state.is_lost:
+        return Step(state, PutBy(text) if text.strip() else None)
+    lines = text.replace("\r", "\n").replace("\t", " ").split("\n")
+    lines = [line for line in lines if line.strip()]
+    if len(lines) < 2:
+        said = _NOT_ENTER if text.endswith(("\r", "\n")) else ""
+        whole = replace(state, typed=typed.inserted("".join(lines)))
+        return Step(whole.saying(said))
+    front, back = typed.text[: typed.place], typed.text[typed.place :]
+    # a blank parts the first line from what it goes on
+    gap = " " if front and lines[0].startswith(" ") else ""
+    lines = [line.strip() for line in lines]
+    if not typed.purpose.is_print:
+        said = f"The {len(lines)} pasted lines were joined."
+        joined = replace(state, typed=typed.inserted(" ".join(lines)))
+        return Step(joined.saying(said))
+    lines[0] = front + gap + lines[0]
+    lines[-1] += back
+    return Step(replace(state, question=about_lines(typed.purpose, lines)))
+
+
+def about_lines(purpose: Purpose, lines: Sequence[str]) -> Question:
+    """Whether lines that were pasted are paragraphs."""
+    count = len(lines)
+    asked = f"Are they {count} paragraphs?"
+    if purpose is Purpose.EDIT:
+        others = "the other" if count == 2 else f"the other {count - 1}"
+        asked = (
+            f"Shall the first go on in this paragraph, and {others} be new after it? If"
+            " not, they are joined."
+        )
+    return Question(f"The pasted text has {count} lines. {asked}", tuple(lines))
+
+
+def _is_cut(text: str) -> bool:
+    """Whether it came in bytes that aren't UTF-8."""
+    return any("\ud800" <= each <= "\udfff" for each in text)
+
+
+def _answered(state: State, question: Question, key: str) -> Step:
+    if question.yes is not None:
+        return _about_errand(state, question, question.yes, key)
+    state = replace(state, question=None)
+    if question.draft is not None:
+        return _about_text(state, question, question.draft, key)
+    if key not in ("y", "n", "escape"):
+        return Step(replace(state, question=question).saying(_NO_ANSWER))
+    if key == "escape":
+        return Step(replace(state, question=question), GiveUp())
+    assert state.typed is not None
+    if key == "y":
+        for line in question.lines:
+            refused = control_refused(line.encode())
+            if refused:
+                return Step(replace(state, question=question).saying(refused))
+        return Step(state, TypeAll(state.typed.purpose, question.lines))
+    joined = replace(state, question=question).joined
+    return Step(replace(state, typed=joined))
+
+
+def _about_errand(
+    state: State, question: Question, action: ImportFrom | TakeBack, key: str
+) -> Step:
+    """An earlier import of a text goes on or is done again; or what keys did is taken back."""
+    answered = replace(state, question=None)
+    if key == "y":
+        return Step(answered, action)
+    if key == "n" and question.no:
+        return Step(answered, question.no)
+    if question.no and key in ("l", "escape"):
+        return Step(answered.saying(_ASKED_LATER))
+    if key in ("n", "escape"):
+        done = "taken back" if isinstance(action, TakeBack) else "typed"
+        return Step(answered.saying(f"Nothing was {done}."))
+    return Step(state.saying(_NO_ANSWER))
+
+
+def _about_text(state: State, question: Question, draft: Field, key: str) -> Step:
+    """A text that waits or was given up: it is typed further, given up, or left for later."""
+    asked = replace(state, question=question)
+    if key == "y":
+        return _taken_up(asked, draft)
+    actions: dict[str, Action] = {"n": GiveUp(), "l": PutOff()}
+    if question.older is None and key in actions:
+        return Step(asked, actions[key])
+    if question.older is not None and key == "U":
+        return Step(asked, BringBack(question.older))
+    if question.older is not None and key in ("n", "escape"):
+        return Step(replace(state, anchor=None).saying(_STAYS_GIVEN_UP))
+    return Step(asked.saying(_NO_ANSWER))
+
+
+def _taken_up(asked: State, draft: Field) -> Step:
+    """A text that waits or was given up is typed further."""
+    table = _table_of_new(asked)
+    if draft.purpose is not Purpose.EDIT:
+        table = asked.table or table
+    if draft.purpose.is_new and table is None:
+        return Step(asked.saying(_no_table(asked)))
+    state = replace(asked, question=None, table=table)
+    lines = draft.text.split("\n")
+    if len(lines) == 1:
+        return Step(replace(state, typed=draft))
+    typed = Field(draft.purpose)
+    return Step(replace(state, typed=typed, question=about_lines(typed.purpose, lines)))
+
+
+def _looking(state: State, pages: Pages, key: str) -> State:
+    moved = pager.moved(pages, state.size, key)
+    if moved == pages:
+        return state.saying("There are no more lines that way.")
+    if moved is not None:
+        return replace(state, pages=moved)
+    if state.is_lost:
+        return state
+    if key in ("escape", "q", "enter"):
+        return replace(state, pages=None)
+    return state.saying("That key does nothing here. Escape goes back.")
+
+
+def _typing(state: State, typed: Field, key: str) -> Step:
+    if key == "escape" and draft_of(state) is not None:
+        return Step(state, GiveUp())
+    if key == "escape":
+        said = "Given up. Nothing was sent."
+        return Step(replace(state, typed=None, preview=None).saying(said))
+    if key == "enter":
+        refused = control_refused(typed.text.encode())
+        return Step(state.saying(refused)) if refused else entered(state, typed)
+    if key == "c-y":
+        return Step(_put_back(state, typed))
+    cut = typed.cut(key)
+    if cut is not None:
+        return Step(_cut_out(state, cut))
+    moved = typed.moved(key)
+    if moved is not None:
+        return Step(replace(state, typed=moved))
+    if len(key) == 1 and (key >= " " and not "\x7f" <= key < "\xa0"):
+        return Step(replace(state, typed=typed.inserted(key)))
+    return Step(state.saying(_NOTHING_WHILE_TYPING))
+
+
+def _cut_out(state: State, cut: Cut) -> State:
+    """The state with words cut out; those cut one after the other are put back together."""
+    if not cut.text:
+        return state.saying("There is nothing to cut there.")
+    before = state.cut.text if state.cut and state.cut.field == state.typed else ""
+    text = cut.text + before if cut.is_back else before + cut.text
+    state = replace(state, typed=cut.field, cut=replace(cut, text=text))
+    return state.saying(f"{quoted(text)} was cut. Ctrl-Y puts it in.")
+
+
+def _put_back(state: State, typed: Field) -> State:
+    if state.cut is None:
+        return state.saying("Nothing was cut yet, so nothing was put in.")
+    return replace(state, typed=typed.inserted(state.cut.text))
+
+
+def entered(state: State, typed: Field) -> Step:
+    """What a text asks for when Enter ends it. Print stays on the screen until it is kept."""
+    match typed.purpose:
+        case Purpose.EDIT:
+            return _corrected(state, typed)
+        case Purpose.AFTER | Purpose.BEFORE if typed.text.strip():
+            table = state.table
+            assert table is not None
+            command = requests.Type(after(state, typed), table, typed.text)
+            return Step(state, replace(command, expect=state.version))
+        case Purpose.NOTE:
+            return _marked(state, typed.text)
+    state = replace(state, typed=None, preview=None)
+    # blanks may be looked for
+    is_looked_for = typed.purpose is Purpose.WORDS and typed.text
+    if not (typed.text.strip() or is_looked_for):
+        return Step(state.saying("Nothing was typed, so nothing was done."))
+    return _answering(state, typed)
+
+
+def _answering(state: State, typed: Field) -> Step:
+    match typed.purpose:
+        case Purpose.NUMBER:
+            return Step(_at_number(state, typed.text.strip()))
+        case Purpose.TABLE:
+            return Step(state, GiveTable(typed.text.strip()))
+        case Purpose.WORDS:
+            return Step(replace(state, sought=typed.text), ToFound(typed.text))
+        case Purpose.SIZE:
+            return Step(_with_sheet(state, typed))
+        case Purpose.FOLDER:
+            return Step(state, ExportTo(typed_path(typed.text), state.page_size))
+    place: After = state.paragraph.id if state.paragraph else "end"
+    return Step(state, ImportFrom(typed_path(typed.text), place, state.table))
+
+
+def after(state: State, typed: Field) -> After:
+    """Where a new paragraph goes."""
+    if state.paragraph is None:
+        return "end"
+    if typed.purpose is Purpose.AFTER:
+        return state.paragraph.id
+    return state.book[state.chosen - 1].id if state.chosen else "front"
+
+
+def print_of(state: State, typed: Field) -> str:
+    """The print that what is typed will be: what is new in normal form C, as the book keeps it."""
+    if typed.purpose is not Purpose.EDIT or state.reading is None:
+        return composed(typed.text)
+    old = state.reading.text
+    least = smallest_correction(old, typed.text)
+    if least is None:
+        return old
+    return replaced(old, least.start, least.stop, least.text)
+
+
+def _corrected(state: State, typed: Field) -> Step:
+    assert state.reading is not None
+    least = smallest_correction(state.reading.text, print_of(state, typed))
+    if least is None:
+        said = "The print reads as before, so nothing was sent."
+        return Step(replace(state, typed=None, preview=None).saying(said))
+    number, by = state.reading.paragraph.id, state.by
+    span = (number, least.start, least.count, least.text)
+    if by is None:
+        return Step(state, requests.Correct(*span, expect=state.version))
+    return Step(state, requests.CorrectBy(*span, who=by, expect=state.version))
+
+
+def _marked(state: State, note: str) -> Step:
+    cells = state.chosen_cells
+    assert cells is not None and state.paragraph is not None
+    count = cells.stop - cells.start
+    command = requests.Mark(state.paragraph.id, cells.start, count, note)
+    return Step(state, replace(command, expect=state.version))
+
+
+def _at_number(state: State, word: str) -> State:
+    for place, paragraph in enumerate(state.book):
+        if str(paragraph.id) == word:
+            return state.at(place)
+    return state.saying(f"There is no paragraph {word}. The cursor stays where it is.")
+
+
+def _with_sheet(state: State, typed: Field) -> State:
+    """The size of pages that was typed, or what is wrong with it, to be typed further."""
+    try:
+        state = replace(state, page_size=typed_page_size(typed.text))
+    except NoSize as fault:
+        return replace(state, typed=typed).saying(fault.sentence)
+    return state.saying(f"Pages of {described(state.page_size)}, for p and x.")
+
+
+def _size(state: State) -> Step:
+    text = f"{state.page_size.width} {state.page_size.lines}"
+    return Step(replace(state, typed=Field(Purpose.SIZE, text, len(text))))
+
+
+def _folder(state: State) -> Step:
+    said = f"Pages of {described(state.page_size)}. Escape, then w, changes it."
+    return Step(replace(state, typed=Field(Purpose.FOLDER)).saying(said))
+
+
+def _typed_for(purpose: Purpose, said: str = "") -> Callable[[State], Step]:
+    return lambda state: Step(replace(state, typed=Field(purpose)).saying(said))
+
+
+def _edit(state: State) -> Step:
+    paragraph, reading = _chosen(state), state.reading
+    if paragraph.struck:
+        return _refused_as_struck(state, "edited")
+    assert reading is not None
+    place = state.place if state.pane is Pane.PRINT else _lit_start(state)
+    typed = Field(Purpose.EDIT, reading.text, place)
+    return Step(replace(state, table=paragraph.table, typed=typed))
+
+
+def _refused_as_struck(state: State, what: str) -> Step:
+    number = _chosen(state).id
+    said = f"Paragraph {number} is struck. s restores it, and then it can be {what}."
+    return Step(state.saying(said))
+
+
+def _table(state: State) -> Step:
+    """Asks for a table, which a struck paragraph isn't given."""
+    if state.paragraph is not None and state.paragraph.struck:
+        return _refused_as_struck(state, "given a table")
+    return Step(replace(state, typed=Field(Purpose.TABLE)).saying(_OF_TABLE))
+
+
+def _lit_start(state: State) -> int:
+    return state.highlighted.words.start if state.highlighted else 0
+
+
+def _new(purpose: Purpose, said: str = "") -> Callable[[State], Step]:
+    """Types what is new by the table of the chosen paragraph, or of the book, if that is known."""
+
+    def typed(state: State) -> Step:
+        table = _table_of_new(state)
+        if table is None:
+            return Step(state.saying(_no_table(state)))
+        state = replace(state, table=table, typed=Field(purpose))
+        return Step(state.saying(said))
+
+    return typed
+
+
+def _table_of_new(state: State) -> str | None:
+    """The table of a new paragraph, where there is no doubt about it."""
+    if state.paragraph is not None:
+        return state.paragraph.table
+    only = state.tables[0] if len(state.tables) == 1 else None
+    return state.table or only
+
+
+def _no_table(state: State) -> str:
+    names = ", ".join(state.tables)
+    what = f"has the tables {names}" if names else "has no table yet"
+    return f"The book {what}. t chooses one."
+
+
+def _moved(by: int) -> Callable[[State], Step]:
+    return lambda state: _to_paragraph(state, state.chosen + by)
+
+
+def _paged(by: int) -> Callable[[State], Step]:
+    return lambda state: _to_paragraph(state, state.chosen + by * state.list_lines)
+
+
+def _to_paragraph(state: State, place: int) -> Step:
+    """To the paragraph at a place of the book, or to the last one before that place."""
+    within = max(0, min(place, len(state.book) - 1))
+    if within == state.chosen != place:
+        return Step(state.saying(_no_further(place < 0)))
+    return Step(state.at(within))
+
+
+def _to_end_of_book(state: State, is_back: bool) -> Step:
+    moved = state.at(0 if is_back else len(state.book))
+    if (moved.chosen, moved.place) == (state.chosen, state.place):
+        return Step(state.saying(_no_further(is_back)))
+    return Step(moved)
+
+
+def _no_further(is_back: bool) -> str:
+    return f"It is the {'first' if is_back else 'last'} paragraph of the book."
+
+
+def _placed(state: State, place: int, is_back: bool) -> Step:
+    """The cursor at a place of the paragraph, or what is said where it stands there already."""
+    if place != state.place:
+        return Step(replace(state, place=place, highlighted=None))
+    where = "front" if is_back else "end"
+    said = f"This is the {where} of the paragraph."
+    return Step(state.saying(said if _text(state) else "The paragraph is empty."))
+
+
+def _along(state: State, is_back: bool) -> Step:
+    """To the character or the cell beside; cells are single, and characters are sequences."""
+    text = _text(state)
+    places = seams(text) if state.pane is Pane.PRINT else list(range(len(text)))
+    others = [n for n in places if n < len(text)]
+    nearer = [n for n in others if (n < state.place if is_back else n > state.place)]
+    place = (max(nearer) if is_back else min(nearer)) if nearer else state.place
+    return _placed(state, place, is_back)
+
+
+def _to_end(state: State, is_back: bool) -> Step:
+    text = _text(state)
+    last = seams(text)[-2] if text and state.pane is Pane.PRINT else len(text) - 1
+    return _placed(state, 0 if is_back else max(0, last), is_back)
+
+
+def _by_word(state: State, is_back: bool) -> Step:
+    text = _text(state).replace("\u2800", " ")
+    if state.anchor is not None and state.pane is Pane.CELLS and not is_back:
+        return _placed(state, _word_end(text, state.place), is_back)
+    moved = Field(Purpose.EDIT, text, state.place).moved(
+        "c-left" if is_back else "c-right"
+    )
+    assert moved is not None
+    return _placed(state, min(moved.place, max(0, len(text) - 1)), is_back)
+
+
+def _word_end(text: str, place: int) -> int:
+    """The last place of the word, or of the next one where this is the last place already."""
+    rest = text[place + 1 :]
+    if not rest.strip(" "):
+        return place
+    stop = text.find(" ", place + 1 + len(rest) - len(rest.lstrip(" ")))
+    return (len(text) if stop < 0 else stop) - 1
+
+
+def _text(state: State) -> str:
+    if state.reading is None:
+        return ""
+    return state.reading.text if state.pane is Pane.PRINT else state.reading.braille
+
+
+def _other_pane(state: State) -> Step:
+    pane = Pane.CELLS if state.pane is Pane.PRINT else Pane.PRINT
+    place = 0
+    if state.highlighted:
+        highlighted = (
+            state.highlighted.cells if pane is Pane.CELLS else state.highlighted.words
+        )
+        place = highlighted.start
+    return Step(replace(state, pane=pane, place=place, anchor=None, highlighted=None))
+
+
+def _choose_cells(state: State) -> Step:
+    if state.pane is Pane.PRINT:
+        state = _other_pane(state).state
+        return Step(replace(state, anchor=state.place))
+    if state.anchor is not None:
+        return Step(replace(state, anchor=None))
+    return Step(replace(state, anchor=state.place))
+
+
+def _mark(state: State) -> Step:
+    if _chosen(state).struck:
+        return _refused_as_struck(state, "marked")
+    cells = state.chosen_cells
+    if cells is None or cells.stop <= cells.start:
+        return Step(state.saying("There is no cell here that a mark could stand on."))
+    return Step(replace(state, typed=Field(Purpose.NOTE)).saying(_OF_MARK))
+
+
+def _resolve(state: State) -> Step:
+    for mark in state.marks_here:
+        if not mark.resolved:
+            return Step(state, requests.Resolve(mark.id, expect=state.version))
+    return Step(state.saying("There is no open mark here. n looks for the next one."))
+
+
+def _chosen(state: State) -> Paragraph:
+    assert state.paragraph is not None
+    return state.paragraph
+
+
+def _take_back(state: State) -> Step:
+    """What a key last did is taken back; where keys did nothing, the newest correction is."""
+    if not state.deeds:
+        return Step(state, requests.Undo(_chosen(state).id, expect=state.version))
+    *earlier, deed = state.deeds
+    if not deed.back:
+        said = f"The book has no way back from this: {deed.what}."
+        if earlier:
+            said += f" u again takes back that {earlier[-1].what}."
+        return Step(replace(state, deeds=tuple(earlier)).saying(said))
+    if len(deed.back) == 1:
+        return Step(state, TakeBack())
+    sentence = f"The last key did this: {deed.what}. Shall all of it be taken back?"
+    return Step(replace(state, question=Question(sentence, yes=TakeBack())))
+
+
+def _bring_back(state: State) -> Step:
+    return Step(state, BringBack())
+
+
+def _strike(state: State) -> Step:
+    its = _chosen(state)
+    request = requests.Restore if its.struck else requests.Strike
+    return Step(state, request(its.id, expect=state.version))
+
+
+def _style(state: State) -> Step:
+    its = _chosen(state)
+    other = Style.BODY if its.style is Style.HEADING else Style.HEADING
+    return Step(state, requests.Style(its.id, other, expect=state.version))
+
+
+def _volume(state: State) -> Step:
+    its = _chosen(state)
+    begins = not its.begins_volume
+    return Step(state, requests.Volume(its.id, begins, expect=state.version))
+
+
+def _carried(by: int) -> Callable[[State], Step]:
+    """Moves the paragraph one place up or down."""
+
+    def moved(state: State) -> Step:
+        place = state.chosen + by
+        if not 0 <= place < len(state.book):
+            return Step(state.saying(_no_further(by < 0)))
+        before = place - 1 if by < 0 else place
+        where_to: After = state.book[before].id if before >= 0 else "front"
+        number = _chosen(state).id
+        return Step(state, requests.Move(number, where_to, expect=state.version))
+
+    return moved
+
+
+def _again(state: State) -> Step:
+    if not state.sought:
+        return Step(state.saying("Nothing was looked for yet: / asks for it."))
+    return Step(state, ToFound(state.sought, True))
+
+
+def _ascii(state: State) -> Step:
+    return Step(replace(state, is_ascii=not state.is_ascii))
+
+
+def _help(state: State) -> Step:
+    return Step(replace(state, pages=Pages("All keys.", help_lines())))
+
+
+def help_lines() -> tuple[str, ...]:
+    """A line for each key."""
+    seen: dict[str, list[str]] = {}
+    for key, bound in KEYS.items():
+        seen.setdefault(bound.says, []).append(NAMES.get(key, key))
+    lines = (f"{', '.join(keys)}: {says}" for says, keys in seen.items())
+    return (*lines, *WHILE_TYPING)
+
+
+@dataclass(frozen=True)
+class Bound:
+    """What a key does, and what is said of it."""
+
+    says: str
+    does: Callable[[State], Step]
+    needs_paragraph: bool = True
+
+
+WHILE_TYPING = (
+    "While typing, Home, Ctrl-A, End, Ctrl-E: to the front and the end of the line",
+    "While typing, Ctrl-Left, Alt-B, Ctrl-Right, Alt-F: by words",
+    "While typing, Ctrl-W, Alt-Backspace, Alt-D: cut a word before, a word after",
+    "While typing, Ctrl-U, Ctrl-K: cut to the front, to the end",
+    "While typing, Ctrl-Y: puts in what was cut",
+)
+NAMES = {
+    "up": "Up",
+    "down": "Down",
+    "left": "Left",
+    "right": "Right",
+    "c-left": "Ctrl-Left",
+    "c-right": "Ctrl-Right",
+    "home": "Home",
+    "end": "End",
+    "c-home": "Ctrl-Home",
+    "c-end": "Ctrl-End",
+    "pageup": "Page Up",
+    "pagedown": "Page Down",
+    "a-up": "Alt-Up",
+    "a-down": "Alt-Down",
+    "enter": "Enter",
+    "tab": "Tab",
+    " ": "Space",
+}
+KEYS = {
+    "up": Bound("to the paragraph before", _moved(-1)),
+    "down": Bound("to the paragraph after", _moved(1)),
+    "left": Bound("to the character or cell before", lambda s: _along(s, True)),
+    "right": Bound("to the character or cell after", lambda s: _along(s, False)),
+    "c-left": Bound("to the word before", lambda s: _by_word(s, True)),
+    "c-right": Bound(
+        "to the word after; in a choice of cells, to the end of a word",
+        lambda s: _by_word(s, False),
+    ),
+    "home": Bound("to the front of the paragraph", lambda s: _to_end(s, True)),
+    "end": Bound("to the end of the paragraph", lambda s: _to_end(s, False)),
+    "pageup": Bound("a list of paragraphs back", _paged(-1)),
+    "pagedown": Bound("a list of paragraphs on", _paged(1)),
+    "c-home": Bound("to the first paragraph", lambda s: _to_end_of_book(s, True)),
+    "c-end": Bound("to the last paragraph", lambda s: _to_end_of_book(s, False)),
+    "g": Bound("goes to a paragraph by its number", _typed_for(Purpose.NUMBER)),
+    "tab": Bound("from the print to the cells, and back", _other_pane),
+    "a": Bound("cells in Braille ASCII, or as Unicode characters", _ascii, False),
+    "enter": Bound("edits the print; Enter keeps it, Escape doesn't", _edit),
+    "o": Bound("a new paragraph after this one", _new(Purpose.AFTER), False),
+    "O": Bound("a new paragraph before this one", _new(Purpose.BEFORE), False),
+    "u": Bound("takes back what a key last did, or the newest correction", _take_back),
+    "U": Bound("brings back a text that was given up", _bring_back, False),
+    "h": Bound("the history of the paragraph", lambda s: Step(s, ShowHistory())),
+    " ": Bound("begins or ends a choice of cells, for m", _choose_cells),
+    "m": Bound("puts a mark on the cells, with a note", _mark),
+    "n": Bound("to the next open mark", lambda s: Step(s, ToMark(False))),
+    "N": Bound("to the open mark before", lambda s: Step(s, ToMark(True))),
+    "r": Bound("says that the mark shown first is dealt with", _resolve),
+    "s": Bound("strikes the paragraph, or restores it", _strike),
+    "b": Bound("makes it a heading, or body text", _style),
+    "v": Bound("has it begin a volume, or not", _volume),
+    "t": Bound("gives it a table", _table, False),
+    "a-up": Bound("moves the paragraph up", _carried(-1)),
+    "a-down": Bound("moves the paragraph down", _carried(1)),
+    "/": Bound("finds words, or cells while on the cells", _typed_for(Purpose.WORDS)),
+    "*": Bound("finds the same again", _again),
+    "p": Bound("the page on which these words stand", lambda s: Step(s, ShowPage())),
+    "w": Bound("the size of pages, for p and x", _size, False),
+    "x": Bound("exports all volumes to a folder", _folder),
+    "i": Bound("imports a text file", _new(Purpose.TEXT_FILE, _OF_IMPORT), False),
+    "?": Bound("shows all keys", _help, False),
+    "q": Bound(
+        "ends; all that was kept is in the book", lambda s: Step(s, Quit()), False
+    ),
+}

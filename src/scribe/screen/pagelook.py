@@ -1,0 +1,141 @@
+"""The page of a volume on which the cursor's words stand, as it will be embossed."""
+
+from collections.abc import Callable, Sequence
+from dataclasses import dataclass, replace
+
+from braildesk import Paragraph, Session
+from braildesk.desk.layout import Layout, PageSize, Placed, Section, placed, spans_of
+from braildesk.desk.volumes import parted, sections
+from braildesk.text.cells import braille_ascii
+
+from scribe.screen.state import State
+from scribe.words.page_size import described
+
+# a volume of so many characters is laid out in a moment
+_MANY = 250_000
+# after how many paragraphs it is said how far the layout has come
+_PACE = 2_000
+
+
+@dataclass(frozen=True)
+class Page:
+    """Where the cursor's words stand, and the lines of their page in Braille ASCII.
+
+    `line` is their line of the page, counted from 0.
+    """
+
+    title: str
+    lines: tuple[str, ...] = ()
+    line: int | None = None
+
+
+@dataclass(frozen=True)
+class Sought:
+    """A paragraph, a cell of it, and what stands there in words."""
+
+    paragraph: Paragraph
+    cell: int
+    says: str
+
+
+@dataclass(frozen=True)
+class Volume:
+    """A volume of a version of a book, and the lines on which each of its paragraphs stands.
+
+    Lines are counted from 0 through all its pages. There is a fault where it can have no pages.
+    """
+
+    version: int
+    page_size: PageSize
+    number: int
+    paragraphs: Sequence[Paragraph]
+    lines: Sequence[range] = ()
+    fault: str = ""
+
+    def is_of(self, other: "Volume") -> bool:
+        """Whether it is the same volume of the same version, on pages of the same size."""
+        return (self.version, self.page_size, self.number) == (
+            other.version,
+            other.page_size,
+            other.number,
+        )
+
+    @property
+    def is_long(self) -> bool:
+        """Whether it takes a while to lay it out."""
+        return sum(each.length for each in self.paragraphs) > _MANY
+
+
+def volume_of(state: State, its: Paragraph) -> Volume | None:
+    """The volume of a paragraph, which isn't laid out yet; none for one that is struck."""
+    for number, part in enumerate(parted(state.book), 1):
+        if its in part:
+            return Volume(state.version, state.page_size, number, part)
+    return None
+
+
+def laid_out(
+    session: Session, volume: Volume, report: Callable[[int, int], None]
+) -> Volume:
+    """A volume with the lines of its paragraphs. Nothing else of their braille is kept."""
+    count = len(volume.paragraphs)
+    lines: list[range] = []
+    for each in placed(sections(session, volume.paragraphs), volume.page_size):
+        fault = _not_for_pages(volume.number, each.section)
+        if fault:
+            return replace(volume, fault=fault)
+        lines.append(each.lines)
+        if len(lines) % _PACE == 0:
+            report(len(lines), count)
+    return replace(volume, lines=lines)
+
+
+def page_of(session: Session, volume: Volume, sought: Sought) -> Page:
+    """The page of a volume that is laid out on which a cell of a paragraph stands."""
+    if volume.fault:
+        return Page(volume.fault)
+    its, page_size = sought.paragraph, volume.page_size
+    lines = volume.lines[volume.paragraphs.index(its)]
+    if not lines:
+        return Page(f"Paragraph {its.id} has no words, and takes no line.")
+    (section,) = sections(session, [its])
+    # an empty cell at which a line is broken stands on none: what is before it does
+    before = sum(
+        start <= sought.cell for start, _ in spans_of(section, page_size.width)
+    )
+    page, line = divmod(lines[max(0, before - 1)], page_size.text_lines)
+    title = (
+        f"Paragraph {its.id}, {sought.says}: volume {volume.number}, page {page + 1}, line"
+        f" {line + 1}, of {described(page_size)}."
+    )
+    return Page(title, tuple(_lines_of(session, volume, page)), line)
+
+
+def _lines_of(session: Session, volume: Volume, page: int) -> list[str]:
+    """The lines of a page, counted from 0, by the braille of its paragraphs alone."""
+    first = page * volume.page_size.text_lines
+    last = first + volume.page_size.text_lines
+    there = {
+        each.id: lines
+        for each, lines in zip(volume.paragraphs, volume.lines)
+        if lines and lines.start < last and lines.stop > first
+    }
+    chosen = [each for each in volume.paragraphs if each.id in there]
+    found = [
+        Placed(each, there[each.paragraph], spans_of(each, volume.page_size.width))
+        for each in sections(session, chosen)
+    ]
+    return Layout(volume.page_size, tuple(found)).page(page + 1)
+
+
+def _not_for_pages(volume: int, section: Section) -> str:
+    """Why a volume has no pages: a cell that isn't in Braille ASCII; nothing where it has them."""
+    letters = braille_ascii(section.braille)
+    if letters.isascii():
+        return ""
+    place = next(n for n, letter in enumerate(letters) if not letter.isascii())
+    return (
+        f"Cell {place + 1:,} of paragraph {section.paragraph} has dot 7 or 8, which pages for"
+        f" embossers can't have, so volume {volume} has none. Correct the table of that"
+        " paragraph."
+    )

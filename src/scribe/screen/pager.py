@@ -1,0 +1,95 @@
+"""Lines that are looked at in place of the book, as many at once as there is room for."""
+
+from dataclasses import dataclass, replace
+from functools import lru_cache
+
+from braildesk.text.characters import visible
+from braildesk.text.wrapping import wrap
+
+from scribe.screen.state import HEAD_LINE, Pages, Size
+
+# the lines of the screen that aren't the pager's: the first has the book's name, the last keys
+OTHERS = 2
+
+
+@dataclass(frozen=True)
+class Seen:
+    """What is seen of the lines: what they are, those that there is room for, and the cursor.
+
+    The cursor stands on one of all these lines, counted from 0.
+    """
+
+    head: tuple[str, ...]
+    lines: tuple[str, ...]
+    cursor: int
+
+
+def seen(pages: Pages, size: Size) -> Seen:
+    """What is seen of the lines on a screen of a size."""
+    lines, most = _wrapped(pages, size), _most(pages, size)
+    top = max(0, min(pages.top, len(lines) - most))
+    shown = lines[top : top + most]
+    head = f"{pages.title} Lines {top + 1} to {top + len(shown)} of {len(lines)}."
+    wrapped = tuple(wrap(visible(head), size.columns))
+    is_seen = top <= pages.place < top + len(shown)
+    return Seen(wrapped, shown, len(wrapped) + pages.place - top if is_seen else 0)
+
+
+def at_line(pages: Pages, size: Size, number: int) -> Pages:
+    """The lines with the cursor on one of them, counted from 0, which is seen."""
+    before = replace(pages, lines=pages.lines[:number])
+    return _at(pages, size, len(_wrapped(before, size)))
+
+
+def fitted(pages: Pages, size: Size) -> Pages:
+    """The lines with that of the cursor still seen on a screen of another size."""
+    return _at(pages, size, pages.place) if pages.place != HEAD_LINE else pages
+
+
+def moved(pages: Pages, size: Size, key: str) -> Pages | None:
+    """The lines after a key that moves the cursor, or None for another key."""
+    last, most = len(_wrapped(pages, size)) - 1, _most(pages, size)
+    match key:
+        case "up":
+            return _at(pages, size, pages.place - 1)
+        case "down":
+            return _at(pages, size, pages.place + 1)
+        case "home" | "c-home":
+            return _at(pages, size, HEAD_LINE)
+        case "end" | "c-end":
+            return _at(pages, size, last)
+        case "pageup" | "pagedown":
+            by = most if key == "pagedown" else -most
+            top = max(0, min(pages.top + by, last + 1 - most))
+            # where there is nothing further to see, the cursor goes to the end of it
+            place = top if top != pages.top else last if by > 0 else HEAD_LINE
+            return replace(pages, top=top, place=place)
+    return None
+
+
+def _at(pages: Pages, size: Size, place: int) -> Pages:
+    """The lines with the cursor on one of those that stand on the screen, which is seen."""
+    last, most = len(_wrapped(pages, size)) - 1, _most(pages, size)
+    place = max(HEAD_LINE, min(place, last))
+    top = max(min(pages.top, max(0, place)), place - most + 1)
+    return replace(pages, top=max(0, min(top, last + 1 - most)), place=place)
+
+
+def _wrapped(pages: Pages, size: Size) -> tuple[str, ...]:
+    """All lines, parted where they are longer than the screen."""
+    return _parted(pages.lines, size.columns)
+
+
+# each key looks at the same lines again, which may be thousands
+@lru_cache(maxsize=2)
+def _parted(lines: tuple[str, ...], width: int) -> tuple[str, ...]:
+    return tuple(part for line in lines for part in wrap(visible(line), width))
+
+
+def _most(pages: Pages, size: Size) -> int:
+    """How many lines there is room for beside the longest head that they can have."""
+    count = len(_wrapped(pages, size))
+    head = wrap(
+        f"{visible(pages.title)} Lines {count} to {count} of {count}.", size.columns
+    )
+    return max(1, size.lines - OTHERS - len(head))

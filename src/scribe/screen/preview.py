@@ -1,0 +1,66 @@
+"""The braille of print that isn't in the book yet, by `braildesk translate`."""
+
+from collections.abc import Sequence
+
+from braildesk import DeskError, Refused, Table, Undefined, translate
+from braildesk.text.characters import around, named
+from braildesk.text.sequences import composed
+
+from scribe.screen.state import Preview
+
+# the name by which the program calls its own table
+_SUPPLIED = "@en"
+
+
+class Tables:
+    """The texts of the book's tables, as they were before the session began and as sent since."""
+
+    def __init__(self) -> None:
+        #: Each by its name; the supplied table has no text of its own.
+        self._tables: dict[str, Table | None] = {}
+
+    @property
+    def names(self) -> tuple[str, ...]:
+        """The names of the tables."""
+        return tuple(sorted(self._tables))
+
+    def put(self, name: str, text: bytes | None) -> None:
+        """Keeps the text of a table; None is the supplied one."""
+        self._tables[name] = None if text is None else Table(name, text)
+
+    def preview(self, name: str, typed: str, text: str) -> Preview:
+        """The braille of a print, for what is typed; or the first character that is lacking."""
+        try:
+            (answer,) = self._answers(name, [text])
+        except DeskError as failed:
+            return Preview(typed, fault=f"There is no preview. {failed}")
+        if not isinstance(answer, Refused):
+            return Preview(typed, answer)
+        return Preview(typed, fault=_fault(name, text, answer))
+
+    def first_fault(self, name: str, lines: Sequence[str]) -> str:
+        """Why one of several prints would be refused, with its line; nothing where none would."""
+        texts = list(map(composed, lines))
+        try:
+            found = self._answers(name, texts)
+        except DeskError:
+            # each line is checked again when it is sent
+            return ""
+        for number, (text, answer) in enumerate(zip(texts, found), 1):
+            if isinstance(answer, Refused):
+                return f"Line {number:,}: {_fault(name, text, answer)}"
+        return ""
+
+    def _answers(self, name: str, texts: Sequence[str]) -> list[str | Refused]:
+        return translate(self._tables[name] or _SUPPLIED, texts)
+
+
+def _fault(name: str, text: str, refused: Refused) -> str:
+    """Why a print is refused, with the place of the character that its table lacks first."""
+    place = refused.place
+    if not isinstance(refused, Undefined) or place is None:
+        return refused.sentence
+    return (
+        f"Character {place + 1:,}, in {around(text, place)}: the table {name} has no cells for"
+        f" {named(text[place])}."
+    )

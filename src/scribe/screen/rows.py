@@ -1,0 +1,53 @@
+"""Which places of a text stand on which line of a width."""
+
+from functools import lru_cache
+
+from braildesk.text.cells import BLANKS
+from braildesk.text.characters import visible
+from braildesk.text.sequences import seams
+from braildesk.text.spans import Span
+from braildesk.text.wrapping import columns
+
+
+def shown(character: str) -> str:
+    """What stands on the screen for a character: a tab is a blank there."""
+    return " " if character == "\t" else visible(character)
+
+
+def rows(text: str, width: int) -> list[Span]:
+    """The places on each line, all of them, broken after blanks; at least one line.
+
+    The last column is left free for a blank at which a line is broken, and for the place after the
+    text. A word that is longer than a line is cut, and no combining sequence is.
+    """
+    room = max(1, width - 1)
+    found: list[Span] = []
+    start = broken = taken = since = 0
+    places = seams(text)
+    for place, stop in zip(places, places[1:]):
+        size = sum(map(_size, text[place:stop]))
+        is_blank = text[place] in BLANKS
+        if taken + size > room and place > start and not (is_blank and taken <= room):
+            if broken <= start:
+                broken, since = place, taken
+            found.append(Span(start, broken))
+            start, taken = broken, taken - since
+            since = 0
+        taken += size
+        if is_blank:
+            broken, since = stop, taken
+    return [*found, Span(start, len(text))]
+
+
+# a long text is parted again at each key
+@lru_cache(maxsize=4096)
+def _size(character: str) -> int:
+    return columns(shown(character))
+
+
+def row_of(lines: list[Span], place: int) -> int:
+    """The line on which a place stands; the last one for the place after the text."""
+    for number, line in enumerate(lines):
+        if place < line.stop:
+            return number
+    return len(lines) - 1

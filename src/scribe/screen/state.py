@@ -1,0 +1,260 @@
+"""What the screen knows: all that is drawn, and all by which a key is understood."""
+
+from collections.abc import Mapping
+from dataclasses import dataclass, field, replace
+from enum import Enum, auto
+
+from braildesk import Mark, Paragraph, limits
+from braildesk.desk.layout import PageSize
+from braildesk.desk.readings import ParagraphReading
+from braildesk.text.spans import Span
+
+from scribe.screen.actions import ExportTo, ImportFrom, LeaveImport, ShowPage, TakeBack
+from scribe.screen.deeds import Deed
+from scribe.screen.field import Cut, Field
+
+
+class Pane(Enum):
+    """What the cursor stands on."""
+
+    PRINT = auto()
+    CELLS = auto()
+
+
+@dataclass(frozen=True)
+class Size:
+    """The size of the terminal."""
+
+    columns: int
+    lines: int
+
+
+@dataclass(frozen=True)
+class Opening:
+    """The first words of a listed paragraph, and how many of its marks are open."""
+
+    words: str
+    open_marks: int
+
+
+@dataclass(frozen=True)
+class Highlighted:
+    """The characters and the cells that belong to what the cursor stands on."""
+
+    words: Span
+    cells: Span
+
+
+@dataclass(frozen=True)
+class Preview:
+    """The braille of what is being typed, or why there is none."""
+
+    text: str
+    braille: str = ""
+    fault: str = ""
+
+
+@dataclass(frozen=True)
+class Question:
+    """What is asked before something is done: y is yes, n is no, and what else there is."""
+
+    sentence: str
+    lines: tuple[str, ...] = ()
+    draft: Field | None = None
+    #: What is done if the answer is yes, or no, where the question is about a text in a file or
+    #: about what is taken back.
+    yes: ImportFrom | TakeBack | None = None
+    no: LeaveImport | None = None
+    #: The place of the text that U asks about next, where this one was given up.
+    older: int | None = None
+    more: str = ""
+
+
+#: Where the cursor stands when it is on what is said above the lines that are looked at.
+HEAD_LINE = -1
+
+
+@dataclass(frozen=True)
+class Pages:
+    """Lines that are looked at in place of the book.
+
+    The top, and the place of the cursor, are lines as they stand on the screen, where a long one
+    takes several; they are counted from 0.
+    """
+
+    title: str
+    lines: tuple[str, ...]
+    top: int = 0
+    place: int = HEAD_LINE
+
+
+@dataclass(frozen=True)
+class InHand:
+    """The mark that is worked on: one that n or N went to, that was put, or that an edit began on.
+
+    It is in hand while the cursor stays where it was then, also where an edit took the cursor past
+    the words of the mark.
+    """
+
+    mark: int
+    paragraph: int
+    pane: Pane
+    place: int
+
+
+@dataclass(frozen=True)
+class State:
+    """What the screen knows."""
+
+    name: str
+    version: int
+    book: tuple[Paragraph, ...]
+    tables: tuple[str, ...]
+    size: Size
+    by: str | None = None
+    is_ascii: bool = False
+    #: The encoding of the terminal.
+    encoding: str = "utf-8"
+    #: The size of the pages that are looked at and exported.
+    page_size: PageSize = PageSize()
+    #: The place of the chosen paragraph in the book, and of the first that is listed.
+    chosen: int = 0
+    top: int = 0
+    pane: Pane = Pane.PRINT
+    #: The character, or the cell, on which the cursor stands, counted from 0.
+    place: int = 0
+    #: The cell at which a choice of cells began.
+    anchor: int | None = None
+    openings: Mapping[int, Opening] = field(default_factory=dict)
+    reading: ParagraphReading | None = None
+    #: The cells of the open marks of the paragraph.
+    marked_cells: tuple[Span, ...] = ()
+    highlighted: Highlighted | None = None
+    in_hand: InHand | None = None
+    typed: Field | None = None
+    #: What was last cut out of a text that is typed.
+    cut: Cut | None = None
+    preview: Preview | None = None
+    question: Question | None = None
+    pages: Pages | None = None
+    #: What was looked for last, and whether words that are only like it are found too.
+    sought: str = ""
+    finds_alike: bool = False
+    #: The table of a new paragraph where no paragraph is chosen.
+    table: str | None = None
+    #: What keys did in this session and didn't take back, the newest last.
+    deeds: tuple[Deed, ...] = ()
+    #: What has to be said, how many keys in a row said it, and what was last kept.
+    message: str = ""
+    times: int = 1
+    kept: str = ""
+    #: The session with the book ended by itself.
+    is_lost: bool = False
+    #: What is going on beside the screen.
+    away: ExportTo | ImportFrom | ShowPage | TakeBack | None = None
+    is_over: bool = False
+
+    @property
+    def paragraph(self) -> Paragraph | None:
+        """The chosen paragraph, none where the book is empty."""
+        return self.book[self.chosen] if self.book else None
+
+    @property
+    def joined(self) -> Field | None:
+        """What is typed: while something is asked about its lines, all of them joined."""
+        typed, question = self.typed, self.question
+        if typed is None or question is None or not question.lines:
+            return typed
+        text, after = " ".join(question.lines), len(typed.text) - typed.place
+        return replace(typed, text=text, place=len(text) - after)
+
+    @property
+    def shown(self) -> Field | None:
+        """What is typed as it is shown: lines that are asked about too, if they fit into a print."""
+        joined = self.joined
+        is_long = joined is not None and len(joined.text) > limits.PRINT_CHARACTERS
+        return self.typed if is_long else joined
+
+    @property
+    def list_lines(self) -> int:
+        """How many paragraphs are listed."""
+        return max(3, (self.size.lines - 6) // 3)
+
+    @property
+    def listed(self) -> tuple[Paragraph, ...]:
+        """The paragraphs that are listed."""
+        return self.book[self.top : self.top + self.list_lines]
+
+    @property
+    def chosen_cells(self) -> Span | None:
+        """The cells on which a mark would stand."""
+        if self.anchor is not None and self.pane is Pane.CELLS:
+            first, last = sorted((self.anchor, self.place))
+            return Span(first, last + 1)
+        return self.highlighted.cells if self.highlighted else None
+
+    @property
+    def mark_in_hand(self) -> Mark | None:
+        """The mark that is worked on, as long as the cursor hasn't moved since."""
+        held, reading = self.in_hand, self.reading
+        if held is None or reading is None:
+            return None
+        here = InHand(held.mark, reading.paragraph.id, self.pane, self.place)
+        if held != here:
+            return None
+        return next((mark for mark in reading.marks if mark.id == held.mark), None)
+
+    @property
+    def marks_here(self) -> tuple[Mark, ...]:
+        """The marks on the characters of the cursor, and the one in hand.
+
+        Open ones come first, and of those the one in hand: it is the first that r resolves.
+        """
+        if self.reading is None or self.highlighted is None:
+            return ()
+        held, words = self.mark_in_hand, self.highlighted.words
+        last = max(0, len(self.reading.text) - 1)
+        found = (
+            mark
+            for mark in self.reading.marks
+            if mark == held or _stands_on(mark, words, last)
+        )
+        return tuple(sorted(found, key=lambda mark: (mark.resolved, mark != held)))
+
+    @property
+    def marked_words(self) -> tuple[Span, ...]:
+        """The words of the open marks of the paragraph."""
+        marks = self.reading.marks if self.reading else ()
+        return tuple(Span(m.start, m.stop) for m in marks if not m.resolved)
+
+    @property
+    def heard(self) -> str:
+        """What has to be said, otherwise than before, so that it is drawn and spoken once more."""
+        again = {1: "", 2: "Again: "}.get(self.times, f"{self.times} times now: ")
+        return again + self.message
+
+    def after(self, before: "State") -> "State":
+        """The state after a key, which may have said the same as the one before it."""
+        is_again = self.message == before.message != ""
+        return replace(self, times=before.times + 1 if is_again else 1)
+
+    def saying(self, sentence: str) -> "State":
+        """The state with something to say."""
+        return replace(self, message=sentence)
+
+    def at(self, chosen: int, place: int = 0) -> "State":
+        """The state with another paragraph chosen, within the book, and listed."""
+        chosen = max(0, min(chosen, len(self.book) - 1))
+        top = min(self.top, chosen)
+        top = max(top, chosen - self.list_lines + 1)
+        top = max(0, min(top, len(self.book) - self.list_lines))
+        return replace(
+            self, chosen=chosen, top=top, place=place, anchor=None, highlighted=None
+        )
+
+
+def _stands_on(mark: Mark, words: Span, last: int) -> bool:
+    """Whether a mark stands on some of these words; without words of its own, on one character."""
+    start = min(mark.start, last)
+    stop = max(mark.stop, start + 1)
+    return start < max(words.stop, words.start + 1) and words.start < stop

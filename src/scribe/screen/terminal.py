@@ -1,0 +1,412 @@
+"""The terminal: keys come in, and what is drawn goes out."""
+
+import asyncio
+import errno
+import os
+import signal
+import sys
+import time
+from collections.abc import Callable, Sequence
+from concurrent.futures import Future, ThreadPoolExecutor
+from contextlib import suppress
+from dataclasses import replace
+from types import FrameType
+from typing import Any
+
+from prompt_toolkit.application import Application
+from prompt_toolkit.data_structures import Point
+from prompt_toolkit.formatted_text import StyleAndTextTuples
+from prompt_toolkit.input.vt100 import Vt100Input
+from prompt_toolkit.key_binding.key_processor import KeyPress
+from prompt_toolkit.layout import FormattedTextControl, Layout, Window
+from prompt_toolkit.output.vt100 import Vt100_Output
+from prompt_toolkit.styles import Style
+
+from braildesk.text.characters import visible
+
+from scribe.screen.arrivals import Arrivals
+from scribe.screen.desk import Desk, preview_of
+from scribe.screen.drawing import Drawing, draw
+from scribe.screen.encoding import in_encoding
+from scribe.screen.keyboard import Keyboard, Pasted, Stroke
+from scribe.screen.lines import CHOSEN, HEAD, HIGHLIGHTED, MARKED, PLAIN
+from scribe.screen.state import Size, State
+from scribe.words.failures import of_system
+
+# no colours: what is highlighted is reversed, what is marked is underlined
+_STYLE = Style(
+    [
+        (HIGHLIGHTED, "reverse"),
+        (MARKED, "underline"),
+        (CHOSEN, "bold"),
+        (HEAD, "reverse"),
+    ]
+)
+_CLASSES = {
+    PLAIN: "",
+    **{each: f"class:{each}" for each in (HIGHLIGHTED, MARKED, CHOSEN, HEAD)},
+}
+# how often what is typed is kept
+_SAVE_SECONDS = 1.0
+# how long Escape waits for a key that would make it Alt
+_ESCAPE_SECONDS = 0.1
+
+
+class _Input(Vt100Input):
+    """Hands on the characters of the terminal as they come, and says when no more come."""
+
+    def __init__(self, came: Callable[[str], None], ended: Callable[[], None]) -> None:
+        super().__init__(sys.stdin)
+        self._came = came
+        self._ended = ended
+
+    def read_keys(self) -> list[KeyPress]:
+        """No keys, since what comes is handed on."""
+        self._came(self.stdin_reader.read())
+        return []
+
+    def flush_keys(self) -> list[KeyPress]:
+        """No keys either."""
+        self._ended()
+        return []
+
+
+# what a terminal that was closed answers
+_CLOSED = (errno.EIO, errno.EBADF)
+
+
+class HungUp(Exception):
+    """The terminal was closed, so that nobody reads what is written there."""
+
+
+class Output(Vt100_Output):
+    """What is written on the terminal. Only here a failure says something of the terminal."""
+
+    def flush(self) -> None:
+        """Writes out what is drawn; HungUp where the terminal was closed."""
+        try:
+            super().flush()
+        except OSError as failure:
+            if failure.errno in _CLOSED:
+                raise HungUp from failure
+            raise TerminalFailed(failure) from failure
+
+
+class TerminalFailed(Exception):
+    """The terminal is there and can't be written."""
+
+    def __init__(self, failure: OSError) -> None:
+        super().__init__(failure)
+        self.failure = failure
+
+
+class Screen:
+    """A book on the terminal of this process, until the person ends it."""
+
+    def __init__(
+        self, desk: Desk, state: State, clock: Callable[[], float] = time.monotonic
+    ) -> None:
+        self._desk = desk
+        self.state = state
+        self._clock = clock
+        self._keyboard = Keyboard()
+        self._arrivals = Arrivals()
+        self._timer: asyncio.TimerHandle | None = None
+        self._waiting: list[Pasted] = []
+        # since when there was no time for keys, and when they were read last
+        self._busy_from = self._read_at = clock()
+        self._is_idle, self._works = True, 0
+        #: Whether the terminal was closed, so that nobody reads what is said.
+        self.is_hung_up = False
+        #: The signal that ended scribe, where one did.
+        self.ended_by: signal.Signals | None = None
+        #: What has to be said after the screen is left.
+        self.unseen: tuple[str, ...] = ()
+        self._worker = ThreadPoolExecutor(max_workers=1)
+        self._aside: Future[State] | None = None
+        self._watched: int | None = None
+        self._drawn = (state, draw(state))
+        self._translates = False
+        control = FormattedTextControl(
+            self._fragments, show_cursor=True, get_cursor_position=self._cursor
+        )
+        self._app: Application[None] = Application(
+            layout=Layout(Window(control)),
+            input=_Input(self._came, self._paused),
+            style=_STYLE,
+            full_screen=True,
+            output=Output.from_pty(sys.stdout, term=os.environ.get("TERM")),
+            before_render=lambda app: self._fit(),
+            after_render=lambda app: self._end_work(),
+        )
+        self._app.ttimeoutlen = _ESCAPE_SECONDS
+
+    def run(self) -> None:
+        """Shows the book until it is left, or until the terminal hangs up."""
+        try:
+            self._app.run(
+                pre_run=self._begin, set_exception_handler=False, handle_sigint=False
+            )
+        except (EOFError, HungUp):
+            self.is_hung_up = True
+        except TerminalFailed as failed:
+            raise failed.failure from None
+        finally:
+            self._settle()
+            self._keep_last()
+
+    def _keep_last(self) -> None:
+        """Keeps what is typed at the end, or has it said where it can't be kept."""
+        kept = self._desk.save_draft(self.state)
+        if kept is not self.state and kept.typed is not None:
+            typed = ("This was typed:", visible(kept.typed.text))
+            self.unseen = (*self.unseen, kept.message, *typed)
+        self.state = kept
+
+    def _settle(self) -> None:
+        """Waits for what is done with the session closed, which ends soon once it is to end."""
+        if self.state.away and self._aside is not None:
+            self._stop_aside()
+            self.state = self._aside.result()
+            self._desk.take_over()
+            pages, message = self.state.pages, self.state.message
+            said = pages.lines if pages else (message,)
+            self.unseen = tuple(line for line in said if line)
+
+    def _begin(self) -> None:
+        loop = asyncio.get_running_loop()
+        loop.set_exception_handler(self._fail)
+
+        # kept to the end, so that no second signal cuts short what the first one began
+        def ended(number: int, frame: FrameType | None) -> None:
+            if self.ended_by is None:
+                self.ended_by = signal.Signals(number)
+            leave = self._hang_up if number == signal.SIGHUP else self._leave
+            if not loop.is_closed():
+                loop.call_soon_threadsafe(leave)
+
+        for number in (signal.SIGHUP, signal.SIGTERM, signal.SIGINT):
+            signal.signal(number, ended)
+        self._watch()
+        self._app.create_background_task(self._keep())
+        self._look_ahead()
+
+    def _drawing(self) -> Drawing:
+        if self._drawn[0] is not self.state:
+            self._drawn = (self.state, draw(self.state))
+        return self._drawn[1]
+
+    def _fragments(self) -> StyleAndTextTuples:
+        fragments: StyleAndTextTuples = []
+        encoding = self.state.encoding
+        for line in self._drawing().lines:
+            for piece in line:
+                text = in_encoding(encoding, piece.text)
+                fragments.append((_CLASSES[piece.look], text))
+            # a blank, so that the cursor can stand after the last character of any line
+            fragments.append(("", " \n"))
+        fragments[-1] = ("", " ")
+        return fragments
+
+    def _cursor(self) -> Point:
+        line, place = self._drawing().cursor
+        return Point(x=place, y=line)
+
+    def _fit(self) -> None:
+        """Takes the size of the terminal, which may have changed."""
+        self._begin_work()
+        found = self._app.output.get_size()
+        size = Size(max(10, found.columns), max(8, found.rows))
+        if size == self.state.size:
+            return
+        if self.state.away or self.state.is_lost:
+            self.state = replace(self.state, size=size)
+        else:
+            self.state = self._desk.resized(self.state, size)
+
+    def _begin_work(self) -> None:
+        """From here on keys wait, if they don't already."""
+        if self._is_idle:
+            self._is_idle, self._busy_from = False, self._clock()
+
+    def _end_work(self) -> None:
+        """What waits is read within the next two rounds of the loop, and after these none does."""
+        self._works += 1
+        loop = asyncio.get_running_loop()
+        loop.call_soon(loop.call_soon, self._rest, self._works)
+
+    def _rest(self, works: int) -> None:
+        self._is_idle = works == self._works
+
+    def _came(self, text: str) -> None:
+        """Characters came: keys that may have waited while there was no time for them."""
+        now, read_at = self._clock(), self._read_at
+        self._read_at = now
+        since = None if self._is_idle else max(self._busy_from, read_at)
+        self._do(self._arrivals.came(self._keyboard.strokes(text), now, since))
+
+    def _paused(self) -> None:
+        """Nothing comes after Escape, so it is that key."""
+        self._do(self._arrivals.came(self._keyboard.last(), self._clock()))
+
+    def _let_go(self) -> None:
+        self._do(self._arrivals.let_go(self._clock()))
+
+    def _do(self, strokes: Sequence[Stroke]) -> None:
+        """Carries out keys, and sees to it that those that are held are let go."""
+        self._begin_work()
+        try:
+            for stroke in strokes:
+                self._carry_out(stroke)
+        finally:
+            self._end_work()
+            self._wait_for_held()
+
+    def _carry_out(self, stroke: Stroke) -> None:
+        if self.state.away or self.state.is_over:
+            # what is pasted meanwhile is no key that does nothing
+            self._waiting += [stroke] if isinstance(stroke, Pasted) else []
+        elif isinstance(stroke, Pasted):
+            self._become(self._desk.paste(self.state, stroke.text))
+        else:
+            self._become(self._desk.press(self.state, stroke))
+
+    def _wait_for_held(self) -> None:
+        if self._timer is not None:
+            self._timer.cancel()
+        due, self._timer = self._arrivals.due, None
+        if due is not None:
+            wait = max(0.0, due - self._clock())
+            self._timer = asyncio.get_running_loop().call_later(wait, self._let_go)
+
+    def _become(self, state: State) -> None:
+        self.state = state
+        if state.is_over:
+            self._app.exit()
+        elif state.away:
+            self._unwatch()
+            self._app.create_background_task(self._go_away())
+        else:
+            self._watch()
+            self._look_ahead()
+        self._app.invalidate()
+
+    async def _go_away(self) -> None:
+        """Does what needs the session closed beside the terminal, which goes on."""
+        loop = asyncio.get_running_loop()
+
+        def report(line: str) -> None:
+            # the screen may be gone before the work is ended
+            with suppress(RuntimeError):
+                loop.call_soon_threadsafe(self._say, line)
+
+        self._aside = self._worker.submit(self._desk.away, self.state, report)
+        # where the screen ends meanwhile, the work is waited for and not given up
+        state = await asyncio.shield(asyncio.wrap_future(self._aside))
+        self._desk.take_over()
+        self._become(state)
+        waiting, self._waiting = self._waiting, []
+        self._do(waiting)
+
+    def _say(self, line: str) -> None:
+        if self.state.away:
+            self.state = self.state.saying(line)
+            self._app.invalidate()
+
+    def _look_ahead(self) -> None:
+        """Translates what is typed, where it isn't that already."""
+        typed, preview = self.state.shown, self.state.preview
+        if typed is None or not typed.purpose.is_print or self._translates:
+            return
+        if preview is None or preview.text != typed.text:
+            self._translates = True
+            self._app.create_background_task(self._translate())
+
+    async def _translate(self) -> None:
+        asked = self.state
+        typed = asked.shown
+        if typed is not None:
+            words = preview_of(asked, typed)
+            loop = asyncio.get_running_loop()
+            preview = await loop.run_in_executor(
+                None, self._desk.tables.preview, *words
+            )
+            if self.state.typed is not None:
+                self.state = replace(self.state, preview=preview)
+        self._translates = False
+        self._look_ahead()
+        self._app.invalidate()
+
+    async def _keep(self) -> None:
+        """Keeps what is typed, again and again."""
+        while True:
+            await asyncio.sleep(_SAVE_SECONDS)
+            if self.state.typed:
+                self._begin_work()
+                self.state = self._desk.save_draft(self.state)
+                self._end_work()
+
+    def _fail(self, loop: asyncio.AbstractEventLoop, context: dict[str, Any]) -> None:
+        """What a key, or what goes on beside the keys, failed by.
+
+        A terminal that is gone ends all; what the system refused is said, and the work goes on; a
+        fault of scribe ends it.
+        """
+        cause = context.get("exception")
+        if isinstance(cause, HungUp):
+            self._hang_up()
+        elif isinstance(cause, OSError):
+            self.state = self.state.saying(of_system(cause))
+            self._app.invalidate()
+        elif not isinstance(cause, Exception):
+            loop.default_exception_handler(context)
+        elif self._app.is_running and not self.state.is_over:
+            self.state = replace(self.state, is_over=True)
+            self._app.exit(exception=cause)
+
+    def _stop_aside(self) -> None:
+        """Has what is done with the session closed end before its next step."""
+        if self.state.away:
+            self._desk.stop(self.ended_by or signal.SIGHUP)
+
+    def _hang_up(self) -> None:
+        self.is_hung_up = True
+        self._leave()
+
+    def _leave(self) -> None:
+        """What ends scribe from outside: what is typed is kept."""
+        self._stop_aside()
+        self.state = self._desk.save_draft(self.state)
+        # a terminal that is closed and a shell that ends may both send a signal
+        if not self.state.is_over:
+            self.state = replace(self.state, is_over=True)
+            if self._app.is_running:
+                self._app.exit()
+
+    def _watch(self) -> None:
+        """Watches the session, so that its end is seen when it comes."""
+        if self.state.is_lost or self._watched is not None:
+            return
+        self._watched = os.pidfd_open(self._desk.pid)
+        asyncio.get_running_loop().add_reader(self._watched, self._ended)
+
+    def _unwatch(self) -> None:
+        if self._watched is not None:
+            asyncio.get_running_loop().remove_reader(self._watched)
+            os.close(self._watched)
+            self._watched = None
+
+    def _ended(self) -> None:
+        self._unwatch()
+        if not self.state.is_lost and not self.state.is_over:
+            self._become(self._desk.lost(self.state))
+
+
+def first_environment() -> dict[str, str]:
+    """The environment as scribe was started with it, before Python took another locale."""
+    try:
+        with open("/proc/self/environ", "rb") as file:
+            words = file.read().decode(errors="replace").split("\0")
+    except OSError:
+        return dict(os.environ)
+    return dict(word.split("=", 1) for word in words if "=" in word)

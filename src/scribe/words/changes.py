@@ -1,0 +1,281 @@
+"""What was changed in a book, in words: what is now first, then what was."""
+
+from collections.abc import Callable
+from dataclasses import replace
+from typing import Any, TypeVar
+
+from braildesk import NoMemory, Paragraph, Refused, Session, Style, requests
+from braildesk.desk.change import Change, newly_touched
+from braildesk.desk.correction import smallest_correction
+from braildesk.desk.marks import MarkedWords
+from braildesk.desk.places import NoPlace
+from braildesk.desk.readings import answers
+from braildesk.protocol.requests import Command, Request
+from braildesk.protocol.values import After, Corrected, Done, Marked, Typed
+from braildesk.text.cells import BLANKS
+from braildesk.text.characters import visible
+from braildesk.text.excerpt import excerpt, opening
+from braildesk.text.wrapping import columns
+
+from scribe.words.find import instead
+from scribe.words.paragraph import mark_line, quoted
+
+
+Answer = TypeVar("Answer")
+
+
+def carried_out(session: Session, command: Command[Any], width: int) -> list[str]:
+    """Sends a command, and says what it changed; Refused where it is refused."""
+    before = session.last_version
+    try:
+        return _carried_out(session, command, width)
+    except NoMemory:
+        if session.last_version == before:
+            raise
+        kept = "It is done, and there was no memory to show what it changed."
+        return [kept, at_version(session.last_version)]
+
+
+def _carried_out(session: Session, command: Command[Any], width: int) -> list[str]:
+    match command:
+        case requests.Type():
+            return _typed(session, command, width)
+        case requests.Correct() | requests.Undo():
+            return _corrected(session, command, width)
+        case requests.Mark():
+            return _marked(session, command)
+        case requests.Resolve():
+            return _resolved(session, command)
+        case requests.Strike() | requests.Restore():
+            is_struck = isinstance(command, requests.Strike)
+            return _flagged(session, command, _life, width, struck=is_struck)
+        case requests.Style(style=style):
+            return _flagged(session, command, _style, width, style=Style(style))
+        case requests.Volume(begins=begins):
+            return _flagged(session, command, _volume, width, begins_volume=begins)
+        case requests.Retable():
+            return _retabled(session, command, width)
+        case requests.Move():
+            return _moved(session, command, width)
+        case requests.Table() | requests.Supply():
+            return _supplied(session, command)
+    raise TypeError(f"no command of a book: {command!r}")
+
+
+def at_version(version: int) -> str:
+    """At which version a book is."""
+    return f"The book is at version {version:,}."
+
+
+def place_after(after: After) -> str:
+    """Where a paragraph is put, in words."""
+    if isinstance(after, int):
+        return f"after paragraph {after}"
+    return f"at the {after} of the book"
+
+
+def _before(session: Session, query: Request[Answer]) -> Answer | None:
+    """What stands there before a command; nothing where the command will be refused as well."""
+    try:
+        return session.ask(query)
+    except Refused:
+        return None
+
+
+def _typed(session: Session, command: requests.Type, width: int) -> list[str]:
+    typed: Typed = session.ask(command)
+    head = f"Paragraph {typed.id}, {place_after(command.after)}:"
+    text = visible(session.print_of(typed.id)) or "empty."
+    whole = f"{head} {text}"
+    lines = [whole] if columns(whole) <= width else [head, opening(text, width)]
+    return [*lines, at_version(typed.version)]
+
+
+def _corrected(
+    session: Session, command: requests.Correct | requests.Undo, width: int
+) -> list[str]:
+    number = command.paragraph
+    text = _before(session, requests.Print(number))
+    marks = _before(session, requests.Marks(number))
+    corrected: Corrected = session.ask(command)
+    now = session.print_of(number)
+    title = f"Paragraph {number}"
+    lines = difference(text or "", now, width, title, f"{title} reads as before.")
+    touched = newly_touched(marks or (), session.marks_of(number))
+    lines += [mark_line(mark, now) for mark in touched]
+    done = f"Correction {corrected.seq} of paragraph {number}."
+    if isinstance(command, requests.Undo):
+        undone = session.history_of(number)[-1].undone
+        done = f"Correction {undone} of paragraph {number} is taken back."
+    return [*lines, f"{done} {at_version(corrected.version)}"]
+
+
+def difference(before: str, now: str, width: int, title: str, same: str) -> list[str]:
+    """A line as it is and as it was, in each the words that differ in brackets."""
+    least = smallest_correction(before, now)
+    if least is None:
+        return [same]
+    start = _word_front(now, least.start)
+    kept = len(before) - _word_end(before, least.stop)
+    head, former = f"{title}: ", "Before: "
+    return [
+        head + excerpt(now, start, len(now) - kept, width - len(head)),
+        former + excerpt(before, start, len(before) - kept, width - len(former)),
+    ]
+
+
+def _word_front(text: str, place: int) -> int:
+    """The front of the word in which a place of a text stands."""
+    while place > 0 and text[place - 1] not in BLANKS:
+        place -= 1
+    return place
+
+
+def _word_end(text: str, place: int) -> int:
+    """The end of the word in which a place of a text stands."""
+    while place < len(text) and text[place] not in BLANKS:
+        place += 1
+    return place
+
+
+def _marked(session: Session, command: requests.Mark) -> list[str]:
+    marked: Marked = session.ask(command)
+    number = command.paragraph
+    (mark,) = (each for each in session.marks_of(number) if each.id == marked.id)
+    line = mark_line(mark, session.print_of(number), number)
+    return [line, at_version(marked.version)]
+
+
+def _resolved(session: Session, command: requests.Resolve) -> list[str]:
+    done: Done = session.ask(command)
+    book = session.paragraphs()
+    asked = (requests.Marks(paragraph.id) for paragraph in book)
+    number, mark = next(
+        (paragraph.id, mark)
+        for paragraph, marks in zip(book, answers(session, asked))
+        for mark in marks
+        if mark.id == command.mark
+    )
+    return [
+        mark_line(mark, session.print_of(number), number),
+        f"Before, it was open. {at_version(done.version)}",
+    ]
+
+
+def _flagged(
+    session: Session,
+    command: requests.Strike | requests.Restore | requests.Style | requests.Volume,
+    flag: Callable[[Paragraph], str],
+    width: int,
+    **changed: Any,
+) -> list[str]:
+    book = session.paragraphs()
+    done: Done = session.ask(command)
+    before = _paragraph(book, command.paragraph)
+    was, is_now = flag(before), flag(replace(before, **changed))
+    change = f"{is_now}, as before" if was == is_now else f"{is_now} now, {was} before"
+    return [
+        f"Paragraph {command.paragraph}: {change}.",
+        *_its_words(session, command.paragraph, width),
+        at_version(done.version),
+    ]
+
+
+def _retabled(session: Session, command: requests.Retable, width: int) -> list[str]:
+    number = command.paragraph
+    book = session.paragraphs()
+    cells = _before(session, requests.Braille(number)) or ""
+    done: Done = session.ask(command)
+    before = _paragraph(book, number)
+    braille = session.braille_of(number)
+    lines = difference(
+        cells, braille, width, "Its braille", "Its braille is as before."
+    )
+    if before.table == command.table:
+        change = f"table {command.table}, as before"
+    else:
+        change = f"table {command.table} now, table {before.table} before"
+    return [f"Paragraph {number}: {change}.", *lines, at_version(done.version)]
+
+
+def _moved(session: Session, command: requests.Move, width: int) -> list[str]:
+    number = command.paragraph
+    before = session.paragraphs()
+    done: Done = session.ask(command)
+    was, is_now = _position(before, number), _position(session.paragraphs(), number)
+    change = f"{is_now}, as before" if was == is_now else f"{is_now} now, {was} before"
+    return [
+        f"Paragraph {number}: {change}.",
+        *_its_words(session, number, width),
+        at_version(done.version),
+    ]
+
+
+def _supplied(session: Session, command: requests.Table | requests.Supply) -> list[str]:
+    done: Done = session.ask(command)
+    users = sum(paragraph.table == command.table for paragraph in session.paragraphs())
+    return [
+        f"Table {command.table} is in the book. {_used(users)}",
+        at_version(done.version),
+    ]
+
+
+def _used(users: int) -> str:
+    if users == 0:
+        return "No paragraph has it yet."
+    return "1 paragraph has it." if users == 1 else f"{users:,} paragraphs have it."
+
+
+def _its_words(session: Session, number: int, width: int) -> list[str]:
+    text = session.print_of(number)
+    return [opening(visible(text), width)] if text else []
+
+
+def _paragraph(book: tuple[Paragraph, ...], number: int) -> Paragraph:
+    """The paragraph of a number that is in the book."""
+    return next(each for each in book if each.id == number)
+
+
+def _position(book: tuple[Paragraph, ...], number: int) -> str:
+    ids = [paragraph.id for paragraph in book]
+    place = ids.index(number)
+    return f"after paragraph {ids[place - 1]}" if place else "at the front of the book"
+
+
+def _life(paragraph: Paragraph) -> str:
+    return "struck" if paragraph.struck else "in the volumes"
+
+
+def _style(paragraph: Paragraph) -> str:
+    return "a heading" if paragraph.style is Style.HEADING else "body text"
+
+
+def _volume(paragraph: Paragraph) -> str:
+    return "begins a volume" if paragraph.begins_volume else "begins no volume"
+
+
+def change_lines(change: Change, width: int) -> list[str]:
+    """What is now first, then what was, then each mark that the change touched."""
+    head, former = f"Paragraph {change.paragraph}: ", "Before: "
+    now = excerpt(change.now, change.came.start, change.came.stop, width - len(head))
+    before = excerpt(
+        change.before, change.went.start, change.went.stop, width - len(former)
+    )
+    marks = (mark_line(mark, change.now) for mark in change.touched)
+    return [head + now, former + before, *marks, at_version(change.version)]
+
+
+def wider(marked: MarkedWords) -> str:
+    """The sentence for a mark whose cells stand for more than its words."""
+    mark, place = marked.mark, marked.place
+    wanted = quoted(marked.text[place.start : place.stop])
+    found = quoted(marked.text[mark.start : mark.stop])
+    return (
+        f"The cells of {wanted} stand for print beside it too: the mark is on {found}."
+    )
+
+
+def no_place(none: NoPlace) -> str:
+    """The sentence for words that stand nowhere in a paragraph."""
+    where = f"in paragraph {none.paragraph}{instead(none.sought, none.text)}"
+    return f"{quoted(none.sought)} stands nowhere {where}. Nothing was changed."

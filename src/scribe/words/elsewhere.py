@@ -1,0 +1,87 @@
+"""Words that are none of those that may stand in a place: what is near, and what they name elsewhere.
+
+A word that names a thing of scribe in another place is answered by the name of that thing here.
+"""
+
+from collections.abc import Iterable, Mapping
+
+from braildesk.protocol.requests import BY_NAME
+
+#: How like a word has to be to one that it may be meant for.
+_NEAR = 0.75
+
+#: Requests, commands of scribe talk and keys, for somebody at a shell.
+AT_SHELL: Mapping[str, str] = {
+    **{name: f"{name} is a request of scribe talk." for name in BY_NAME},
+    "type": "scribe import types the paragraphs of a text, and type is a request of scribe talk.",
+    "correct": "scribe change puts words in place of others.",
+    "correct-by": "scribe change puts words in place of others, and --by keeps who did it.",
+    "supply": "scribe table puts a table into a book.",
+    "style": "scribe heading and scribe body give a paragraph its style.",
+    "print": "scribe show shows paragraphs, and with --print the print alone.",
+    "braille": "scribe show shows paragraphs, and with --braille the braille alone.",
+    "history": "The key h of scribe edit shows the history of a paragraph, and so does history at"
+    " scribe talk.",
+    "where": "where is a request of scribe talk. scribe edit shows the cells of each character.",
+    "whence": "whence is a request of scribe talk. scribe edit shows the characters of each cell.",
+    "list": "scribe show shows the paragraphs of a book.",
+    "version": "version is a request of scribe talk. scribe --version shows that of scribe.",
+    "find-text": "scribe find finds words.",
+    "change-text": "scribe change puts words in place of others.",
+    "remove-text": "scribe change takes words out where '' comes in their place.",
+    "mark-text": "scribe mark puts a mark on words.",
+    "all-marks": "scribe marks shows all marks.",
+    "table-file": "scribe table puts the table in a file into a book.",
+    "help": "scribe --help lists the commands, and --help after one says more of it.",
+    "quit": "quit ends scribe talk.",
+}
+
+_OF_SHELL = "is a command of the shell, where scribe {name} --help says more."
+_CLOSED = "End this first, since the book is in use here."
+#: Commands of the shell, for somebody at a prompt.
+AT_PROMPT: Mapping[str, str] = {
+    "find": "find-text finds words.",
+    "change": "change-text puts words in place of others.",
+    "heading": "style PARA heading makes a paragraph a heading.",
+    "body": "style PARA body makes a paragraph body text.",
+    **{
+        name: f"{name} {_OF_SHELL.format(name=name)} {_CLOSED}"
+        for name in ("edit", "run", "talk", "import", "export", "tune")
+    },
+    **{
+        name: f"{name} {_OF_SHELL.format(name=name)}"
+        for name in ("new", "pages", "proof", "copy", "check-table", "try", "bring")
+    },
+}
+
+_OF_TALK = "{name} is a command of scribe talk."
+#: Commands of the shell and of scribe talk, among requests.
+AMONG_REQUESTS: Mapping[str, str] = {
+    **AT_PROMPT,
+    "show": "print, braille and marks show a paragraph.",
+    "find": "scribe find finds words.",
+    "change": "correct puts text in place of characters.",
+    **{
+        name: _OF_TALK.format(name=name)
+        for name in (
+            "find-text",
+            "change-text",
+            "remove-text",
+            "mark-text",
+            "all-marks",
+            "table-file",
+            "help",
+        )
+    },
+    "quit": "The end of the input ends the session.",
+}
+
+
+def hint(word: str, names: Iterable[str], elsewhere: Mapping[str, str]) -> str:
+    """What to do about a word that is none of these names, with a blank before it; or nothing."""
+    if word in elsewhere:
+        return f" {elsewhere[word]}"
+    import difflib  # which few commands need
+
+    near = difflib.get_close_matches(word, names, n=1, cutoff=_NEAR)
+    return f" Did you mean {near[0]}?" if near else ""

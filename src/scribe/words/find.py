@@ -1,0 +1,77 @@
+"""What was looked for and found, or found otherwise, in words."""
+
+from collections.abc import Iterator, Sequence
+
+from braildesk.desk.find import Hit, Kind, Tally, alike, unlike
+from braildesk.text.excerpt import excerpt
+from braildesk.text.spans import Span, find_spans
+
+from scribe.words.paragraph import quoted
+
+_KINDS = {
+    Kind.CAPITALS: "other capitals",
+    Kind.APOSTROPHE: "another apostrophe",
+    Kind.QUOTATION_MARKS: "other quotation marks",
+    Kind.DASH: "another dash",
+    Kind.BLANK: "another kind of blank",
+}
+
+
+def in_words(kinds: Sequence[Kind]) -> str:
+    """By what texts differ, as in “other capitals and another dash”."""
+    *most, last = (_KINDS[kind] for kind in kinds)
+    return f"{', '.join(most)} and {last}" if most else last
+
+
+def instead(sought: str, text: str) -> str:
+    """What stands in a text in place of words that don't, in the rest of a sentence; or nothing."""
+    places = find_spans(text, sought, alike)
+    if not places:
+        return ""
+    words = text[places[0].start : places[0].stop]
+    return f" as typed; with {in_words(unlike(sought, words))} it is {quoted(words)}"
+
+
+def word_lines(hit: Hit, width: int) -> Iterator[str]:
+    """A line for each place of a print."""
+    for place in hit.places:
+        head = f"{_title(hit)}, character {place.start + 1}: "
+        room = width - len(head)
+        yield head + excerpt(hit.text, place.start, place.stop, room)
+
+
+def cell_lines(
+    hit: Hit, text: str, origins: Sequence[Span], width: int
+) -> Iterator[str]:
+    """Two lines for each place of a braille: its cells, and the print that they stand for."""
+    for place, origin in zip(hit.places, origins):
+        head = f"{_title(hit)}, cell {place.start + 1}: "
+        yield head + excerpt(hit.text, place.start, place.stop, width - len(head))
+        head = f"  character {origin.start + 1}: "
+        yield head + excerpt(text, origin.start, origin.stop, width - len(head))
+
+
+def found_summary(text: str, tally: Tally, others: Tally, offer: str) -> str:
+    """What was found, in a sentence, or what else there is that is like it, after an offer."""
+    if others.count:
+        return (
+            f"{quoted(text)} stands nowhere in the book as typed. With {in_words(others.kinds)} it"
+            f" stands {_counted(others)}{offer}"
+        )
+    if not tally.count:
+        return f"{quoted(text)} stands nowhere in the book."
+    how = f", found with {in_words(tally.kinds)} too" if tally.kinds else ""
+    return f"{quoted(text)} stands {_counted(tally)}{how}."
+
+
+def _title(hit: Hit) -> str:
+    struck = ", struck" if hit.paragraph.struck else ""
+    return f"Paragraph {hit.paragraph.id}{struck}"
+
+
+def _counted(tally: Tally) -> str:
+    """How much was found."""
+    times = "once" if tally.count == 1 else f"{tally.count:,} times"
+    if tally.paragraphs == 1:
+        return f"{times} in one paragraph"
+    return f"{times} in {tally.paragraphs:,} paragraphs"

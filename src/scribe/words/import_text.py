@@ -1,0 +1,331 @@
+"""An import in words: what keeps a text from being typed, and what became of one that was begun."""
+
+import shlex
+from collections.abc import Iterable, Iterator
+from pathlib import Path
+
+from braildesk import Displaced, Lost, Refused
+from braildesk.desk.drafts import NotKept
+from braildesk.desk.earlier import (
+    AllThere,
+    NoneCutShort,
+    PartIsThere,
+    StandsThere,
+    Undecided,
+)
+from braildesk.desk.import_text import CantRead, Faulty, Import, Importer, NoText
+from braildesk.desk.intake import (
+    BookHasNoTable,
+    Intake,
+    LineWithin,
+    NoLine,
+    NoParagraphBefore,
+    NotContinuing,
+    NotImported,
+    WhichTable,
+)
+from braildesk.desk.manuscript import NotUtf8, Passage, TooManyPassages, UnreadableText
+from braildesk.desk.typist import ChangedMeanwhile, CutShort
+from braildesk.desk.unfinished import NotSeen, Unfinished
+from braildesk.desk.validation import Barred, Lacking, TextFault, TooLongPassage
+from braildesk.text import characters, limits
+
+from scribe.words.console import Console
+from scribe.words.drafts import not_kept
+from scribe.words.paragraph import no_paragraph, quoted
+from scribe.words.status import Interrupted, Status, Stop, stopped_by
+
+
+def import_in_words(job: Import, console: Console) -> tuple[Status, str]:
+    """Imports a text, and says what became of it: a command's status, and what was kept, if it is.
+
+    Raises `NotImported`.
+    """
+    importer = Importer(job, lambda fault: console.say(not_kept(fault)))
+    intake = prepared(importer, console)
+    try:
+        typed = importer.type(intake, console.progress("paragraphs typed"))
+    except CutShort as cut:
+        sentence, status = _cut_short(cut)
+        console.say(sentence, *_left(importer.job, intake, cut))
+        if isinstance(cut.cause, KeyboardInterrupt):
+            raise Interrupted.after(cut.cause) from cut
+        return status, ""
+    last = typed.first + typed.count - 1
+    numbers = (
+        f"number {last}" if typed.count == 1 else f"numbers {typed.first} to {last}"
+    )
+    kept = f"{_paragraphs(typed.count)} typed, {numbers}, by the table {typed.table}"
+    console.show(f"{kept}.")
+    return Status.DONE, kept
+
+
+def trial_in_words(job: Import, console: Console) -> Status:
+    """Judges a text and types nothing, and says how much would be typed."""
+    importer = Importer(job, lambda fault: console.say(not_kept(fault)))
+    intake = prepared(importer, console)
+    count, table = _paragraphs(len(intake.passages)), intake.table.name
+    console.show(f"{count} would be typed, by the table {table}.")
+    return Status.DONE
+
+
+def prepared(importer: Importer, console: Console) -> Intake:
+    """What is to be typed, unless that is stopped."""
+    try:
+        return importer.prepare()
+    except KeyboardInterrupt as cause:
+        console.say(f"{stopped_by(cause)} Nothing was typed.")
+        raise Interrupted.after(cause) from cause
+
+
+def _left(job: Import, intake: Intake, cut: CutShort) -> Iterator[str]:
+    """What of the text is in the book, and how the rest gets there."""
+    kept = cut.done if cut.kept is None else cut.kept
+    least = "at least " if cut.kept is None else ""
+    if kept:
+        last = intake.passages[kept - 1].last_line
+        yield (
+            f"{job.text} is in the book {least}up to line {last}, which is the end of"
+            f" paragraph {intake.there + kept} of the book."
+        )
+    else:
+        yield f"Nothing of {job.text} was reported as kept." if cut.kept is None else (
+            f"Nothing of {job.text} is in the book."
+        )
+    if kept < len(intake.passages):
+        words = shlex.join(_command_from(job, intake, kept, cut.is_noted))
+        yield f"When nothing stands in the way any more, go on by: {words}"
+
+
+def _command_from(job: Import, intake: Intake, kept: int, is_noted: bool) -> list[str]:
+    """The words that go on after some paragraphs are in the book, by what is noted if it is."""
+    words = ["scribe", "import", str(job.book), str(job.text)]
+    if is_noted:
+        return [*words, "--continue"]
+    if job.by_lines:
+        words.append("--lines")
+    if job.table:
+        words += ["--table", job.table]
+    if intake.after != "end":
+        words += ["--after", str(intake.there + kept if kept else intake.after)]
+    if kept or job.line:
+        words += ["--from", str(intake.passages[kept].first_line)]
+    return words
+
+
+def _paragraphs(count: int) -> str:
+    return "1 paragraph" if count == 1 else f"{count:,} paragraphs"
+
+
+def not_imported(problem: NotImported) -> Stop:
+    """Why nothing of a text was typed."""
+    match problem:
+        case BookHasNoTable():
+            return Stop(
+                "The book has no table, so nothing was typed. Put one into it by scribe table."
+            )
+        case ChangedMeanwhile(version=version):
+            return Stop(
+                f"Somebody else changed the book meanwhile: it is at version {version:,}. Nothing"
+                " was typed. Import the text again."
+            )
+        case NoText(path=path, cause=None):
+            return Stop(f"{path} has no paragraph, so nothing was typed.")
+        case NotSeen():
+            options = (
+                "--from goes on at a line of the text, --again types all of it, and --leave leaves"
+                " the rest out."
+            )
+            return Stop(not_seen(problem), more=[f"{options} Nothing was typed."])
+        case StandsThere():
+            again = "--again types it once more."
+            return Stop(_stands_there(problem), more=[f"{again} Nothing was typed."])
+        case PartIsThere(its=its):
+            options = (
+                f"--continue goes on with line {its.line}, --again types all of it once more, and"
+                " --leave leaves the rest out."
+            )
+            return Stop(came_to(its), more=[f"{options} Nothing was typed."])
+        case Faulty():
+            first, *others = _faulty(problem)
+            return Stop(first, more=[*others, "Nothing was typed."])
+    return Stop(f"{_why_not(problem)} Nothing was typed.")
+
+
+def question(undecided: Undecided) -> str:
+    """What is asked where a text was imported before, in part or whole."""
+    match undecided:
+        case StandsThere():
+            return f"{_stands_there(undecided)} Shall it be typed once more?"
+        case PartIsThere(its=its):
+            return f"{came_to(its)} Shall the rest be typed now?"
+    raise TypeError(f"no question for {undecided!r}")
+
+
+def _stands_there(problem: StandsThere) -> str:
+    first, last = problem.numbers[0], problem.numbers[-1]
+    where = f"as paragraph {first}"
+    if last != first:
+        where = f"from paragraph {first} to paragraph {last}"
+    return f"{problem.path} stands there in the book already, {where}."
+
+
+def _faulty(problem: Faulty) -> list[str]:
+    """All that would be refused of a text."""
+    sentences = fault_lines(str(problem.path), problem.faults)
+    if problem.over:
+        sentences.append(
+            f"The book has {problem.there:,} paragraphs and the text {problem.count:,}. That is"
+            f" {problem.over:,} too many: a book has at most {limits.PARAGRAPHS:,}."
+        )
+    return sentences
+
+
+def reminders(found: Unfinished | NotSeen | NotKept, book: Path) -> Iterator[str]:
+    """What is said of an import that was cut short, with the commands that end this."""
+    if isinstance(found, NotKept):
+        yield not_kept(found)
+        return
+    words = shlex.join(["scribe", "import", str(book), found.note.text])
+    if isinstance(found, Unfinished):
+        yield came_to(found)
+        yield f"Go on by: {words} --continue"
+    else:
+        yield not_seen(found)
+    yield f"Leave the rest out by: {words} --leave"
+
+
+def _why_not(problem: NotImported) -> str:
+    match problem:
+        case CantRead(path=path, cause=cause):
+            return f"{path} can't be read: {cause.strerror}."
+        case NoText(path=path, cause=UnreadableText() as fault):
+            return f"{path} {unreadable(fault)}."
+        case NoneCutShort(path=path):
+            return f"No import of {path} is known that was cut short."
+        case AllThere(note=note):
+            return f"All of {note.name} is in the book."
+        case LineWithin(line=line, passage=passage):
+            return (
+                f"Line {line} is within the paragraph of {lines_of(passage)}. Say --from"
+                f" {passage.first_line} to begin with that paragraph."
+            )
+        case NoLine(line=line):
+            return f"The text has no paragraph from line {line} on."
+        case NoParagraphBefore(number=number, count=count):
+            return no_paragraph(number, count)
+        case WhichTable(names=names, wanted=None):
+            return f"The book has the tables {', '.join(names)}. Say which by --table."
+        case WhichTable(names=names, wanted=wanted):
+            return f"The book has no table {wanted}, it has {', '.join(names)}."
+        case NotContinuing():
+            return _not_continuing(problem)
+    raise TypeError(f"no sentence for {problem!r}")
+
+
+def lines_of(passage: Passage) -> str:
+    """The lines of a text file on which a paragraph of it stands."""
+    if passage.first_line == passage.last_line:
+        return f"line {passage.first_line}"
+    return f"lines {passage.first_line} to {passage.last_line}"
+
+
+def _not_continuing(problem: NotContinuing) -> str:
+    line, last = problem.rest[0].first_line, problem.before[-1]
+    found = "The text would go to the front of the book."
+    if problem.stored is not None:
+        found = f"The paragraph before in the book is {quoted(problem.stored)}."
+    return (
+        f"The text can't go on from line {line}: before it comes the paragraph of"
+        f" {lines_of(last)}, {quoted(last.text)}. {found}{_hint(problem)}"
+    )
+
+
+def _hint(problem: NotContinuing) -> str:
+    """From which line the text would go on after a print that the text has just once."""
+    if problem.same is None:
+        return ""
+    whole = [*problem.before, *problem.rest]
+    place = lines_of(whole[problem.same])
+    if problem.same + 1 == len(whole):
+        return f" That is {place}, the last of the text: all of it seems to be there."
+    return f" That is {place}: say --from {whole[problem.same + 1].first_line}."
+
+
+def unreadable(fault: UnreadableText) -> str:
+    """Why the bytes of a text can't be read, after the name of its file."""
+    match fault:
+        case TooManyPassages(most=most):
+            return f"has over {most:,} paragraphs, and a book has at most {limits.PARAGRAPHS:,}"
+        case NotUtf8(position=position, byte=byte):
+            return (
+                f"isn't UTF-8: line {position.line}, column {position.column} has the byte"
+                f" {byte:#04x}. Save it as UTF-8, and import it again"
+            )
+    return "is UTF-16. Save it as UTF-8, and import it again"
+
+
+def fault_lines(name: str, faults: Iterable[TextFault]) -> list[str]:
+    """A line for each fault of a text, in the order of their places."""
+    placed = sorted((fault.position, _fault(fault.what)) for fault in faults)
+    return [
+        f"{name}, line {position.line}, column {position.column}: {sentence}"
+        for position, sentence in placed
+    ]
+
+
+def _fault(what: Barred | Lacking | TooLongPassage | Refused) -> str:
+    match what:
+        case Barred(character=character, count=count):
+            return f"{characters.code_and_name(character)} is a control character. {_often(count)}"
+        case Lacking(character=character, count=count, table=table):
+            named = characters.named(character)
+            return f"{named} has no cells by the table {table}. {_often(count)}"
+        case TooLongPassage(passage=passage):
+            return (
+                f"The paragraph of {lines_of(passage)} has {len(passage.text):,} characters, and a"
+                f" paragraph has at most {limits.PRINT_CHARACTERS:,}. This is the first beyond."
+            )
+    return what.sentence
+
+
+def _often(count: int) -> str:
+    times = "once" if count == 1 else f"{count:,} times"
+    return f"It stands in the text {times}."
+
+
+def _cut_short(cut: CutShort) -> tuple[str, Status]:
+    """What cut the typing short, and the status of a command that it ends."""
+    cause = cut.cause
+    if isinstance(cause, KeyboardInterrupt):
+        return stopped_by(cause), Status.FAILED
+    if isinstance(cause, Refused):
+        return cause.sentence, Status.REFUSED
+    if isinstance(cause, Lost) and not isinstance(cause, Displaced):
+        # the book is looked at again, so that no more than the cause is to be said
+        return cause.cause, Status.FAILED
+    return cause.sentence, Status.FAILED
+
+
+def not_seen(fault: NotSeen) -> str:
+    """What is said of an import whose text isn't what it was."""
+    note = fault.note
+    why = "was changed since"
+    if fault.cause is not None:
+        why = f"can't be read: {fault.cause.strerror}"
+    return (
+        f"The import of {note.name} was cut short, and {note.text} {why}. So how much of it is in"
+        f" the book can't be seen: the book had {note.there:,} paragraphs before, and the text"
+        f" {note.count:,}."
+    )
+
+
+def came_to(its: Unfinished) -> str:
+    """How far an import came that was cut short."""
+    head = f"The import of {its.note.name} was cut short:"
+    if not its.done:
+        return f"{head} nothing of it is in the book."
+    return (
+        f"{head} {its.done:,} of its {len(its.whole):,} paragraphs are in the book, up to line"
+        f" {its.whole[its.done - 1].last_line} of the text."
+    )

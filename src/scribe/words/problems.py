@@ -1,0 +1,58 @@
+"""The sentence for each problem of a use case, with the status of a command that it ends."""
+
+from braildesk.desk import Problem
+from braildesk.desk.change import SameWords
+from braildesk.desk.drafts import NotKept
+from braildesk.desk.export import BookChanges, NoFolder, NotWritten
+from braildesk.desk.intake import NotImported
+from braildesk.desk.paragraph_ranges import BackwardRange, NoParagraph
+from braildesk.desk.places import NoPlace
+from braildesk.desk.tables import NoSuchTable, UnreadableTable
+
+from scribe.words import export
+from scribe.words.changes import no_place
+from scribe.words.drafts import not_kept
+from scribe.words.import_text import not_imported
+from scribe.words.paragraph import no_paragraph
+from scribe.words.status import Status, Stop
+
+
+def as_stop(problem: Problem) -> Stop:
+    """What a person reads of a problem."""
+    match problem:
+        case NoParagraph(number=number, count=count):
+            return Stop(no_paragraph(number, count))
+        case BackwardRange(first=first, last=last):
+            return Stop(
+                f"Paragraph {last} stands before paragraph {first} in the book: ask for"
+                f" {last}-{first}."
+            )
+        case NotImported():
+            return not_imported(problem)
+        case NotKept():
+            return Stop(not_kept(problem))
+        case NoPlace():
+            return Stop(no_place(problem))
+        case SameWords():
+            return Stop("The new words are the same as the old. Nothing was changed.")
+        case NoSuchTable():
+            return Stop(_no_such_table(problem))
+        case UnreadableTable(path=path, cause=cause):
+            return Stop(
+                f"The table {path} can't be read: {cause.strerror}. Nothing was changed."
+            )
+        case BookChanges():
+            return Stop(export.book_changes(problem), Status.FAILED)
+        case NoFolder():
+            return Stop(export.no_folder(problem))
+        case NotWritten():
+            return Stop(export.not_written(problem), Status.FAILED)
+    raise TypeError(f"no sentence for {problem!r}")
+
+
+def _no_such_table(problem: NoSuchTable) -> str:
+    return (
+        f"There is no table {problem.name} in {problem.folder}. Nothing was changed. Without a"
+        f" file a table may be: {', '.join(problem.names)}. Else give the file of the table after"
+        " its name."
+    )

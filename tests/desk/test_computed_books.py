@@ -1,0 +1,156 @@
+"""Files of strangers whose rows are computed: they are refused before the program reads them."""
+
+import os
+import shutil
+import sqlite3
+from collections.abc import Callable
+from contextlib import closing
+from pathlib import Path
+
+import pytest
+
+import braildesk
+from braildesk import CannotOpen, Session, Why
+from strangers import in_time
+from tool import scribe
+
+ENDLESS = (
+    "WITH RECURSIVE n(x) AS (VALUES (1) UNION ALL SELECT x + 1 FROM n)"
+    " SELECT 1 AS id, 2 AS format, x AS version FROM n"
+)
+#: What is done to the file of a book, by which its rows are computed.
+DONE = {
+    "a view without end": f"DROP TABLE book; CREATE VIEW book AS {ENDLESS}",
+    "a view in capitals": f"DROP TABLE mark; CREATE VIEW Mark AS {ENDLESS}",
+    "a virtual table": "DROP TABLE tab; CREATE VIRTUAL TABLE tab USING fts5(name, body)",
+}
+
+
+def altered(book: Path, statements: str) -> None:
+    """Carries statements out in the file of a book."""
+    with closing(sqlite3.connect(book)) as database:
+        database.executescript(statements)
+
+
+@pytest.mark.parametrize("name", DONE)
+def test_a_file_whose_rows_are_computed_is_not_opened(book: Path, name: str) -> None:
+    altered(book, DONE[name])
+    before = book.read_bytes()
+    # it isn't even asked of the program
+    attempts: list[Callable[[], object]] = [
+        lambda: braildesk.check(book, "false"),
+        lambda: Session(book, "false"),
+        lambda: braildesk.export(book, 1, program="false"),
+        lambda: braildesk.new_book(book, "false"),
+    ]
+    for attempt in attempts:
+        with pytest.raises(CannotOpen) as caught:
+            attempt()
+        assert caught.value.why is Why.COMPUTED
+    assert caught.value.sentence == (
+        f"“{book}” was not opened, since it isn't made as books are: one of its tables is a view or"
+        " a virtual table, whose rows are computed and may have no end. Nothing was changed. Ask"
+        " whoever made it for the book itself."
+    )
+    assert book.read_bytes() == before
+
+
+@pytest.mark.parametrize("words", [["show"], ["export"], ["copy"], ["import"], ["new"]])
+def test_scribe_reads_nothing_of_a_view_without_end(
+    book: Path, words: list[str]
+) -> None:
+    altered(book, DONE["a view without end"])
+    (book.parent / "text").write_text("The sun\n")
+    more = {"import": ["text"], "copy": ["other"], "export": ["pages"]}
+    ran = scribe(
+        *words, book.name, *more.get(words[0], []), folder=book.parent, before=in_time
+    )
+    assert (ran.status, ran.shown) == (2, "")
+    assert ran.said.startswith(f"“{book.name}” was not opened, since it isn't made as")
+
+
+def test_what_a_log_makes_of_a_file_is_looked_at_too(
+    book: Path, tmp_path: Path
+) -> None:
+    with closing(sqlite3.connect(book)) as database:
+        database.executescript(DONE["a view without end"])
+        for each in (book, Path(f"{book}-wal")):
+            shutil.copyfile(each, tmp_path / each.name.replace("book", "other", 1))
+    other = tmp_path / "other.braildesk"
+    assert Path(f"{other}-wal").stat().st_size > 4096
+    with pytest.raises(CannotOpen) as caught:
+        Session(other, "false")
+    assert caught.value.why is Why.COMPUTED
+
+
+def test_a_list_of_tables_that_can_not_be_read_is_said(book: Path) -> None:
+    altered(
+        book,
+        "PRAGMA writable_schema = ON;"
+        "UPDATE sqlite_schema SET sql = 'CREATE TABLE book(' WHERE name = 'book'",
+    )
+    with pytest.raises(CannotOpen) as caught:
+        Session(book, "false")
+    assert caught.value.sentence == (
+        f"The list of the tables in “{book}” can't be read. Nothing was changed. Keep the file as"
+        " it is, and go on with an earlier copy."
+    )
+
+
+def test_what_else_stands_in_the_file_of_a_book_is_left_alone(book: Path) -> None:
+    altered(
+        book,
+        "CREATE TABLE trigger_log(x CHECK (x > 0), y AS (x + 1));"
+        "CREATE VIEW other AS SELECT version FROM book; CREATE INDEX i ON para(place)",
+    )
+    with Session(book) as session:
+        session.add_paragraph("end", "en", "The moon")
+    assert braildesk.check(book) == 2
+
+
+@pytest.mark.parametrize("kind", ["file", "pipe", "link"])
+def test_a_journal_beside_a_book_is_never_put_into_it(book: Path, kind: str) -> None:
+    journal = Path(f"{book}-journal")
+    if kind == "file":
+        journal.write_bytes(b"\xd9\xd5\x05\xf9 \xa1c\xd7" + bytes(600))
+    elif kind == "pipe":
+        os.mkfifo(journal)
+    else:
+        journal.symlink_to("elsewhere")
+    before = book.read_bytes()
+    with pytest.raises(CannotOpen) as caught:
+        Session(book)
+    assert caught.value.sentence == (
+        f"Beside “{book}” lies “{journal}”, which braildesk never makes: another program was stopped"
+        " while it changed that file, or somebody put it there. Nothing was changed. Keep both"
+        " files, and go on with an earlier copy."
+    )
+    with pytest.raises(CannotOpen) as caught:
+        braildesk.copy(book, book.with_name("copied"))
+    assert caught.value.why is Why.JOURNAL
+    assert book.read_bytes() == before
+    journal.unlink()
+    # as a program leaves it that keeps its journals
+    journal.write_bytes(bytes(600))
+    assert braildesk.check(book) == 1
+
+
+@pytest.mark.parametrize("kind", ["pipe", "link", "folder"])
+def test_what_has_the_name_of_a_log_and_is_none_is_named(book: Path, kind: str) -> None:
+    log, attempts = Path(f"{book}-wal"), [Session, braildesk.check]
+    log.unlink(missing_ok=True)
+    if kind == "pipe":
+        os.mkfifo(log)
+    elif kind == "link":
+        log.symlink_to("elsewhere")
+    else:
+        log.mkdir()
+    for attempt in attempts:
+        with pytest.raises(CannotOpen) as caught:
+            attempt(book)
+        assert caught.value.sentence == (
+            f"What stands at “{log}” is no file of its own, but a link, a folder, a pipe or another"
+            f" such thing, and the newest work of “{book}” would be looked for there. Nothing was"
+            " changed. Move it away."
+        )
+    assert not book.with_name("elsewhere").exists()

@@ -1,0 +1,484 @@
+"""A table made for a manuscript, by words and by its own text, and a book's table that is tuned."""
+
+import signal
+import subprocess
+import sys
+from collections.abc import Sequence
+from pathlib import Path
+
+import pytest
+
+from braildesk import Session
+import braildesk
+from braildesk.desk.own_folder import OwnFolder
+from braildesk.tables import read
+from braildesk.tables.convert.causes import Cause, Judge
+from braildesk.tables.convert.chooser import Chooser
+from braildesk.tables.convert.draft import Origin, TableDraft
+from braildesk.tables.convert.learning import Learned
+from braildesk.tables.convert.oracle import Liblouis
+from braildesk.tables.convert.running_text import Word, agreement
+from braildesk.tables.convert.tailoring import Manuscript, Means, Tailored, tailor
+from braildesk.tables.convert.word_list import WordList, keep, kept, name_of
+from braildesk.tables.tiling import braille, pieces
+from tool import environment, scribe
+
+SMALL = """\
+space \\s 0
+lowercase a 1
+lowercase b 12
+lowercase e 15
+lowercase h 125
+lowercase t 2345
+lowercase x 1346
+lowercase q 12345
+base uppercase A a
+base uppercase B b
+base uppercase E e
+base uppercase H h
+base uppercase T t
+base uppercase X x
+base uppercase Q q
+capsletter 6
+begcapsword 6-6
+endcapsword 6-3
+punctuation . 256
+"""
+LEARNED = SMALL + "match - th %a 1456\nword be 23\n"
+"""A table with a contraction that no rule of it says plainly: th is one cell before a letter."""
+
+TEXT = "That bat hath bathe the hat.\n\nBath the eth. The tab be that.\n"
+WORDS = "that\nthe\nbath\nbathe\neth\nhath\nbe\nhat\ntab\n"
+
+
+def small(folder: Path, text: str = LEARNED) -> Path:
+    path = folder / "small.utb"
+    path.write_text(text)
+    return path
+
+
+def inputs(folder: Path, text: str = TEXT, words: str = WORDS) -> Path:
+    """The table, a manuscript and a list of words, in a folder."""
+    (folder / "text.txt").write_text(text)
+    (folder / "words").write_text(words)
+    return small(folder)
+
+
+def made(folder: Path, paragraphs: Sequence[str], words: str | None = None) -> Tailored:
+    """A table made for some paragraphs."""
+    found = None
+    if words is not None:
+        (folder / "words").write_text(words)
+        found = WordList.of(folder / "words")
+    means = Means(found, None, lambda what: lambda done, total: None)
+    return tailor(small(folder), Manuscript("text.txt", paragraphs), means)
+
+
+def rules(tailored: Tailored) -> list[str]:
+    """The lines of learned rules."""
+    lines = tailored.made.draft.text().splitlines()
+    return [line for line in lines if "of the manuscript" in line and line[0] != "#"]
+
+
+def test_rules_are_learned_from_a_manuscript_and_marked_with_its_words(
+    tmp_path: Path,
+) -> None:
+    found = made(tmp_path, ["that bath bathe", "the hath that."])
+    assert rules(found) == [
+        "begword th 1456 for 3 words of the manuscript",
+        "midword th 1456 for 1 word of the manuscript",
+    ]
+    assert (found.from_list, found.from_manuscript) == (0, 2)
+    assert found.own.agreement.share_of_words == 1
+    assert found.held_back is None
+
+
+def test_rules_of_a_word_list_are_for_as_many_words_as_the_manuscript_has(
+    tmp_path: Path,
+) -> None:
+    found = made(tmp_path, ["that bath"], words=WORDS)
+    assert rules(found) == [
+        "begword th 1456 for 1 word of the manuscript",
+        "midword th 1456 for 0 words of the manuscript",
+    ]
+    assert (found.from_list, found.from_manuscript) == (2, 0)
+
+
+def test_a_tenth_of_many_paragraphs_shows_what_the_table_is_worth(
+    tmp_path: Path,
+) -> None:
+    paragraphs = ["that bath"] * 9 + ["bathe bat"] + ["hath the"] * 9 + ["hat tab"]
+    found = made(tmp_path, paragraphs)
+    assert found.held_back is not None
+    assert found.held_back.agreement.words == 4
+    assert found.held_back.agreement.share_of_words == 0.75
+    assert found.own.agreement.words == 40
+    assert found.own.agreement.share_of_words == 1
+
+
+def test_a_table_is_made_for_a_text_by_the_command(tmp_path: Path) -> None:
+    inputs(tmp_path)
+    ran = scribe(
+        *("bring", "small.utb", "out.utb", "--for", "text.txt", "--words", "words"),
+        folder=tmp_path,
+        XDG_CACHE_HOME=str(tmp_path / "cache"),
+    )
+    assert (ran.status, ran.shown) == (0, "")
+    assert ran.said.splitlines() == [
+        "This is the table of liblouis taken over by rules, of which many were learned by asking"
+        " liblouis. It is to be proofread, and it is not certified contracted braille.",
+        "2 rules were learned from words, and 0 rules were learned from the manuscript.",
+        "Of 13 words of the manuscript text.txt 100% have the cells of liblouis, and of 2"
+        " paragraphs 100%.",
+        f"out.utb was written, {len((tmp_path / 'out.utb').read_text().splitlines())} lines.",
+    ]
+    top = (tmp_path / "out.utb").read_text().splitlines()[:12]
+    said = " ".join(line.lstrip("# ") for line in top)
+    assert "is under the licence that they state" in said
+    assert "it is not certified contracted braille" in said
+
+
+def test_a_table_is_made_for_the_paragraphs_of_a_book_that_stand(
+    book: Path, tmp_path: Path
+) -> None:
+    inputs(tmp_path)
+    with Session(book) as session:
+        session.add_paragraph("end", "en", "that bath")
+        session.add_paragraph("end", "en", "the")
+        session.strike(2)
+    ran = scribe(
+        *("bring", "small.utb", "out.utb", "--for", book, "--words", "words"),
+        folder=tmp_path,
+        XDG_CACHE_HOME=str(tmp_path / "cache"),
+    )
+    assert "Of 2 words of the manuscript book.braildesk 100% have" in ran.said
+
+
+def test_paragraphs_without_braille_are_named_with_what_they_lack(
+    tmp_path: Path,
+) -> None:
+    inputs(tmp_path, "that bath\n\nthat 7\n")
+    ran = scribe(
+        *("bring", "small.utb", "out.utb", "--for", "text.txt", "--words", "words"),
+        folder=tmp_path,
+        XDG_CACHE_HOME=str(tmp_path / "cache"),
+    )
+    assert (
+        "1 paragraph wasn't compared, since it has characters that this table lacks: “7” (U+0037"
+        " DIGIT SEVEN)."
+    ) in ran.said.splitlines()
+
+
+def test_lines_of_ones_own_come_after_a_table_for_a_manuscript(tmp_path: Path) -> None:
+    inputs(tmp_path, "that bath\n\nthat 7\n")
+    (tmp_path / "added").write_text("digit 7 1245\n")
+    ran = scribe(
+        *("bring", "small.utb", "out.utb", "--for", "text.txt", "--words", "words"),
+        *("--add", "added"),
+        folder=tmp_path,
+        XDG_CACHE_HOME=str(tmp_path / "cache"),
+    )
+    assert (
+        "1 paragraph wasn't compared, since liblouis lacks characters that" in ran.said
+    )
+    assert (tmp_path / "out.utb").read_text().endswith("\ndigit 7 1245\n")
+
+
+def test_a_text_that_is_none_is_refused(tmp_path: Path) -> None:
+    inputs(tmp_path)
+    (tmp_path / "text.txt").write_bytes(b"that \xff")
+    ran = scribe("bring", "small.utb", "--for", "text.txt", folder=tmp_path)
+    assert ran.status == 2
+    assert ran.said.startswith(
+        "text.txt isn't UTF-8: line 1, column 6 has the byte 0xff"
+    )
+
+
+@pytest.fixture
+def shelf(tmp_path: Path) -> OwnFolder:
+    return OwnFolder(tmp_path / "kept")
+
+
+@pytest.fixture(scope="module")
+def draft(tmp_path_factory: pytest.TempPathFactory) -> TableDraft:
+    """The small table without what is learned."""
+    return made(tmp_path_factory.mktemp("draft"), ["bat"]).made.draft
+
+
+RULES: Learned = {("begword", "th"): (1 + 8 + 16 + 32,)}
+
+
+def test_rules_that_were_kept_are_read_again(
+    shelf: OwnFolder, draft: TableDraft
+) -> None:
+    keep(shelf, "one", RULES)
+    assert kept(shelf, "one", draft) == RULES
+
+
+@pytest.mark.parametrize(
+    "data",
+    [
+        b"",
+        b"\xff" * 40,
+        b"begword th 1456\n",
+        b"# braildesk: rules learned from a word list, other\nbegword th 1456\n",
+        b"# braildesk: rules learned from a word list, one\nbegword th 1456-\n",
+        b"# braildesk: rules learned from a word list, one\nbegword td 1456\n",
+        b"# braildesk: rules learned from a word list, one\nletter d 145\n",
+        b"# braildesk: rules learned from a word list, one\n" + b"# \n" * 2_000_000,
+    ],
+)
+def test_what_was_kept_otherwise_is_not_read(
+    shelf: OwnFolder, draft: TableDraft, data: bytes
+) -> None:
+    keep(shelf, "one", RULES)
+    (shelf.path / "one").write_bytes(data)
+    assert kept(shelf, "one", draft) is None
+
+
+def test_another_liblouis_or_list_or_table_has_rules_of_its_own(
+    draft: TableDraft, tmp_path: Path
+) -> None:
+    (tmp_path / "words").write_text(WORDS)
+    (tmp_path / "others").write_text(WORDS + "bat\n")
+    words, others = (WordList.of(tmp_path / name) for name in ("words", "others"))
+    other = draft.copy()
+    other.add_rule("word", "be", (1,), Origin("Other."))
+    names = {
+        name_of(words, draft, "3.24.0"),
+        name_of(words, draft, "3.25.0"),
+        name_of(others, draft, "3.24.0"),
+        name_of(words, other, "3.24.0"),
+    }
+    assert len(names) == 4
+
+
+def test_a_kept_rule_that_no_word_bears_out_is_left_out(tmp_path: Path) -> None:
+    inputs(tmp_path)
+    words = ("bring", "small.utb", "out.utb", "--for", "text.txt", "--words", "words")
+    cache = str(tmp_path / "cache")
+    scribe(*words, folder=tmp_path, XDG_CACHE_HOME=cache)
+    first = (tmp_path / "out.utb").read_text()
+    folder = tmp_path / "cache" / "braildesk" / "contractions"
+    (path,) = folder.iterdir()
+    with path.open("a") as file:
+        file.write("word tab 1-1-1\nmidword qa 1\n")
+    scribe(*words, folder=tmp_path, XDG_CACHE_HOME=cache)
+    assert (tmp_path / "out.utb").read_text() == first
+    assert "word tab 1-1-1" in path.read_text()
+
+
+STOPS = """\
+#!/bin/sh
+echo >> "$CALLS"
+if [ "$(wc -l < "$CALLS")" = "$STOP" ]; then kill -INT $PPID; sleep 20; fi
+exec "$REAL" "$@"
+"""
+
+
+@pytest.mark.parametrize("call", ["1", "last"])
+def test_an_interrupt_leaves_nothing_half_made(
+    call: str, program: str, tmp_path: Path
+) -> None:
+    inputs(tmp_path)
+    stops = tmp_path / "stops"
+    stops.write_text(STOPS)
+    stops.chmod(0o755)
+    calls = tmp_path / "calls"
+    command = [sys.executable, "-m", "scribe", "bring", "small.utb", "out.utb"]
+    command += ["--for", "text.txt", "--words", "words"]
+    settings = {
+        "CALLS": str(calls),
+        "REAL": program,
+        "BRAILDESK": str(stops),
+        "TMPDIR": str(tmp_path / "tmp"),
+        "XDG_CACHE_HOME": str(tmp_path / "cache"),
+    }
+    (tmp_path / "tmp").mkdir()
+    if call == "last":
+        subprocess.run(command, cwd=tmp_path, env=environment(STOP="0", **settings))
+        call = str(len(calls.read_text().splitlines()))
+        calls.unlink()
+    (tmp_path / "out.utb").write_text("as it was\n")
+    done = subprocess.run(
+        command,
+        cwd=tmp_path,
+        env=environment(STOP=call, **settings),
+        capture_output=True,
+    )
+    assert done.returncode == -signal.SIGINT
+    assert (tmp_path / "out.utb").read_text() == "as it was\n"
+    assert not list((tmp_path / "tmp").iterdir())
+    assert not [path for path in tmp_path.rglob(".scribe-*")]
+
+
+CAPITALS = SMALL.replace(
+    "begcapsword",
+    "begcapsphrase 6-6-6\nendcapsphrase after 6-3\nlencapsphrase 3\nbegcapsword",
+)
+
+
+def causes(folder: Path, line: str, text: str) -> list[tuple[str, Cause]]:
+    """The words of a line that differ by a table, with their causes."""
+    small(folder, CAPITALS)
+    table = read(text.encode()).table
+    with Liblouis(folder / "small.utb") as liblouis:
+        cells = [tuple(ord(one) - 0x2800 for one in braille(pieces(table, line)))]
+        found = agreement(liblouis, Chooser(table), [line], cells).differences
+        its = Judge(liblouis, table).causes([line], found)
+    return [(word.text, cause) for word, cause in zip(found, its, strict=True)]
+
+
+def test_each_word_that_differs_has_its_cause(
+    tmp_path: Path, draft: TableDraft
+) -> None:
+    text = draft.text()
+    assert causes(tmp_path, "bat BATh", text) == [("BATh", Cause.CAPITALS)]
+    assert causes(tmp_path, "HAT BATH THE bat", text) == [
+        ("HAT", Cause.PASSAGE),
+        ("BATH", Cause.PASSAGE),
+        ("THE", Cause.PASSAGE),
+    ]
+
+
+CAUSES = b"""\
+numsign 3456
+capsletter 6
+begcapsword 6-6
+uplow Aa 1
+uplow Bb 12
+uplow Xx 1346
+digit 1 1
+space \\s 0
+punctuation . 256
+punctuation " 2356
+word x 56-1346
+"""
+
+
+@pytest.mark.parametrize(
+    "line, word, ours, theirs, cause",
+    [
+        ("ab X", "X", "⠠⠰⠭", "⠰⠠⠭", Cause.LETTER_SIGN),
+        ("ab AX", "AX", "⠠⠠⠁⠭", "⠰⠠⠠⠁⠭", Cause.LETTER_SIGN),
+        ("ab ABa", "ABa", "⠠⠁⠠⠃⠁", "⠠⠠⠁⠃⠠⠄⠁", Cause.CAPITALS),
+        ("ab AB.Ab", "AB.Ab", "⠠⠠⠁⠃⠲⠠⠁⠃", "⠠⠠⠁⠃⠲⠁⠠⠄⠃", Cause.CAPITALS),
+        ("ab AB BX", "BX", "⠠⠠⠃⠭", "⠃⠭", Cause.PASSAGE),
+        ("1 11", "11", "⠼⠁⠁", "⠁⠁", Cause.NUMBER),
+        ("ab .1", ".1", "⠲⠼⠁", "⠼⠲⠁", Cause.FIRST_MARK),
+        ('"b ab', "ab", "⠁⠃", "⠃⠃", Cause.QUOTES),
+        ("b ab", "ab", "⠁⠃", "⠃⠃", Cause.NEIGHBOURS),
+        ("ab be", "be", "⠃⠑", "⠆", Cause.RULES),
+    ],
+)
+def test_a_cause_is_known_by_the_print_and_the_cells(
+    line: str, word: str, ours: str, theirs: str, cause: Cause, tmp_path: Path
+) -> None:
+    ours_there, theirs_there = (
+        tuple(ord(cell) - 0x2800 for cell in cells) for cells in (ours, theirs)
+    )
+    found = Word(0, line.rindex(word), word, ours_there, theirs_there)
+    with Liblouis(small(tmp_path)) as liblouis:
+        judge = Judge(liblouis, read(CAUSES).table)
+        assert judge.causes([line], [found]) == [cause]
+
+
+@pytest.fixture
+def tuned_book(tmp_path: Path) -> Path:
+    """A book by the small table without its contractions."""
+    path = tmp_path / "own.braildesk"
+    braildesk.new_book(path)
+    (tmp_path / "plain.utb").write_text(SMALL)
+    scribe("bring", "plain.utb", "own.utb", folder=tmp_path)
+    small(tmp_path)
+    with Session(path) as session:
+        session.put_table("own", (tmp_path / "own.utb").read_bytes())
+        session.add_paragraph("end", "own", "that bath. The bathe be hat.")
+        session.add_paragraph("end", "own", "That BATh")
+    return path
+
+
+def tune(folder: Path, *words: str) -> list[str]:
+    ran = scribe(
+        "tune", "own.braildesk", "small.utb", "--width", "300", *words, folder=folder
+    )
+    assert ran.status == 0, ran.said
+    return [*ran.shown.splitlines(), *ran.said.splitlines()]
+
+
+def test_a_book_is_compared_and_nothing_is_changed(tuned_book: Path) -> None:
+    before = tuned_book.read_bytes()
+    lines = tune(tuned_book.parent)
+    assert lines[0].startswith(
+        "The table own of own.braildesk is compared with small.utb of liblouis "
+    )
+    assert lines[1:] == [
+        "Of 8 words 25% have the cells of liblouis, and of 2 paragraphs 0%.",
+        "5 words differ by rules that the table lacks:",
+        "  that: ⠞⠓⠁⠞, in liblouis ⠹⠁⠞",
+        "  The: ⠠⠞⠓⠑, in liblouis ⠠⠹⠑",
+        "  bathe: ⠃⠁⠞⠓⠑, in liblouis ⠃⠁⠹⠑",
+        "  be: ⠃⠑, in liblouis ⠆",
+        "  That: ⠠⠞⠓⠁⠞, in liblouis ⠠⠹⠁⠞",
+        "1 word differs by signs of capitals within a word:",
+        "  BATh: ⠠⠃⠠⠁⠠⠞⠓, in liblouis ⠠⠠⠃⠁⠞⠠⠄⠓",
+        "3 rules mend words:",
+        "  begword th 1456: mends 3 words (that, The, That) and changes nothing else.",
+        "  midword th 1456: mends 1 word (bathe) and changes nothing else.",
+        "  word be 23: mends 1 word (be) and changes nothing else.",
+        "A rule writes words as liblouis does. That is to be proofread, and is not certified"
+        " braille.",
+        "With them: Of 8 words 87.5% have the cells of liblouis, and of 2 paragraphs 50%.",
+        "To be proofread, since no rule mends these words:",
+        "  paragraph 2: BATh (signs of capitals within a word)",
+        "Nothing was changed. With --apply the rules are put into the book.",
+    ]
+    assert tuned_book.read_bytes() == before
+
+
+def test_rules_are_put_into_the_table_where_that_is_asked_for(tuned_book: Path) -> None:
+    lines = tune(tuned_book.parent, "--apply")
+    assert lines[-2:] == [
+        "The rules are in the table own.",
+        "The book is at version 4.",
+    ]
+    with Session(tuned_book) as session:
+        assert session.braille_of(1) == "⠹⠁⠞⠀⠃⠁⠞⠓⠲⠀⠠⠹⠑⠀⠃⠁⠹⠑⠀⠆⠀⠓⠁⠞⠲"
+    again = tune(tuned_book.parent, "--apply")
+    assert again[1] == (
+        "Of 8 words 87.5% have the cells of liblouis, and of 2 paragraphs 50%."
+    )
+    assert "No rule was found that mends a word." in again
+    with Session(tuned_book) as session:
+        assert session.version() == 4
+
+
+def test_which_table_is_tuned_has_to_be_clear(book: Path) -> None:
+    folder = book.parent
+    small(folder)
+    words = ("tune", "book.braildesk", "small.utb")
+    assert scribe(*words, folder=folder).said == (
+        "The book has no paragraph, so there is nothing to compare.\n"
+    )
+    with Session(book) as session:
+        session.put_table("own", SMALL_TABLE)
+        session.add_paragraph("end", "en", "The moon.")
+        session.add_paragraph("end", "own", "a")
+    assert scribe(*words, folder=folder).said == (
+        "Paragraphs of the book have the tables en, own. Say which by --table.\n"
+    )
+    assert scribe(*words, "--table", "none", folder=folder).said == (
+        "No paragraph of the book has the table none.\n"
+    )
+
+
+SMALL_TABLE = b"letter a 1\n"
+
+
+def test_a_capital_that_is_contracted_with_one_letter_is_asked_for_with_another(
+    tmp_path: Path,
+) -> None:
+    small(tmp_path, SMALL + "always exx 12346\n")
+    means = Means(None, None, lambda what: lambda done, total: None)
+    found = tailor(tmp_path / "small.utb", Manuscript("text", ["E"]), means)
+    assert found.made.draft.lower["E"] == "e"

@@ -1,0 +1,68 @@
+"""`scribe copy`: what is at the path of a copy stays, unless it is a book and the words say so."""
+
+import os
+import shutil
+from pathlib import Path
+
+import pytest
+
+import braildesk
+from braildesk import Session
+from tool import Ran, scribe
+
+
+def copy(book: Path, *words: str) -> Ran:
+    """Copies the book `moon` to `other` beside it."""
+    return scribe("copy", book.name, "other", *words, folder=book.parent)
+
+
+def test_a_book_takes_the_place_of_another_where_the_words_say_so(moon: Path) -> None:
+    other = moon.with_name("other")
+    braildesk.new_book(other)
+    there = "“other” is there already, and was left as it is."
+    assert copy(moon) == Ran(
+        2,
+        "",
+        f"{there} Take another path for the copy. --overwrite replaces a book.\n",
+    )
+    assert braildesk.check(other) == 0
+    for _ in range(2):
+        ran = copy(moon, "--overwrite")
+        assert ran == Ran(0, f"other is a copy of {moon.name}, at version 7.\n", "")
+    assert braildesk.check(other) == 7
+
+
+@pytest.mark.parametrize("kind", ["text", "link to a text", "pipe"])
+def test_nothing_but_a_book_is_replaced(moon: Path, kind: str) -> None:
+    other, text = moon.with_name("other"), moon.with_name("letter")
+    text.write_text("Dear Anna,\n")
+    if kind == "pipe":
+        os.mkfifo(other)
+    elif kind == "text":
+        shutil.copyfile(text, other)
+    else:
+        other.symlink_to(text)
+    before = os.lstat(other)
+    ran = copy(moon, "--overwrite")
+    assert (ran.status, ran.shown) == (2, "")
+    found = os.lstat(other)
+    assert (found.st_ino, found.st_mtime_ns) == (before.st_ino, before.st_mtime_ns)
+    assert text.read_text() == "Dear Anna,\n"
+    if kind != "pipe":
+        assert ran.said == (
+            "“other” is no book, and was left as it is. Take another path for the copy.\n"
+        )
+
+
+def test_a_book_that_is_open_or_the_book_itself_is_not_replaced(moon: Path) -> None:
+    other = moon.with_name("other")
+    shutil.copyfile(moon, other)
+    with Session(other) as session:
+        ran = copy(moon, "--overwrite", "--wait", "0")
+        assert ran.said.startswith("Another program has “other” open.")
+        session.strike(1)
+    other.unlink()
+    other.symlink_to(moon)
+    ran = copy(moon, "--overwrite")
+    assert (ran.status, "“other” is the book itself." in ran.said) == (2, True)
+    assert braildesk.check(moon) == 7

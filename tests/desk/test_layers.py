@@ -1,0 +1,136 @@
+"""The folders of src/: each is one layer, whose modules import from those below it alone."""
+
+import ast
+from collections.abc import Iterator
+from pathlib import Path
+
+import pytest
+
+from tool import ROOT
+
+SRC = ROOT / "src"
+#: The folders of the package braildesk, the lowest one first: each may import from those before it.
+BRAILDESK = (
+    "braildesk.text",
+    "braildesk.protocol",
+    "braildesk",
+    "braildesk.tables",
+    "braildesk.tables.convert",
+    "braildesk.desk",
+)
+#: The folders from which each folder imports, beside itself.
+BELOW = {
+    **{layer: BRAILDESK[:place] for place, layer in enumerate(BRAILDESK)},
+    "scribe.words": BRAILDESK,
+    "scribe.screen": (*BRAILDESK, "scribe.words"),
+    "scribe.prompt": (*BRAILDESK, "scribe.words"),
+    "scribe.cli": (*BRAILDESK, "scribe.words", "scribe.screen", "scribe.prompt"),
+    "scribe": ("scribe.cli",),
+}
+#: Modules of the command line and of terminals, and the one folder that may import each.
+OF_ONE_FOLDER = {
+    "argparse": "scribe.cli",
+    "prompt_toolkit": "scribe.screen",
+    "readline": "scribe.prompt",
+}
+
+
+def layer_of(module: str) -> str:
+    """The folder in which a module stands, or which it is, as a package."""
+    return max(
+        (layer for layer in BELOW if f"{module}.".startswith(f"{layer}.")), key=len
+    )
+
+
+def imported(source: str) -> Iterator[str]:
+    """The modules that a module imports, anywhere in it, and names that may be modules."""
+    for node in ast.walk(ast.parse(source)):
+        if isinstance(node, ast.Import):
+            yield from (alias.name for alias in node.names)
+        elif isinstance(node, ast.ImportFrom):
+            assert node.module is not None and not node.level, "imports are absolute"
+            names = [f"{node.module}.{alias.name}" for alias in node.names]
+            modules = [name for name in names if is_module(name)]
+            yield from modules
+            if len(modules) < len(names):
+                yield node.module
+
+
+def is_module(name: str) -> bool:
+    """Whether a name of the packages is a module, and not one of the names in it."""
+    path = SRC / name.replace(".", "/")
+    return path.is_dir() or path.with_suffix(".py").is_file()
+
+
+def reaching(module: str, source: str) -> set[str]:
+    """What a module imports that its folder may not import."""
+    layer = layer_of(module)
+    found = set()
+    for name in imported(source):
+        top = name.split(".")[0]
+        if top in ("braildesk", "scribe"):
+            if layer_of(name) not in (layer, *BELOW[layer]):
+                found.add(name)
+        elif OF_ONE_FOLDER.get(top, layer) != layer:
+            found.add(top)
+    return found
+
+
+def modules() -> dict[str, Path]:
+    """The modules of both packages by their names."""
+    found = {}
+    for path in SRC.rglob("*.py"):
+        parts = path.relative_to(SRC).with_suffix("").parts
+        found[".".join(parts).removesuffix(".__init__")] = path
+    return found
+
+
+def test_no_module_imports_from_a_folder_that_is_not_below_its_own() -> None:
+    found = {
+        module: reach
+        for module, path in sorted(modules().items())
+        if (reach := reaching(module, path.read_text(encoding="utf-8")))
+    }
+    assert found == {}
+
+
+@pytest.mark.parametrize(
+    "module, source, found",
+    [
+        ("braildesk.text.cells", "from braildesk import Session", {"braildesk"}),
+        (
+            "braildesk.text.cells",
+            "def f():\n    import braildesk.session as s",
+            {"braildesk.session"},
+        ),
+        (
+            "braildesk.protocol.values",
+            "from braildesk.program import find",
+            {"braildesk.program"},
+        ),
+        ("braildesk.protocol.values", "from braildesk.text import limits", set()),
+        (
+            "braildesk.session",
+            "from braildesk.tables import read",
+            {"braildesk.tables"},
+        ),
+        (
+            "braildesk.desk.drafts",
+            "from scribe.words import status",
+            {"scribe.words.status"},
+        ),
+        ("braildesk.desk.drafts", "import argparse", {"argparse"}),
+        (
+            "scribe.screen.keys",
+            "from scribe.prompt.help import x",
+            {"scribe.prompt.help"},
+        ),
+        ("scribe.screen.terminal", "import prompt_toolkit.output", set()),
+        ("scribe.words.view", "import prompt_toolkit.output", {"prompt_toolkit"}),
+        ("scribe.cli.commands.edit", "from scribe.screen.desk import Desk", set()),
+    ],
+)
+def test_an_import_of_what_is_not_below_is_found(
+    module: str, source: str, found: set[str]
+) -> None:
+    assert reaching(module, source) == found

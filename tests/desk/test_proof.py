@@ -1,0 +1,176 @@
+"""Proofs of a book for those who read print: what stands on which page, and the page of HTML."""
+
+from html.parser import HTMLParser
+from pathlib import Path
+from xml.etree import ElementTree
+
+import pytest
+
+from braildesk import Session, Style
+from braildesk.desk.layout import PageSize
+from braildesk.desk.proof import ProofPage, ProofWord, proof_pages
+
+from scribe.words.proof_html import Proof
+from tool import ROOT, scribe
+
+
+class Read(HTMLParser):
+    """What is read of a page in the order of the text, without what is hidden from speech."""
+
+    def __init__(self) -> None:
+        super().__init__()
+        self.said: list[str] = []
+        self.lines: list[list[str]] = []
+        self._hidden = 0
+        self._open: list[bool] = []
+
+    def handle_starttag(self, tag: str, attrs: list[tuple[str, str | None]]) -> None:
+        if tag == "meta":
+            return
+        is_hidden = ("aria-hidden", "true") in attrs or tag == "style"
+        self._open.append(is_hidden)
+        self._hidden += is_hidden
+        if ("class", "line") in attrs or ("class", "line heading") in attrs:
+            self.lines.append([])
+
+    def handle_endtag(self, tag: str) -> None:
+        self._hidden -= self._open.pop()
+
+    def handle_data(self, data: str) -> None:
+        if not self._hidden and data.strip():
+            self.said.append(data.strip())
+            if self.lines:
+                self.lines[-1].append(data.strip())
+
+
+def pages_of(book: Path, page_size: PageSize = PageSize(20, 10)) -> list[ProofPage]:
+    with Session(book) as session:
+        return list(proof_pages(session, page_size))
+
+
+def words_of(pages: list[ProofPage]) -> list[ProofWord]:
+    return [word for page in pages for line in page.lines for word in line.words]
+
+
+def read(text: str) -> Read:
+    found = Read()
+    found.feed(text)
+    return found
+
+
+def test_each_word_stands_under_its_cells(moon: Path) -> None:
+    (page,) = pages_of(moon)
+    shown = [[(each.column, each.text) for each in line.words] for line in page.lines]
+    assert shown[0] == [(2, "The"), (7, "moon"), (12, "is"), (15, "far")]
+    assert shown[1] == [(0, "away.")]
+    assert [line.number for line in page.lines] == [1, 2, 3, 4, 5]
+    assert [line.begins for line in page.lines] == [1, None, 2, 3, None]
+
+
+def test_all_cells_of_the_pages_stand_in_the_proof(moon: Path) -> None:
+    with Session(moon) as session:
+        brailles = [session.braille_of(each.id) for each in session.paragraphs()]
+    whole = "".join(brailles).replace("\u2800", "")
+    assert "".join(each.cells for each in words_of(pages_of(moon))) == whole
+
+
+def test_a_mark_stands_at_the_line_of_its_first_word(moon: Path) -> None:
+    (page,) = pages_of(moon)
+    marks = {line.number: [mark.note for mark in line.marks] for line in page.lines}
+    assert marks == {1: ["spelled so?"], 2: [], 3: [], 4: [], 5: []}
+    marked = [each.text for each in words_of([page]) if each.is_marked]
+    assert marked == ["moon"]
+    with Session(moon) as session:
+        session.resolve_mark(1)
+    assert not any(each.is_marked for each in words_of(pages_of(moon)))
+
+
+def test_a_word_that_is_cut_has_its_print_under_its_front(book: Path) -> None:
+    with Session(book) as session:
+        session.add_paragraph("end", "en", "a" * 25 + " b")
+    (page,) = pages_of(book)
+    shown = [[each.text for each in line.words] for line in page.lines]
+    assert shown == [["a" * 25], ["", "b"]]
+
+
+def test_words_that_cells_join_are_found_by_the_book(book: Path) -> None:
+    table = b"space \\s 0\nletter a 1\nletter b 12\nalways a\\sb 1-12\n"
+    with Session(book) as session:
+        session.put_table("joined", table)
+        session.add_paragraph("end", "joined", "a b a")
+    (page,) = pages_of(book)
+    assert [each.text for each in page.lines[0].words] == ["a b", "a"]
+
+
+def test_struck_paragraphs_and_empty_volumes_have_no_place(moon: Path) -> None:
+    with Session(moon) as session:
+        session.set_begins_volume(3, True)
+        session.strike(1)
+    pages = pages_of(moon)
+    assert [(page.volume, page.number) for page in pages] == [(1, 1), (2, 1)]
+    assert [page.lines[0].begins for page in pages] == [2, 3]
+
+
+def test_the_page_is_read_in_the_order_of_the_text(moon: Path) -> None:
+    with Session(moon) as session:
+        session.set_style(2, Style.HEADING)
+    ran = scribe("proof", moon.name, "moon.html", "--width", "20", folder=moon.parent)
+    assert (ran.status, ran.shown, ran.said) == (0, "moon.html: 1 page.\n", "")
+    found = read((moon.parent / "moon.html").read_text(encoding="utf-8"))
+    assert " ".join(found.said) == (
+        "Proof of moon Proof of moon Volume 1, page 1 1 . The moon is far Mark 1, open: spelled"
+        " so? away. 2 . The Tides 3 . Twice a day the sea comes up. 1"
+    )
+
+
+def test_the_page_needs_nothing_else_and_is_well_formed(moon: Path) -> None:
+    with Session(moon) as session:
+        session.put_table("ueb", (ROOT / "src/braildesk/tables/ueb.utb").read_bytes())
+        session.add_paragraph("end", "ueb", "<b> & \"quoted\" 'so'")
+    (page,) = pages_of(moon)
+    text = "".join(Proof("a <book>", PageSize(20, 10)).html([page]))
+    assert text.startswith("<!DOCTYPE html>\n")
+    for reference in ("http", "src=", "href=", "url(", "<script"):
+        assert reference not in text
+    ElementTree.fromstring(
+        text.removeprefix("<!DOCTYPE html>").replace('<meta charset="utf-8">', "")
+    )
+    assert "<b>" in " ".join(read(text).said)
+
+
+@pytest.mark.parametrize(
+    "word, has",
+    [
+        ("--ascii", ">MOON<"),
+        ("--print-first", '<span class="word marked" style="grid-column:8/span 5"><sp'),
+        ("--speak-cells", '<span class="cells">'),
+        ("--language=en", '<html lang="en">'),
+    ],
+)
+def test_a_word_of_the_command_line_changes_the_page(
+    moon: Path, word: str, has: str
+) -> None:
+    scribe("proof", moon.name, "one.html", folder=moon.parent)
+    ran = scribe("proof", moon.name, "two.html", word, folder=moon.parent)
+    assert ran.status == 0
+    assert has in (moon.parent / "two.html").read_text(encoding="utf-8")
+    if word != "--print-first":
+        assert has not in (moon.parent / "one.html").read_text(encoding="utf-8")
+
+
+def test_only_pages_with_open_marks(moon: Path) -> None:
+    words = ["proof", moon.name, "moon.html", "--width", "12", "--lines", "5"]
+    assert scribe(*words, folder=moon.parent).shown == "moon.html: 2 pages.\n"
+    ran = scribe(*words, "--marks-only", folder=moon.parent)
+    assert ran.shown == "moon.html: 1 page.\n"
+    with Session(moon) as session:
+        session.resolve_mark(1)
+    ran = scribe(*words, "--marks-only", folder=moon.parent)
+    assert (ran.status, ran.shown) == (2, "")
+    assert ran.said == "No page has an open mark, so no proof was written.\n"
+
+
+def test_a_proof_that_cannot_be_written_leaves_the_older_one(moon: Path) -> None:
+    ran = scribe("proof", moon.name, "nowhere/moon.html", folder=moon.parent)
+    assert ran.status == 3
+    assert ran.said.startswith("nowhere/moon.html could not be written: ")

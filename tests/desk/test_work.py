@@ -1,0 +1,214 @@
+"""How much work a command is: what it imports, how often the program is started, what is asked."""
+
+import subprocess
+import sys
+from collections.abc import Iterator
+from dataclasses import dataclass, field
+from io import BytesIO, StringIO
+from pathlib import Path
+from typing import Any
+
+import pytest
+
+from braildesk import Session
+from braildesk.pipe import Pipe
+from braildesk.protocol.requests import Mark, Type
+from scribe.cli import run_words
+from scribe.cli.commands import COMMANDS
+from scribe.words.console import Console
+from sitting import Sit
+from tool import environment
+
+COUNT = 600
+#: What each paragraph of the book has, once.
+WORDS = "far away"
+#: How many of our modules are imported, and how many in all, at most.
+MODULES = {"--help": (24, 130), "show": (62, 190), "marks": (58, 185)}
+#: Modules that take as long as all of a short command, and are needed by few.
+DEAR = {
+    "braildesk.desk.drafts",
+    "braildesk.files",
+    "braildesk.making",
+    "braildesk.tables",
+    "ctypes",
+    "difflib",
+    "importlib.resources",
+    "json",
+    "prompt_toolkit",
+    "random",
+    "readline",
+    "scribe.prompt",
+    "scribe.screen",
+    "tempfile",
+    "traceback",
+}
+IMPORTED = """
+import sys
+from scribe.cli import main
+sys.argv[0] = "scribe"
+main()
+print(*sorted(sys.modules), file=sys.stderr)
+"""
+
+
+@dataclass
+class Work:
+    """How often the program was started, and what it was asked."""
+
+    started: int = 0
+    asked: list[bytes] = field(default_factory=list)
+
+    @property
+    def names(self) -> list[str]:
+        """The names of the requests."""
+        words = (request.decode().split() for request in self.asked)
+        return [its[1] if its[0].startswith("@") else its[0] for its in words]
+
+
+@pytest.fixture
+def work(monkeypatch: pytest.MonkeyPatch) -> Iterator[Work]:
+    """What is done from now on."""
+    found = Work()
+    popen, send = subprocess.Popen.__init__, Pipe.send
+
+    def started(process: "subprocess.Popen[Any]", *words: Any, **more: Any) -> None:
+        found.started += 1
+        popen(process, *words, **more)
+
+    def asked(pipe: Pipe, request: bytes) -> None:
+        found.asked.append(request)
+        send(pipe, request)
+
+    monkeypatch.setattr(subprocess.Popen, "__init__", started)
+    monkeypatch.setattr(Pipe, "send", asked)
+    yield found
+
+
+@pytest.fixture(scope="module")
+def long_once(made_once: Path, tmp_path_factory: pytest.TempPathFactory) -> Path:
+    """A book of many paragraphs, of which each has a mark."""
+    path = tmp_path_factory.mktemp("long") / "long.braildesk"
+    path.write_bytes((made_once / "supplied.braildesk").read_bytes())
+    with Session(path) as session:
+        texts = (f"Paragraph {n} of a moon that is {WORDS}." for n in range(COUNT))
+        list(session.each(Type("end", "en", text) for text in texts))
+        list(session.each(Mark(n, 0, 4, "spelled so?") for n in range(1, COUNT + 1)))
+    return path
+
+
+@pytest.fixture
+def long(long_once: Path, tmp_path: Path) -> Path:
+    """A copy of that book."""
+    path = tmp_path / "long.braildesk"
+    path.write_bytes(long_once.read_bytes())
+    return path
+
+
+def run(*words: str | Path) -> list[str]:
+    """The lines that a command shows, which has to end well."""
+    shown, said = StringIO(), StringIO()
+    console = Console(BytesIO(), shown, said)
+    assert run_words([str(word) for word in words], console) == 0, said.getvalue()
+    return shown.getvalue().splitlines()
+
+
+@pytest.mark.parametrize("words", [["--help"], ["show"], ["marks"]])
+def test_a_short_command_imports_what_it_needs(moon: Path, words: list[str]) -> None:
+    if words != ["--help"]:
+        words = [*words, str(moon)]
+    done = subprocess.run(
+        [sys.executable, "-c", IMPORTED, *words],
+        # nothing that other tests left there is asked about
+        env=environment(XDG_STATE_HOME=str(moon.parent / "state")),
+        capture_output=True,
+        check=True,
+    )
+    found = set(done.stderr.decode().splitlines()[-1].split())
+    assert not DEAR & found
+    own = {each for each in found if each.split(".")[0] in ("braildesk", "scribe")}
+    most_own, most = MODULES[words[0]]
+    assert len(own) <= most_own and len(found) <= most, sorted(found)
+    others = {f"scribe.cli.commands.{module}" for module, _ in COMMANDS.values()}
+    assert others & found <= {f"scribe.cli.commands.{words[0]}"}
+
+
+#: Each command with its words after the book, and the requests that it sends: a version with each
+#: session, and one request of a kind for each paragraph that is shown.
+ASKED = {
+    "show of one": (
+        ["show", "--paragraphs", "300"],
+        ["version", "list", "print", "braille", "marks"],
+    ),
+    "change": (
+        ["change", "300", WORDS, "near"],
+        ["version", "print", "marks", "correct", "print", "marks"],
+    ),
+    "heading": (["heading", "300"], ["version", "list", "style", "print"]),
+    "strike": (["strike", "300"], ["version", "list", "strike", "print"]),
+    "find": (["find", WORDS], ["version", "list", *["print"] * COUNT]),
+    "show of all": (
+        ["show"],
+        ["version", "list", *["print", "braille", "marks"] * COUNT],
+    ),
+    "marks": (
+        ["marks"],
+        ["version", "list", *["marks"] * COUNT, *["print"] * COUNT],
+    ),
+}
+
+
+@pytest.mark.parametrize("name", ASKED)
+def test_a_command_opens_the_book_once_and_asks_each_thing_once(
+    long: Path, work: Work, name: str
+) -> None:
+    (command, *words), wanted = ASKED[name]
+    run(command, long, *words)
+    assert work.started == 1
+    assert work.names == wanted
+
+
+def test_a_page_is_shown_with_an_export_and_the_print_of_its_own_paragraphs(
+    long: Path, work: Work
+) -> None:
+    lines = run("pages", long, "--page", "1")
+    assert len(lines) == 1 + 24
+    # the session, and the export with which the page is compared
+    assert work.started == 2
+    assert work.names.count("braille") == COUNT
+    # each of these paragraphs takes two lines
+    assert work.names.count("print") == 12
+
+
+def test_an_import_opens_the_book_twice_and_sends_each_paragraph_once(
+    long: Path, work: Work
+) -> None:
+    count = 500
+    text = long.with_name("text.txt")
+    text.write_text("".join(f"It is day {n}.\n" for n in range(count)))
+    run("import", long, text, "--lines")
+    assert work.names.count("type") == count
+    assert len(work.asked) <= count + 10
+    # two sessions, and the program once for the characters of the text and once for its lines
+    assert work.started <= 4
+
+
+def test_the_screen_opens_a_book_once(long: Path, sit: Sit, work: Work) -> None:
+    sit(long)
+    assert work.started == 1
+    assert work.names.count("list") == 1
+
+
+def test_the_pages_of_a_volume_are_laid_out_once(
+    long: Path, sit: Sit, work: Work
+) -> None:
+    sat = sit(long)
+    work.asked.clear()
+    sat.press("p")
+    assert sat.state.pages is not None
+    assert work.names.count("braille") >= COUNT
+    sat.press("escape", *["down"] * 40)
+    work.asked.clear()
+    sat.press("p")
+    assert sat.state.pages is not None
+    # what is new on the page
+    assert len(work.asked) <= 30
