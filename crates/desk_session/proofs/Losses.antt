@@ -3,6 +3,7 @@ use Rattle.std.proofs.Common.{inl, inr, map}
 use Rattle.sqlite_trees.specs.declared.store.Store.{Ghosts}
 use Rattle.sqlite.specs.Held.{Held, state}
 use Rattle.sqlite.specs.State.{State}
+use Rattle.sqlite.proofs.StateLemmas.{survives_then}
 use Rattle.desk_model.specs.Book.{Book}
 use Rattle.desk_book.specs.Changes.{change_puts}
 use Rattle.desk_parts.specs.Puts.{LendsFirst, put_of}
@@ -27,7 +28,11 @@ loses-command {S} g start book old before new serves lost = by lost.fails.fails
       inside = stops.stops.before;
       ran = stops.stops.ran;
       error = lost.error;
-      fails = elim stops.stops.failed [ inl failed ↦ inl (statement (put_of next), mid, failed) | inr none ↦ inr (inr none.1) ];
+      fails = inl (
+        elim stops.stops.failed [ inl failed ↦ inl (statement (put_of next), mid, failed) | inr none ↦ inr none.1 ],
+        survives_then _ _ _ _ _ _ (λ _ _ none. none) (λ _ _ none. none) stops.stops.left later,
+      );
+      as_before = lost.as_before;
     }
     by (at_commit mid quiet puts kept fails) = record {
       before = before;
@@ -36,5 +41,6 @@ loses-command {S} g start book old before new serves lost = by lost.fails.fails
       inside = mid;
       ran = puts.2.1;
       error = lost.error;
-      fails = inr (inl fails);
+      fails = inr (fails, kept);
+      as_before = lost.as_before;
     }

@@ -7,7 +7,7 @@ use Rattle.sqlite_trees.specs.declared.error.StoreError.TheVariants.{OutOfMemory
 use Rattle.sqlite_trees.specs.declared.store.Store.{Ghosts}
 use Rattle.sqlite.specs.declared.error.Error.{Error}
 use Rattle.sqlite.specs.Held.{Held, state}
-use Rattle.sqlite.specs.State.{Fails, HasCleanDisk, State, store_error}
+use Rattle.sqlite.specs.State.{Fails, HasCleanDisk, State, Survives, store_error}
 use Rattle.sql_tables.specs.States.{Leaves}
 use Rattle.desk_model.specs.After.{After}
 use Rattle.desk_model.specs.Book.{Book}
@@ -135,9 +135,10 @@ pub record IsLeft (l : Layout) (book last : Book) (ended : Ended) (given : List 
 
 -- ---- to which error the loss of a command is put down
 
--- In a transaction that began on a connection some statements ran in turn, and the database answered the error to the next one or to the
--- commit, or it is that of a failed allocation. If the file showed the book and kept it before the session, it showed and kept the last
--- book when that transaction began.
+-- In a transaction that began on a connection some statements ran in turn. Then the database answered the error to the next one, or it is
+-- that of a failed allocation, and a crash leaves nothing new; or the database answered it to the commit, and a crash leaves nothing new
+-- but what the statements made. If the file showed the book and kept it before the session, it showed and kept the last book when that
+-- transaction began, and a connection that is still open shows what it showed then.
 pub record LosesCommand {S : Type 0} (g : Ghosts S) (book last : Book) (old : State) (new : State) : Type 0 where
   pub before : Held S
   pub serves : (l : Layout) → MayServe l book old → MayServe l last (state g before)
@@ -145,8 +146,11 @@ pub record LosesCommand {S : Type 0} (g : Ghosts S) (book last : Book) (old : St
   pub inside : Held S
   pub ran : RunInTurn g done (with_transaction before) inside
   pub error : Error
-  pub fails : ((it : Statement) × (after : Held S) × FailsWith it (state g inside) (state g after) error)
-      ⊎ (Fails (state g inside) new ⊥ error ⊎ (error ≡ store_error OutOfMemory))
+  pub fails : ((((it : Statement) × (after : Held S) × FailsWith it (state g inside) (state g after) error)
+      ⊎ (error ≡ store_error OutOfMemory)) × Survives (state g inside) new (λ _. ⊥))
+      ⊎ (Fails (state g inside) new ⊥ error
+      × Survives (state g inside) new (λ db. db ≡ (state g inside).now.trees))
+  pub as_before : IsTrue new.is_open → new.now ≡ (state g before).now
 
 -- ---- the whole
 

@@ -3,9 +3,10 @@ use Rattle.std.specs.Prelude.{◌≡◌, ℕ, Bool, true, false, IsTrue, List, O
 use Rattle.std.specs.Io.KnownBytes.{Appends}
 use Rattle.sqlite_trees.specs.declared.store.Store.{Ghosts}
 use Rattle.sqlite.specs.declared.error.Error.{Error}
-use Rattle.sqlite.specs.Held.{Held}
+use Rattle.sqlite.specs.Held.{Held, state}
 use Rattle.sqlite.specs.State.{HasCleanDisk, State}
 use Rattle.desk_command.specs.declared.command.Command.{Command}
+use Rattle.sql_tables.specs.States.{ShowsAsBefore}
 use Rattle.desk_model.specs.Book.{Book}
 use Rattle.desk_model.specs.Refusals.{IsAccepted}
 use Rattle.desk_model.specs.Step.{Makes}
@@ -39,13 +40,14 @@ pub record LeavesLost (l : Layout) (request : List ℕ) (book : Book) (s : State
   pub leaves : LeavesEither l book made s
   pub shows : IsTrue s.is_open → ShowsBook l book s
 
--- Why a command was lost: keeping a change that leads on from the book failed.
+-- Why a command was lost: keeping a change that leads on from the book failed. A connection that is still open shows what it showed before.
 pub record LosesChange {S : Type 0} (g : Ghosts S) (book : Book) (old : Held S) (new : State) : Type 0 where
   pub change : Change
   pub next : Book
   pub leads : LeadsTo book change next
   pub error : Error
   pub fails : FailsToKeep g book change old new error
+  pub as_before : ShowsAsBefore (state g old) new
 
 -- what the file is after a request was answered so, and this is the book after it
 abbrev pub LeftBy : Layout → List ℕ → (book next : Book) → Answer → State → Type 0

@@ -28,7 +28,7 @@ returns-then-is_err-clause-cause g c clean none lost =
     let planned = c.in-Ok.ensures.accepted in
     let broken : is_ok c.keep.result ≡ false = c.is_err.ensures.negation ∙ ap not c.if-is_err.true in
     let why = at_err c.keep.result _ (c.keep.ensures.told clean none) broken in
-    record { change = c.in-Ok.change; next = planned.1.0; leads = (c.args.command.now, planned.1.1); error = why.0; fails = why.1 }
+    record { change = c.in-Ok.change; next = planned.1.0; leads = (c.args.command.now, planned.1.1); error = why.0; fails = why.1; as_before = at_err c.keep.result _ (c.keep.ensures.as_before clean) broken }
 
 pub returns-clause-held : goal.returns-clause-held
 returns-clause-held g c none held =
