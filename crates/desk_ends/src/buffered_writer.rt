@@ -35,13 +35,9 @@ impl<W: Write + Drop> BufferedWriter<W> {
             (append_known (W.contents self.old.writer) self.old.buffer.items)
             (append_known (W.contents self.new.writer) self.new.buffer.items) }
     {
-        let count = write_front(&mut self.writer, self.buffer.as_slice());
+        let (count, written) = write_front(&mut self.writer, self.buffer.as_slice());
         remove_front(&mut self.buffer, count);
-        if self.buffer.is_empty() {
-            Ok(())
-        } else {
-            Err(Failure)
-        }
+        written
     }
 }
 
@@ -69,19 +65,20 @@ impl<W: Write + Drop> Sink for BufferedWriter<W> {
     }
 }
 
-/// Writes the bytes until a write fails or takes none, and says how many were written.
-fn write_front<W: Write>(writer: &mut W, bytes: &[u8]) -> usize
-    ensures bound { result ≤ length bytes.now }
-    ensures bytes { Appends (W.contents writer.old) (W.contents writer.new) (take result bytes.now) }
+/// Writes the bytes until a write fails or takes none. Says how many were written, and fails unless all were.
+fn write_front<W: Write>(writer: &mut W, bytes: &[u8]) -> (usize, Result<(), Failure>)
+    ensures bound { result.0 ≤ length bytes.now }
+    ensures bytes { Appends (W.contents writer.old) (W.contents writer.new) (take result.0 bytes.now) }
+    ensures all { OnOk result.1 (result.0 ≡ length bytes.now) }
 {
     let mut written = 0;
     while written < bytes.len() {
         match writer.write(&bytes[written..]) {
-            Ok(0) | Err(_) => break,
+            Ok(0) | Err(_) => return (written, Err(Failure)),
             Ok(count) => written += count,
         }
     }
-    written
+    (written, Ok(()))
 }
 
 /// Removes so many bytes from the front.
