@@ -564,6 +564,17 @@ fn check_name(name: &Text) -> Result<(), Refusal>
     Ok(())
 }
 
+/// How the fault of a table's text is answered.
+fn refusal_of(fault: ReadFault) -> Refusal
+    ensures bad { (bad : _) → fault ≡ ReadFault.Table bad → result ≡ Refusal.BadTable bad }
+    ensures memory { fault ≡ ReadFault.NoMemory → result ≡ Refusal.NoMemory }
+{
+    match fault {
+        ReadFault::Table(bad) => Refusal::BadTable(bad),
+        ReadFault::NoMemory => Refusal::NoMemory,
+    }
+}
+
 /// A table of a text. The heap is asked for room for it after the text is checked.
 fn read_table(alloc: Global, text: &Bytes) -> Result<BoxedTable, Refusal>
     ensures text { IfOk result (λ table. table.text ≡ text.now) }
@@ -573,7 +584,6 @@ fn read_table(alloc: Global, text: &Bytes) -> Result<BoxedTable, Refusal>
 {
     match BookTable::read(alloc, text.as_slice()) {
         Ok(table) => Ok(BoxedTable::new(alloc, table)?),
-        Err(ReadFault::Table(fault)) => Err(Refusal::BadTable(fault)),
-        Err(ReadFault::NoMemory) => Err(Refusal::NoMemory),
+        Err(fault) => Err(refusal_of(fault)),
     }
 }

@@ -28,6 +28,24 @@ impl From<AllocError> for RowsFault {
     }
 }
 
+/// A row that isn't sound.
+#[derive(Drop)]
+pub(crate) struct Unsound {
+    /// Its id.
+    pub(crate) id: i64,
+}
+
+impl From<Unsound> for RowsFault {
+    ghost use Rattle.desk_rebuild.specs.declared.damage.RowsFault.TheVariants.{Damaged};
+    ghost use Rattle.std.specs.Prelude.{◌≡◌};
+
+    ghost from_gives = { λ row fault. fault ≡ Damaged row.id };
+
+    fn from(row: Unsound) -> Self {
+        RowsFault::Damaged(row.id)
+    }
+}
+
 impl RowsFault {
     /// The fault of the parts whose rows of this table weren't taken.
     pub(crate) fn of(self, table: FileTable) -> PartsFault

@@ -4,16 +4,16 @@ ghost use Rattle.desk_parts.specs.FileRows.{HasUtf8Texts};
 ghost use Rattle.desk_rebuild.specs.Faults.{TellsDamageOf};
 ghost use Rattle.desk_rebuild.specs.Rows.{AreMarksOf, AreOf, HaveMarks, IsWhole, without_marks};
 ghost use Rattle.desk_rebuild.specs.Marks.{AreKeptOf, HasId, IsKeptOf, IsMarkOn, IsNoteText, IsOnOne, IsSpan, mark_rule};
-ghost use Rattle.desk_rebuild.specs.OrderedRows.{AreInOrder, TellsUnsound};
+ghost use Rattle.desk_rebuild.specs.OrderedRows.{AreInOrder, IsSoundAt, TellsUnsound};
 ghost use Rattle.desk_model.specs.Limits.{most_marks};
 ghost use Rattle.desk_parts.specs.Rows.{Para};
 ghost use Rattle.desk_parts.specs.declared.file_table.FileTable.{FileTable};
 ghost use Rattle.std.specs.List.{All};
 ghost use Rattle.std.specs.List.Sorted.{IsPermutation};
-ghost use Rattle.std.specs.Prelude.{◌≡◌, ◌↔◌, ◌≤◌, [], List, IfErr, IfOk, IsTrue, MatchOption, OnOk, length, map, pos};
+ghost use Rattle.std.specs.Prelude.{◌≡◌, ◌↔◌, ◌≤◌, [], List, IfErr, IfOk, IsTrue, MatchOption, MatchResult, OnOk, length, map, pos};
 ghost use Rattle.std.specs.Str.{chars};
 
-use super::damage::{RowsFault, flag_of, of_table};
+use super::damage::{RowsFault, Unsound, flag_of, of_table};
 use crate::ordered_rows::is_next;
 use desk_command::Text;
 use desk_memory::{KeptMark, MOST_MARKS, MOST_NOTE, Paragraph, count_of, first_barred};
@@ -71,6 +71,23 @@ fn mark_of(items: &[Paragraph], row: MarkRow) -> Option<KeptMark>
     })
 }
 
+/// The mark of the row that comes after so many, if it is sound.
+fn judged(items: &[Paragraph], row: MarkRow, count: usize) -> Result<KeptMark, Unsound>
+    ensures { MatchResult result
+        (λ mark. IsSoundAt (mark_rule items.now) count row
+        × HasUtf8Texts FileTable.Mark row × IsKeptOf row mark)
+        (λ unsound. (unsound.id ≡ row.id) × ¬ IsSoundAt (mark_rule items.now) count row) }
+{
+    let id = row.id;
+    if !is_next(id, count, MOST_MARKS) {
+        return Err(Unsound { id });
+    }
+    match mark_of(items, row) {
+        Some(mark) => Ok(mark),
+        None => Err(Unsound { id }),
+    }
+}
+
 /// The marks of rows in the order of their ids, or the first of these that isn't sound.
 fn marks_of(
     alloc: Global,
@@ -82,13 +99,7 @@ fn marks_of(
 {
     let mut marks = Vec::new(alloc);
     for row in rows {
-        let id = row.id;
-        if !is_next(id, marks.len(), MOST_MARKS) {
-            return Err(RowsFault::Damaged(id));
-        }
-        let Some(mark) = mark_of(items, row) else {
-            return Err(RowsFault::Damaged(id));
-        };
+        let mark = judged(items, row, marks.len())?;
         if marks.push(mark).is_err() {
             return Err(RowsFault::NoMemory);
         }

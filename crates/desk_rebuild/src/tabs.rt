@@ -43,6 +43,17 @@ fn may_come(tables: &Tables, name: &str) -> bool
     tables.len() < MOST_TABLES && is_table_name(name) && tables.get(name).is_none()
 }
 
+/// How the fault of a table's text is reported at this number.
+fn fault_at(fault: ReadFault, id: i64) -> RowsFault
+    ensures damage { (bad : _) → fault ≡ ReadFault.Table bad → result ≡ RowsFault.Damaged id }
+    ensures memory { fault ≡ ReadFault.NoMemory → result ≡ RowsFault.NoMemory }
+{
+    match fault {
+        ReadFault::Table(_) => RowsFault::Damaged(id),
+        ReadFault::NoMemory => RowsFault::NoMemory,
+    }
+}
+
 /// Reads the text of a row's table. The fault is damage at this number, if the text has no meaning.
 fn read_body(alloc: Global, body: &[u8], id: i64) -> Result<BoxedTable, RowsFault>
     ensures text { IfOk result (λ table. table.text ≡ body.now) }
@@ -51,8 +62,7 @@ fn read_body(alloc: Global, body: &[u8], id: i64) -> Result<BoxedTable, RowsFaul
 {
     match BookTable::read(alloc, body) {
         Ok(table) => Ok(BoxedTable::new(alloc, table)?),
-        Err(ReadFault::Table(_)) => Err(RowsFault::Damaged(id)),
-        Err(ReadFault::NoMemory) => Err(RowsFault::NoMemory),
+        Err(fault) => Err(fault_at(fault, id)),
     }
 }
 
