@@ -13,7 +13,7 @@ pub returns-in-Ok : goal.returns-in-Ok
 returns-in-Ok g c =
     let opened = c.in-Ok.ensures in
     rw c.over.ensures
-    (record { first = c.in_ok-connection.connection; connected = c.in_ok-connection.ensures.named; opens = opened.opens; crash = opened.crash }, refl)
+    (record { first = c.in_ok-connection.connection; connected = c.in_ok-connection.ensures.named; opens = opened.opens; crash = opened.crash; left = opened.left }, refl)
 
 pub returns-in-Err : goal.returns-in-Err
 returns-in-Err g c =
