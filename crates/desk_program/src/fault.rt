@@ -6,20 +6,20 @@ use std::alloc::AllocError;
 use std::io::{Error as IoError, ErrorKind};
 use thiserror::Error;
 
-/// A fault for which the program refuses what is asked. It is shown by its number and details, as `no 8 LINE CAUSE`.
+/// A fault for which the program refuses what is asked. `refuse` reports it by its number and details.
 #[derive(Debug, Drop, Error)]
 pub enum ProgramFault {
     /// The table text is bad.
-    #[error("no 8 {} {}", .0.line, .0.cause)]
+    #[error("the table is bad at line {}, by cause {}", .0.line, .0.cause)]
     Table(TableFault),
     /// An allocation failed.
-    #[error("no 90")]
+    #[error("no memory")]
     NoMemory,
     /// The file is a database but no book.
-    #[error("no 92")]
+    #[error("the file holds no book")]
     NotABook,
     /// The book in the file is damaged.
-    #[error("no 93 {} {id}", .table.number())]
+    #[error("the file of the book is damaged")]
     Damaged {
         /// The first damaged table.
         table: FileTable,
@@ -27,10 +27,10 @@ pub enum ProgramFault {
         id: i64,
     },
     /// The book is of a newer format.
-    #[error("no 94")]
+    #[error("the file has a later format")]
     NewerFormat,
     /// A cell of the volume has dot 7 or 8.
-    #[error("no 95 {paragraph} {cell}")]
+    #[error("cell {cell} of paragraph {paragraph} has dot 7 or 8")]
     NotSixDots {
         /// The paragraph's id.
         paragraph: u64,
@@ -38,16 +38,16 @@ pub enum ProgramFault {
         cell: usize,
     },
     /// The book has no such volume.
-    #[error("no 96")]
+    #[error("the book has no such volume")]
     NoVolume,
     /// Pages can't be as large, or as small.
-    #[error("no 97")]
+    #[error("pages can't be of that size")]
     BadLayout,
     /// The file can't be opened or read, or is larger than any table.
-    #[error("no 98")]
+    #[error("the file can't be read")]
     File,
     /// The file holds a book already.
-    #[error("no 99 {version}")]
+    #[error("the file holds a book of version {version} already")]
     Taken {
         /// The version of that book.
         version: u64,
