@@ -10,7 +10,7 @@ ghost use Rattle.std.specs.Prelude.{◌≡◌, ◌+◌, ◌<◌, ◌≤◌, fals
 use super::book::Book;
 use super::change::Effect;
 use super::plan::{check_length, check_print, check_text, copy, text_of_print};
-use desk_command::{Command, Limit, Refusal, Text};
+use desk_command::{Command, LentText, Limit, Refusal};
 use desk_memory::{
     Correction, KeptEntry, MOST_ENTRIES, MOST_PRINT, Paragraph, PrintChange, cells_of,
     is_proofreader_name, newest, normal_form, replace_span,
@@ -20,7 +20,7 @@ use louis_translate::RuleIndex;
 use std::alloc::{AllocError, Global};
 
 /// The name of a proofreader is one.
-fn check_proofreader(who: &Text) -> Result<(), Refusal>
+fn check_proofreader(who: &LentText<'_>) -> Result<(), Refusal>
     ensures name { OnOk result (IsProofreaderName who.now) }
     ensures bad { IfErr result (λ refusal.
         (refusal ≡ Refusal.BadReader) × ¬ IsProofreaderName who.now) }
@@ -62,7 +62,7 @@ fn correction(
     start: usize,
     count: usize,
     text: &[char],
-    who: &Text,
+    who: &LentText<'_>,
 ) -> Result<Correction, AllocError>
     requires { start + count ≤ length print.now }
     ensures { IfOk result (IsCorrection print.now start count text.now who.now) }
@@ -160,8 +160,8 @@ impl Book {
         id: u64,
         start: usize,
         count: usize,
-        text: &Text,
-        who: &Text,
+        text: &LentText<'_>,
+        who: &LentText<'_>,
     ) -> Result<Effect, Refusal>
         ensures planned { IfOk result (IsPlanned self.now (Command.Correct id start count text.now who.now)) }
         ensures refused { IfErr result (IsTurnedDown self.now (Command.Correct id start count text.now who.now)) }

@@ -9,13 +9,13 @@ ghost use Rattle.std.specs.Prelude.{◌≡◌, ◌+◌, ◌<◌, ◌≤◌, ◌�
 use super::book::Book;
 use super::change::Effect;
 use super::plan::{check_text, copy};
-use desk_command::{Command, Limit, Refusal, Text};
+use desk_command::{Command, LentText, Limit, Refusal};
 use desk_memory::{KeptMark, MOST_MARKS, MOST_NOTE, count_of};
 use louis_translate::{RuleIndex, choice_of_cell};
 use std::alloc::Global;
 
 /// A note is within its limit.
-fn check_note(note: &Text) -> Result<(), Refusal>
+fn check_note(note: &LentText<'_>) -> Result<(), Refusal>
     ensures short { OnOk result (length note.now ≤ most_note) }
     ensures long { IfErr result (λ refusal. (refusal ≡ Refusal.TooLong) × (most_note < length note.now)) }
 {
@@ -77,7 +77,7 @@ impl Book {
         id: u64,
         cell: usize,
         count: usize,
-        note: &Text,
+        note: &LentText<'_>,
     ) -> Result<Effect, Refusal>
         ensures planned { IfOk result (IsPlanned self.now (Command.Mark id cell count note.now)) }
         ensures refused { IfErr result (IsTurnedDown self.now (Command.Mark id cell count note.now)) }

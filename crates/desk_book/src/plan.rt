@@ -20,7 +20,7 @@ ghost use Rattle.std.specs.Prelude.{◌≡◌, ◌≢◌, ◌↔◌, ◌⊎◌, 
 use super::book::Book;
 use super::change::{Change, Effect};
 use cell_core::Cells;
-use desk_command::{Anchor, Bytes, Command, Limit, Refusal, Style, Text};
+use desk_command::{Anchor, Command, LentBytes, LentText, Limit, Refusal, Style, Text};
 use desk_memory::{
     BookTable, BoxedTable, Items, MOST_PARAGRAPHS, MOST_PRINT, MOST_TABLES, MOST_VERSION,
     Paragraph, TablesRoom, cells_of, first_barred, is_table_name, normal_form,
@@ -49,7 +49,7 @@ pub(crate) fn text_of_print(alloc: Global, print: &[char]) -> Result<Text, Alloc
 /// A paragraph that was just typed.
 fn new_paragraph(
     alloc: Global,
-    table: &Text,
+    table: &LentText<'_>,
     rules: &RuleIndex,
     print: Vec<char>,
 ) -> Result<Paragraph, AllocError>
@@ -72,7 +72,7 @@ fn new_paragraph(
 }
 
 /// A text that is given has no barred character.
-pub(crate) fn check_text(text: &Text) -> Result<(), Refusal>
+pub(crate) fn check_text(text: &LentText<'_>) -> Result<(), Refusal>
     ensures unbarred { OnOk result (IsUnbarred text.now) }
     ensures barred { IfErr result (λ refusal. (place : _) × (refusal ≡ Refusal.BadText place)
         × IsFirstBarred text.now place) }
@@ -160,7 +160,7 @@ impl Book {
     pub fn plan(
         &self,
         alloc: Global,
-        command: &Command,
+        command: &Command<'_>,
         expect: Option<u64>,
     ) -> Result<Change, Refusal>
         ensures accepted { IfOk result (λ change. IsAccepted self.now expect command.now
@@ -192,7 +192,7 @@ impl Book {
     }
 
     /// The number that a command answers.
-    fn number(&self, command: &Command) -> Option<u64>
+    fn number(&self, command: &Command<'_>) -> Option<u64>
         ensures { result ≡ number_of self.now command.now }
     {
         match command {
@@ -230,7 +230,7 @@ impl Book {
     }
 
     /// What a command does, whichever version is expected.
-    fn effect(&self, alloc: Global, command: &Command) -> Result<Effect, Refusal>
+    fn effect(&self, alloc: Global, command: &Command<'_>) -> Result<Effect, Refusal>
         ensures planned { IfOk result (IsPlanned self.now command.now) }
         ensures refused { IfErr result (IsTurnedDown self.now command.now) }
     {
@@ -283,7 +283,7 @@ impl Book {
     }
 
     /// The table that a command names.
-    fn table_named(&self, name: &Text) -> Result<&BookTable, Refusal>
+    fn table_named(&self, name: &LentText<'_>) -> Result<&BookTable, Refusal>
         ensures found { IfOk result (λ table. IsTableFor self.now name.now table.now) }
         ensures missing { IfErr result (λ refusal.
             (refusal ≡ Refusal.NoTable) × (text_of self.now name.now ≡ None)) }
@@ -369,7 +369,7 @@ impl Book {
         })
     }
 
-    fn plan_retable(&self, alloc: Global, id: u64, table: &Text) -> Result<Effect, Refusal>
+    fn plan_retable(&self, alloc: Global, id: u64, table: &LentText<'_>) -> Result<Effect, Refusal>
         ensures planned { IfOk result (IsPlanned self.now (Command.Retable id table.now)) }
         ensures refused { IfErr result (IsTurnedDown self.now (Command.Retable id table.now)) }
     {
@@ -392,8 +392,8 @@ impl Book {
         &self,
         alloc: Global,
         anchor: Anchor,
-        table: &Text,
-        text: &Text,
+        table: &LentText<'_>,
+        text: &LentText<'_>,
     ) -> Result<Effect, Refusal>
         ensures planned { IfOk result (IsPlanned self.now (Command.TypeIn anchor table.now text.now)) }
         ensures refused { IfErr result (IsTurnedDown self.now (Command.TypeIn anchor table.now text.now)) }
@@ -414,7 +414,12 @@ impl Book {
         })
     }
 
-    fn plan_table(&self, alloc: Global, name: &Text, text: &Bytes) -> Result<Effect, Refusal>
+    fn plan_table(
+        &self,
+        alloc: Global,
+        name: &LentText<'_>,
+        text: &LentBytes<'_>,
+    ) -> Result<Effect, Refusal>
         ensures planned { IfOk result (IsPlanned self.now (Command.Table name.now text.now)) }
         ensures refused { IfErr result (IsTurnedDown self.now (Command.Table name.now text.now)) }
     {
@@ -437,7 +442,12 @@ impl Book {
         Ok(())
     }
 
-    fn plan_addition(&self, alloc: Global, name: &Text, text: &Bytes) -> Result<Effect, Refusal>
+    fn plan_addition(
+        &self,
+        alloc: Global,
+        name: &LentText<'_>,
+        text: &LentBytes<'_>,
+    ) -> Result<Effect, Refusal>
         requires name { IsTableName name.now }
         requires new { text_of self.now name.now ≡ None }
         ensures planned { IfOk result (IsPlanned self.now (Command.Table name.now text.now)) }
@@ -452,7 +462,12 @@ impl Book {
         })
     }
 
-    fn plan_replacement(&self, alloc: Global, name: &Text, text: &Bytes) -> Result<Effect, Refusal>
+    fn plan_replacement(
+        &self,
+        alloc: Global,
+        name: &LentText<'_>,
+        text: &LentBytes<'_>,
+    ) -> Result<Effect, Refusal>
         requires name { IsTableName name.now }
         requires old { IsSome (text_of self.now name.now) }
         ensures planned { IfOk result (IsPlanned self.now (Command.Table name.now text.now)) }
@@ -471,7 +486,7 @@ impl Book {
     }
 
     /// A table of these rules defines the print of each paragraph that uses its name.
-    fn check_users(&self, name: &Text, rules: &RuleIndex) -> Result<(), Refusal>
+    fn check_users(&self, name: &LentText<'_>, rules: &RuleIndex) -> Result<(), Refusal>
         ensures defined { OnOk result (All (DefinesUser rules.now name.now) self.now.paragraphs) }
         ensures undefined { IfErr result (λ refusal. (id : _) × (place : _)
             × (refusal ≡ Refusal.Untranslatable id place)
@@ -489,7 +504,7 @@ impl Book {
     fn cells_by(
         &self,
         alloc: Global,
-        name: &Text,
+        name: &LentText<'_>,
         rules: &RuleIndex,
     ) -> Result<Vec<Option<Cells>>, AllocError>
         requires { All (DefinesUser rules.now name.now) self.now.paragraphs }
@@ -509,14 +524,19 @@ impl Book {
 }
 
 /// Whether a paragraph uses the table with this name.
-fn uses(paragraph: &Paragraph, name: &Text) -> bool
+fn uses(paragraph: &Paragraph, name: &LentText<'_>) -> bool
     ensures { IsTrue result ↔ (paragraph.now.table ≡ name.now) }
 {
     paragraph.table.as_str() == name.as_str()
 }
 
 /// The rules define the print of a paragraph, if it uses their table's name.
-fn check_user(id: u64, paragraph: &Paragraph, name: &Text, rules: &RuleIndex) -> Result<(), Refusal>
+fn check_user(
+    id: u64,
+    paragraph: &Paragraph,
+    name: &LentText<'_>,
+    rules: &RuleIndex,
+) -> Result<(), Refusal>
     ensures defined { OnOk result
         (paragraph.now.table ≡ name.now → AreDefined rules.now paragraph.now.print) }
     ensures undefined { IfErr result (λ refusal. (place : _) × (refusal ≡ Refusal.Untranslatable id place)
@@ -538,7 +558,7 @@ fn check_user(id: u64, paragraph: &Paragraph, name: &Text, rules: &RuleIndex) ->
 fn user_cells(
     alloc: Global,
     paragraph: &Paragraph,
-    name: &Text,
+    name: &LentText<'_>,
     rules: &RuleIndex,
 ) -> Result<Option<Cells>, AllocError>
     requires { paragraph.now.table ≡ name.now → AreDefined rules.now paragraph.now.print }
@@ -554,7 +574,7 @@ fn user_cells(
 }
 
 /// The name of a table is one.
-fn check_name(name: &Text) -> Result<(), Refusal>
+fn check_name(name: &LentText<'_>) -> Result<(), Refusal>
     ensures name { OnOk result (IsTableName name.now) }
     ensures bad { IfErr result (λ refusal. (refusal ≡ Refusal.BadName) × ¬ IsTableName name.now) }
 {
@@ -576,7 +596,7 @@ fn refusal_of(fault: ReadFault) -> Refusal
 }
 
 /// A table of a text. The heap is asked for room for it after the text is checked.
-fn read_table(alloc: Global, text: &Bytes) -> Result<BoxedTable, Refusal>
+fn read_table(alloc: Global, text: &LentBytes<'_>) -> Result<BoxedTable, Refusal>
     ensures text { IfOk result (λ table. table.text ≡ text.now) }
     ensures means { IfOk result (λ table. Means text.now table.rules) }
     ensures bad { IfErr result (λ refusal. ((fault : _) × (refusal ≡ Refusal.BadTable fault)

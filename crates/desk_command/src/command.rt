@@ -1,6 +1,6 @@
 //! What a transcriber asks of a book.
+use super::lent::{LentBytes, LentText};
 use super::style::Style;
-use super::text::{Bytes, Text};
 
 /// Where a paragraph is put.
 #[derive(Clone, Copy, Debug, PartialEq, Eq)]
@@ -15,22 +15,22 @@ pub enum Anchor {
 
 /// A command over a book. Paragraphs are named by their ids.
 #[derive(Debug, Drop)]
-pub enum Command {
+pub enum Command<'a> {
     /// Adds a table, or replaces the text of the table that has the name.
     Table {
         /// The table's name.
-        name: Text,
+        name: LentText<'a>,
         /// The table's text.
-        text: Bytes,
+        text: LentBytes<'a>,
     },
     /// Types a new paragraph.
     TypeIn {
         /// Where it is put.
         after: Anchor,
         /// The name of its table.
-        table: Text,
+        table: LentText<'a>,
         /// What is typed; the print is its Unicode normal form C.
-        text: Text,
+        text: LentText<'a>,
     },
     /// Puts a text in place of characters of a paragraph's print, which are none, some or all of it.
     Correct {
@@ -41,10 +41,10 @@ pub enum Command {
         /// How many characters are replaced.
         count: usize,
         /// What is put in their place; its Unicode normal form C is kept.
-        text: Text,
+        text: LentText<'a>,
         /// The name of the proofreader who corrects: 0 to 40 characters, none of them a blank, a line feed, a carriage return
         /// or U+0000.
-        who: Text,
+        who: LentText<'a>,
     },
     /// Takes back the newest correction of a paragraph that is in force. It is one more entry of the history, moves marks like
     /// the replacement that puts back what had been replaced, and is refused if the paragraph's present table doesn't define the
@@ -62,7 +62,7 @@ pub enum Command {
         /// How many cells, at least one.
         count: usize,
         /// The proofreader's note, which is kept as it is given.
-        note: Text,
+        note: LentText<'a>,
     },
     /// Says that a mark has been dealt with.
     Resolve {
@@ -98,7 +98,7 @@ pub enum Command {
         /// The paragraph.
         paragraph: u64,
         /// The name of the table.
-        table: Text,
+        table: LentText<'a>,
     },
     /// Takes a paragraph out of its place and puts it elsewhere. After itself it stays where it is.
     Move {

@@ -4,10 +4,10 @@
 //! refusal is reported by its number, and some with further numbers: a place, a paragraph or what is at its limit.
 //!
 //! ```rust
-//! use desk_command::{Anchor, Command, Refusal, Text};
+//! use desk_command::{Anchor, Command, Refusal, LentText};
 //!
-//! let print = Text::from_string(string);
-//! let command = Command::TypeIn { after: Anchor::End, table, text: print };
+//! let text = LentText::new("Hello");
+//! let command = Command::TypeIn { after: Anchor::End, table, text };
 //! assert_eq!(rt; Refusal::NoParagraph.code(), 2);
 //! ```
 //!
@@ -15,11 +15,13 @@
 #![tactic(auto)]
 
 mod command;
+mod lent;
 mod refusal;
 mod style;
 mod text;
 
 pub use command::{Anchor, Command};
+pub use lent::{LentBytes, LentText};
 pub use refusal::{Limit, Refusal};
 pub use style::Style;
 pub use text::{Bytes, Text};

@@ -1,27 +1,23 @@
 -- What is read of bytes is the request that they are, and what they are is read.
-use Rattle.std.proofs.Common.{◌≡◌, ◌≢◌, ℕ, ◌-◌, ◌<◌, true, ◌&&◌, ltb, leb, List, [], ◌∷◌, length, Option, Some, None, Result, Ok, Err, refl, sym, ap, subst, ◌∙◌, arith, lit≤}
-use Rattle.std.specs.Prelude.{MatchResult}
+use Rattle.std.proofs.Common.{◌≡◌, ◌≢◌, ℕ, ◌-◌, ◌<◌, true, ◌&&◌, ltb, leb, List, [], ◌∷◌, length, Option, Some, None, refl, sym, ap, subst, ◌∙◌, arith, lit≤}
+use Rattle.std.specs.Prelude.{MatchOption}
 use Rattle.std.specs.List.{AllByRecursion}
 use Rattle.std.specs.Option.{option_and_then}
 use Rattle.std.proofs.lemmas.Bool.{lt-ltb, ltb-true, le-leb, leb-true, and_parts, and_from, cond-true, eqb-true, eq-eqb}
 use Rattle.std.proofs.lemmas.Str.{IsUtf8-nil}
 use Rattle.louis_table.specs.Lines.{lines_of}
 use Rattle.louis_table.proofs.LineLaws.{lines_of-split}
-use Rattle.desk_line.specs.declared.fault.Fault.{Fault}
-use Rattle.desk_line.specs.declared.fault.Fault.TheVariants.{Syntax, NoMemory}
 use Rattle.desk_line.specs.declared.head.Head.{Head}
 use Rattle.desk_command.specs.declared.command.Command.{Command}
 use Rattle.desk_line.specs.declared.head.Head.TheVariants as heads
 use Rattle.desk_line.specs.declared.request.Request.{Request}
 use Rattle.desk_line.specs.declared.request.Request.TheVariants.{Do}
-use Rattle.desk_line.specs.Commands.{HasText, announced}
 use Rattle.desk_line.specs.Head.{Says}
 use Rattle.desk_ends.specs.Limits.{most_line_bytes}
 use Rattle.desk_line.specs.Lines.{IsShort, after_first_line}
-use Rattle.desk_line.specs.Reading.{Gives, are_lines, head_line, head_in, head_of, query_in, directive_in, request_in, with_text}
-use Rattle.desk_line.specs.Request.{AsksForMemory, HasHead, Reads, Takes, said, unsaid, Tells, block_lines, request_of}
+use Rattle.desk_line.specs.Reading.{are_lines, head_line, head_in, head_of, query_in, directive_in, request_in, with_text}
+use Rattle.desk_line.specs.Request.{AsksForMemory, HasHead, IsNoRequest, Reads, Takes, said, unsaid, block_lines, request_of}
 use Rattle.desk_line.proofs.HeadLines.{some-is, some-none, head-of-text}
-use Rattle.desk_line.proofs.CommandLaws.{directive-asks, directive-text}
 use Rattle.desk_line.proofs.HeadLaws.{head-read, head-found}
 use Rattle.desk_line.proofs.OperandLaws.{taken, followed}
 
@@ -104,17 +100,16 @@ request-found bytes request r =
 pub one-request : (bytes : List ℕ) (this that : Request) → Reads bytes this → Reads bytes that → this ≡ that
 one-request bytes this that a b = some-is this that (sym (request-found bytes this a) ∙ request-found bytes that b)
 
--- ---- what is answered
+-- ---- what is read
 
-pub is-told : (bytes : List ℕ) (result : Result Request Fault) → Gives result (request_in bytes) → MatchResult result (Reads bytes) (Tells bytes)
-is-told bytes (Ok request) e = request-read bytes request e
-is-told bytes (Err Syntax) e = λ request r. some-none request (request_in bytes) (request-found bytes request r) e
-is-told bytes (Err NoMemory) e = (e.0, e.1, request-read bytes (Do e.0 e.1) e.2, e.3)
+pub is-read : (bytes : List ℕ) (found : Option Request) → found ≡ request_in bytes → MatchOption found (IsNoRequest bytes) (Reads bytes)
+is-read bytes (Some request) e = request-read bytes request (sym e)
+is-read bytes None e = λ request r. some-none request (request_in bytes) (request-found bytes request r) (sym e)
 
 -- so of a head line and the bytes after it
-pub head-told : (bytes : List ℕ) (head : Head) (text : List ℕ) (result : Result Request Fault) → Gives result (with_text text head) → HasHead bytes head text
-    → MatchResult result (Reads bytes) (Tells bytes)
-head-told bytes head text result gives has = is-told bytes result (subst (Gives result) (sym (head-request bytes head text has)) gives)
+pub head-makes : (bytes : List ℕ) (head : Head) (text : List ℕ) (found : Option Request) → found ≡ with_text text head → HasHead bytes head text
+    → MatchOption found (IsNoRequest bytes) (Reads bytes)
+head-makes bytes head text found e has = is-read bytes found (e ∙ sym (head-request bytes head text has))
 
 -- bytes are the head line that their first line is, and what follows it
 pub first-head : (bytes line text : List ℕ) (head : Head) → line ≡ head_line bytes → text ≡ after_first_line bytes → Says line head → HasHead bytes head text
@@ -129,15 +124,15 @@ first-head (b ∷ bytes) line text head is rest says = record {
 }
 
 -- bytes whose first line says nothing are no request
-pub unsaid-tells : (bytes line : List ℕ) (block : List (List ℕ)) → lines_of bytes ≡ line ∷ block → ((head : Head) → ¬ Says line head) → Tells bytes Syntax
-unsaid-tells bytes line block lines none request reads =
+pub unsaid-none : (bytes line : List ℕ) (block : List (List ℕ)) → lines_of bytes ≡ line ∷ block → ((head : Head) → ¬ Says line head) → IsNoRequest bytes
+unsaid-none bytes line block lines none request reads =
     none reads.head (subst (λ (l : List ℕ). Says l reads.head) (heads-same reads.line line reads.block block (sym reads.lines ∙ lines)) reads.says)
 
-pub first-tells : (bytes line : List ℕ) → line ≡ head_line bytes → ((head : Head) → ¬ Says line head) → Tells bytes Syntax
-first-tells bytes line is none request reads =
+pub first-none : (bytes line : List ℕ) → line ≡ head_line bytes → ((head : Head) → ¬ Says line head) → IsNoRequest bytes
+first-none bytes line is none request reads =
     let split = lines_of-split bytes (some-lines bytes reads.line reads.block reads.lines) in
     let lines = split ∙ ap (λ (l : List ℕ). l ∷ lines_of (after_first_line bytes)) (sym is) in
-    unsaid-tells bytes line (lines_of (after_first_line bytes)) lines none request reads
+    unsaid-none bytes line (lines_of (after_first_line bytes)) lines none request reads
 
 pub head-unsaid : (line : List ℕ) → head_of line ≡ None → (head : Head) → ¬ Says line head
 head-unsaid line e head says = some-none head (head_of line) (head-found line head says) e
@@ -151,20 +146,9 @@ takes-none line e = unsaid (head-unsaid line e) refl
 -- what takes lines allocates
 head-asks : (bytes line : List ℕ) (block : List (List ℕ)) (head : Head) → lines_of bytes ≡ line ∷ block → Says line head → 0 < block_lines head → AsksForMemory bytes
 head-asks bytes line block (heads.Do directive expect) lines says some =
-    record { line = line; block = block; directive = directive; expect = expect; lines = lines; says = says; text = directive-asks directive some }
+    record { line = line; block = block; directive = directive; expect = expect; lines = lines; says = says; some = some }
 head-asks bytes line block (heads.Ask query) lines says some = absurd (omega arith)
 
 pub asks-for-memory : (bytes line : List ℕ) (block : List (List ℕ)) (count : ℕ) → lines_of bytes ≡ line ∷ block → Takes line count → 0 < count → AsksForMemory bytes
 asks-for-memory bytes line block count lines (said head says same) some = head-asks bytes line block head lines says (subst (λ (n : ℕ). 0 < n) same some)
 asks-for-memory bytes line block count lines (unsaid none same) some = absurd (omega arith)
-
--- and so does a command with a text or a name
-head-text : (bytes line : List ℕ) (block : List (List ℕ)) (head : Head) (command : Command) (expect : Option ℕ) (text : List ℕ) → lines_of bytes ≡ line ∷ block → Says line head
-    → Do command expect ≡ request_of head text → HasText command → AsksForMemory bytes
-head-text bytes line block (heads.Do directive other) command expect text lines says is h =
-    let same : command ≡ (announced directive).command text = cc in
-    record { line = line; block = block; directive = directive; expect = other; lines = lines; says = says; text = directive-text directive text (subst HasText same h) }
-head-text bytes line block (heads.Ask query) command expect text lines says is h = absurd (cc)
-
-pub text-asks : (bytes : List ℕ) (command : Command) (expect : Option ℕ) → Reads bytes (Do command expect) → HasText command → AsksForMemory bytes
-text-asks bytes command expect reads h = head-text bytes reads.line reads.block reads.head command expect _ reads.lines reads.says reads.is h

@@ -4,6 +4,7 @@ use Rattle.std.specs.Prelude.{Some, None, codes}
 use Rattle.std.specs.Char.{encode_utf8}
 use Rattle.std.specs.Str.{chars, all_scalars, encode_utf8_all, is_utf8}
 use Rattle.std.specs.Fmt.{digits}
+use Rattle.louis_table.specs.declared.en.TheConstants.{EN}
 use Rattle.louis_table.specs.Lines.{lines_of}
 use Rattle.desk_command.specs.declared.command.Anchor.TheVariants.{End}
 use Rattle.desk_command.specs.declared.command.Command.TheVariants as commands
@@ -12,14 +13,14 @@ use Rattle.desk_command.specs.declared.refusal.Refusal.TheVariants as refusals
 use Rattle.desk_command.specs.declared.style.Style.TheVariants.{Body}
 use Rattle.desk_model.specs.Book.{empty_book, Corrects, Undoes, new_mark}
 use Rattle.desk_line.specs.declared.answer.Answer.TheVariants as answers
+use Rattle.desk_line.specs.declared.directive.Directive.TheVariants.{Whole, Table}
 use Rattle.desk_line.specs.declared.head.Head.{Head}
 use Rattle.desk_line.specs.declared.head.Head.TheVariants as heads
-use Rattle.desk_line.specs.declared.directive.Directive.TheVariants as directives
 use Rattle.desk_line.specs.declared.request.Query.TheVariants as queries
 use Rattle.desk_line.specs.declared.request.Request.{Request}
 use Rattle.desk_line.specs.declared.request.Request.TheVariants as requests
 use Rattle.desk_line.specs.Fields.{IsNumber, end, fields_of}
-use Rattle.desk_line.specs.Commands.{HasText, SaysDirective, correct, correct_by, form, form_fields, strike, supply, table, type_in}
+use Rattle.desk_line.specs.Commands.{SaysDirective, correct, correct_by, correction_of, form, form_fields, strike, supply, table, type_in}
 use Rattle.desk_line.specs.Head.{Says, asks, does, expected, nothing, version}
 use Rattle.desk_line.specs.Lines.{CanBeHead}
 use Rattle.desk_line.specs.Reading.{head_in, head_of, query_in, directive_in, number_in, count_in, anchor_in, with_two, with_two_and_text}
@@ -63,30 +64,30 @@ zero-is-a-number = record { numeral = (lit≤ tt, (lit≤ tt, tt)); short = lit�
 text-of-line : (line : List ℕ) → length line ≤ 65536 → all_scalars line ≡ true → encode_utf8_all line ≡ line → CanBeHead line
 text-of-line line short scalars same = record { short = short; utf8 = (line, (scalars, same)) }
 
-strike-a-paragraph : Says (codes "strike 1") (heads.Do (directives.Strike 1) None)
+strike-a-paragraph : Says (codes "strike 1") (heads.Do (Whole (commands.Strike 1)) None)
 unfolding encode_utf8
 strike-a-paragraph =
-    does None (fields_of (codes "strike 1")) (directives.Strike 1) (text-of-line (codes "strike 1") (lit≤ tt) refl refl) (nothing refl refl)
+    does None (fields_of (codes "strike 1")) (Whole (commands.Strike 1)) (text-of-line (codes "strike 1") (lit≤ tt) refl refl) (nothing refl refl)
     (strike (codes "1") 1 one-is-a-number refl refl) refl
 
-strike-at-a-version : Says (codes "@9 strike 1") (heads.Do (directives.Strike 1) (Some 9))
+strike-at-a-version : Says (codes "@9 strike 1") (heads.Do (Whole (commands.Strike 1)) (Some 9))
 unfolding encode_utf8
 strike-at-a-version =
-    does (Some 9) (codes "strike" ∷ codes "1" ∷ []) (directives.Strike 1) (text-of-line (codes "@9 strike 1") (lit≤ tt) refl refl)
+    does (Some 9) (codes "strike" ∷ codes "1" ∷ []) (Whole (commands.Strike 1)) (text-of-line (codes "@9 strike 1") (lit≤ tt) refl refl)
     (expected (codes "9") 9 nine-is-a-number refl refl) (strike (codes "1") 1 one-is-a-number refl refl) refl
 
-supplied-table : SaysDirective (fields_of (codes "supply en")) (directives.Supply (codes "en"))
+supplied-table : SaysDirective (fields_of (codes "supply en")) (Whole (commands.Table (chars (codes "en")) EN.now))
 supplied-table = supply (codes "en") (λ n. cc) refl refl
 
 -- an empty text, with the blank before it or without
-typed-nothing : SaysDirective (fields_of (codes "type end en")) (directives.TypeIn End (codes "en") [])
+typed-nothing : SaysDirective (fields_of (codes "type end en")) (Whole (commands.TypeIn End (chars (codes "en")) (chars [])))
 typed-nothing = type_in (codes "end") (codes "en") [] End (end refl refl) (λ n. cc) refl refl
 
-typed-nothing-after-a-blank : SaysDirective (fields_of (codes "type end en ")) (directives.TypeIn End (codes "en") [])
+typed-nothing-after-a-blank : SaysDirective (fields_of (codes "type end en ")) (Whole (commands.TypeIn End (chars (codes "en")) (chars [])))
 typed-nothing-after-a-blank = type_in (codes "end") (codes "en") ([] ∷ []) End (end refl refl) (λ n. cc) refl refl
 
 -- a correction by nothing, without the blank before it, and one by a proofreader, whose text keeps its blanks
-erased : SaysDirective (fields_of (codes "correct 1 0 9")) (directives.Correct (record { paragraph = 1; start = 0; count = 9; text = [] }) [])
+erased : SaysDirective (fields_of (codes "correct 1 0 9")) (Whole (correction_of (record { paragraph = 1; start = 0; count = 9; text = [] }) []))
 erased =
     correct (codes "1" ∷ codes "0" ∷ codes "9" ∷ []) (record { paragraph = 1; start = 0; count = 9; text = [] })
     (record {
@@ -101,7 +102,7 @@ erased =
       text = refl;
     }) refl refl
 
-corrected-by-ann : SaysDirective (fields_of (codes "correct-by Ann 1 0 9  a")) (directives.Correct (record { paragraph = 1; start = 0; count = 9; text = codes " a" }) (codes "Ann"))
+corrected-by-ann : SaysDirective (fields_of (codes "correct-by Ann 1 0 9  a")) (Whole (correction_of (record { paragraph = 1; start = 0; count = 9; text = codes " a" }) (codes "Ann")))
 corrected-by-ann =
     correct_by (codes "Ann") (codes "1" ∷ codes "0" ∷ codes "9" ∷ [] ∷ codes "a" ∷ []) (record { paragraph = 1; start = 0; count = 9; text = codes " a" })
     (λ n. cc) (record {
@@ -117,7 +118,7 @@ corrected-by-ann =
     }) refl refl
 
 -- a text keeps its blanks
-typed-blanks : SaysDirective (fields_of (codes "type end en  a b")) (directives.TypeIn End (codes "en") (codes " a b"))
+typed-blanks : SaysDirective (fields_of (codes "type end en  a b")) (Whole (commands.TypeIn End (chars (codes "en")) (chars (codes " a b"))))
 typed-blanks = type_in (codes "end") (codes "en") ([] ∷ codes "a" ∷ codes "b" ∷ []) End (end refl refl) (λ n. cc) refl refl
 
 -- how commands are written: corrections by nobody and by Ann, and a table of two lines
@@ -133,13 +134,6 @@ written-by-ann = refl
 written-table : form_fields (form (commands.Table (codes "x") (codes "a\nb"))) ≡ codes "table" ∷ codes "x" ∷ codes "2" ∷ []
 unfolding digits encode_utf8
 written-table = refl
-
--- a note is copied, also an empty one; a command of a number alone copies nothing
-copied-note : HasText (commands.Mark 1 0 9 [])
-copied-note = refl
-
-nothing-copied : ¬ HasText (commands.Strike 1)
-nothing-copied h = cc
 
 -- what says nothing
 silent : (line : List ℕ) → CanBeHead line → head_in (fields_of line) ≡ None → (head : Head) → ¬ Says line head
@@ -177,9 +171,9 @@ unfolding encode_utf8
 table-of-nothing = record {
   line = codes "table t 0";
   block = [];
-  head = heads.Do (directives.Table (codes "t") 0) None;
+  head = heads.Do (Table (chars (codes "t")) 0) None;
   lines = refl;
-  says = does None (fields_of (codes "table t 0")) (directives.Table (codes "t") 0) (text-of-line (codes "table t 0") (lit≤ tt) refl refl)
+  says = does None (fields_of (codes "table t 0")) (Table (chars (codes "t")) 0) (text-of-line (codes "table t 0") (lit≤ tt) refl refl)
       (nothing refl refl) (table (codes "t") (codes "0") 0 (λ n. cc) zero-is-a-number (lit≤ tt) refl refl) refl;
   whole = refl;
   short = tt;
@@ -220,8 +214,8 @@ two-is-a-number = record { numeral = (lit≤ tt, (lit≤ tt, tt)); short = lit�
 table-of-two : Takes (codes "table x 2") 2
 unfolding encode_utf8
 table-of-two =
-    said (heads.Do (directives.Table (codes "x") 2) None)
-    (does None (fields_of (codes "table x 2")) (directives.Table (codes "x") 2) (text-of-line (codes "table x 2") (lit≤ tt) refl refl)
+    said (heads.Do (Table (chars (codes "x")) 2) None)
+    (does None (fields_of (codes "table x 2")) (Table (chars (codes "x")) 2) (text-of-line (codes "table x 2") (lit≤ tt) refl refl)
     (nothing refl refl) (table (codes "x") (codes "2") 2 (λ n. cc) two-is-a-number (lit≤ tt) refl refl) refl) refl
 
 -- it takes its lines whatever they say
@@ -289,15 +283,15 @@ long-line line long = unsaid (λ head says. let e = sym (head-of-long line long)
 table-at-a-version : Takes (codes "@9 table x 1") 1
 unfolding encode_utf8
 table-at-a-version =
-    said (heads.Do (directives.Table (codes "x") 1) (Some 9))
-    (does (Some 9) (codes "table" ∷ codes "x" ∷ codes "1" ∷ []) (directives.Table (codes "x") 1) (text-of-line (codes "@9 table x 1") (lit≤ tt) refl refl)
+    said (heads.Do (Table (chars (codes "x")) 1) (Some 9))
+    (does (Some 9) (codes "table" ∷ codes "x" ∷ codes "1" ∷ []) (Table (chars (codes "x")) 1) (text-of-line (codes "@9 table x 1") (lit≤ tt) refl refl)
     (expected (codes "9") 9 nine-is-a-number refl refl) (table (codes "x") (codes "1") 1 (λ n. cc) one-is-a-number (lit≤ tt) refl refl) refl) refl
 
 table-of-a-bad-name : Takes (codes "table T 1") 1
 unfolding encode_utf8
 table-of-a-bad-name =
-    said (heads.Do (directives.Table (codes "T") 1) None)
-    (does None (fields_of (codes "table T 1")) (directives.Table (codes "T") 1) (text-of-line (codes "table T 1") (lit≤ tt) refl refl)
+    said (heads.Do (Table (chars (codes "T")) 1) None)
+    (does None (fields_of (codes "table T 1")) (Table (chars (codes "T")) 1) (text-of-line (codes "table T 1") (lit≤ tt) refl refl)
     (nothing refl refl) (table (codes "T") (codes "1") 1 (λ n. cc) one-is-a-number (lit≤ tt) refl refl) refl) refl
 
 -- of bytes after which a read failed, a line that is cut isn't a request

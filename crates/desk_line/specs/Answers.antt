@@ -10,22 +10,21 @@ use Rattle.desk_model.specs.Refusals.{IsAccepted, IsRefused}
 use Rattle.desk_model.specs.Step.{Makes}
 use Rattle.desk_line.specs.declared.answer.Answer.{Answer}
 use Rattle.desk_line.specs.declared.answer.Answer.TheVariants as answers
-use Rattle.desk_line.specs.declared.fault.Fault.TheVariants.{Syntax}
 use Rattle.desk_line.specs.declared.request.Query.{Query}
 use Rattle.desk_line.specs.declared.request.Request.TheVariants.{Do, Ask}
 use Rattle.desk_line.specs.Reply.{IsReply}
-use Rattle.desk_line.specs.Request.{AsksForMemory, Reads, Tells}
+use Rattle.desk_line.specs.Request.{AsksForMemory, IsNoRequest, Reads}
 
 -- a request of these bytes to a book is answered so, and this is the book after it: the next one with a command's own
 -- number if it is accepted, and else the same, also if the store failed to keep what the command makes. An allocation may
--- fail while a command with a text or a name is read, whatever the lines after its head line are, or while it is planned
+-- fail while the lines after a command's head line are read, whatever they are, or while the command is planned
 pub data IsAnswered (bytes : List ℕ) (book next : Book) (answer : Answer) : Type 0 where
   accepted : (command : Command) (expect : Option ℕ) → Reads bytes (Do command expect) → IsAccepted book expect command
       → Makes book command next → answer ≡ answers.Done (number_of book command) → IsAnswered bytes book next answer
   refused : (command : Command) (expect : Option ℕ) (refusal : Refusal) → Reads bytes (Do command expect)
       → IsRefused book expect command refusal → next ≡ book → answer ≡ answers.Refused refusal → IsAnswered bytes book next answer
   asked : (query : Query) → Reads bytes (Ask query) → next ≡ book → answer ≡ answers.Asked query → IsAnswered bytes book next answer
-  no_request : Tells bytes Syntax → next ≡ book → answer ≡ answers.Syntax → IsAnswered bytes book next answer
+  no_request : IsNoRequest bytes → next ≡ book → answer ≡ answers.Syntax → IsAnswered bytes book next answer
   unread : AsksForMemory bytes → next ≡ book → answer ≡ answers.NoMemory → IsAnswered bytes book next answer
   unplanned : (command : Command) (expect : Option ℕ) → Reads bytes (Do command expect) → MayLackMemory book expect command
       → next ≡ book → answer ≡ answers.Refused refusals.NoMemory → IsAnswered bytes book next answer

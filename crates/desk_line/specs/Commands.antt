@@ -1,6 +1,6 @@
 -- All that is said of each command by cases: how a head line says it, what this gives, and how it is written.
-use Rattle.std.specs.Prelude.{◌≡◌, ℕ, ◌≤◌, Bool, IsTrue, List, [], ◌∷◌, codes}
-use Rattle.std.specs.List.{AllByRecursion, flat_map, list_any}
+use Rattle.std.specs.Prelude.{◌≡◌, ℕ, ◌≤◌, Bool, List, [], ◌∷◌, codes}
+use Rattle.std.specs.List.{AllByRecursion, flat_map}
 use Rattle.std.specs.Str.{chars}
 use Rattle.louis_table.specs.declared.en.TheConstants.{EN}
 use Rattle.louis_table.specs.Lines.{lines_of}
@@ -10,13 +10,20 @@ use Rattle.desk_command.specs.declared.command.Command.{Command}
 use Rattle.desk_command.specs.declared.command.Command.TheVariants as commands
 use Rattle.desk_command.specs.declared.style.Style.{Style as ParagraphStyle}
 use Rattle.desk_line.specs.declared.directive.Directive.{Directive}
-use Rattle.desk_line.specs.declared.directive.Directive.TheVariants.{Table, Supply, TypeIn, Correct, Undo, Mark, Resolve, Strike, Restore, Style, Volume, Retable, Move}
+use Rattle.desk_line.specs.declared.directive.Directive.TheVariants.{Whole, Table}
 use Rattle.desk_line.specs.declared.directive.SpanText.{SpanText}
 use Rattle.desk_line.specs.Fields.{line_of_fields, IsName, IsNumber, IsAnchor, IsStyle, IsFlag}
 use Rattle.desk_line.specs.Lines.{IsShort}
-use Rattle.desk_line.specs.Operands.{FitsOperand, Operand, Number, Lines, Place, Look, Flag, Name, Proofreader, Text, is_copied, operand_fields}
+use Rattle.desk_line.specs.Operands.{FitsOperand, Operand, Number, Lines, Place, Look, Flag, Name, Proofreader, Text, operand_fields}
 
 -- ---- how a head line says a command
+
+-- a text for places of a paragraph as a correction, and as a mark's note
+abbrev pub correction_of : SpanText → List ℕ → Command
+correction_of span who = commands.Correct span.paragraph span.start span.count (chars span.text) (chars who)
+
+abbrev pub mark_of : SpanText → Command
+mark_of span = commands.Mark span.paragraph span.start span.count (chars span.text)
 
 -- the fields name a paragraph, the first of its places and how many places, and the rest of the line is a text, with its
 -- blanks; before an empty one the blank may be missing
@@ -35,43 +42,36 @@ pub record IsSpanText (fields : List (List ℕ)) (span : SpanText) : Type 0 wher
 -- the line, with its blanks; before an empty one the blank may be missing
 pub data SaysDirective (fields : List (List ℕ)) (directive : Directive) : Type 0 where
   table : (name number : List ℕ) (count : ℕ) → IsName name → IsNumber number count → count ≤ most_lines
-      → fields ≡ codes "table" ∷ name ∷ number ∷ [] → directive ≡ Table name count → SaysDirective fields directive
+      → fields ≡ codes "table" ∷ name ∷ number ∷ [] → directive ≡ Table (chars name) count → SaysDirective fields directive
   supply : (name : List ℕ) → IsName name
-      → fields ≡ codes "supply" ∷ name ∷ [] → directive ≡ Supply name → SaysDirective fields directive
+      → fields ≡ codes "supply" ∷ name ∷ [] → directive ≡ Whole (commands.Table (chars name) EN.now) → SaysDirective fields directive
   type_in : (after name : List ℕ) (text : List (List ℕ)) (anchor : Anchor) → IsAnchor after anchor → IsName name
-      → fields ≡ codes "type" ∷ after ∷ name ∷ text → directive ≡ TypeIn anchor name (line_of_fields text)
+      → fields ≡ codes "type" ∷ after ∷ name ∷ text → directive ≡ Whole (commands.TypeIn anchor (chars name) (chars (line_of_fields text)))
       → SaysDirective fields directive
   correct : (others : List (List ℕ)) (span : SpanText) → IsSpanText others span
-      → fields ≡ codes "correct" ∷ others → directive ≡ Correct span [] → SaysDirective fields directive
+      → fields ≡ codes "correct" ∷ others → directive ≡ Whole (correction_of span []) → SaysDirective fields directive
   correct_by : (who : List ℕ) (others : List (List ℕ)) (span : SpanText) → IsName who → IsSpanText others span
-      → fields ≡ codes "correct-by" ∷ who ∷ others → directive ≡ Correct span who → SaysDirective fields directive
+      → fields ≡ codes "correct-by" ∷ who ∷ others → directive ≡ Whole (correction_of span who) → SaysDirective fields directive
   undo : (number : List ℕ) (id : ℕ) → IsNumber number id
-      → fields ≡ codes "undo" ∷ number ∷ [] → directive ≡ Undo id → SaysDirective fields directive
+      → fields ≡ codes "undo" ∷ number ∷ [] → directive ≡ Whole (commands.Undo id) → SaysDirective fields directive
   mark : (others : List (List ℕ)) (span : SpanText) → IsSpanText others span
-      → fields ≡ codes "mark" ∷ others → directive ≡ Mark span → SaysDirective fields directive
+      → fields ≡ codes "mark" ∷ others → directive ≡ Whole (mark_of span) → SaysDirective fields directive
   resolve : (number : List ℕ) (id : ℕ) → IsNumber number id
-      → fields ≡ codes "resolve" ∷ number ∷ [] → directive ≡ Resolve id → SaysDirective fields directive
+      → fields ≡ codes "resolve" ∷ number ∷ [] → directive ≡ Whole (commands.Resolve id) → SaysDirective fields directive
   strike : (number : List ℕ) (id : ℕ) → IsNumber number id
-      → fields ≡ codes "strike" ∷ number ∷ [] → directive ≡ Strike id → SaysDirective fields directive
+      → fields ≡ codes "strike" ∷ number ∷ [] → directive ≡ Whole (commands.Strike id) → SaysDirective fields directive
   restore : (number : List ℕ) (id : ℕ) → IsNumber number id
-      → fields ≡ codes "restore" ∷ number ∷ [] → directive ≡ Restore id → SaysDirective fields directive
+      → fields ≡ codes "restore" ∷ number ∷ [] → directive ≡ Whole (commands.Restore id) → SaysDirective fields directive
   style : (number word : List ℕ) (id : ℕ) (look : ParagraphStyle) → IsNumber number id → IsStyle word look
-      → fields ≡ codes "style" ∷ number ∷ word ∷ [] → directive ≡ Style id look → SaysDirective fields directive
+      → fields ≡ codes "style" ∷ number ∷ word ∷ [] → directive ≡ Whole (commands.Style id look) → SaysDirective fields directive
   volume : (number word : List ℕ) (id : ℕ) (begins : Bool) → IsNumber number id → IsFlag word begins
-      → fields ≡ codes "volume" ∷ number ∷ word ∷ [] → directive ≡ Volume id begins → SaysDirective fields directive
+      → fields ≡ codes "volume" ∷ number ∷ word ∷ [] → directive ≡ Whole (commands.Volume id begins) → SaysDirective fields directive
   retable : (number name : List ℕ) (id : ℕ) → IsNumber number id → IsName name
-      → fields ≡ codes "retable" ∷ number ∷ name ∷ [] → directive ≡ Retable id name → SaysDirective fields directive
+      → fields ≡ codes "retable" ∷ number ∷ name ∷ [] → directive ≡ Whole (commands.Retable id (chars name)) → SaysDirective fields directive
   move : (number after : List ℕ) (id : ℕ) (anchor : Anchor) → IsNumber number id → IsAnchor after anchor
-      → fields ≡ codes "move" ∷ number ∷ after ∷ [] → directive ≡ Move id anchor → SaysDirective fields directive
+      → fields ≡ codes "move" ∷ number ∷ after ∷ [] → directive ≡ Whole (commands.Move id anchor) → SaysDirective fields directive
 
 -- ---- what this gives
-
--- a text for places of a paragraph as a correction, and as a mark's note
-abbrev pub correction_of : SpanText → List ℕ → Command
-correction_of span who = commands.Correct span.paragraph span.start span.count (chars span.text) (chars who)
-
-abbrev pub mark_of : SpanText → Command
-mark_of span = commands.Mark span.paragraph span.start span.count (chars span.text)
 
 -- how many lines follow a head line, and the command that it gives with their bytes
 pub record Announced : Type 0 where
@@ -84,19 +84,8 @@ alone command = record { lines = 0; command = λ text. command }
 
 -- what is announced by a head line that says this
 abbrev pub announced : Directive → Announced
-announced (Table name count) = record { lines = count; command = λ text. commands.Table (chars name) text }
-announced (Supply name) = alone (commands.Table (chars name) EN.now)
-announced (TypeIn after name print) = alone (commands.TypeIn after (chars name) (chars print))
-announced (Correct span who) = alone (correction_of span who)
-announced (Undo id) = alone (commands.Undo id)
-announced (Mark span) = alone (mark_of span)
-announced (Resolve id) = alone (commands.Resolve id)
-announced (Strike id) = alone (commands.Strike id)
-announced (Restore id) = alone (commands.Restore id)
-announced (Style id look) = alone (commands.Style id look)
-announced (Volume id begins) = alone (commands.Volume id begins)
-announced (Retable id name) = alone (commands.Retable id (chars name))
-announced (Move id after) = alone (commands.Move id after)
+announced (Whole command) = alone command
+announced (Table name count) = record { lines = count; command = λ text. commands.Table name text }
 
 -- ---- how a command is written
 
@@ -138,7 +127,3 @@ form_fields written = written.word ∷ flat_map operand_fields written.operands
 pub record FitsForm (written : Form) : Type 0 where
   pub operands : AllByRecursion FitsOperand written.operands
   pub block : AllByRecursion IsShort (lines_of written.block)
-
--- the command has a text or a name, which is copied
-abbrev pub HasText : Command → Type 0
-HasText command = IsTrue (list_any is_copied (form command).operands)

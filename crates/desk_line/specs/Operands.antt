@@ -1,5 +1,5 @@
 -- The operands of a head line, as they are written after its word.
-use Rattle.std.specs.Prelude.{◌≢◌, ℕ, ◌≤◌, Bool, true, false, List, [], ◌∷◌, length, codes, decimal}
+use Rattle.std.specs.Prelude.{◌≢◌, ℕ, ◌≤◌, Bool, List, [], ◌∷◌, length, codes, decimal}
 use Rattle.std.specs.List.{All}
 use Rattle.louis_table.specs.Lines.{lines_of}
 use Rattle.louis_table.specs.Table.{most_lines}
@@ -81,14 +81,3 @@ operand_fields (Flag set) = word_if set (codes "on") (codes "off") ∷ []
 operand_fields (Name name) = shown_text name ∷ []
 operand_fields (Proofreader who) = proofreader_fields who
 operand_fields (Text text) = shown_text text ∷ []
-
--- a name or a text, which is copied
-abbrev pub is_copied : Operand → Bool
-is_copied (Number number) = false
-is_copied (Lines text) = false
-is_copied (Place anchor) = false
-is_copied (Look style) = false
-is_copied (Flag set) = false
-is_copied (Name name) = true
-is_copied (Proofreader who) = true
-is_copied (Text text) = true

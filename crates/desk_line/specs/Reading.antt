@@ -1,34 +1,32 @@
 -- How a head line is read, step by step. Only private functions and proofs need these words, and the clause of
 -- `RequestHead::finish` that says what is given of a head line alone: `Head` says what a head line says, and `Request` what
 -- bytes are a request.
-use Rattle.std.specs.Prelude.{ℕ, Bool, true, false, ◌&&◌, ◌==◌, ◌≡◌, ◌-◌, Result, Ok, Err, nat_lt, nat_le, if◌then◌else◌, List, [], ◌∷◌, length, codes, Option, Some, None, option_map}
+use Rattle.std.specs.Prelude.{ℕ, Bool, true, false, ◌&&◌, ◌==◌, ◌-◌, nat_lt, nat_le, if◌then◌else◌, List, [], ◌∷◌, length, codes, Option, Some, None, option_map}
 use Rattle.std.specs.Option.{option_and_then}
 use Rattle.std.specs.List.{list_all, before_first}
 use Rattle.std.specs.Io.BufRead.{strip_last}
 use Rattle.std.specs.Char.{is_ascii_digit}
-use Rattle.std.specs.Str.{bytes_eq, is_utf8}
+use Rattle.std.specs.Str.{bytes_eq, chars, is_utf8}
 use Rattle.std.specs.Str.Parse.{digits_value}
+use Rattle.louis_table.specs.declared.en.TheConstants.{EN}
 use Rattle.louis_table.specs.Table.{most_lines}
 use Rattle.desk_command.specs.declared.command.Anchor.{Anchor}
 use Rattle.desk_command.specs.declared.command.Anchor.TheVariants.{Front, End, Para}
+use Rattle.desk_command.specs.declared.command.Command.TheVariants as commands
 use Rattle.desk_command.specs.declared.style.Style.{Style as ParagraphStyle}
 use Rattle.desk_command.specs.declared.style.Style.TheVariants.{Body, Heading}
 use Rattle.desk_line.specs.declared.head.Head.{Head}
 use Rattle.desk_line.specs.declared.head.Head.TheVariants.{Do, Ask}
 use Rattle.desk_line.specs.declared.directive.Directive.{Directive}
-use Rattle.desk_line.specs.declared.directive.Directive.TheVariants.{Table, Supply, TypeIn, Correct, Undo, Mark, Resolve, Strike, Restore, Style, Volume, Retable, Move}
+use Rattle.desk_line.specs.declared.directive.Directive.TheVariants.{Whole, Table}
 use Rattle.desk_line.specs.declared.directive.SpanText.{SpanText}
 use Rattle.desk_line.specs.declared.request.Query.{Query}
 use Rattle.desk_line.specs.declared.request.Query.TheVariants as queries
 use Rattle.desk_line.specs.Fields.{fields_of, line_of_fields}
 use Rattle.louis_table.specs.Lines.{lines_of}
-use Rattle.desk_command.specs.declared.command.Command.{Command}
-use Rattle.desk_line.specs.declared.fault.Fault.{Fault}
-use Rattle.desk_line.specs.declared.fault.Fault.TheVariants.{Syntax, NoMemory}
 use Rattle.desk_line.specs.declared.request.Request.{Request}
-use Rattle.desk_line.specs.declared.request.Request.TheVariants as requests
 use Rattle.desk_line.specs.Lines.{after_first_line}
-use Rattle.desk_line.specs.Commands.{HasText}
+use Rattle.desk_line.specs.Commands.{correction_of, mark_of}
 use Rattle.desk_line.specs.Request.{block_lines, request_of}
 use Rattle.desk_ends.specs.Limits.{most_line_bytes}
 use Rattle.desk_line.specs.Limits.{most_digits, most_number}
@@ -144,24 +142,24 @@ numbers_in fields = with_two number_in number_in (λ first second. (first, secon
 -- a command that names one number
 abbrev pub numbered_directive : List ℕ → ℕ → Option Directive
 numbered_directive word number =
-    if bytes_eq word (codes "undo") then Some (Undo number)
-    else if bytes_eq word (codes "resolve") then Some (Resolve number)
-    else if bytes_eq word (codes "strike") then Some (Strike number)
-    else if bytes_eq word (codes "restore") then Some (Restore number)
+    if bytes_eq word (codes "undo") then Some (Whole (commands.Undo number))
+    else if bytes_eq word (codes "resolve") then Some (Whole (commands.Resolve number))
+    else if bytes_eq word (codes "strike") then Some (Whole (commands.Strike number))
+    else if bytes_eq word (codes "restore") then Some (Whole (commands.Restore number))
     else None
 
 abbrev pub directive_by : List ℕ → List (List ℕ) → Option Directive
 directive_by word fields =
-    if bytes_eq word (codes "table") then with_two name_in count_in Table fields
-    else if bytes_eq word (codes "supply") then with_one name_in Supply fields
-    else if bytes_eq word (codes "type") then with_two_and_text anchor_in name_in TypeIn fields
-    else if bytes_eq word (codes "correct") then option_map (λ span. Correct span []) (span_text_in fields)
-    else if bytes_eq word (codes "correct-by") then with_one_before name_in span_text_in (λ who span. Correct span who) fields
-    else if bytes_eq word (codes "mark") then option_map Mark (span_text_in fields)
-    else if bytes_eq word (codes "style") then with_two number_in style_in Style fields
-    else if bytes_eq word (codes "volume") then with_two number_in flag_in Volume fields
-    else if bytes_eq word (codes "retable") then with_two number_in name_in Retable fields
-    else if bytes_eq word (codes "move") then with_two number_in anchor_in Move fields
+    if bytes_eq word (codes "table") then with_two name_in count_in (λ name count. Table (chars name) count) fields
+    else if bytes_eq word (codes "supply") then with_one name_in (λ name. Whole (commands.Table (chars name) EN.now)) fields
+    else if bytes_eq word (codes "type") then with_two_and_text anchor_in name_in (λ after name text. Whole (commands.TypeIn after (chars name) (chars text))) fields
+    else if bytes_eq word (codes "correct") then option_map (λ span. Whole (correction_of span [])) (span_text_in fields)
+    else if bytes_eq word (codes "correct-by") then with_one_before name_in span_text_in (λ who span. Whole (correction_of span who)) fields
+    else if bytes_eq word (codes "mark") then option_map (λ span. Whole (mark_of span)) (span_text_in fields)
+    else if bytes_eq word (codes "style") then with_two number_in style_in (λ id look. Whole (commands.Style id look)) fields
+    else if bytes_eq word (codes "volume") then with_two number_in flag_in (λ id begins. Whole (commands.Volume id begins)) fields
+    else if bytes_eq word (codes "retable") then with_two number_in name_in (λ id name. Whole (commands.Retable id (chars name))) fields
+    else if bytes_eq word (codes "move") then with_two number_in anchor_in (λ id after. Whole (commands.Move id after)) fields
     else option_and_then (numbered_directive word) (paragraph_in fields)
 
 unfoldable pub directive_in : List (List ℕ) → Option Directive
@@ -240,10 +238,3 @@ with_text text head = if are_lines (lines_of text) (block_lines head) then Some 
 
 unfoldable pub request_in : List ℕ → Option Request
 request_in bytes = option_and_then (with_text (after_first_line bytes)) (head_of (head_line bytes))
-
--- a result gives what was found; if it is that an allocation failed, that is a command which has a text or a name
-abbrev pub Gives : Result Request Fault → Option Request → Type 0
-Gives (Ok request) found = found ≡ Some request
-Gives (Err Syntax) found = found ≡ None
-Gives (Err NoMemory) found =
-    (command : Command) × (expect : Option ℕ) × (found ≡ Some (requests.Do command expect)) × HasText command

@@ -1,16 +1,13 @@
 -- Requests, and how an input is cut into them.
-use Rattle.std.specs.Prelude.{◌≡◌, ℕ, ◌≤◌, List, [], ◌∷◌, ◌++◌, length, Option}
+use Rattle.std.specs.Prelude.{◌≡◌, ℕ, ◌≤◌, List, [], ◌∷◌, ◌++◌, length, Option, ◌<◌}
 use Rattle.std.specs.List.{AllByRecursion}
 use Rattle.louis_table.specs.Lines.{lines_of}
-use Rattle.desk_command.specs.declared.command.Command.{Command}
-use Rattle.desk_line.specs.declared.fault.Fault.{Fault}
-use Rattle.desk_line.specs.declared.fault.Fault.TheVariants.{Syntax, NoMemory}
 use Rattle.desk_line.specs.declared.head.Head.{Head}
 use Rattle.desk_line.specs.declared.head.Head.TheVariants as heads
 use Rattle.desk_line.specs.declared.directive.Directive.{Directive}
 use Rattle.desk_line.specs.declared.request.Request.{Request}
 use Rattle.desk_line.specs.declared.request.Request.TheVariants.{Do, Ask}
-use Rattle.desk_line.specs.Commands.{HasText, announced}
+use Rattle.desk_line.specs.Commands.{announced}
 use Rattle.desk_line.specs.Head.{Says}
 use Rattle.desk_line.specs.Lines.{IsShort, after_first_line}
 
@@ -81,6 +78,10 @@ pub record Reads (bytes : List ℕ) (request : Request) : Type 0 where
   pub short : AllByRecursion IsShort block
   pub is : request ≡ request_of head (after_first_line bytes)
 
+-- the bytes are no request
+abbrev pub IsNoRequest : List ℕ → Type 0
+IsNoRequest bytes = (request : Request) → ¬ Reads bytes request
+
 -- the bytes are a head line that says this, and then this text
 pub record HasHead (bytes : List ℕ) (head : Head) (text : List ℕ) : Type 0 where
   pub line : List ℕ
@@ -89,7 +90,7 @@ pub record HasHead (bytes : List ℕ) (head : Head) (text : List ℕ) : Type 0 w
   pub says : Says line head
   pub rest : text ≡ after_first_line bytes
 
--- the bytes begin with the head line of a command that has a text or a name, whatever the lines after it are
+-- the bytes begin with the head line of a command that lines follow, whatever these are
 pub record AsksForMemory (bytes : List ℕ) : Type 0 where
   pub line : List ℕ
   pub block : List (List ℕ)
@@ -97,10 +98,4 @@ pub record AsksForMemory (bytes : List ℕ) : Type 0 where
   pub expect : Option ℕ
   pub lines : lines_of bytes ≡ line ∷ block
   pub says : Says line (heads.Do directive expect)
-  pub text : HasText ((announced directive).command [])
-
--- the fault is reported of the bytes: they aren't a request; a failed allocation is reported only of commands that have
--- a text or a name
-abbrev pub Tells : List ℕ → Fault → Type 0
-Tells bytes Syntax = (request : Request) → ¬ Reads bytes request
-Tells bytes NoMemory = (command : Command) × (expect : Option ℕ) × Reads bytes (Do command expect) × HasText command
+  pub some : 0 < (announced directive).lines

@@ -2,8 +2,9 @@
 ghost use Rattle.desk_line.specs.Fields.{fields_in_rest, fields_of, line_of_fields};
 ghost use Rattle.desk_line.specs.Reading.{first_and_others, only_one, only_two};
 ghost use Rattle.std.specs.Prelude.{◌≡◌, [], IsTrue, ◌↔◌, ◌∷◌};
-ghost use Rattle.std.specs.Str.{bytes_eq};
+ghost use Rattle.std.specs.Str.{bytes_eq, chars};
 
+use desk_command::LentText;
 use std::marker::Model;
 
 /// A part of a head line. Contracts see its bytes.
@@ -40,6 +41,13 @@ impl<'a> Field<'a> {
         ensures { result.now ≡ self.now }
     {
         self.text.as_bytes()
+    }
+
+    /// The text of the field, as commands have it.
+    pub(crate) fn as_text(&self) -> LentText<'a>
+        ensures { result ≡ chars self.now }
+    {
+        LentText::new(self.text)
     }
 
     /// Whether the field is this word.

@@ -7,9 +7,9 @@
 //! use desk_line::{begin_request, lines_after, read_request};
 //!
 //! assert_eq!(rt; lines_after(b"table en 58"), 58);
-//! let request = read_request(alloc, b"type end en Hello\n")?;
+//! let request = read_request(b"type end en Hello\n");
 //! if let Some(head) = begin_request(b"table t 1") {
-//!     let request = head.finish(alloc, b"letter a 1\n")?;
+//!     let request = head.finish(b"letter a 1\n");
 //! }
 //! ```
 //!
@@ -19,7 +19,6 @@
 
 mod answer;
 mod directive;
-mod fault;
 mod fields;
 mod head;
 pub mod laws;
@@ -34,7 +33,6 @@ mod text_output;
 mod waiting;
 
 pub use answer::Answer;
-pub use fault::{Broken, Fault};
 pub use read::{RequestHead, begin_request, lines_after, read_request};
-pub use reply::write_reply;
+pub use reply::{Broken, write_reply};
 pub use request::{Query, Request};

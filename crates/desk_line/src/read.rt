@@ -1,17 +1,15 @@
 //! Reads requests.
 ghost use Rattle.desk_line.specs.Head.{Says};
-ghost use Rattle.desk_line.specs.Reading.{Gives, are_lines, with_text};
-ghost use Rattle.desk_line.specs.Request.{HasHead, Reads, Takes, Tells, block_lines, request_of};
+ghost use Rattle.desk_line.specs.Reading.{are_lines, with_text};
+ghost use Rattle.desk_line.specs.Request.{HasHead, IsNoRequest, Reads, Takes, block_lines, request_of};
 ghost use Rattle.desk_line.specs.declared.head.Head.{Head};
 ghost use Rattle.louis_table.specs.Lines.{lines_of};
-ghost use Rattle.std.specs.Prelude.{◌≡◌, List, MatchOption, MatchResult, Some, ℕ};
+ghost use Rattle.std.specs.Prelude.{◌≡◌, List, MatchOption, ℕ};
 
 use super::directive::make_command;
-use super::fault::Fault;
 use super::head::{Head, block_lines, read_head};
 use super::request::Request;
 use desk_ends::{MOST_LINE_BYTES, split_line};
-use std::alloc::Global;
 use std::marker::Model;
 
 /// A head line that was read: a request, but for the lines that follow. Contracts see what it says.
@@ -36,18 +34,14 @@ impl<'a> RequestHead<'a> {
         block_lines(&self.head)
     }
 
-    /// The request that it is with the lines that follow it, given as they came.
-    ///
-    /// # Errors
-    ///
-    /// `Syntax` exactly if they aren't as many lines as follow it, or one of them is too long; `NoMemory` if an allocation
-    /// for the text or a name of a command failed.
-    pub fn finish(self, alloc: Global, text: &[u8]) -> Result<Request, Fault>
-        ensures told { (bytes : List ℕ) → HasHead bytes self.entry text.now
-            → MatchResult result (Reads bytes) (Tells bytes) }
-        ensures gives { Gives result (with_text text.now self.entry) }
+    /// The request that it is with the lines that follow it, given as they came. `None` exactly if they aren't as many lines
+    /// as follow it, or one of them is too long.
+    pub fn finish(self, text: &'a [u8]) -> Option<Request<'a>>
+        ensures reads { (bytes : List ℕ) → HasHead bytes self.entry text.now
+            → MatchOption result (IsNoRequest bytes) (Reads bytes) }
+        ensures gives { result ≡ with_text text.now self.entry }
     {
-        complete(alloc, self.head, text)
+        complete(self.head, text)
     }
 }
 
@@ -72,29 +66,26 @@ pub fn lines_after(head: &[u8]) -> u64
     }
 }
 
-/// Reads a whole request: its head line and the lines that follow it, as they came.
-///
-/// # Errors
-///
-/// `Syntax` exactly if the bytes aren't a request; `NoMemory` if an allocation for the text or a name of a command failed.
-pub fn read_request(alloc: Global, bytes: &[u8]) -> Result<Request, Fault>
-    ensures { MatchResult result (Reads bytes.now) (Tells bytes.now) }
+/// Reads a whole request: its head line and the lines that follow it, as they came. `None` exactly if the bytes aren't a
+/// request.
+pub fn read_request(bytes: &[u8]) -> Option<Request<'_>>
+    ensures { MatchOption result (IsNoRequest bytes.now) (Reads bytes.now) }
 {
     let (line, text) = split_line(bytes);
     match begin_request(line) {
-        Some(head) => head.finish(alloc, text),
-        None => Err(Fault::Syntax),
+        Some(head) => head.finish(text),
+        None => None,
     }
 }
 
 /// The request that a head line makes with the bytes of the lines after it, if these are as many as it takes.
-fn complete(alloc: Global, head: Head<'_>, text: &[u8]) -> Result<Request, Fault>
-    ensures { Gives result (with_text text.now head.entry) }
+fn complete<'a>(head: Head<'a>, text: &'a [u8]) -> Option<Request<'a>>
+    ensures { result ≡ with_text text.now head.entry }
 {
     if !are_lines(text, block_lines(&head)) {
-        return Err(Fault::Syntax);
+        return None;
     }
-    make_request(alloc, head, text)
+    Some(make_request(head, text))
 }
 
 /// Whether the bytes are this many lines, none of them too long.
@@ -118,14 +109,14 @@ fn are_lines(bytes: &[u8], count: u64) -> bool
 }
 
 /// The request that a head line and the bytes of the lines after it make.
-fn make_request(alloc: Global, head: Head<'_>, text: &[u8]) -> Result<Request, Fault>
-    ensures { Gives result (Some (request_of head.entry text.now)) }
+fn make_request<'a>(head: Head<'a>, text: &'a [u8]) -> Request<'a>
+    ensures { result ≡ request_of head.entry text.now }
 {
     match head {
-        Head::Ask(query) => Ok(Request::Ask(query)),
+        Head::Ask(query) => Request::Ask(query),
         Head::Do { directive, expect } => {
-            let command = make_command(alloc, directive, text)?;
-            Ok(Request::Do { command, expect })
+            let command = make_command(directive, text);
+            Request::Do { command, expect }
         }
     }
 }

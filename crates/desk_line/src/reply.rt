@@ -4,7 +4,6 @@ ghost use Rattle.desk_line.specs.Waiting.{Adds};
 ghost use Rattle.std.specs.Prelude.{IfErr, OnOk, [], codes, is_ok, option_to_list, ◌∷◌};
 
 use super::answer::Answer;
-use super::fault::Broken;
 use super::request::Query;
 use super::shown::{put_braille, put_history, put_list, put_marks, put_place, put_print};
 use super::text_output::{finish, nothing_waiting, put_line};
@@ -12,6 +11,12 @@ use super::waiting::Waiting;
 use desk_book::Book;
 use desk_command::Refusal;
 use desk_ends::Sink;
+use thiserror::Error;
+
+/// A reply was broken off, because a write failed.
+#[derive(Clone, Copy, Debug, PartialEq, Eq, Error)]
+#[error("a write failed")]
+pub struct Broken;
 
 /// Writes the reply to a request, by the answer that it got, on the book as it is. It allocates nothing.
 ///

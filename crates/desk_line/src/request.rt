@@ -46,11 +46,11 @@ pub enum Query {
 
 /// A request.
 #[derive(Debug, Drop)]
-pub enum Request {
+pub enum Request<'a> {
     /// A command.
     Do {
         /// The command.
-        command: Command,
+        command: Command<'a>,
         /// The version that the book is expected to have, if one is.
         expect: Option<u64>,
     },

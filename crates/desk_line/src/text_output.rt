@@ -8,7 +8,7 @@ ghost use Rattle.desk_line.specs.Waiting.{Adds, IsSent};
 ghost use Rattle.std.specs.Char.{encode_utf8};
 ghost use Rattle.std.specs.Prelude.{[], codes, decimal, false, is_ok, length, map, List, Option, ℕ, ◌+◌, ◌<◌, ◌≤◌, ◌≡◌, ◌∷◌};
 
-use super::fault::Broken;
+use super::reply::Broken;
 use super::waiting::Waiting;
 use cell_core::Cell;
 use desk_ends::{Block, Sink, send};

@@ -8,8 +8,8 @@ use Rattle.desk_ends.specs.Lines.{IsLine, feeds, kept_line}
 use Rattle.desk_ends.proofs.LineFeeds.{fed-feeds, feeds-append, feeds-some, no-feeds}
 use Rattle.desk_ends.proofs.OneLine.{ends-append, fed-ends}
 use Rattle.desk_ends.proofs.UsedInput.{UsesInput-none, UsesInput-then, no-parts}
-use Rattle.desk_line.specs.declared.fault.Fault.{Fault}
-use Rattle.desk_line.specs.declared.fault.Fault.TheVariants.{Syntax, NoMemory}
+use Rattle.desk_session.specs.declared.fault.Fault.{Fault}
+use Rattle.desk_session.specs.declared.fault.Fault.TheVariants.{Syntax, NoMemory}
 use Rattle.desk_session.specs.Reading.{AreFed, BlockEnds, HoldsText, ReadsBlock}
 use Rattle.desk_session.proofs.BlockLines.{long-before}
 

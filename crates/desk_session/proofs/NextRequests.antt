@@ -1,8 +1,9 @@
 -- The next request of an input, made of a head line and its block.
 use Rattle.std.proofs.Common.{◌≡◌, ◌≢◌, ◌⊎◌, ℕ, ◌<◌, Bool, true, false, eqb, List, [], ◌∷◌, ◌++◌, length, Option, Some, None, Result, Ok, Err, refl, sym, ap, subst, ◌∙◌, append_assoc, inl, inr, arith}
-use Rattle.std.specs.Prelude.{MatchResult, Vec}
+use Rattle.std.specs.Prelude.{MatchOption, MatchResult, Vec}
 use Rattle.std.specs.declared.alloc.Global.{Global}
 use Rattle.std.specs.List.{AllByRecursion}
+use Rattle.std.specs.Option.{ok_or}
 use Rattle.std.proofs.lemmas.Bool.{cases_lt}
 use Rattle.std.proofs.lemmas.List.{append-nil}
 use Rattle.louis_table.specs.Lines.{lines_of}
@@ -14,17 +15,17 @@ use Rattle.desk_ends.proofs.FirstLine.{after-fed, after-none}
 use Rattle.desk_ends.proofs.LineFeeds.{fed-feeds, feeds-append, lines-fed, lines-few, no-feeds}
 use Rattle.desk_ends.proofs.OneLine.{ends-append, ends-some, fed-ends, fed-first, kept_line-none, kept_line-some, lone-line, one-line}
 use Rattle.desk_ends.proofs.UsedInput.{UsesInput-then, no-parts}
-use Rattle.desk_line.specs.declared.fault.Fault.{Fault}
-use Rattle.desk_line.specs.declared.fault.Fault.TheVariants.{Syntax, NoMemory}
+use Rattle.desk_session.specs.declared.fault.Fault.{Fault}
+use Rattle.desk_session.specs.declared.fault.Fault.TheVariants.{Syntax, NoMemory}
 use Rattle.desk_line.specs.declared.head.Head.{Head}
 use Rattle.desk_line.specs.declared.request.Request.{Request}
 use Rattle.desk_line.specs.Head.{Says}
 use Rattle.desk_line.specs.Lines.{IsShort, after_first_line}
-use Rattle.desk_line.specs.Request.{HasHead, IsLast, IsWhole, Reads, Takes, Tells, block_lines, said, unsaid}
+use Rattle.desk_line.specs.Request.{HasHead, IsLast, IsNoRequest, IsWhole, Reads, Takes, block_lines, said, unsaid}
 use Rattle.desk_line.proofs.CutLaws.{none-whole, whole-feeds}
 use Rattle.desk_line.proofs.HeadLaws.{head-found}
 use Rattle.desk_line.proofs.HeadLines.{head-of-long}
-use Rattle.desk_line.proofs.RequestLaws.{asks-for-memory, takes-none, text-asks, unsaid-tells}
+use Rattle.desk_line.proofs.RequestLaws.{asks-for-memory, takes-none, unsaid-none}
 use Rattle.desk_session.specs.Reading.{AreFed, AreLines, BeginsWithNone, HoldsText, ReadsBlock, ReadsRequest}
 use Rattle.desk_session.specs.Requests.{IsFaultOf, IsNext}
 use Rattle.desk_session.proofs.Blocks.{block-some}
@@ -39,8 +40,8 @@ says-short bytes request reads =
       | inr le ↦ le
     ]
 
-tells-long : (bytes : List ℕ) → ¬ AllByRecursion IsShort (lines_of bytes) → Tells bytes Syntax
-tells-long bytes long request reads =
+none-long : (bytes : List ℕ) → ¬ AllByRecursion IsShort (lines_of bytes) → IsNoRequest bytes
+none-long bytes long request reads =
     long (subst (AllByRecursion IsShort) (sym reads.lines) (says-short bytes request reads, reads.short))
 
 takes-long : (line : List ℕ) → ¬ IsShort line → Takes line 0
@@ -52,13 +53,10 @@ takes-long line long =
 
 -- ---- what is read of bytes
 
-fault-of : (bytes : List ℕ) (fault : Fault) → Tells bytes fault → IsFaultOf bytes fault
-fault-of bytes Syntax tells = tells
-fault-of bytes NoMemory (command, expect, reads, text) = text-asks bytes command expect reads text
-
-found-of : (bytes : List ℕ) (found : Result Request Fault) → MatchResult found (Reads bytes) (Tells bytes) → MatchResult found (Reads bytes) (IsFaultOf bytes)
-found-of bytes (Ok request) reads = reads
-found-of bytes (Err fault) tells = fault-of bytes fault tells
+-- a request, or the fault of bytes that are none
+found-of : (bytes : List ℕ) (found : Option Request) → MatchOption found (IsNoRequest bytes) (Reads bytes) → MatchResult (ok_or found Syntax) (Reads bytes) (IsFaultOf bytes)
+found-of bytes (Some request) reads = reads
+found-of bytes None none = none
 
 -- ---- a head line
 
@@ -146,7 +144,7 @@ module _ (head block : List ℕ) (some : head ≢ []) where
 
     block-fault : (fault : Fault) → MayBeFollowed head block → HoldsText (Err fault) block → (block ≢ [] → 0 < count) → IsFaultOf (head ++ block) fault
     block-fault Syntax may long more =
-        tells-long (head ++ block) (λ all. long (subst (AllByRecursion IsShort) (block-lines may) all).1)
+        none-long (head ++ block) (λ all. long (subst (AllByRecursion IsShort) (block-lines may) all).1)
     block-fault NoMemory may empty more =
         asks-for-memory (head ++ block) (without_ending head) (lines_of block) count (block-lines may) takes (more empty)
 
@@ -178,7 +176,7 @@ module _ (F : Type 0) (a b : Option (List ℕ)) (old mid : Input) where
         used = read.used;
         found = (
           next-alone whole read.bytes some (takes-long (without_ending read.bytes) long) read.ends,
-          tells-long read.bytes (λ all. long (subst (AllByRecursion IsShort) lines all).0),
+          none-long read.bytes (λ all. long (subst (AllByRecursion IsShort) lines all).0),
         );
       }
 
@@ -209,7 +207,7 @@ module _ (F : Type 0) (a b : Option (List ℕ)) (old mid : Input) where
         used = head-used;
         found = (
           next-alone whole head some (unsaid none refl) head-line,
-          unsaid-tells head (without_ending head) [] (one-line head (line-of whole head head-line) some) none,
+          unsaid-none head (without_ending head) [] (one-line head (line-of whole head head-line) some) none,
         );
       }
 
@@ -250,8 +248,9 @@ module _ (F : Type 0) (a b : Option (List ℕ)) (old mid : Input) where
           rest = block-after head block some (may-be block ends);
         }
 
-        pub ReadsRequest-block : (text : Vec ℕ Global) (found : Result Request Fault) → ReadsBlock F b c mid new count (Ok (Ok text))
-            → ((bytes : List ℕ) → HasHead bytes h text.items → MatchResult found (Reads bytes) (Tells bytes)) → ReadsRequest F a c old new (Ok (Some found))
+        pub ReadsRequest-block : (text : Vec ℕ Global) (found : Option Request) → ReadsBlock F b c mid new count (Ok (Ok text))
+            → ((bytes : List ℕ) → HasHead bytes h text.items → MatchOption found (IsNoRequest bytes) (Reads bytes))
+            → ReadsRequest F a c old new (Ok (Some (ok_or found Syntax)))
         ReadsRequest-block text found block finish =
             let ends = ends-by whole head-line block.block block.used in
             let has = subst (HasHead (head ++ block.block) h) (sym block.ends.0) (has-head block.block ends) in

@@ -19,7 +19,7 @@ use Rattle.desk_ends.specs.Limits.{most_input}
 use Rattle.desk_ends.proofs.UsedInput.{UsesInput-none, UsesInput-then, left_to_use, left_to_use-fewer, no-parts, unread-knows}
 use Rattle.desk_line.specs.declared.answer.Answer.{Answer}
 use Rattle.desk_line.specs.declared.answer.Answer.TheVariants as answers
-use Rattle.desk_line.specs.declared.fault.Fault.{Fault}
+use Rattle.desk_session.specs.declared.fault.Fault.{Fault}
 use Rattle.desk_line.specs.declared.request.Request.{Request}
 use Rattle.desk_line.specs.declared.request.Request.TheVariants.{Do}
 use Rattle.desk_line.specs.Request.{WholeRequests}

@@ -18,8 +18,8 @@ use Rattle.desk_ends.specs.Ends.{IsFlushed}
 use Rattle.desk_ends.proofs.Sending.{at_err, at_ok}
 use Rattle.desk_line.specs.declared.answer.Answer.{Answer}
 use Rattle.desk_line.specs.declared.answer.Answer.TheVariants as answers
-use Rattle.desk_line.specs.declared.fault.Fault.{Fault}
-use Rattle.desk_line.specs.declared.fault.Fault.TheVariants as faults
+use Rattle.desk_session.specs.declared.fault.Fault.{Fault}
+use Rattle.desk_session.specs.declared.fault.Fault.TheVariants as faults
 use Rattle.desk_line.specs.declared.request.Query.{Query}
 use Rattle.desk_line.specs.declared.request.Request.TheVariants.{Ask, Do}
 use Rattle.desk_line.specs.Answers.{IsAnswered, accepted, asked, lost, no_request, refused, unplanned, unread}

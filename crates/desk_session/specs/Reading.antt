@@ -6,8 +6,8 @@ use Rattle.louis_table.specs.Lines.{lines_of}
 use Rattle.desk_ends.specs.declared.ends.Failure.{Failure}
 use Rattle.desk_ends.specs.Input.{Input, IsStopped, UsesInput}
 use Rattle.desk_ends.specs.Lines.{EndsLine, feeds}
-use Rattle.desk_line.specs.declared.fault.Fault.{Fault}
-use Rattle.desk_line.specs.declared.fault.Fault.TheVariants.{Syntax, NoMemory}
+use Rattle.desk_session.specs.declared.fault.Fault.{Fault}
+use Rattle.desk_session.specs.declared.fault.Fault.TheVariants.{Syntax, NoMemory}
 use Rattle.desk_line.specs.declared.request.Request.{Request}
 use Rattle.desk_line.specs.Lines.{IsShort}
 use Rattle.desk_line.specs.Request.{IsWhole, Reads}

@@ -12,6 +12,7 @@
 //! What requests and replies are is `desk_line`'s, what commands do to a book `desk_model`'s, and the file `desk_store`'s.
 #![tactic(auto)]
 
+mod fault;
 pub mod found;
 pub mod laws;
 mod reader;

@@ -1,22 +1,33 @@
 //! The requests of an input.
-ghost use Rattle.desk_ends.specs.Input.{unread};
 ghost use Rattle.desk_ends.specs.Lines.{IsLine, kept_line};
 ghost use Rattle.desk_session.specs.Reading.{AreFed, HoldsText, ReadsBlock, ReadsRequest};
 ghost use Rattle.std.specs.Prelude.{Err, IfErr, List, None, OnOk, ◌++◌, ◌≡◌, ℕ};
 
+use super::fault::Fault;
 use desk_ends::{Failure, Input, Line, Source, without_ending};
-use desk_line::{Fault, Request, begin_request};
+use desk_line::{Request, begin_request};
 use std::alloc::Global;
 
-/// Reads an input request by request.
+/// The bytes of the request that was read last, from which it is lent.
 #[derive(Drop)]
-pub(crate) struct Reader {
-    /// What was read of the input.
-    pub(crate) input: Input,
-    /// The head line that was read last.
+pub(crate) struct Buffers {
+    /// The head line.
     head: Line,
-    /// The line of a block that was read last.
+    /// The last line of the block.
     line: Line,
+    /// The block.
+    text: Vec<u8>,
+}
+
+impl Buffers {
+    /// No bytes.
+    pub(crate) fn new(alloc: Global) -> Self {
+        Buffers {
+            head: Line::new(),
+            line: Line::new(),
+            text: Vec::new(alloc),
+        }
+    }
 }
 
 /// Bytes with a line after them. With a line that is too long they aren't of a request, and no more of them is kept.
@@ -67,42 +78,40 @@ fn read_block<S: Source>(
     Ok(text)
 }
 
-impl Reader {
-    /// Nothing read yet.
-    pub(crate) fn new() -> Self
-        ensures { result.input ≡ unread }
-    {
-        Reader {
-            input: Input::new(),
-            head: Line::new(),
-            line: Line::new(),
-        }
+/// Reads the next request, if there is one, or says why the bytes that it read are none. A line that is too long is read
+/// through, and so is a block for which an allocation fails.
+pub(crate) fn next_request<'a, S: Source>(
+    alloc: Global,
+    source: &mut S,
+    input: &mut Input,
+    buffers: &'a mut Buffers,
+) -> Result<Option<Result<Request<'a>, Fault>>, Failure>
+    ensures { ReadsRequest S.can_fail (S.remaining source.old) (S.remaining source.new)
+        input.old input.new result }
+{
+    let Buffers {
+        head: head_line,
+        line: block_line,
+        text: block,
+    } = buffers;
+    // The block before isn't held while a line is waited for.
+    *block = Vec::new(alloc);
+    input.read_line(source, head_line)?;
+    let Some(line) = head_line.bytes() else {
+        return Ok(Some(Err(Fault::Syntax)));
+    };
+    if line.is_empty() {
+        return Ok(None);
     }
-
-    /// Reads the next request, if there is one, or says why the bytes that it read are none. A line that is too long is read
-    /// through, and so is a block for which an allocation fails.
-    pub(crate) fn read<S: Source>(
-        &mut self,
-        alloc: Global,
-        source: &mut S,
-    ) -> Result<Option<Result<Request, Fault>>, Failure>
-        ensures { ReadsRequest S.can_fail (S.remaining source.old) (S.remaining source.new)
-            self.old.input self.new.input result }
-    {
-        self.input.read_line(source, &mut self.head)?;
-        let Some(line) = self.head.bytes() else {
-            return Ok(Some(Err(Fault::Syntax)));
-        };
-        if line.is_empty() {
-            return Ok(None);
+    let Some(head) = begin_request(without_ending(line)) else {
+        return Ok(Some(Err(Fault::Syntax)));
+    };
+    let count = head.lines_after();
+    match read_block(alloc, source, input, block_line, count)? {
+        Ok(text) => {
+            *block = text;
+            Ok(Some(head.finish(block.as_slice()).ok_or(Fault::Syntax)))
         }
-        let Some(head) = begin_request(without_ending(line)) else {
-            return Ok(Some(Err(Fault::Syntax)));
-        };
-        let count = head.lines_after();
-        match read_block(alloc, source, &mut self.input, &mut self.line, count)? {
-            Ok(text) => Ok(Some(head.finish(alloc, text.as_slice()))),
-            Err(fault) => Ok(Some(Err(fault))),
-        }
+        Err(fault) => Ok(Some(Err(fault))),
     }
 }

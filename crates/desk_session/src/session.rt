@@ -5,10 +5,10 @@ ghost use Rattle.desk_store.specs.Books.{Store as Shown, shown_by};
 ghost use Rattle.sqlite.specs.State.{HasCleanDisk};
 ghost use Rattle.std.specs.Prelude.{false, true, ◌≡◌};
 
-use super::reader::Reader;
+use super::reader::{Buffers, next_request};
 use super::turn::{answer_found, is_lost, reply};
 use desk_book::Book;
-use desk_ends::{Sink, Source};
+use desk_ends::{Input, Sink, Source};
 use desk_store::Store;
 use sqlite::Alter;
 use std::alloc::Global;
@@ -48,10 +48,11 @@ pub fn serve<R: Source, W: Sink, S: Alter>(
         → result.0 ≡ Ended.Lost → LosesCommand S.Store book result.1
         (shown_by S.Store store.old) (shown_by S.Store store.new) }
 {
-    let mut reader = Reader::new();
+    let mut input = Input::new();
+    let mut buffers = Buffers::new(alloc);
     let mut book = book;
     loop {
-        let found = match reader.read(alloc, source) {
+        let found = match next_request(alloc, source, &mut input, &mut buffers) {
             Ok(Some(found)) => found,
             Ok(None) => return (Ended::Done, book),
             Err(_) => return (Ended::Input, book),

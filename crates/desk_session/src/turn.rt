@@ -6,10 +6,11 @@ ghost use Rattle.sqlite.specs.State.{HasCleanDisk};
 ghost use Rattle.desk_store.specs.Books.{shown_by};
 ghost use Rattle.std.specs.Prelude.{IsTrue, List, MatchResult, false, is_ok, true, ◌≡◌, ◌≢◌, ◌↔◌, ℕ};
 
+use super::fault::Fault;
 use desk_book::Book;
 use desk_command::Command;
 use desk_ends::{Failure, Sink};
-use desk_line::{Answer, Fault, Request, write_reply};
+use desk_line::{Answer, Request, write_reply};
 use desk_store::Store;
 use sqlite::Alter;
 use std::alloc::Global;
@@ -19,9 +20,9 @@ pub(crate) fn answer_found<S: Alter>(
     alloc: Global,
     store: &mut Store<S>,
     book: Book,
-    found: Result<Request, Fault>,
+    found: Result<Request<'_>, Fault>,
 ) -> (Answer, Book)
-    ensures taken { (bytes : List ℕ) → MatchResult found (Reads bytes) (IsFaultOf bytes)
+    ensures taken { (bytes : List ℕ) → MatchResult found.entry (Reads bytes) (IsFaultOf bytes)
         → TakesTurn bytes book result.1 result.0
         (shown_by S.Store store.old) (shown_by S.Store store.new) }
     ensures lost { result.0 ≡ Answer.Lost → store.new.lost ≡ true }
@@ -54,7 +55,7 @@ fn carry_out<S: Alter>(
     alloc: Global,
     store: &mut Store<S>,
     book: Book,
-    command: &Command,
+    command: &Command<'_>,
     expect: Option<u64>,
 ) -> (Answer, Book)
     ensures taken { (bytes : List ℕ) → Reads bytes (Request.Do command.now expect)

@@ -9,8 +9,8 @@ abbrev pub invariant-loop-found : goal.invariant-loop-found
 invariant-loop-found g l =
     IsServing l.fn.book l.book
     (ends_of g.R.Source l.fn.source l.source g.W.Sink l.fn.sink l.sink (shown_by g.S.Store l.fn.store) (shown_by g.S.Store l.store))
-    l.reader.input
+    l.input
     × (l.fn.store.lost ≡ false → l.store.lost ≡ false)
 
 abbrev pub decreases-loop-found : goal.decreases-loop-found
-decreases-loop-found g l = left_to_use l.reader.input
+decreases-loop-found g l = left_to_use l.input

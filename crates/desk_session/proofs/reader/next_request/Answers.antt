@@ -1,7 +1,7 @@
 use Rattle.std.proofs.Common.{◌∙◌, Ok, ap, sym}
 use Rattle.std.proofs.lemmas.Result.{err_from_is_err_and}
 use Rattle.desk_session.proofs.NextRequests.{ReadsRequest-block, ReadsRequest-cut, ReadsRequest-fault, ReadsRequest-long, ReadsRequest-unsaid, some-bytes}
-use Rattle.desk_session.proofs.reader.Reader.read.Goals as goal
+use Rattle.desk_session.proofs.reader.next_request.Goals as goal
 
 pub returns-in_default : goal.returns-in_default
 returns-in_default g c =
@@ -30,9 +30,10 @@ returns-in-Ok g c =
     let some = some-bytes c.in-Some.line.now (sym c.is_empty.ensures ∙ c.if-is_empty.false) in
     let says = rw c.without_ending.ensures at c.in-Some-begin_request.ensures in
     let block = rw (c.in_ok-text.was ∙ ap Ok c.in-Ok.is) at c.read_block.ensures in
-    ReadsRequest-block g.S.Source.can_fail _ _ _ _ _ c.in-Some.line.now c.in-Some.ensures c.in_ok-read_line.field-0 read some
+    rw c.ok_or.ensures.value
+    (ReadsRequest-block g.S.Source.can_fail _ _ _ _ _ c.in-Some.line.now c.in-Some.ensures c.in_ok-read_line.field-0 read some
     _ _ c.in-Some-begin_request.head says c.lines_after-count.result c.lines_after-count.ensures c.in-Ok.text c.finish.result block
-    (rw c.as_slice.ensures.value at c.finish.ensures.told)
+    (rw c.as_slice.ensures.value at c.finish.ensures.reads))
 
 pub returns-in-Err : goal.returns-in-Err
 returns-in-Err g c =
