@@ -1,3 +1,0 @@
-//! The law of a book's life.
-
-pub use desk_session::laws::life;
