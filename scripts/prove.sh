@@ -99,10 +99,17 @@ niceness() { # CRATE
 
 stop() {
     trap '' INT TERM HUP
-    local process
+    local process proofs
     exec 2> /dev/null # what bash says of those that are killed
-    for process in $(jobs -p); do kill -KILL -- "-$process" || true; done
+    proofs=$(jobs -p)
+    for process in $proofs; do kill -KILL -- "-$process" || true; done
     wait
+    if [ -n "$proofs" ]; then
+        # What a killed one had started ends a moment later, and has the lock until then. If another run gets it first, that one
+        # clears the rooms.
+        exec 8< build
+        flock -w 60 8 || return 0
+    fi
     leave_rooms
 }
 trap stop EXIT
