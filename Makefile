@@ -63,8 +63,8 @@ test:
 # completed, and tests/failures/stops.sh at each
 trials:
 	RT='$(RT)' EVERY=23 tests/trials/trials.sh
-# scripts tests/FOLDER/NAME.sh over the built program, which run side by side
-SCRIPTS := paths prove tutorial client rows limits ueb bring_real stops memory kill desk instructions package
+# scripts tests/FOLDER/NAME.sh over the built program, which run side by side, those that take longest first
+SCRIPTS := desk bring_real instructions kill memory stops package limits ueb prove tutorial client rows paths
 runs: $(SCRIPTS:%=run-%)
 run-tutorial run-client: run-%:
 	tests/program/$*.sh $(PROGRAM)
