@@ -1,9 +1,8 @@
 """What the file of a book holds: its tables."""
 
 import sqlite3
-import tempfile
 from collections.abc import Iterator
-from contextlib import closing, contextmanager
+from contextlib import ExitStack, closing, contextmanager
 from os import fspath
 from pathlib import Path
 from typing import BinaryIO
@@ -19,6 +18,7 @@ from braildesk.refusals import Failed, cannot_open, refused
 from braildesk.schema import reader
 from braildesk.text import limits
 from braildesk.waiting import waited
+from braildesk.workshop import made_for_a_while
 
 #: What SQLite is kept to where it reads a file of a stranger, as its page "Defense Against The Dark
 #: Arts" has it; no table is longer.
@@ -89,13 +89,9 @@ def _database(book: BookFile, file: BinaryIO) -> Iterator[sqlite3.Connection]:
 @contextmanager
 def _copied(book: BookFile, file: BinaryIO, log: str) -> Iterator[Path]:
     """A copy of a book with the work in its log, in a temporary folder."""
-    try:
-        folder = tempfile.TemporaryDirectory()
-    except OSError as error:
-        raise _no_copy(book, error) from error
-    with folder:
-        copied = Path(folder.name, "book")
+    with ExitStack() as stack:
         try:
+            copied = stack.enter_context(made_for_a_while())
             # from the file that is locked, whatever stands at its path by now
             copy_held(file, log, copied)
         except OSError as error:

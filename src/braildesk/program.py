@@ -39,6 +39,7 @@ from braildesk.refusals import (
 from braildesk.schema import fault_in
 from braildesk.text import limits
 from braildesk.waiting import waited
+from braildesk.workshop import made_for_a_while
 
 StrPath = str | PathLike[str]
 
@@ -193,10 +194,7 @@ def _fault_of(path: str, program: str) -> Why | None:
 
 def _fault_with_log(path: str, log: str, program: str) -> Why | None:
     """The same where a log has work, which may be that of another book: copies of both are tried."""
-    import tempfile  # which few books need
-
-    with tempfile.TemporaryDirectory() as folder:
-        both, alone = Path(folder, "both"), Path(folder, "alone")
+    with made_for_a_while() as both, made_for_a_while() as alone:
         with held(BookFile(path)) as file:
             copy_held(file, log, both)
             copy_held(file, "", alone)

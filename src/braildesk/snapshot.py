@@ -7,10 +7,9 @@ program that opens the copy, as after a crash.
 """
 
 import os
-import tempfile
 import time
 from collections.abc import Iterator
-from contextlib import contextmanager
+from contextlib import ExitStack, contextmanager
 from os import fspath
 from pathlib import Path
 from typing import BinaryIO
@@ -21,7 +20,7 @@ from braildesk.protocol.asked import BookFile
 from braildesk.protocol.book_files import is_log, log_path
 from braildesk.protocol.sentences import Why
 from braildesk.refusals import Failed, cannot_open
-from braildesk.workshop import give_access
+from braildesk.workshop import give_access, made_for_a_while, open_made
 
 #: How long a file stays as it is before it is copied, so that a later change shows in its times.
 _TICK = 0.02
@@ -39,18 +38,13 @@ def snapshot(path: StrPath) -> Iterator[Path]:
     meanwhile. Nothing is made or changed beside the book's file, and nobody has to wait.
     """
     book = BookFile(fspath(path))
-    with open_file(book) as file:
+    with open_file(book) as file, ExitStack() as stack:
         try:
-            folder = tempfile.TemporaryDirectory()
+            copied = stack.enter_context(made_for_a_while())
+            _copy(book, file, copied)
         except OSError as error:
             raise _not_copied(book, error) from error
-        with folder:
-            copied = Path(folder.name, "book")
-            try:
-                _copy(book, file, copied)
-            except OSError as error:
-                raise _not_copied(book, error) from error
-            yield copied
+        yield copied
 
 
 def _copy(book: BookFile, file: BinaryIO, copied: Path) -> None:
@@ -65,9 +59,8 @@ def _copy(book: BookFile, file: BinaryIO, copied: Path) -> None:
         before = _state(file, log)
         time.sleep(_TICK)
         if _state(file, log) == before:
-            copy_held(file, log, copied)
             # so that a copy of the copy has the mode and owner of the book
-            with open(copied, "rb") as made:
+            with open_made(copied, copy_held(file, log, copied)) as made:
                 give_access(made.fileno(), os.fstat(file.fileno()))
             if _state(file, log) == before and is_at_path(book, file):
                 return

@@ -15,9 +15,10 @@ from pathlib import Path
 from typing import BinaryIO, Self
 
 _PREFIX = ".braildesk-"
-#: The file that is made, and the log that the program puts beside it. Nothing else is cleared away.
+#: The file that is made, and what is put beside it by the program and by SQLite where it reads what
+#: stands in a log. Nothing else is cleared away.
 _MADE = "book"
-_NAMES = frozenset({_MADE, f"{_MADE}-wal"})
+_NAMES = frozenset({_MADE, f"{_MADE}-wal", f"{_MADE}-shm"})
 #: The numbers of `renameat2`: paths are those of this process, and nothing is replaced.
 _HERE, _NO_REPLACE = -100, 1
 #: What a system says of that where it, or the file system, doesn't have it.
@@ -39,7 +40,22 @@ class Swapped(OSError):
 @contextmanager
 def made_beside(target: str) -> Iterator[Path]:
     """Where a file is to be made that is put at the target then, and is on the same disk."""
-    parent = os.path.dirname(target)
+    with _made_in(os.path.dirname(target)) as made:
+        yield made
+
+
+@contextmanager
+def made_for_a_while() -> Iterator[Path]:
+    """Where a file is to be made that nobody needs in the end."""
+    import tempfile  # which few sessions need
+
+    with _made_in(tempfile.gettempdir()) as made:
+        yield made
+
+
+@contextmanager
+def _made_in(parent: str) -> Iterator[Path]:
+    """Where a file is to be made: in a new folder, which is removed in the end."""
     _clear(parent)
     descriptor, folder = _own_folder(parent)
     try:
@@ -140,7 +156,12 @@ def _own_folder(parent: str) -> tuple[int, str]:
 
     while True:
         folder = tempfile.mkdtemp(prefix=_PREFIX, dir=parent)
-        descriptor = os.open(folder, os.O_RDONLY | os.O_DIRECTORY | os.O_NOFOLLOW)
+        try:
+            descriptor = os.open(folder, os.O_RDONLY | os.O_DIRECTORY | os.O_NOFOLLOW)
+        except FileNotFoundError:
+            if not os.path.isdir(parent):
+                raise
+            continue  # another program took it for one that was left
         if _is_locked(descriptor) and os.path.exists(folder):
             return descriptor, folder
         # another program took it for one that was left

@@ -1,13 +1,21 @@
 """A book that another program has open, looked at and copied meanwhile."""
 
 import os
+import signal
 import stat
+import tempfile
 import threading
+from collections.abc import Callable
+from contextlib import closing
 from pathlib import Path
+from typing import BinaryIO
 
 import pytest
 
-from braildesk import CannotOpen, Session, check
+from braildesk import CannotOpen, Failed, Lost, Session, check, program, snapshot as own
+from braildesk.files import contents
+from braildesk.held import copy_held
+from braildesk.protocol.asked import BookFile
 from braildesk.protocol.requests import Correct
 from braildesk.snapshot import snapshot
 
@@ -105,3 +113,84 @@ def test_a_pipe_at_the_path_is_no_book(tmp_path: Path) -> None:
     with pytest.raises(CannotOpen):
         with snapshot(tmp_path / "pipe"):
             pass
+
+
+def killed_in(deed: Callable[[], object]) -> None:
+    """Has a copy of this process do something in which it kills itself."""
+    child = os.fork()
+    if child == 0:
+        try:
+            deed()
+        finally:
+            os._exit(1)
+    assert os.waitpid(child, 0)[1] == signal.SIGKILL
+
+
+def kill_self(*_: object) -> None:
+    os.kill(os.getpid(), signal.SIGKILL)
+
+
+def in_snapshot(book: Path) -> None:
+    with snapshot(book):
+        kill_self()
+
+
+def in_tables(book: Path) -> None:
+    with contents(BookFile(str(book))) as database:
+        database.execute("SELECT count(*) FROM tab").fetchall()
+        kill_self()
+
+
+def in_judging(book: Path) -> None:
+    def fault_in(path: Path, is_alone: bool) -> None:
+        if not is_alone:
+            kill_self()
+
+    setattr(program, "fault_in", fault_in)
+    program.judge(BookFile(str(book)), program.find())
+
+
+@pytest.mark.parametrize("deed", [in_snapshot, in_tables, in_judging])
+def test_a_copy_that_a_killed_reader_left_is_cleared_away_by_the_next_one(
+    moon: Path, monkeypatch: pytest.MonkeyPatch, deed: Callable[[Path], None]
+) -> None:
+    session = Session(moon)
+    session.strike(2)
+    os.kill(session.pid, signal.SIGKILL)
+    with pytest.raises(Lost), closing(session):
+        session.version()
+    temporary = moon.parent / "temporary"
+    temporary.mkdir()
+    monkeypatch.setattr(tempfile, "tempdir", str(temporary))
+    killed_in(lambda: deed(moon))
+    left = list(temporary.iterdir())
+    assert left and all(stat.S_IMODE(each.stat().st_mode) == 0o700 for each in left)
+    with snapshot(moon):
+        pass
+    assert not list(temporary.iterdir())
+
+
+def test_a_link_in_place_of_a_snapshot_gives_no_file_another_mode(
+    moon: Path, monkeypatch: pytest.MonkeyPatch
+) -> None:
+    moon.chmod(0o666)
+    private, shared = moon.parent / "private", moon.parent / "shared"
+    private.write_text("mine")
+    private.chmod(0o600)
+    shared.mkdir()
+    monkeypatch.setattr(tempfile, "tempdir", str(shared))
+
+    def copied(file: BinaryIO, log: str, made: Path) -> os.stat_result:
+        found = copy_held(file, log, made)
+        # as somebody may who writes in the folder that TMPDIR names
+        made.parent.rename(shared / "moved")
+        made.parent.mkdir()
+        made.symlink_to(private)
+        return found
+
+    monkeypatch.setattr(own, "copy_held", copied)
+    with pytest.raises(Failed) as caught:
+        with snapshot(moon):
+            pass
+    assert "another program put something else in the place" in caught.value.sentence
+    assert stat.S_IMODE(private.stat().st_mode) == 0o600
