@@ -12,7 +12,13 @@ from braildesk import opening, program as programs
 from braildesk.held import copy_held, held
 from braildesk.program import StrPath
 from braildesk.protocol.asked import BookFile, NewBook
-from braildesk.protocol.book_files import has_work, log_path, real_path
+from braildesk.protocol.book_files import (
+    has_journal,
+    has_work,
+    is_log,
+    log_path,
+    real_path,
+)
 from braildesk.protocol.requests import Command
 from braildesk.protocol.sentences import Why
 from braildesk.refusals import DeskError, Failed, Refused, cannot_open, refused_as
@@ -191,8 +197,15 @@ def _taken(named: str) -> FileIsThere:
 
 
 def _judge_log(named: str, kind: type[NotMade], what: str) -> None:
-    """Whether a book may get a path at which none is: work there belongs to another one."""
+    """Whether a book may get a path at which none is: work there belongs to another one.
+
+    What keeps a book from being opened there keeps it from being made too.
+    """
     log = log_path(named)
+    if not is_log(log):
+        raise cannot_open(BookFile(named), Why.NO_LOG)
+    if has_journal(named):
+        raise cannot_open(BookFile(named), Why.JOURNAL)
     if has_work(log):
         raise kind(
             f"“{log}” is there, which belongs to another book that stood at “{named}” and may"

@@ -408,6 +408,53 @@ def test_a_copy_that_is_being_made_is_not_cleared_away(
     assert braildesk.check(tmp_path / "second") == 1
 
 
+def test_a_folder_that_another_copy_took_for_one_that_was_left_is_made_once_more(
+    book: Path, tmp_path: Path, monkeypatch: pytest.MonkeyPatch
+) -> None:
+    make, made = tempfile.mkdtemp, list[str]()
+
+    def mkdtemp(prefix: str, dir: str) -> str:
+        made.append(make(prefix=prefix, dir=dir))
+        if len(made) == 1:
+            # before the one that made it has a lock of it
+            os.rmdir(made[0])
+        return made[-1]
+
+    monkeypatch.setattr(tempfile, "mkdtemp", mkdtemp)
+    assert braildesk.copy(book, tmp_path / "copied") == 1
+    assert (len(made), names(tmp_path)) == (2, {book.name, "copied"})
+
+
+@pytest.mark.parametrize(
+    ("put", "ending", "why"),
+    [
+        (os.mkfifo, "-wal", Why.NO_LOG),
+        (os.mkdir, "-wal", Why.NO_LOG),
+        (lambda path: os.symlink("none", path), "-wal", Why.NO_LOG),
+        (lambda path: os.symlink("none", path), "-journal", Why.JOURNAL),
+    ],
+)
+def test_no_book_is_made_beside_what_keeps_it_from_being_opened(
+    book: Path,
+    tmp_path: Path,
+    put: Callable[[str], object],
+    ending: str,
+    why: Why,
+) -> None:
+    to = tmp_path / "made"
+    put(f"{to}{ending}")
+    attempts: list[Callable[[], object]] = [
+        lambda: braildesk.new_book(to),
+        lambda: braildesk.copy(book, to),
+        lambda: braildesk.copy(book, to, overwrite=True),
+    ]
+    for attempt in attempts:
+        with pytest.raises(CannotOpen) as caught:
+            attempt()
+        assert caught.value.why is why
+    assert names(tmp_path) == {book.name, f"made{ending}"}
+
+
 @pytest.mark.parametrize(
     ("mode", "of_copy"), [(0o600, 0o600), (0o664, 0o664), (0o4640, 0o640)]
 )

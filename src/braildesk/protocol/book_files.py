@@ -45,7 +45,9 @@ def has_journal(path: str) -> bool:
     try:
         if not stat.S_ISREG(os.lstat(journal).st_mode):
             return True
-        with open(os.open(journal, os.O_RDONLY | os.O_NOFOLLOW), "rb") as file:
+        # a pipe that was put there in this moment isn't waited for
+        flags = os.O_RDONLY | os.O_NOFOLLOW | os.O_NONBLOCK
+        with open(os.open(journal, flags), "rb") as file:
             return file.read(1) not in (b"", b"\0")
     except OSError:
         return False
