@@ -12,7 +12,8 @@ from braildesk.protocol.book_files import has_journal, is_log, log_path
 from braildesk.protocol.sentences import Why
 from braildesk.text import limits
 
-_MAGIC = b"SQLite format 3\0"
+#: What the file of every book begins with.
+MAGIC = b"SQLite format 3\0"
 #: With less room than this on its disk a book may not be kept, in bytes.
 _LITTLE = 2**20
 
@@ -120,7 +121,7 @@ def why_contents(file: BinaryIO) -> Why:
     size = os.fstat(file.fileno()).st_size
     file.seek(0)
     header = file.read(100)
-    if size and not header.startswith(_MAGIC):
+    if size and not header.startswith(MAGIC):
         return Why.NO_DATABASE
     return Why.CUT_SHORT if size < _size_in(header) else Why.UNKNOWN
 
@@ -129,7 +130,7 @@ def may_be_book(path: str | PathLike[str]) -> bool:
     """Whether what stands at a path may be a book; True where nothing does, or it can't be read."""
     try:
         with open_file(path) as file:
-            return file.read(len(_MAGIC)) in (b"", _MAGIC)
+            return file.read(len(MAGIC)) in (b"", MAGIC)
     except OSError:
         return True
 

@@ -376,6 +376,25 @@ def test_what_another_user_put_in_place_of_the_folder_of_drafts_is_not_used(
     )
 
 
+@NEEDS_ROOT
+def test_no_folder_is_made_in_the_home_of_another_user(
+    moon: Path, tmp_path: Path, monkeypatch: pytest.MonkeyPatch
+) -> None:
+    # as for root where the environment is still that of the user
+    home = tmp_path / "home"
+    home.mkdir()
+    os.chown(home, STRANGER, STRANGER)
+    monkeypatch.setenv("HOME", str(home))
+    monkeypatch.delenv("XDG_STATE_HOME")
+    with pytest.raises(NotKept) as told:
+        Drafts(moon).save(NOTE)
+    assert not_kept(told.value) == (
+        f"What is typed can't be kept in {home}/.local/state/braildesk: the folder above it belongs"
+        " to another user."
+    )
+    assert not list(home.iterdir())
+
+
 def test_a_draft_is_kept_where_the_file_system_can_sync_no_folder(
     moon: Path, store: Path, monkeypatch: pytest.MonkeyPatch
 ) -> None:

@@ -9,6 +9,7 @@ import pytest
 
 from braildesk.desk.whole_file import Access, MayNotLast, NoPlaceForAFile, write_whole
 from strangers import NEEDS_ROOT, STRANGER, as_stranger, lead_to
+from tool import scribe
 
 
 def mode(file: Path) -> int:
@@ -217,3 +218,36 @@ def test_in_a_folder_that_cannot_be_read_nothing_is_replaced(tmp_path: Path) -> 
 def test_a_folder_is_no_file(tmp_path: Path) -> None:
     with pytest.raises(IsADirectoryError):
         write_whole(tmp_path, b"pages")
+
+
+def test_a_book_is_not_replaced_by_what_is_written_about_it(moon: Path) -> None:
+    before = moon.read_bytes()
+    with pytest.raises(OSError) as caught:
+        write_whole(moon, b"pages")
+    assert caught.value.strerror == "a book is there, which was left as it is"
+    ran = scribe("proof", moon.name, moon.name, folder=moon.parent)
+    assert (ran.status, ran.said) == (
+        3,
+        f"{moon.name} could not be written: a book is there, which was left as it is.\n",
+    )
+    assert moon.read_bytes() == before
+
+
+def test_what_a_killed_writer_left_beside_a_file_is_taken_away_once_it_is_old(
+    tmp_path: Path,
+) -> None:
+    old, new = tmp_path / f".scribe-{16 * '0'}", tmp_path / f".scribe-{16 * '1'}"
+    mine, link = tmp_path / ".scribe-notes", tmp_path / f".scribe-{16 * '2'}"
+    for each in (old, new, mine):
+        each.touch()
+    link.symlink_to(mine)
+    for each in (old, mine):
+        os.utime(each, (0, 0))
+    os.utime(link, (0, 0), follow_symlinks=False)
+    write_whole(tmp_path / "pages", b"pages")
+    assert {each.name for each in tmp_path.iterdir()} == {
+        "pages",
+        new.name,
+        mine.name,
+        link.name,
+    }

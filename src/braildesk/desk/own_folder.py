@@ -6,12 +6,17 @@ file. What isn't a regular file of one's own, with one name and of a moderate si
 
 import os
 import stat
-import time
 from collections.abc import Iterator
-from contextlib import contextmanager
+from contextlib import contextmanager, suppress
 from pathlib import Path
 
-from braildesk.desk.whole_file import Access, remove_from, replace_in, sync_names
+from braildesk.desk.whole_file import (
+    Access,
+    remove_from,
+    remove_left,
+    replace_in,
+    sync_names,
+)
 
 #: The bytes of a file at most.
 MOST_BYTES = 4 * 2**20
@@ -21,8 +26,6 @@ _FOLDER = os.O_RDONLY | os.O_DIRECTORY | os.O_NOFOLLOW | os.O_CLOEXEC
 # a file in place of a folder has no files
 _ABSENT = (FileNotFoundError, NotADirectoryError)
 _OWN = Access(0o600)
-# what a writer that was killed left is taken away after this time
-_LEFT_SECONDS = 3_600
 
 
 class Unfit(OSError):
@@ -85,8 +88,8 @@ class OwnFolder:
         try:
             with self._opened() as folder:
                 for name in os.listdir(folder):
-                    if name.startswith(".") and _is_old(folder, name):
-                        remove_from(folder, name)
+                    if name.startswith("."):
+                        remove_left(folder, name)
         except _ABSENT:
             pass
 
@@ -140,16 +143,16 @@ def _refuse(found: os.stat_result) -> None:
 
 
 def _make(path: Path) -> None:
-    """Makes a folder for its owner alone, and those above it that are missing."""
-    try:
-        path.mkdir(mode=0o700)
-    except FileExistsError:
-        pass
-    except FileNotFoundError:
+    """Makes a folder for its owner alone, and those above it that are missing.
+
+    None is made in a folder of another user, unless that is the system's: root would take it from
+    the user whose home it is.
+    """
+    if os.path.lexists(path):
+        return
+    if not path.parent.exists():
         _make(path.parent)
-        path.mkdir(mode=0o700, exist_ok=True)
-
-
-def _is_old(folder: int, name: str) -> bool:
-    found = os.stat(name, dir_fd=folder, follow_symlinks=False)
-    return time.time() - found.st_mtime > _LEFT_SECONDS
+    if path.parent.stat().st_uid not in (os.geteuid(), 0):
+        raise Unfit("the folder above it belongs to another user")
+    with suppress(FileExistsError):
+        path.mkdir(mode=0o700)

@@ -2,12 +2,21 @@
 
 import errno
 import os
+import re
 import stat
+import time
+from contextlib import suppress
 from dataclasses import dataclass
 from pathlib import Path
 
+from braildesk.opening import MAGIC
+
 ANYONE = 0o666
 _OF_THE_SYSTEM = ("/dev/", "/proc/")
+#: The name of a file that is written and has its own name only then.
+_BESIDE = re.compile(r"\.scribe-[0-9a-f]{16}")
+# what a writer that was killed left is taken away after this time
+_LEFT_SECONDS = 3_600
 # what a file system says, as one of a network may, that has no way to sync a folder
 _NO_SYNC_OF_FOLDERS = (errno.EINVAL, errno.ENOTSUP, errno.ENOSYS)
 
@@ -49,11 +58,14 @@ def write_whole(path: Path, data: bytes, access: Access = Access()) -> None:
     when that file gets the name. Where anything fails before that, what had the name is as it was;
     `MayNotLast` comes after it. The name alone is replaced: a link there is gone and the file that
     it led to stays as it was, and a pipe of that name isn't opened. A file of one's own keeps its
-    permissions to read and write. Any other gets what is said here and the umask allows.
+    permissions to read and write. Any other gets what is said here and the umask allows. A book is
+    never replaced.
     """
     path = path if path.name else path.resolve()
     folder = os.open(path.parent, os.O_RDONLY | os.O_DIRECTORY | os.O_CLOEXEC)
     try:
+        for left in filter(_BESIDE.fullmatch, os.listdir(folder)):
+            remove_left(folder, left)
         kept = _kept_permissions(path.name, folder)
         replace_in(folder, path.name, data, access, kept)
     finally:
@@ -75,6 +87,15 @@ def replace_in(
         remove_from(folder, beside)
         raise
     sync_names(folder)
+
+
+def remove_left(folder: int, name: str) -> None:
+    """Takes away what a writer of this user left who was killed, once none can be at it still."""
+    with suppress(OSError):
+        found = os.stat(name, dir_fd=folder, follow_symlinks=False)
+        is_own = stat.S_ISREG(found.st_mode) and found.st_uid == os.geteuid()
+        if is_own and time.time() - found.st_mtime > _LEFT_SECONDS:
+            os.unlink(name, dir_fd=folder)
 
 
 def sync_names(folder: int) -> None:
@@ -104,8 +125,21 @@ def _kept_permissions(name: str, folder: int) -> int | None:
         raise IsADirectoryError(errno.EISDIR, os.strerror(errno.EISDIR))
     if _is_device(name, folder, older.st_mode):
         raise NoPlaceForAFile(errno.EINVAL, "a device, a terminal or a pipe is there")
-    is_own = stat.S_ISREG(older.st_mode) and older.st_uid == os.geteuid()
-    return older.st_mode & ANYONE if is_own else None
+    if not stat.S_ISREG(older.st_mode):
+        return None
+    if _is_book(name, folder):
+        raise NoPlaceForAFile(errno.EINVAL, "a book is there, which was left as it is")
+    return older.st_mode & ANYONE if older.st_uid == os.geteuid() else None
+
+
+def _is_book(name: str, folder: int) -> bool:
+    """Whether a name is that of a book, which nobody means where pages or a table are written."""
+    flags = os.O_RDONLY | os.O_NOFOLLOW | os.O_NONBLOCK | os.O_CLOEXEC
+    try:
+        with open(os.open(name, flags, dir_fd=folder), "rb") as file:
+            return file.read(len(MAGIC)) == MAGIC
+    except OSError:
+        return False
 
 
 def _is_device(name: str, folder: int, mode: int) -> bool:
