@@ -2,15 +2,19 @@
 
 import time
 import unicodedata
-from collections.abc import ItemsView, ValuesView
+from collections.abc import ItemsView, Iterable, Iterator, ValuesView
 from dataclasses import replace
 from pathlib import Path
+from typing import Any, cast
 
 import pytest
 
-from braildesk import Table
+from braildesk import Mark, Paragraph, Session, Style, Table
+from braildesk.desk.layout import PageSize
 from braildesk.desk.manuscript import Position, passages
+from braildesk.desk.proof import proof_pages
 from braildesk.desk.validation import faults
+from braildesk.protocol import requests
 from braildesk.tables import read, warnings
 from braildesk.tables.convert.shipped import head_of
 from braildesk.text import sequences
@@ -128,3 +132,44 @@ def test_of_a_line_without_end_the_characters_are_looked_at_where_it_matters(
         assert passage.position(place).column == len(passage.lines[0].text)
         assert passage.position(4_000) < passage.position(place)
         assert sum(looked) < 10_000
+
+
+class OfOneParagraph:
+    """What a session answers of a book with one paragraph, which has very many marks."""
+
+    def __init__(self, words: int, marks: Iterable[Mark]) -> None:
+        self._words = words
+        self._marks = tuple(marks)
+
+    def paragraphs(self) -> tuple[Paragraph, ...]:
+        its = Paragraph(1, "en", Style.BODY, False, False, 2 * self._words - 1)
+        return (its,)
+
+    def each(self, asked: Iterable[Any], _: object) -> Iterator[object]:
+        for request in asked:
+            match request:
+                case requests.Print():
+                    yield " ".join("a" * self._words)
+                case requests.Braille():
+                    yield "\u2800".join("\u2801" * self._words)
+                case requests.Marks():
+                    yield self._marks
+
+
+def test_the_marks_of_a_paragraph_are_gone_through_once_for_all_its_words() -> None:
+    # on the words at even places: 20,000 marks, of which those of each tenth word are resolved
+    marks = (
+        Mark(n + 1, n % 2_000 // 2 * 4, n % 2_000 // 2 * 4 + 1, n % 20 == 0, False, "")
+        for n in range(20_000)
+    )
+    session = cast(Session, OfOneParagraph(2_000, marks))
+    began = time.process_time()
+    pages = list(proof_pages(session, PageSize(40, 25)))
+    assert time.process_time() - began < SECONDS
+    lines = [line for page in pages for line in page.lines]
+    words = [word for line in lines for word in line.words]
+    assert [word.is_marked for word in words] == [True, False] * 1_000
+    assert sum(len(line.marks) for line in lines) == 20_000
+    for line in lines:
+        numbers = [mark.id for mark in line.marks]
+        assert numbers == sorted(numbers)

@@ -174,3 +174,15 @@ def test_a_proof_that_cannot_be_written_leaves_the_older_one(moon: Path) -> None
     ran = scribe("proof", moon.name, "nowhere/moon.html", folder=moon.parent)
     assert ran.status == 3
     assert ran.said.startswith("nowhere/moon.html could not be written: ")
+
+
+@pytest.mark.parametrize(
+    "code", ["", "caf\udce9", 'en"><script>', "en\n", "English text"]
+)
+def test_what_is_no_code_of_a_language_is_refused(moon: Path, code: str) -> None:
+    ran = scribe(
+        "proof", moon.name, "moon.html", "--language", code, folder=moon.parent
+    )
+    assert (ran.status, ran.shown) == (1, "")
+    assert "is no code of a language, as en, de or pt-BR are" in ran.said
+    assert not moon.with_name("moon.html").exists()

@@ -1,6 +1,7 @@
 """A book as it will be embossed, with the print that each word of cells stands for."""
 
 import re
+from bisect import bisect_left
 from collections.abc import Iterable, Iterator, Mapping, Sequence
 from dataclasses import dataclass
 from itertools import groupby
@@ -141,6 +142,7 @@ class _Lines:
         self._marks = marks
         self._words = words
         self._paragraph = 0
+        self._marked = _Marked(())
         #: The word of the paragraph that comes next.
         self._next = 0
 
@@ -149,8 +151,8 @@ class _Lines:
         is_new = row.paragraph != self._paragraph
         if is_new:
             self._paragraph, self._next = row.paragraph, 0
+            self._marked = _Marked(self._marks[row.paragraph])
         text, braille = self._texts[row.paragraph], self._brailles[row.paragraph]
-        marks = self._marks[row.paragraph]
         words: list[ProofWord] = []
         begun: list[_Word] = []
         column = len(row.shown) - len(row.shown.lstrip(" "))
@@ -158,16 +160,16 @@ class _Lines:
             start, stop = max(word.start, row.start), min(word.stop, row.stop)
             is_begun = word.start >= row.start
             shown = text[word.first : word.last].strip() if is_begun else ""
-            words.append(
-                ProofWord(column, braille[start:stop], shown, _is_marked(word, marks))
-            )
+            is_marked = self._marked.is_on(word.first, word.last)
+            words.append(ProofWord(column, braille[start:stop], shown, is_marked))
             begun += [word] if is_begun else []
             column += stop - start + 1
-        its = tuple(
-            mark for mark in marks if any(_begins(mark, word) for word in begun)
-        )
         return ProofLine(
-            row.line, row.paragraph if is_new else None, is_heading, tuple(words), its
+            row.line,
+            row.paragraph if is_new else None,
+            is_heading,
+            tuple(words),
+            self._marked.begun_in((word.first, word.last) for word in begun),
         )
 
     def _on(self, row: Row) -> Iterator[_Word]:
@@ -180,14 +182,38 @@ class _Lines:
             self._next += 1
 
 
-def _is_marked(word: _Word, marks: Iterable[Mark]) -> bool:
-    return any(
-        not mark.resolved
-        and mark.start < word.last
-        and word.first < max(mark.stop, mark.start + 1)
-        for mark in marks
-    )
+class _Marked:
+    """The marks of a paragraph, of which there may be very many, found by places of its print."""
+
+    def __init__(self, marks: Sequence[Mark]) -> None:
+        self._marks = marks
+        order = sorted(range(len(marks)), key=lambda at: marks[at].start)
+        self._order = order
+        self._starts = [marks[at].start for at in order]
+        opened = [marks[at] for at in order if not marks[at].resolved]
+        self._opened = [mark.start for mark in opened]
+        # how far the marks reach that begin no later than each
+        self._reach: list[int] = []
+        for mark in opened:
+            self._reach.append(max(_stop(mark), (self._reach or [0])[-1]))
+
+    def is_on(self, first: int, last: int) -> bool:
+        """Whether an open mark is on any of some places."""
+        before = bisect_left(self._opened, last)
+        return before > 0 and first < self._reach[before - 1]
+
+    def begun_in(self, spans: Iterable[tuple[int, int]]) -> tuple[Mark, ...]:
+        """The marks that begin at any of some places, in the order of the marks."""
+        found = {
+            at
+            for first, last in spans
+            for at in self._order[
+                bisect_left(self._starts, first) : bisect_left(self._starts, last)
+            ]
+        }
+        return tuple(self._marks[at] for at in sorted(found))
 
 
-def _begins(mark: Mark, word: _Word) -> bool:
-    return word.first <= mark.start < word.last
+def _stop(mark: Mark) -> int:
+    """Where a mark ends; one of which the characters are gone is on the place where they were."""
+    return max(mark.stop, mark.start + 1)

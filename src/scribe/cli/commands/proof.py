@@ -1,6 +1,7 @@
 """`scribe proof`: the pages of a book with the print under the cells, for those who read print."""
 
-from argparse import ArgumentParser, Namespace
+import re
+from argparse import ArgumentParser, ArgumentTypeError, Namespace
 from collections.abc import Iterable, Iterator
 from pathlib import Path
 
@@ -20,6 +21,8 @@ word by word under the cells, and the marks with their notes beside the lines. A
 prints one page on each sheet. --print-first puts the print above the cells, --ascii shows
 the cells in Braille ASCII, --marks-only shows only pages with open marks, and a screen
 reader reads the print alone unless --speak-cells is given."""
+# the form of the codes by which HTML names a language
+_LANGUAGE = re.compile("[A-Za-z]{1,8}(-[A-Za-z0-9]{1,8})*")
 EXAMPLE = "scribe proof moon.braildesk moon.html --width 30 --lines 10"
 
 
@@ -39,10 +42,18 @@ def add_parser(subparsers: Subparsers) -> ArgumentParser:
     parser.add_argument(
         "--language",
         metavar="CODE",
-        default="",
+        type=_language,
         help="the language of the print, as en or de, by which it is spoken",
     )
     return parser
+
+
+def _language(word: str) -> str:
+    if not _LANGUAGE.fullmatch(word):
+        raise ArgumentTypeError(
+            f"{word!r} is no code of a language, as en, de or pt-BR are"
+        )
+    return word
 
 
 def run(arguments: Namespace, console: Console) -> Status:
@@ -51,7 +62,7 @@ def run(arguments: Namespace, console: Console) -> Status:
     shown = Proof(
         title=arguments.file.name.removesuffix(".braildesk"),
         page_size=page_size,
-        language=arguments.language,
+        language=arguments.language or "",
         is_ascii=arguments.ascii,
         has_print_first=arguments.print_first,
         has_spoken_cells=arguments.speak_cells,
