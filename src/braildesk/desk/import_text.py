@@ -180,7 +180,7 @@ class Importer:
             return job
         if job.way is Way.AGAIN or job.line is not None:
             return job
-        with Session(job.book) as session:
+        with Session(job.book, timeout=job.wait) as session:
             its = unfinished(session, session.paragraphs(), note)
         if job.way is Way.GO_ON:
             if its.kept == len(its.rest):

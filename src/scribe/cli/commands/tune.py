@@ -5,7 +5,7 @@ from collections import Counter
 from collections.abc import Sequence
 from dataclasses import dataclass
 
-from braildesk import Paragraph, Session, Table, read_tables
+from braildesk import Paragraph, Session, Table
 from braildesk.desk.contracted import means_for
 from braildesk.desk.readings import prints
 from braildesk.protocol import requests
@@ -127,11 +127,9 @@ def _book(arguments: Namespace) -> _Book:
         name = _table_name(arguments.table, paragraphs)
         having = [each for each in paragraphs if each.table == name]
         texts = list(prints(session, having))
+        # while the session has the book, so that no other one can change or replace it meanwhile
+        tables = {each.name: each for each in session.tables()}
         version = session.last_version
-    # read last, so that a table which was changed meanwhile isn't taken for that of this version
-    tables = {
-        each.name: each for each in read_tables(arguments.file, timeout=arguments.wait)
-    }
     return _Book(version, tables[name], [each.id for each in having], texts)
 
 
