@@ -102,13 +102,17 @@ def put(made: Path, target: str) -> None:
 def put_over(made: Path, target: str) -> None:
     """Gives a file the name of another, which is no more then, nor is the log beside it."""
     log, aside = f"{target}-wal", f"{made}-wal"
-    # it belongs to the older file, and would damage the new one
-    with suppress(FileNotFoundError):
+    is_aside = True
+    try:
+        # it belongs to the older file, and would damage the new one
         os.replace(log, aside)
+    except FileNotFoundError:
+        # what lies aside then is the new file's own, if anything does
+        is_aside = False
     try:
         os.replace(made, target)
     except OSError:
-        with suppress(FileNotFoundError):
+        if is_aside:
             os.replace(aside, log)
         raise
     _sync_folder(target)

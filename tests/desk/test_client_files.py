@@ -36,6 +36,8 @@ from braildesk import (
 from braildesk.files import contents
 from braildesk.protocol.asked import BookFile
 
+from strangers import NEEDS_ROOT, as_stranger
+
 ROOT = Path(__file__).parents[2]
 
 
@@ -188,6 +190,25 @@ def test_a_book_that_can_not_be_replaced_keeps_its_work(
             braildesk.copy(book, old, overwrite=True)
     with Session(old) as session:
         assert session.print_of(1) == "of the old book"
+
+
+@NEEDS_ROOT
+def test_a_book_of_another_that_can_not_be_replaced_gets_no_log_of_the_copy(
+    made_once: Path, open_folder: Path
+) -> None:
+    # as in /tmp, where each may rename files of their own alone
+    open_folder.chmod(0o1777)
+    old = Path(shutil.copyfile(made_once / "empty.braildesk", open_folder / "old"))
+    mine = Path(shutil.copyfile(made_once / "empty.braildesk", open_folder / "mine"))
+    for each in (old, mine):
+        each.chmod(0o666)
+    program = shutil.copy(braildesk.find(), open_folder / "program")
+
+    def copy() -> None:
+        braildesk.copy(mine, old, overwrite=True, program=program)
+
+    assert as_stranger(copy) == "Failed"
+    assert names(open_folder) == {"old", "mine", "program"}
 
 
 def test_a_book_is_not_copied_over_itself_or_over_an_open_one(
