@@ -2,12 +2,19 @@
 
 import os
 import shutil
+from collections.abc import Iterator
+from contextlib import contextmanager
+from io import BytesIO, StringIO
 from pathlib import Path
 
 import pytest
 
 import braildesk
 from braildesk import Session
+from braildesk.snapshot import snapshot
+
+from scribe.cli import run_words
+from scribe.words.console import Console
 from tool import Ran, scribe
 
 
@@ -65,4 +72,29 @@ def test_a_book_that_is_open_or_the_book_itself_is_not_replaced(moon: Path) -> N
     other.symlink_to(moon)
     ran = copy(moon, "--overwrite")
     assert (ran.status, "“other” is the book itself." in ran.said) == (2, True)
+    assert braildesk.check(moon) == 7
+
+
+def test_a_book_whose_session_ends_is_not_replaced_by_what_it_had_kept_before(
+    moon: Path, monkeypatch: pytest.MonkeyPatch
+) -> None:
+    link = moon.with_name("link")
+    link.symlink_to(moon)
+    session = Session(moon)
+
+    @contextmanager
+    def ended(path: Path) -> Iterator[Path]:
+        with snapshot(path) as copied:
+            session.strike(2)
+            session.close()
+            yield copied
+
+    monkeypatch.setattr("scribe.cli.commands.copy.snapshot", ended)
+    words = ["copy", str(moon), str(link), "--overwrite"]
+    status = run_words(words, Console(BytesIO(), StringIO(), said := StringIO()))
+    session.close()
+    assert status == 2
+    assert said.getvalue() == (
+        f"Another program has “{moon}” open. Nothing was changed. End that one first.\n"
+    )
     assert braildesk.check(moon) == 7

@@ -1,5 +1,6 @@
 """`scribe copy`: a copy of a book that opens as the same book."""
 
+import os
 from argparse import ArgumentParser, Namespace
 from pathlib import Path
 
@@ -62,10 +63,19 @@ def _copied(arguments: Namespace) -> tuple[int, bool]:
         version = copy(arguments.file, to, overwrite=replaces, timeout=arguments.wait)
         return version, False
     except CannotOpen as refusal:
-        if refusal.why is not Why.IN_USE or _is_of(refusal, to):
+        # of the book itself no older copy takes its place, should the other program end by now
+        if refusal.why is not Why.IN_USE or _is_of(refusal, to) or _is_book(arguments):
             raise
     with snapshot(arguments.file) as copied:
         return copy(copied, to, overwrite=replaces), True
+
+
+def _is_book(arguments: Namespace) -> bool:
+    """Whether the path of the copy leads to the book."""
+    try:
+        return os.path.samefile(arguments.file, arguments.to)
+    except OSError:
+        return False
 
 
 def _is_of(refusal: CannotOpen, path: Path) -> bool:
