@@ -6,13 +6,18 @@ import signal
 import subprocess
 import sys
 import time
+from collections.abc import Callable
 from pathlib import Path
 
 import pytest
 
+from braildesk.desk.own_folder import OwnFolder
 from braildesk.tables.convert import oracle, source
+from braildesk.tables.convert.draft import TableDraft
 from braildesk.tables.convert.oracle import Liblouis, NoLiblouis
 from braildesk.tables.convert.source import NoTable, read_source
+from braildesk.tables.convert.word_list import keep, kept
+from strangers import NEEDS_ROOT, STRANGER
 from tool import environment, scribe
 
 # far less than a table of this kind takes that nothing stops
@@ -165,3 +170,58 @@ def test_what_asks_liblouis_takes_no_module_of_the_folder_it_is_started_in(
     monkeypatch.setenv("PYTHONPATH", os.pathsep)
     with pytest.raises(NoLiblouis, match="refuses the table"):
         Liblouis(tmp_path / "none.utb")
+
+
+def _link(path: Path) -> None:
+    path.rename(path.with_name("real"))
+    path.symlink_to("real")
+
+
+FORGED: dict[str, Callable[[Path], object]] = {
+    "a link": _link,
+    "a link to a folder": lambda path: (path.unlink(), path.symlink_to("/")),
+    "a second name": lambda path: os.link(path, path.with_name("real")),
+    "a pipe": lambda path: (path.unlink(), os.mkfifo(path)),
+    "a folder": lambda path: (path.unlink(), path.mkdir()),
+    "10 GB": lambda path: os.truncate(path, 10 * 2**30),
+    "of another": lambda path: os.chown(path, STRANGER, STRANGER),
+    "other rules": lambda path: path.write_text("always th 1456\n"),
+    "a definition": lambda path: path.write_text(f"{path.read_text()}letter z 1356\n"),
+    "a fault": lambda path: path.write_text(f"{path.read_text()}always th 9\n"),
+    "not UTF-8": lambda path: path.write_bytes(path.read_bytes() + b"always \xff 1\n"),
+}
+
+
+@NEEDS_ROOT
+@pytest.mark.parametrize("what", FORGED)
+def test_rules_are_taken_from_a_file_of_ones_own_alone_and_written_to_no_other(
+    tmp_path: Path, what: str
+) -> None:
+    draft = TableDraft()
+    for letter, cells in (("t", 0b11110), ("h", 0b10011)):
+        draft.define(letter, "letter", (cells,))
+    rules = {("always", "th"): (0b111001,)}
+    shelf, name = OwnFolder(tmp_path / "contractions"), 64 * "0"
+    keep(shelf, name, rules)
+    assert kept(shelf, name, draft) == rules
+    path = shelf.path / name
+    FORGED[what](path)
+    real = path.with_name("real")
+    before = real.read_bytes() if real.exists() else b""
+    assert kept(shelf, name, draft) is None
+    keep(shelf, name, rules)
+    # a folder isn't replaced, and everything else is
+    assert kept(shelf, name, draft) == (None if what == "a folder" else rules)
+    assert (real.read_bytes() if real.exists() else b"") == before
+
+
+@NEEDS_ROOT
+def test_no_rules_are_kept_in_the_folder_of_another(tmp_path: Path) -> None:
+    shelf = OwnFolder(tmp_path / "contractions")
+    for put in (Path.mkdir, lambda path: path.symlink_to(tmp_path)):
+        put(shelf.path)
+        os.chown(shelf.path, STRANGER, STRANGER, follow_symlinks=False)
+        keep(shelf, "name", {})
+        assert kept(shelf, "name", TableDraft()) is None
+        assert [each.name for each in tmp_path.rglob("*")] == ["contractions"]
+        shelf.path.unlink() if shelf.path.is_symlink() else shelf.path.rmdir()
