@@ -94,14 +94,15 @@ def _why_not_regular(path: str) -> Why | None:
 
 
 def _why_regular(asked: AskedOfFile) -> Why:
+    # what was put there in this moment isn't waited for
     if isinstance(asked, TableFile):
-        with open(asked.path, "rb") as file:
+        with open_file(asked.path) as file:
             return (
                 Why.TOO_LARGE
                 if os.fstat(file.fileno()).st_size > limits.TABLE_BYTES
                 else Why.UNKNOWN
             )
-    with open(asked.path, "rb") as file:
+    with open_file(asked.path) as file:
         if os.fstat(file.fileno()).st_nlink > 1:
             return Why.LINKED
         if locks.is_used(file):

@@ -20,7 +20,8 @@ _MALFORMED = "malformed database schema"
 
 def reader(path: str | PathLike[str], is_alone: bool) -> sqlite3.Connection:
     """What reads a file of which nobody knows who made it: alone, or with the log beside it."""
-    how = "immutable=1" if is_alone else "mode=rw"
+    # neither way makes a file where none is any more
+    how = "mode=rw&immutable=1" if is_alone else "mode=rw"
     address = f"file:{quote(fsencode(fspath(path)))}?{how}"
     database = sqlite3.connect(address, uri=True)
     database.execute("PRAGMA trusted_schema = OFF")

@@ -11,6 +11,7 @@ import pytest
 
 import braildesk
 from braildesk import CannotOpen, Session, Why
+from braildesk.schema import reader
 from strangers import in_time
 from tool import scribe
 
@@ -154,3 +155,13 @@ def test_what_has_the_name_of_a_log_and_is_none_is_named(book: Path, kind: str) 
             " changed. Move it away."
         )
     assert not book.with_name("elsewhere").exists()
+
+
+@pytest.mark.parametrize("is_alone", [True, False])
+def test_what_reads_a_file_makes_none_where_it_was_removed(
+    tmp_path: Path, is_alone: bool
+) -> None:
+    with pytest.raises(sqlite3.OperationalError):
+        with closing(reader(tmp_path / "gone", is_alone)) as database:
+            database.execute("SELECT count(*) FROM sqlite_schema")
+    assert not list(tmp_path.iterdir())

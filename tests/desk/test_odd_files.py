@@ -85,6 +85,8 @@ FINE = {
     ("not UTF-8", "copy.braildesk"),
     ("not UTF-8", "other.utb"),
     ("a loop", "other.utb"),
+    ("not UTF-8", "moon.html"),
+    ("a loop", "moon.html"),
 }
 
 

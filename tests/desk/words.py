@@ -8,6 +8,7 @@ PATHS = (
     "plain.utb",
     "text.txt",
     "pages",
+    "moon.html",
 )
 #: Each command with its words, but for tune, which test_contracted.py has.
 WORDS: dict[str, list[str]] = {
