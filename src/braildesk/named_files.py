@@ -56,11 +56,11 @@ def open_file(path: StrPath) -> BinaryIO:
     """A file, open for reading; ``NoFile`` where it is none."""
     if "\0" in fspath(path):
         raise NoFile("no path has the character U+0000")
-    _judge(os.stat(path).st_mode)
+    _judge(os.stat(path).st_mode, path)
     descriptor = os.open(path, _READ)
     try:
         # what has been put there in this moment
-        _judge(os.fstat(descriptor).st_mode)
+        _judge(os.fstat(descriptor).st_mode, path)
         return open(descriptor, "rb")
     except BaseException:
         os.close(descriptor)
@@ -72,19 +72,24 @@ def read_file(path: StrPath, most: int) -> bytes:
     with open(path, "rb") if is_handed_over(path) else open_file(path) as file:
         if file.isatty():
             # its keys may be those of a screen, on which nothing ends a text
-            raise NoFile("it is a terminal and no file")
-        if os.fstat(file.fileno()).st_size > most:
-            raise TooLarge(most)
-        data = file.read(most + 1)
-    if len(data) > most:
-        raise TooLarge(most)
+            raise _named(NoFile("it is a terminal and no file"), path)
+        size = os.fstat(file.fileno()).st_size
+        data = file.read(most + 1) if size <= most else b""
+    if max(size, len(data)) > most:
+        raise _named(TooLarge(most), path)
     return data
 
 
-def _judge(mode: int) -> None:
+def _judge(mode: int, path: StrPath) -> None:
     """Whether it is the mode of a file."""
     if stat.S_ISDIR(mode):
-        raise IsADirectoryError(errno.EISDIR, os.strerror(errno.EISDIR))
+        raise IsADirectoryError(errno.EISDIR, os.strerror(errno.EISDIR), fspath(path))
     for is_such, what in _KINDS:
         if is_such(mode):
-            raise NoFile(what)
+            raise _named(NoFile(what), path)
+
+
+def _named(failure: OSError, path: StrPath) -> OSError:
+    """A failure that says the path, as those of the system do."""
+    failure.filename = fspath(path)
+    return failure

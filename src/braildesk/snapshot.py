@@ -38,36 +38,41 @@ def snapshot(path: StrPath) -> Iterator[Path]:
     meanwhile. Nothing is made or changed beside the book's file, and nobody has to wait.
     """
     book = BookFile(fspath(path))
-    with open_file(book) as file, ExitStack() as stack:
+    with ExitStack() as stack:
         try:
             copied = stack.enter_context(made_for_a_while())
-            _copy(book, file, copied)
+            _copy(book, copied)
         except OSError as error:
             raise _not_copied(book, error) from error
         yield copied
 
 
-def _copy(book: BookFile, file: BinaryIO, copied: Path) -> None:
-    """Copies a file and its log until the log wasn't emptied meanwhile."""
-    log = log_path(book.path)
+def _copy(book: BookFile, copied: Path) -> None:
+    """Copies a book and its log until they stayed the same ones meanwhile."""
     until = time.monotonic() + _SECONDS
     while True:
-        if not is_log(log):
-            raise cannot_open(book, Why.NO_LOG)
-        if not is_at_path(book, file):
-            raise cannot_open(book, Why.UNKNOWN)
-        before = _state(file, log)
-        time.sleep(_TICK)
-        if _state(file, log) == before:
-            # so that a copy of the copy has the mode and owner of the book
-            with open_made(copied, copy_held(file, log, copied)) as made:
-                give_access(made.fileno(), os.fstat(file.fileno()))
-            if _state(file, log) == before and is_at_path(book, file):
+        with open_file(book) as file:
+            if _is_copied(book, file, copied):
                 return
-            copied.unlink()
-            Path(f"{copied}-wal").unlink(missing_ok=True)
+        for path in (copied, Path(f"{copied}-wal")):
+            path.unlink(missing_ok=True)
         if time.monotonic() > until:
             raise cannot_open(book, Why.IN_USE)
+
+
+def _is_copied(book: BookFile, file: BinaryIO, copied: Path) -> bool:
+    """Copies a file and its log, and says whether the log wasn't emptied nor the file replaced."""
+    log = log_path(book.path)
+    if not is_log(log):
+        raise cannot_open(book, Why.NO_LOG)
+    before = _state(file, log)
+    time.sleep(_TICK)
+    if _state(file, log) != before:
+        return False
+    # so that a copy of the copy has the mode and owner of the book
+    with open_made(copied, copy_held(file, log, copied)) as made:
+        give_access(made.fileno(), os.fstat(file.fileno()))
+    return _state(file, log) == before and is_at_path(book, file)
 
 
 def _state(file: BinaryIO, log: str) -> tuple[int, int, int, bytes]:

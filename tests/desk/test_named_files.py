@@ -31,8 +31,10 @@ def test_a_file_is_read_up_to_its_most_bytes(tmp_path: Path) -> None:
     file = tmp_path / "text"
     file.write_bytes(b"moon")
     assert read_file(file, 4) == b"moon"
-    with pytest.raises(TooLarge, match="it has more than 3 bytes"):
+    with pytest.raises(TooLarge, match="it has more than 3 bytes") as caught:
         read_file(file, 3)
+    # of which a sentence takes the name, as of a failure of the system
+    assert caught.value.filename == str(file)
 
 
 def test_a_file_with_holes_is_refused_by_its_size(tmp_path: Path) -> None:
@@ -44,8 +46,9 @@ def test_a_file_with_holes_is_refused_by_its_size(tmp_path: Path) -> None:
 
 
 def test_a_pipe_is_refused_and_not_waited_for(pipe: Path) -> None:
-    with pytest.raises(NoFile, match=PIPE):
+    with pytest.raises(NoFile, match=PIPE) as caught:
         read_file(pipe, 9)
+    assert caught.value.filename == str(pipe)
 
 
 @pytest.mark.parametrize("path", ["/dev/zero", "/dev/full"])

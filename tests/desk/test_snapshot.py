@@ -1,6 +1,7 @@
 """A book that another program has open, looked at and copied meanwhile."""
 
 import os
+import shutil
 import signal
 import stat
 import tempfile
@@ -12,7 +13,8 @@ from typing import BinaryIO
 
 import pytest
 
-from braildesk import CannotOpen, Failed, Lost, Session, check, program, snapshot as own
+from braildesk import CannotOpen, Failed, Lost, Session, Why, check, program
+from braildesk import snapshot as own
 from braildesk.files import contents
 from braildesk.held import copy_held
 from braildesk.protocol.asked import BookFile
@@ -194,3 +196,24 @@ def test_a_link_in_place_of_a_snapshot_gives_no_file_another_mode(
             pass
     assert "another program put something else in the place" in caught.value.sentence
     assert stat.S_IMODE(private.stat().st_mode) == 0o600
+
+
+def test_a_book_that_is_replaced_meanwhile_is_looked_at_as_it_is_then(
+    moon: Path, made_once: Path, monkeypatch: pytest.MonkeyPatch
+) -> None:
+    other = Path(shutil.copyfile(made_once / "empty.braildesk", moon.parent / "other"))
+
+    def copied(file: BinaryIO, log: str, made: Path) -> os.stat_result:
+        found = copy_held(file, log, made)
+        if other.exists():
+            other.rename(moon)
+        return found
+
+    monkeypatch.setattr(own, "copy_held", copied)
+    with snapshot(moon) as now:
+        assert check(now) == 0
+    moon.unlink()
+    with pytest.raises(CannotOpen) as caught:
+        with snapshot(moon):
+            pass
+    assert caught.value.why is Why.MISSING
