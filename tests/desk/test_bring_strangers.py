@@ -14,6 +14,7 @@ import pytest
 from braildesk.desk.own_folder import OwnFolder
 from braildesk.tables.convert import oracle, source
 from braildesk.tables.convert.draft import TableDraft
+from braildesk.tables.convert.learning import Learned
 from braildesk.tables.convert.oracle import Liblouis, NoLiblouis
 from braildesk.tables.convert.source import NoTable, read_source
 from braildesk.tables.convert.word_list import keep, kept
@@ -177,12 +178,27 @@ def _link(path: Path) -> None:
     path.symlink_to("real")
 
 
+def _link_to_folder(path: Path) -> None:
+    path.unlink()
+    path.symlink_to("/")
+
+
+def _pipe(path: Path) -> None:
+    path.unlink()
+    os.mkfifo(path)
+
+
+def _folder(path: Path) -> None:
+    path.unlink()
+    path.mkdir()
+
+
 FORGED: dict[str, Callable[[Path], object]] = {
     "a link": _link,
-    "a link to a folder": lambda path: (path.unlink(), path.symlink_to("/")),
+    "a link to a folder": _link_to_folder,
     "a second name": lambda path: os.link(path, path.with_name("real")),
-    "a pipe": lambda path: (path.unlink(), os.mkfifo(path)),
-    "a folder": lambda path: (path.unlink(), path.mkdir()),
+    "a pipe": _pipe,
+    "a folder": _folder,
     "10 GB": lambda path: os.truncate(path, 10 * 2**30),
     "of another": lambda path: os.chown(path, STRANGER, STRANGER),
     "other rules": lambda path: path.write_text("always th 1456\n"),
@@ -200,7 +216,7 @@ def test_rules_are_taken_from_a_file_of_ones_own_alone_and_written_to_no_other(
     draft = TableDraft()
     for letter, cells in (("t", 0b11110), ("h", 0b10011)):
         draft.define(letter, "letter", (cells,))
-    rules = {("always", "th"): (0b111001,)}
+    rules: Learned = {("always", "th"): (0b111001,)}
     shelf, name = OwnFolder(tmp_path / "contractions"), 64 * "0"
     keep(shelf, name, rules)
     assert kept(shelf, name, draft) == rules
@@ -217,11 +233,12 @@ def test_rules_are_taken_from_a_file_of_ones_own_alone_and_written_to_no_other(
 
 @NEEDS_ROOT
 def test_no_rules_are_kept_in_the_folder_of_another(tmp_path: Path) -> None:
-    shelf = OwnFolder(tmp_path / "contractions")
-    for put in (Path.mkdir, lambda path: path.symlink_to(tmp_path)):
-        put(shelf.path)
-        os.chown(shelf.path, STRANGER, STRANGER, follow_symlinks=False)
-        keep(shelf, "name", {})
-        assert kept(shelf, "name", TableDraft()) is None
-        assert [each.name for each in tmp_path.rglob("*")] == ["contractions"]
-        shelf.path.unlink() if shelf.path.is_symlink() else shelf.path.rmdir()
+    of_another, link = tmp_path / "of another", tmp_path / "link"
+    of_another.mkdir()
+    os.chown(of_another, STRANGER, STRANGER)
+    link.symlink_to(tmp_path)
+    for path in (of_another, link):
+        keep(OwnFolder(path), "name", {})
+        assert kept(OwnFolder(path), "name", TableDraft()) is None
+    assert set(tmp_path.iterdir()) == {of_another, link}
+    assert not list(of_another.iterdir())

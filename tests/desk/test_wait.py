@@ -1,5 +1,6 @@
 """A book that another program has open: how long each command of the shell waits for it."""
 
+import hashlib
 import io
 import time
 from pathlib import Path
@@ -7,6 +8,8 @@ from pathlib import Path
 import pytest
 
 from braildesk import Session
+from braildesk.desk.drafts import Drafts
+from braildesk.desk.import_note import ImportNote
 
 from scribe.cli import run_words
 from scribe.words.console import Console
@@ -90,6 +93,19 @@ def test_a_command_waits_for_as_long_as_it_is_told(
     second = text if words.startswith("import") else moon
     told = words.format(moon, second).split()
     assert run_beside(monkeypatch, moon, 50, *told)[0] == 0
+
+
+def test_an_import_that_goes_on_waits_too(
+    moon: Path, monkeypatch: pytest.MonkeyPatch
+) -> None:
+    text = moon.parent / "text"
+    text.write_text("The moon.\n")
+    whole, digest = str(text), hashlib.sha256(text.read_bytes()).hexdigest()
+    note = ImportNote(whole, digest, False, 1, 1, "en", "end", 7, 3)
+    Drafts(moon).begin_import(note)
+    words = ("import", str(moon), whole, "--continue", "--wait", "60")
+    status, shown, _ = run_beside(monkeypatch, moon, 50, *words)
+    assert (status, shown) == (0, "1 paragraph typed, number 4, by the table en.\n")
 
 
 def test_seconds_are_numbers() -> None:
