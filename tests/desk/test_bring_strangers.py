@@ -201,10 +201,6 @@ FORGED: dict[str, Callable[[Path], object]] = {
     "a folder": _folder,
     "10 GB": lambda path: os.truncate(path, 10 * 2**30),
     "of another": lambda path: os.chown(path, STRANGER, STRANGER),
-    "other rules": lambda path: path.write_text("always th 1456\n"),
-    "a definition": lambda path: path.write_text(f"{path.read_text()}letter z 1356\n"),
-    "a fault": lambda path: path.write_text(f"{path.read_text()}always th 9\n"),
-    "not UTF-8": lambda path: path.write_bytes(path.read_bytes() + b"always \xff 1\n"),
 }
 
 

@@ -1,8 +1,10 @@
 """A table made for a manuscript, by words and by its own text, and a book's table that is tuned."""
 
+import shutil
 import signal
 import subprocess
 import sys
+from argparse import Namespace
 from collections.abc import Sequence
 from pathlib import Path
 
@@ -21,6 +23,8 @@ from braildesk.tables.convert.running_text import Word, agreement
 from braildesk.tables.convert.tailoring import Manuscript, Means, Tailored, tailor
 from braildesk.tables.convert.word_list import WordList, keep, kept, name_of
 from braildesk.tables.tiling import braille, pieces
+
+from scribe.cli.commands import tune as tune_command
 from tool import environment, scribe
 
 SMALL = """\
@@ -482,3 +486,20 @@ def test_a_capital_that_is_contracted_with_one_letter_is_asked_for_with_another(
     means = Means(None, None, lambda what: lambda done, total: None)
     found = tailor(tmp_path / "small.utb", Manuscript("text", ["E"]), means)
     assert found.made.draft.lower["E"] == "e"
+
+
+def test_a_table_that_is_tuned_is_that_of_the_paragraphs_also_where_the_book_is_replaced(
+    moon: Path, made_once: Path, monkeypatch: pytest.MonkeyPatch
+) -> None:
+    close = Session.close
+    with Session(moon) as session:
+        wanted = {each.name: each.text for each in session.tables()}
+
+    def closed(session: Session) -> None:
+        close(session)
+        shutil.copyfile(made_once / "empty.braildesk", moon)
+
+    monkeypatch.setattr(Session, "close", closed)
+    found = tune_command._book(Namespace(file=moon, wait=0.0, table=None))
+    assert (found.version, len(found.texts)) == (7, 3)
+    assert found.table.text == wanted["en"]
