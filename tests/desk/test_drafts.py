@@ -12,7 +12,7 @@ from functools import partial
 from pathlib import Path
 
 import pytest
-from hypothesis import given, settings, strategies as st
+from hypothesis import HealthCheck, given, settings, strategies as st
 
 from braildesk.desk.draft import Aim, Draft, draft_in
 from braildesk.desk.drafts import Drafts, NotKept
@@ -455,6 +455,10 @@ def test_the_store_lies_in_the_home_folder_where_nothing_else_is_said(
         assert Drafts(moon).place.parent == tmp_path / ".local" / "state" / "braildesk"
 
 
+#: Few cases, however long they take on a machine that does other work.
+RANDOM = settings(
+    max_examples=40, deadline=None, suppress_health_check=[HealthCheck.too_slow]
+)
 ANY = st.recursive(
     st.none()
     | st.booleans()
@@ -468,7 +472,7 @@ ANY = st.recursive(
 )
 
 
-@settings(max_examples=40)
+@RANDOM
 @given(st.dictionaries(st.sampled_from(list(FORGED)), ANY))
 def test_only_values_of_the_right_types_are_read_as_a_draft(
     changed: dict[str, object]
@@ -500,7 +504,7 @@ BEGUN = {
 }
 
 
-@settings(max_examples=40)
+@RANDOM
 @given(st.dictionaries(st.sampled_from(list(BEGUN)), ANY))
 def test_only_values_of_the_right_types_are_read_as_a_note_of_an_import(
     changed: dict[str, object]
@@ -517,7 +521,7 @@ def test_only_values_of_the_right_types_are_read_as_a_note_of_an_import(
     assert note_in(Record.of(json.dumps(found.values()).encode())) == found
 
 
-@settings(max_examples=40)
+@RANDOM
 @given(st.binary(max_size=200) | ANY.map(lambda value: json.dumps(value).encode()))
 def test_any_bytes_are_read_as_a_draft_or_refused(data: bytes) -> None:
     try:

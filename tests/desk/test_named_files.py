@@ -1,18 +1,21 @@
 """What stands at a path that a person names, and is no file, or more than a machine holds."""
 
 import os
+import signal
 import socket
 import stat
 import subprocess
 import sys
-from collections.abc import Callable
+from collections.abc import Callable, Iterator
 from pathlib import Path
 
 import pytest
 
 import braildesk
-from braildesk import CannotOpen, Why
+from braildesk import CannotOpen, Why, opening
 from braildesk.named_files import NoFile, TooLarge, open_file, read_file
+from braildesk.protocol.asked import AskedOfFile, BookFile, TableFile
+from braildesk.protocol.book_files import has_journal
 from braildesk.tables import text_at
 from strangers import NEEDS_ROOT, in_time
 from tool import Ran, environment, scribe
@@ -213,3 +216,34 @@ def test_requests_from_a_device_without_an_end_are_given_up(moon: Path) -> None:
     assert done.stderr.decode() == (
         "A line of standard input has over 33,554,432 bytes. No more is read.\n"
     )
+
+
+@pytest.fixture
+def alarm() -> Iterator[None]:
+    """Ends by an exception what would wait for ever."""
+
+    def late(number: int, frame: object) -> None:
+        # which isn't taken for a failure of the system
+        pytest.fail("it was waited for")
+
+    before = signal.signal(signal.SIGALRM, late)
+    signal.alarm(20)
+    yield
+    signal.alarm(0)
+    signal.signal(signal.SIGALRM, before)
+
+
+@pytest.mark.usefixtures("alarm")
+def test_no_pipe_is_waited_for_that_is_put_at_a_path_after_it_was_looked_at(
+    pipe: Path, monkeypatch: pytest.MonkeyPatch
+) -> None:
+    either: list[AskedOfFile] = [BookFile(str(pipe)), TableFile(str(pipe))]
+    for asked in either:
+        with monkeypatch.context() as patched:
+            patched.setattr(opening, "_why_not_regular", lambda path: None)
+            assert opening.why(asked) is Why.UNKNOWN
+    journal = pipe.rename(f"{pipe}-journal")
+    with monkeypatch.context() as patched:
+        patched.setattr(stat, "S_ISREG", lambda mode: True)
+        assert not has_journal(str(pipe))
+    assert journal.is_fifo()
