@@ -172,6 +172,20 @@ def test_a_mark_is_taken_back_by_resolving_it_and_that_by_a_new_one(
     assert marks == [(2, 0, 1, True), (3, 0, 1, True)]
 
 
+def test_a_mark_whose_words_are_gone_is_put_again_on_the_character_there(
+    moon: Path, sit: Sit
+) -> None:
+    sat = sit(moon)
+    sat.press("n", "enter", *["delete"] * 4, "enter", "r")
+    assert sat.state.kept == "kept: mark 1 resolved"
+    sat.press("u")
+    assert sat.state.message.startswith("Taken back: mark 1 was resolved.")
+    sat.desk.close()
+    with Session(moon) as session:
+        marks = [(m.id, m.start, m.resolved, m.note) for m in session.marks_of(1)]
+    assert marks == [(1, 4, True, "spelled so?"), (2, 4, False, "spelled so?")]
+
+
 def test_a_table_that_was_put_into_the_book_stays_there_which_is_said_before(
     moon: Path, sit: Sit
 ) -> None:

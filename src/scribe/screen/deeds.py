@@ -82,8 +82,16 @@ def _of_paragraph(command: Command[Any], was: Paragraph, before: After) -> Deed:
     raise TypeError(f"no command of a paragraph: {command!r}")
 
 
+def on_a_character(mark: Mark, length: int) -> Mark:
+    """A mark as it can be put again: one without words on the character that is there."""
+    if mark.start < mark.stop or not length:
+        return mark
+    start = min(mark.start, length - 1)
+    return replace(mark, start=start, stop=start + 1)
+
+
 def resolved(mark: Mark, paragraph: int, cells: Span) -> Deed:
-    """A mark on cells that was resolved; one on no cells can't be put there again."""
+    """A mark on cells that was resolved; in a paragraph without any it can't be put again."""
     what, count = f"mark {mark.id} was resolved", cells.stop - cells.start
     if count < 1:
         return Deed(what)

@@ -549,11 +549,12 @@ class Desk:
         its = state.reading
         if its is None or not isinstance(command, requests.Resolve):
             return None
-        marks = tuple(m for m in its.marks if m.id == command.mark and not m.resolved)
-        cells = cells_of_marks(self._session, replace(its, marks=marks))
-        if not cells:
-            return None
-        return deeds.resolved(marks[0], its.paragraph.id, cells[0])
+        for mark in its.marks:
+            if mark.id == command.mark and not mark.resolved:
+                marks = (deeds.on_a_character(mark, len(its.text)),)
+                (cells,) = cells_of_marks(self._session, replace(its, marks=marks))
+                return deeds.resolved(mark, its.paragraph.id, cells)
+        return None
 
     def _taking_back(self, state: State, action: TakeBack) -> State:
         """Takes back what a key last did; what takes many commands is done beside the screen."""
