@@ -5,7 +5,9 @@ import signal
 import sys
 import time
 from collections.abc import Callable
+from fcntl import ioctl
 from pathlib import Path
+from termios import FIONREAD
 
 import pexpect  # type: ignore[import]
 import pyte  # type: ignore[import]
@@ -112,6 +114,18 @@ class Terminal:
             self._drawn_before, self._pressed_at = self._drawn, time.monotonic()
             self._pressed = name
             self._child.send(_sent_for(name))
+
+    def await_read(self) -> None:
+        """Waits until scribe has read all that was sent."""
+        flags = os.O_RDONLY | os.O_NONBLOCK | os.O_NOCTTY
+        end = time.monotonic() + WAIT_SECONDS
+        terminal = os.open(f"/proc/{self._child.pid}/fd/0", flags)
+        try:
+            while int.from_bytes(ioctl(terminal, FIONREAD, bytes(4)), sys.byteorder):
+                assert time.monotonic() < end, self.lines
+                time.sleep(0.01)
+        finally:
+            os.close(terminal)
 
     def send(self, text: str) -> None:
         """Sends characters all at once."""

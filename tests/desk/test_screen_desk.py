@@ -142,9 +142,13 @@ def test_paragraphs_are_typed_and_pasted_up_to_one_that_is_refused(
     sat.press("y", "o")
     sat.state = sat.desk.paste(sat.state, "Three.\nTěo.\nFour.")
     sat.press("y")
-    assert sat.state.typed and sat.state.typed.text == "Těo. Four."
+    assert sat.state.typed and sat.state.typed.text == "Těo."
     assert sat.state.message.startswith("1 typed. The table en has no cells for “ě”")
+    assert sat.state.message.endswith(
+        " After Enter or Escape, U brings back the line after this one."
+    )
     assert "kept: paragraph 8" in sat.lines[0]
+    sat.press("left", "left", "backspace", "w", "enter", "U", "y", "enter")
     with Session(closed(sat)) as session:
         found = [(each.id, session.print_of(each.id)) for each in session.paragraphs()]
     assert found == [
@@ -153,6 +157,8 @@ def test_paragraphs_are_typed_and_pasted_up_to_one_that_is_refused(
         (6, "One."),
         (7, "Two."),
         (8, "Three."),
+        (9, "Two."),
+        (10, "Four."),
         (4, "It rose."),
         (2, "The Tides"),
         (3, "Twice a day the sea comes up."),

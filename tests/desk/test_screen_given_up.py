@@ -279,6 +279,80 @@ def test_lines_stand_on_the_screen_while_it_is_asked_what_they_are(
     assert prints[1:3] == ["It rose.", "It set."]
 
 
+def test_lines_after_one_that_is_refused_are_not_joined_and_come_back_as_lines(
+    moon: Path, sit: Sit
+) -> None:
+    sat = sit(moon)
+    sat.press("down", "enter", "end")
+    paste(sat, " of the sěa.\nIt rose.\nIt set.")
+    sat.press("y")
+    assert sat.state.typed and sat.state.typed.text == "The Tides of the sěa."
+    assert sat.state.message.startswith("0 typed. The table of paragraph 2 has no ")
+    assert sat.state.message.endswith("U brings back the 2 lines after this one.")
+    waiting = sat.desk.drafts.waiting()
+    assert waiting and waiting.text == "The Tides of the sěa."
+    sat.press("left", "left", "backspace", "enter", "U", "y", "y")
+    prints = [sat.state.openings[each.id].words for each in sat.state.book]
+    assert prints[1:4] == ["The Tides of the sa.", "It rose.", "It set."]
+
+
+def test_long_lines_are_seen_from_their_front_while_it_is_asked_what_they_are(
+    moon: Path, sit: Sit
+) -> None:
+    line = "The sea comes up. " * 150
+    Drafts(moon).save(Draft(Aim.AFTER, 2, "en", "", f"{line}\n{line}"))
+    sat = sit(moon)
+    sat.press("y")
+    assert asked(sat).startswith("The pasted text has 2 lines. Are they 2 paragraphs?")
+    assert any("The sea comes up. The sea comes up." in each for each in sat.lines)
+
+
+def test_what_cant_be_kept_is_said_beside_a_refusal_and_once(
+    moon: Path, sit: Sit, monkeypatch: pytest.MonkeyPatch
+) -> None:
+    monkeypatch.setenv("XDG_STATE_HOME", "/proc/nowhere")
+    sat = sit(moon)
+    sat.press("enter", "ě", "enter")
+    for _ in range(3):
+        # as each second
+        sat.state = sat.desk.save_draft(sat.state)
+    assert sat.state.message.startswith("The table of paragraph 1 has no cells for “ě”")
+    assert sat.state.message.count("What is typed can't be kept in ") == 1
+
+
+@pytest.mark.parametrize("typing", [True, False])
+def test_text_that_came_before_the_end_and_was_not_taken_in_is_kept(
+    moon: Path, at: Open, typing: bool
+) -> None:
+    terminal = at(moon)
+    terminal.wait("? shows all keys.")
+    if typing:
+        terminal.keys("o")
+        terminal.wait("New paragraph after paragraph 1")
+    # the rest of the paste never comes
+    terminal.send("\x1b[200~It rose.\rIt se")
+    terminal.await_read()
+    terminal.send_signal(signal.SIGTERM)
+    assert terminal.ended() == -signal.SIGTERM
+    drafts, text = Drafts(moon), "It rose.\nIt se"
+    waiting = drafts.waiting()
+    assert (waiting.text if waiting else "") == (text if typing else "")
+    given_up = [each.text for each in drafts.given_up()]
+    assert given_up == ([] if typing else [text])
+    assert ("U brings it back" in terminal.said) is not typing
+
+
+def test_text_that_is_pasted_after_the_key_that_ends_is_kept(
+    moon: Path, at: Open
+) -> None:
+    terminal = at(moon)
+    terminal.wait("? shows all keys.")
+    terminal.send("q\x1b[200~It rose.\x1b[201~")
+    assert terminal.ended() == 0
+    assert [each.text for each in Drafts(moon).given_up()] == ["It rose."]
+    assert "U brings it back" in terminal.said
+
+
 def test_an_unbracketed_paste_at_the_terminal_changes_nothing_and_comes_back(
     moon: Path, at: Open
 ) -> None:

@@ -200,6 +200,14 @@ def test_what_nothing_follows_is_escape_or_a_key_with_alt(
     assert (keyboard.last(), keyboard.last()) == ([key], [])
 
 
+@pytest.mark.parametrize("end", ["", "\x1b", "\x1b[201"])
+def test_a_paste_whose_end_never_comes_is_text_and_no_other_rest_is(end: str) -> None:
+    keyboard = Keyboard()
+    assert keyboard.strokes("\x1b[200~It rose." + end) + keyboard.last() == []
+    assert (keyboard.rest(), keyboard.rest()) == ([Pasted("It rose.")], [])
+    assert keyboard.strokes("\x1b[20") + keyboard.rest() == []
+
+
 def test_keys_with_alt_at_the_terminal_leave_the_text_and_escape_alone_ends_it(
     moon: Path, at: Open
 ) -> None:

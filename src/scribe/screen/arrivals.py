@@ -65,6 +65,10 @@ class Arrivals:
         due = self.due
         return self._judged() if due is not None and now >= due else []
 
+    def rest(self) -> list[Stroke]:
+        """What is held, where nothing comes any more."""
+        return self._judged()
+
     def _judged(self) -> list[Stroke]:
         held, self._held = self._held, []
         if not _is_pasted(held):

@@ -1,7 +1,7 @@
 """A book that is open on the screen: keys are carried out, and the state after them is given."""
 
 import signal
-from collections.abc import Callable
+from collections.abc import Callable, Sequence
 from dataclasses import replace
 from pathlib import Path
 from typing import Any
@@ -179,7 +179,8 @@ class Desk:
         try:
             self._unsent.keep(draft_of(state))
         except NotKept as fault:
-            return state.saying(not_kept(fault))
+            # tried again each second, which must not hide what is said
+            return state.saying_too(not_kept(fault))
         return state
 
     def away(self, state: State, report: Callable[[str], None]) -> State:
@@ -477,7 +478,7 @@ class Desk:
 
     def _after_loss(self, state: State, lost: Lost) -> State:
         """The book opened again after its session ended by itself, and what it has is said."""
-        state = self.save_draft(state)
+        state = self.save_draft(state.saying(""))
         if isinstance(lost, Displaced):
             return self._ended(state, lost.sentence)
         waits = draft_of(state) or self._unsent.waiting
@@ -764,8 +765,8 @@ class Desk:
         return self._sent(state, requests.Retable(number, name, expect=state.version))
 
     def _typed_all(self, state: State, action: TypeAll) -> State:
-        """Types paragraphs until one is refused; that one and those after it stay typed."""
-        before = len(state.deeds)
+        """Types paragraphs until one is refused, which stays typed; U brings back those after it."""
+        before, sent = len(state.deeds), 0
         for count, line in enumerate(action.lines):
             lines = action.lines[count:]
             rest = " ".join(lines)
@@ -778,15 +779,35 @@ class Desk:
             waiting = replace(state, typed=field, question=about)
             try:
                 state = replace(self._sent(waiting, asked), question=None)
+                sent += 1
             except _Interrupted as interrupted:
                 if isinstance(interrupted.cause, Lost) or not interrupted.state.typed:
                     raise
-                said = f"{count} typed. {interrupted.cause.sentence}"
-                state = replace(interrupted.state, question=None).saying(said)
+                said = f"{sent} typed. {interrupted.cause.sentence}"
+                state = self._refused_among(interrupted.state.saying(said), lines)
                 return taking_back.done_by_one_key(state, before)
         return taking_back.done_by_one_key(
             replace(state, typed=None, preview=None), before
         )
+
+    def _refused_among(self, state: State, lines: Sequence[str]) -> State:
+        """The state in which the first of some lines is typed further, and the others are set aside."""
+        assert state.typed is not None
+        line, *others = lines
+        field = replace(state.typed, text=line, place=len(line))
+        state = replace(state, typed=field, question=None)
+        if not others:
+            return state
+        # no paragraph is named, so that they come after the one that is chosen by then
+        text = "\n".join(others)
+        fault = self._unsent.put_by(
+            Draft(Aim.AFTER, None, state.table, "", text, None, state.version)
+        )
+        what = "line" if len(others) == 1 else f"{len(others)} lines"
+        how = (
+            fault or f"After Enter or Escape, U brings back the {what} after this one."
+        )
+        return self.save_draft(state.saying_too(how))
 
 
 def preview_of(state: State, typed: Field) -> tuple[str, str, str]:

@@ -82,6 +82,16 @@ class Keyboard:
         self._rest = ""
         return ["escape" if not rest.strip(_ESCAPE) else named(rest)]
 
+    def rest(self) -> list[Stroke]:
+        """What came of a paste whose end didn't come, where nothing comes any more."""
+        rest, self._rest = self._rest, ""
+        if not rest.startswith(_PASTE):
+            return []
+        text = rest.removeprefix(_PASTE)
+        for count in range(len(_PASTE_END) - 1, 0, -1):
+            text = text.removesuffix(_PASTE_END[:count])
+        return [Pasted(text)]
+
     def _next(self) -> Stroke | None:
         rest = self._rest
         if not rest:

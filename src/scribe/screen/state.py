@@ -170,10 +170,13 @@ class State:
 
     @property
     def shown(self) -> Field | None:
-        """What is typed as it is shown: lines that are asked about too, if they fit into a print."""
+        """What is typed as it is shown: lines that are asked about too, or what fits into a print."""
         joined = self.joined
-        is_long = joined is not None and len(joined.text) > limits.PRINT_CHARACTERS
-        return self.typed if is_long else joined
+        most = limits.PRINT_CHARACTERS
+        if joined is None or joined == self.typed or len(joined.text) <= most:
+            return joined
+        front = joined.text[:most]
+        return replace(joined, text=front, place=len(front))
 
     @property
     def list_lines(self) -> int:
@@ -241,6 +244,12 @@ class State:
     def saying(self, sentence: str) -> "State":
         """The state with something to say."""
         return replace(self, message=sentence)
+
+    def saying_too(self, sentence: str) -> "State":
+        """The state with something to say after what is said already, and that once."""
+        if sentence in self.message:
+            return replace(self)
+        return self.saying(f"{self.message} {sentence}".lstrip())
 
     def at(self, chosen: int, place: int = 0) -> "State":
         """The state with another paragraph chosen, within the book, and listed."""

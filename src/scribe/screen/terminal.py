@@ -153,7 +153,20 @@ class Screen:
             raise failed.failure from None
         finally:
             self._settle()
+            self._take_rest()
             self._keep_last()
+
+    def _take_rest(self) -> None:
+        """Keeps text that came and wasn't taken in before the end; no key of it is obeyed."""
+        self.state = replace(self.state, is_over=True)
+        came = [*self._waiting, *self._arrivals.rest(), *self._keyboard.rest()]
+        for stroke in came:
+            if isinstance(stroke, Pasted):
+                self.state = self._desk.paste(self.state, stroke.text)
+                if self.state.typed is None and not self.state.is_lost:
+                    self.unseen = (*self.unseen, self.state.message)
+            elif self.state.typed and not self.state.question and len(stroke) == 1:
+                self.state = self._desk.paste(self.state, stroke)
 
     def _keep_last(self) -> None:
         """Keeps what is typed at the end, or has it said where it can't be kept."""
