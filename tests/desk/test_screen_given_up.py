@@ -342,6 +342,22 @@ def test_text_that_came_before_the_end_and_was_not_taken_in_is_kept(
     assert ("U brings it back" in terminal.said) is not typing
 
 
+def test_letters_that_came_as_scribe_was_told_to_end_are_kept(
+    moon: Path, at: Open
+) -> None:
+    terminal = at(moon)
+    terminal.wait("? shows all keys.")
+    terminal.keys("o", "It")
+    terminal.wait("It")
+    terminal.send_signal(signal.SIGSTOP)
+    terminal.send(" rose")
+    terminal.send_signal(signal.SIGTERM)
+    terminal.send_signal(signal.SIGCONT)
+    assert terminal.ended() == -signal.SIGTERM
+    waiting = Drafts(moon).waiting()
+    assert waiting and waiting.text == "It rose"
+
+
 def test_text_that_is_pasted_after_the_key_that_ends_is_kept(
     moon: Path, at: Open
 ) -> None:

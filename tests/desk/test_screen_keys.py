@@ -451,6 +451,9 @@ def test_a_pasted_line_goes_in_as_it_is() -> None:
     for text in ("old ", "old \n", "\r\nold "):
         state = pasted(typed(Purpose.EDIT, "The moon.", 4), text).state
         assert state.typed == Field(Purpose.EDIT, "The old moon.", 8)
+    # blanks alone are text too
+    state = pasted(typed(Purpose.EDIT, "Themoon.", 3), " ").state
+    assert state.typed == Field(Purpose.EDIT, "The moon.", 4)
 
 
 def test_pasted_lines_at_a_prompt_are_joined_which_is_said() -> None:

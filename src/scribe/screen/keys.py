@@ -88,7 +88,8 @@ def pasted(state: State, text: str) -> Step:
     if typed is None or state.question or state.is_lost:
         return Step(state, PutBy(text) if text.strip() else None)
     lines = text.replace("\r", "\n").replace("\t", " ").split("\n")
-    lines = [line for line in lines if line.strip()]
+    if len(lines) > 1:
+        lines = [line for line in lines if line.strip()]
     if len(lines) < 2:
         said = _NOT_ENTER if text.endswith(("\r", "\n")) else ""
         whole = replace(state, typed=typed.inserted("".join(lines)))

@@ -70,6 +70,15 @@ class _Input(Vt100Input):
         self._ended()
         return []
 
+    def rest(self) -> str:
+        """The characters that came and weren't read, without waiting for others."""
+        found = ""
+        # a terminal that was closed has none
+        with suppress(OSError):
+            while part := self.stdin_reader.read():
+                found += part
+        return found
+
 
 # what a terminal that was closed answers
 _CLOSED = (errno.EIO, errno.EBADF)
@@ -113,6 +122,8 @@ class Screen:
         self._arrivals = Arrivals()
         self._timer: asyncio.TimerHandle | None = None
         self._waiting: list[Pasted] = []
+        #: What had come and wasn't read as scribe was told to end.
+        self._unread = ""
         # since when there was no time for keys, and when they were read last
         self._busy_from = self._read_at = clock()
         self._is_idle, self._works = True, 0
@@ -130,9 +141,10 @@ class Screen:
         control = FormattedTextControl(
             self._fragments, show_cursor=True, get_cursor_position=self._cursor
         )
+        self._input = _Input(self._came, self._paused)
         self._app: Application[None] = Application(
             layout=Layout(Window(control)),
-            input=_Input(self._came, self._paused),
+            input=self._input,
             style=_STYLE,
             full_screen=True,
             output=Output.from_pty(sys.stdout, term=os.environ.get("TERM")),
@@ -159,14 +171,19 @@ class Screen:
     def _take_rest(self) -> None:
         """Keeps text that came and wasn't taken in before the end; no key of it is obeyed."""
         self.state = replace(self.state, is_over=True)
-        came = [*self._waiting, *self._arrivals.rest(), *self._keyboard.rest()]
+        came = [*self._waiting, *self._arrivals.rest()]
+        came += [*self._keyboard.strokes(self._unread), *self._keyboard.rest()]
+        is_of_line = self.state.typed is not None and self.state.question is None
         for stroke in came:
             if isinstance(stroke, Pasted):
                 self.state = self._desk.paste(self.state, stroke.text)
                 if self.state.typed is None and not self.state.is_lost:
                     self.unseen = (*self.unseen, self.state.message)
-            elif self.state.typed and not self.state.question and len(stroke) == 1:
+            elif is_of_line and len(stroke) == 1:
                 self.state = self._desk.paste(self.state, stroke)
+            else:
+                # what comes after Enter, or another such key, may be for another line
+                is_of_line = False
 
     def _keep_last(self) -> None:
         """Keeps what is typed at the end, or has it said where it can't be kept."""
@@ -389,6 +406,7 @@ class Screen:
     def _leave(self) -> None:
         """What ends scribe from outside: what is typed is kept."""
         self._stop_aside()
+        self._unread += self._input.rest()
         self.state = self._desk.save_draft(self.state)
         # a terminal that is closed and a shell that ends may both send a signal
         if not self.state.is_over:
