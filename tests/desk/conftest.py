@@ -3,7 +3,8 @@
 import os
 import shutil
 import signal
-from collections.abc import Iterator
+from collections.abc import Iterator, Sequence
+from itertools import groupby
 from pathlib import Path
 from tempfile import TemporaryDirectory
 
@@ -23,6 +24,38 @@ from terminal import Open, Terminal
 signal.signal(signal.SIGINT, signal.default_int_handler)
 for each in (signal.SIGHUP, signal.SIGTERM):
     signal.signal(each, signal.SIG_DFL)
+
+#: The folder in which processes that run the tests side by side say which files they have taken.
+TAKEN = os.environ.get("TAKEN")
+
+
+def pytest_runtestloop(session: pytest.Session) -> bool | None:
+    """Runs the tests of the files that no other process has taken."""
+    if TAKEN is None or session.config.option.collectonly or session.testsfailed:
+        return None
+    items = taken(session.items, Path(TAKEN))
+    item = next(items, None)
+    while item is not None:
+        # the next file is taken once the last test of this one is to begin
+        following = next(items, None)
+        item.config.hook.pytest_runtest_protocol(item=item, nextitem=following)
+        if session.shouldfail:
+            raise session.Failed(session.shouldfail)
+        if session.shouldstop:
+            raise session.Interrupted(session.shouldstop)
+        item = following
+    return True
+
+
+def taken(items: Sequence[pytest.Item], folder: Path) -> Iterator[pytest.Item]:
+    """The tests of each file that this process is the first to take."""
+    for path, its in groupby(items, key=lambda item: item.path):
+        try:
+            (folder / path.name).mkdir()
+        except FileExistsError:
+            continue
+        yield from its
+
 
 SAMPLE = Path(__file__).resolve().parents[2] / "sample"
 

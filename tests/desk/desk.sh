@@ -1,7 +1,8 @@
 #!/bin/bash
-# Looks at the layout and the types of the Python of src/ and tests/desk, for names that nothing uses, and runs the tests of tests/desk by the program.
+# Looks at the layout and the types of the Python of src/ and tests/desk, for names that nothing uses, and runs the tests of tests/desk by
+# the program: in processes side by side, each of which takes the next file that none has taken.
 #   tests/desk/desk.sh     PROGRAM: the program (build/braildesk); PYTHON: the interpreter (that of tests/python.sh); SEED (1): of the
-#                          random cases; the words of the command go to pytest
+#                          random cases; PROCESSES (2): how many run the tests; the words of the command go to pytest
 set -eu
 cd "$(dirname "$0")/../.."
 program=$(realpath "${PROGRAM:-build/braildesk}")
@@ -16,5 +17,18 @@ files=(src tests/desk sample/client.py)
     exit 1
 }
 "$python" -m pyflakes "${files[@]}"
-"$python" -m mypy --strict "${files[@]}"
-exec "$python" -m pytest -q -p no:cacheprovider --hypothesis-seed="${SEED:-1}" tests/desk "$@"
+room=$(mktemp -d)
+export TAKEN=$room/taken
+mkdir "$TAKEN"
+trap 'kill $(jobs -p) 2> /dev/null || true; wait; rm -rf "$room"' EXIT
+trap 'exit 1' INT TERM HUP
+"$python" -m mypy --strict "${files[@]}" > "$room/types" 2>&1 &
+running=($!)
+for number in $(seq "${PROCESSES:-2}"); do
+    "$python" -m pytest -q -p no:cacheprovider --hypothesis-seed="${SEED:-1}" tests/desk "$@" > "$room/tests-$number" 2>&1 &
+    running+=($!)
+done
+status=0
+for each in "${running[@]}"; do wait "$each" || status=1; done
+cat "$room"/types "$room"/tests-*
+exit $status
