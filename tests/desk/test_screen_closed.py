@@ -208,6 +208,8 @@ def test_a_text_that_can_not_be_kept_at_the_end_is_said(moon: Path, at: Open) ->
     terminal.wait("? shows all keys.")
     terminal.keys("enter", "Oh, ")
     terminal.wait("Oh, The moon is far away.")
+    # without another key
+    terminal.wait("What is typed can't be kept in /proc/nowhere/braildesk: ")
     terminal.send_signal(signal.SIGTERM)
     assert terminal.ended() == -signal.SIGTERM
     first, *rest = terminal.said.splitlines()

@@ -121,7 +121,7 @@ class Screen:
         self._keyboard = Keyboard()
         self._arrivals = Arrivals()
         self._timer: asyncio.TimerHandle | None = None
-        self._waiting: list[Pasted] = []
+        self._waiting: list[Stroke] = []
         #: What had come and wasn't read as scribe was told to end.
         self._unread = ""
         # since when there was no time for keys, and when they were read last
@@ -294,8 +294,9 @@ class Screen:
 
     def _carry_out(self, stroke: Stroke) -> None:
         if self.state.away or self.state.is_over:
-            # what is pasted meanwhile is no key that does nothing
-            self._waiting += [stroke] if isinstance(stroke, Pasted) else []
+            # what is pasted meanwhile is no key that does nothing, nor what is typed to the end
+            if isinstance(stroke, Pasted) or self.state.is_over:
+                self._waiting.append(stroke)
         elif isinstance(stroke, Pasted):
             self._become(self._desk.paste(self.state, stroke.text))
         else:
@@ -373,7 +374,10 @@ class Screen:
             await asyncio.sleep(_SAVE_SECONDS)
             if self.state.typed:
                 self._begin_work()
-                self.state = self._desk.save_draft(self.state)
+                kept = self._desk.save_draft(self.state)
+                if kept.message != self.state.message:
+                    self._app.invalidate()
+                self.state = kept
                 self._end_work()
 
     def _fail(self, loop: asyncio.AbstractEventLoop, context: dict[str, Any]) -> None:
