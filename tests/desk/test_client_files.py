@@ -95,6 +95,19 @@ def test_a_copy_opens_as_the_same_book(book: Path, tmp_path: Path) -> None:
         assert other.marks_of(2) == one.marks_of(2) != ()
 
 
+def test_all_of_a_book_is_in_one_file_while_nobody_has_it_open(moon: Path) -> None:
+    with Session(moon) as session:
+        session.strike(2)
+    beside = moon.with_name(moon.name + "-wal")
+    assert beside.stat().st_size == 41
+    alone = moon.with_name("alone.braildesk")
+    shutil.copyfile(moon, alone)
+    beside.unlink()
+    for path in (moon, alone):
+        with Session(path) as session:
+            assert session.last_version == 8 and session.paragraphs()[1].struck
+
+
 def test_a_copy_has_what_stands_in_the_file_beside_it(
     book: Path, tmp_path: Path
 ) -> None:

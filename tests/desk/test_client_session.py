@@ -268,6 +268,33 @@ def test_a_session_ends_well_and_leaves_all_in_the_file(book: Path) -> None:
         assert session.print_of(1) == "all of it"
 
 
+@pytest.mark.parametrize(
+    "pages, said",
+    [
+        (0, " See to the disk: there is no room on it."),
+        (2, " See to the disk: it has room for 8,192 bytes."),
+        (1_000_000, " See to the disk."),
+    ],
+)
+def test_what_was_not_kept_says_how_little_room_there_is(
+    book: Path,
+    script: Callable[[str], Path],
+    monkeypatch: pytest.MonkeyPatch,
+    pages: int,
+    said: str,
+) -> None:
+    free = os.statvfs_result((4_096, 4_096, 2_000_000, pages, pages, 9, 9, 9, 0, 255))
+    program = script("read line; echo end 3; read line; echo no 91")
+    with Session(book, program) as session:
+        monkeypatch.setattr(os, "statvfs", lambda path: free)
+        with pytest.raises(Lost) as caught:
+            session.strike(1)
+    assert caught.value.cause == (
+        "The striking of paragraph 1 was not reported as kept, since the file of the book could"
+        f" not be written or read.{said}"
+    )
+
+
 def test_a_program_that_answers_something_else_is_ended(
     book: Path, script: Callable[[str], Path]
 ) -> None:
