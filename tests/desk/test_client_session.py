@@ -551,12 +551,12 @@ def test_requests_that_wait_are_written_in_groups(
         written.append(len(data))
         return write(descriptor, data)
 
-    texts = [f"Line {n} of a book about the moon and the tides." for n in range(3_000)]
+    texts = [f"Line {n} of a book about the moon and the tides." for n in range(600)]
     with Session(book) as session:
         monkeypatch.setattr(os, "write", noted)
         asked = (requests.Type("end", "en", text) for text in texts)
         assert all(isinstance(answer, Typed) for answer in session.each(asked))
-        assert session.version() == 3_001
+        assert session.version() == 601
     # those that go ahead of the first replies, some seventy at once
     assert all(3_900 < size <= 4_096 for size in written[:5])
 
