@@ -3,7 +3,7 @@
 
 _scribe() {
     local word=${COMP_WORDS[COMP_CWORD]} words=''
-    local commands='new edit run talk table check-table try import show find change mark marks undo
+    local commands='new edit run talk table check-table try import show find change mark marks next undo
         resolve strike restore heading body volume move retable pages export proof copy
         bring tune'
     if ((COMP_CWORD == 1)); then
@@ -12,15 +12,16 @@ _scribe() {
         case ${COMP_WORDS[1]} in
             run) words='--keep-going' ;;
             edit) words='--by --width --lines' ;;
-            talk) words='--by --width' ;;
+            talk) words='--by --short --ascii --ascii-small --unicode --width' ;;
             table | try) words='--width' ;;
             check-table) words='--display --width' ;;
             import) words='--lines --table --after --dry-run --from --continue --again --leave' ;;
-            show) words='--paragraphs --print --braille --ascii --width' ;;
+            show) words='--paragraphs --print --braille --ascii --ascii-small --unicode --width' ;;
+            marks) words='--open --width' ;;
             find) words='--braille --alike --width' ;;
             change) words='--nth --by --width' ;;
             mark) words='--nth --width' ;;
-            undo | resolve | strike | restore | heading | body | volume | move | retable) words='--width' ;;
+            next | undo | resolve | strike | restore | heading | body | volume | move | retable) words='--width' ;;
             pages) words='--width --lines --page --paragraph' ;;
             bring) words='--list --words --for --add --anyway' ;;
             tune) words='--table --words --apply --width' ;;

@@ -13,7 +13,7 @@ from hypothesis import strategies as st
 
 from scribe.cli import run_words
 from scribe.cli.commands import COMMANDS
-from scribe.prompt import help
+from scribe.cli import prompt_words
 from scribe.words.console import Console
 
 SAMPLE = Path(__file__).resolve().parents[2] / "sample"
@@ -83,7 +83,16 @@ WORD = st.one_of(
     st.sampled_from(PATHS), st.sampled_from(TEXTS), st.sampled_from(OPTIONS)
 )
 #: What a line may begin with for the commands that read input.
-BEGUN = [*help.names(), "@1", "@", "@3 correct", "import", "histroy"]
+BEGUN = [
+    *prompt_words.names(),
+    "@1",
+    "@",
+    "@3 correct",
+    "import",
+    "histroy",
+    "request",
+    "request mark 1",
+]
 LINE = st.one_of(
     WORD, st.builds(" ".join, st.tuples(st.sampled_from(BEGUN), st.sampled_from(TEXTS)))
 )

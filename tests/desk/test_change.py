@@ -46,7 +46,7 @@ def test_words_that_stand_more_often_are_refused_with_their_places(moon: Path) -
     assert change(moon, "1", "mooon", "moon") == Ran(
         2,
         "",
-        "“mooon” stands 2 times in paragraph 1. Say which by --nth. Nothing was changed.\n"
+        "Paragraph 1 has “mooon” 2 times. Say which by --nth. Nothing was changed.\n"
         "--nth 1, character 22: Two men stood on the [mooon], on the mooon.\n"
         "--nth 2, character 36: Two men stood on the mooon, on the [mooon].\n",
     )
@@ -66,7 +66,7 @@ def test_a_place_that_is_not_there_is_refused(moon: Path) -> None:
     assert ran == Ran(
         2,
         "",
-        "“men” stands once in paragraph 1. There is no place 2. Nothing was changed.\n"
+        "Paragraph 1 has “men” once. There is no place 2. Nothing was changed.\n"
         "--nth 1, character 5: Two [men] stood on the mooon, on the mooon.\n",
     )
     assert change(moon, "1", "men", "women", "--nth", "0").status == 1
@@ -74,7 +74,7 @@ def test_a_place_that_is_not_there_is_refused(moon: Path) -> None:
 
 def test_words_that_stand_nowhere_are_refused(moon: Path) -> None:
     assert change(moon, "1", "sun", "moon") == Ran(
-        2, "", "“sun” stands nowhere in paragraph 1. Nothing was changed.\n"
+        2, "", "“sun” isn't in paragraph 1. Nothing was changed.\n"
     )
 
 
@@ -84,7 +84,7 @@ def test_words_that_stand_there_otherwise_are_refused_with_those_that_do(
     assert change(moon, "1", "TWO\u00a0men", "moon") == Ran(
         2,
         "",
-        "“TWO\u00a0men” stands nowhere in paragraph 1 as typed; with other capitals and another"
+        "“TWO\u00a0men” isn't in paragraph 1 as typed; with other capitals and another"
         " kind of blank it is “Two men”. Nothing was changed.\n",
     )
 

@@ -91,7 +91,8 @@ CASES = {
     "a paragraph gets another table, and its cells are shown": (
         ["retable", "1", "plain", "--width", "40"],
         shown(
-            "Paragraph 1: table plain now, table en before.",
+            "Paragraph 1: table plain now, table en",
+            "  before.",
             "Its braille is as before.",
             "The book is at version 8.",
         ),

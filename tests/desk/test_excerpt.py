@@ -2,7 +2,10 @@
 
 import pytest
 
-from braildesk.text.excerpt import ending, excerpt, opening
+from hypothesis import given
+from hypothesis import strategies as st
+
+from braildesk.text.excerpt import ending, excerpt, excerpt_lines, opening
 from braildesk.text.wrapping import columns
 
 TEXT = "On 20 July 1969 two men stood on the moon."
@@ -36,6 +39,56 @@ def test_a_text_that_does_not_fit_is_cut_at_a_blank() -> None:
     assert opening("The moon is far", 12) == "The moon is…"
     assert ending("The moon is far", 12) == "…moon is far"
     assert opening("moonlight", 5) == "moon…"
+
+
+def test_no_word_beside_others_is_cut() -> None:
+    assert excerpt("Twice a day that sea", 17, 20, 10) == "… [sea]"
+    assert excerpt("the sea comes", 4, 7, 10) == "… [sea] …"
+    assert excerpt("l’océan 月の海は広い", 8, 10, 12) == "… [月の]海…"
+
+
+LINES = [
+    (20, ["Paragraph 3,", "  character 21:", "…two [men] stood on…"]),
+    (40, ["Paragraph 3, character 21:", "…July 1969 two [men] stood on the moon."]),
+    (60, ["Paragraph 3, character 21: …1969 two [men] stood on the…"]),
+]
+
+
+@pytest.mark.parametrize("width, lines", LINES)
+def test_a_head_that_leaves_no_room_has_lines_of_its_own(
+    width: int, lines: list[str]
+) -> None:
+    assert excerpt_lines("Paragraph 3, character 21: ", TEXT, 20, 23, width) == lines
+
+
+def test_words_that_fill_more_than_a_line_are_shown_whole() -> None:
+    assert excerpt_lines("Before: ", TEXT, 3, 41, 20) == [
+        "Before:",
+        "…[20 July 1969 two",
+        "  men stood on the",
+        "  moon]…",
+    ]
+
+
+@given(
+    text=st.text("ab ⠍海\u0301", min_size=1, max_size=120),
+    start=st.integers(0, 119),
+    size=st.integers(1, 60),
+    head=st.sampled_from(["", "1: ", "Paragraph 17771, struck, character 1234: "]),
+    width=st.integers(10, 90),
+)
+def test_all_that_was_sought_is_shown_at_any_width(
+    text: str, start: int, size: int, head: str, width: int
+) -> None:
+    start = min(start, len(text) - 1)
+    lines = excerpt_lines(head, text, start, min(start + size, len(text)), width)
+    assert max(map(columns, lines)) <= width
+
+    def letters(shown: str) -> str:
+        return "".join(shown.split())
+
+    inside = "".join(lines).split("[", 1)[1].split("]")[0]
+    assert letters(inside) == letters(text[start : start + size])
 
 
 @pytest.mark.parametrize("width", range(0, 30))

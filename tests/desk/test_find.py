@@ -31,7 +31,7 @@ def test_each_place_is_shown_with_the_words_around_it(moon: Path) -> None:
         "Paragraph 3, character 7: Moon, [moon], moonlight\n"
         "Paragraph 3, character 13: Moon, moon, [moon]light\n"
         "Paragraph 1, character 38: …20 July 1969 two men stood on the [moon].\n",
-        "“moon” stands 3 times in 2 paragraphs.\n",
+        "Found “moon” 3 times, in 2 paragraphs.\n",
     )
 
 
@@ -39,12 +39,12 @@ def test_a_place_in_a_struck_paragraph_is_said_to_be_there(moon: Path) -> None:
     assert find(moon, "tides") == Ran(
         0,
         "Paragraph 2, struck, character 5: The [tides] come twice a day.\n",
-        "“tides” stands once in one paragraph.\n",
+        "Found “tides” once.\n",
     )
 
 
 def test_words_that_stand_nowhere_are_said_to(moon: Path) -> None:
-    assert find(moon, "sun") == Ran(0, "", "“sun” stands nowhere in the book.\n")
+    assert find(moon, "sun") == Ran(0, "", "“sun” isn't in the book.\n")
 
 
 def test_words_that_are_otherwise_in_the_book_are_said_to_be_and_shown(
@@ -53,21 +53,17 @@ def test_words_that_are_otherwise_in_the_book_are_said_to_be_and_shown(
     assert find(moon, "MOON") == Ran(
         0,
         "",
-        "“MOON” stands nowhere in the book as typed. With other capitals it stands 4 times in 2"
+        "“MOON” isn't in the book as typed. With other capitals it is there 4 times, in 2"
         " paragraphs; --alike shows where.\n",
     )
     assert find(moon, "moon,", "--alike") == Ran(
         0,
         "Paragraph 3, character 1: [Moon,] moon, moonlight\n"
         "Paragraph 3, character 7: Moon, [moon,] moonlight\n",
-        "“moon,” stands 2 times in one paragraph, found with other capitals too.\n",
+        "Found “moon,” 2 times, in one paragraph, with other capitals too.\n",
     )
-    assert find(moon, "moon.", "--alike").said == (
-        "“moon.” stands once in one paragraph.\n"
-    )
-    assert find(moon, "Mond", "--alike").said == (
-        "“Mond” stands nowhere in the book.\n"
-    )
+    assert find(moon, "moon.", "--alike").said == ("Found “moon.” once.\n")
+    assert find(moon, "Mond", "--alike").said == ("“Mond” isn't in the book.\n")
     assert find(moon, "moon", "--alike", "--braille").status == 1
 
 
@@ -76,7 +72,7 @@ def test_cells_are_found_and_the_print_that_they_stand_for(moon: Path) -> None:
         0,
         "Paragraph 3, cell 1: [⠠⠍]⠕⠕⠝⠂⠀⠍⠕⠕⠝⠂⠀⠍⠕⠕⠝⠇⠊⠛⠓⠞\n"
         "  character 1: [M]oon, moon, moonlight\n",
-        "“,M” stands once in one paragraph.\n",
+        "Found “,M” once.\n",
     )
     assert find(moon, "--braille", ",M") == wanted
     assert find(moon, "--braille", "⠠⠍").shown == wanted.shown
@@ -119,7 +115,7 @@ def test_words_are_found_in_normal_form_c(empty_book: Path) -> None:
             "Paragraph 1, character 7: ané an[é] q\u0307n\n"
             "Paragraph 2, character 2: a[e\u0301]\n"
         )
-    assert find(empty_book, "q").said == "“q” stands nowhere in the book.\n"
+    assert find(empty_book, "q").said == "“q” isn't in the book.\n"
     assert find(empty_book, "q\u0307").shown.startswith("Paragraph 1, character 9: ")
 
 
@@ -146,5 +142,5 @@ def test_a_word_is_found_among_20_000_paragraphs(big_book: Path) -> None:
     assert find(big_book, "number 17771") == Ran(
         0,
         "Paragraph 17771, character 11: Paragraph [number 17771] of the moon.\n",
-        "“number 17771” stands once in one paragraph.\n",
+        "Found “number 17771” once.\n",
     )

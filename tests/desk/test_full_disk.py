@@ -131,7 +131,7 @@ def on_read_only(
 
 
 #: Commands that write nothing.
-READING = ("check-table", "try", "show", "find", "marks", "pages", "bring")
+READING = (*("check-table", "try", "show", "find", "marks", "next", "pages", "bring"),)
 #: How that which could not be kept is named by the commands that change the book.
 CHANGING = {
     "run": "The striking of paragraph 2",

@@ -6,6 +6,8 @@ import pytest
 from tool import Ran, scribe
 
 from braildesk import Mark, Session
+from braildesk.desk.marks import mark_words
+from braildesk.desk.places import Words
 
 CONTRACTIONS = b"""space \\s 0
 letter s 234
@@ -67,7 +69,7 @@ def test_the_nth_place_is_marked(moon: Path) -> None:
     assert mark(moon, "1", "o", "x") == Ran(
         2,
         "",
-        "“o” stands 3 times in paragraph 1. Say which by --nth. Nothing was changed.\n"
+        "Paragraph 1 has “o” 3 times. Say which by --nth. Nothing was changed.\n"
         "--nth 1, character 19: On 20 July 1969 tw[o] men stood there.\n"
         "--nth 2, character 27: On 20 July 1969 two men st[o]od there.\n"
         "--nth 3, character 28: On 20 July 1969 two men sto[o]d there.\n",
@@ -104,7 +106,7 @@ def test_a_mark_on_a_part_of_a_contraction_is_wider_which_is_said(
     assert ran.status == 0
     assert ran.shown.startswith(f"Mark 1, open, on “{marked}”: so?\n")
     assert ran.said == (
-        f"The cells of “{words}” stand for print beside it too: the mark is on"
+        f"“{words}” shares its cells with what is beside it, so the mark is on"
         f" “{marked}”.\n"
     )
 
@@ -118,7 +120,7 @@ def test_a_mark_on_whole_contractions_is_no_wider(sand: Path, words: str) -> Non
 
 def test_what_cannot_be_marked_is_refused(moon: Path) -> None:
     assert mark(moon, "1", "sun", "x") == Ran(
-        2, "", "“sun” stands nowhere in paragraph 1. Nothing was changed.\n"
+        2, "", "“sun” isn't in paragraph 1. Nothing was changed.\n"
     )
     assert mark(moon, "1", "", "x").status == 1
     assert mark(moon, "1", "men", "a\x1b[A").status == 1
@@ -163,3 +165,66 @@ def test_control_characters_of_a_note_are_made_visible(moon: Path) -> None:
 
 def test_marks_of_20_000_paragraphs_are_found(big_book: Path) -> None:
     assert marks(big_book).said == "The book has no marks.\n"
+
+
+@pytest.fixture
+def marked(moon: Path) -> Path:
+    """Four marks in the order 3, 1, 4 and 2 of the book, of which 4 is resolved."""
+    with Session(moon) as session:
+        mark_words(session, Words(1, "20"), "the day?")
+        mark_words(session, Words(1, "there"), "where?")
+        mark_words(session, Words(2, "moons"), "one moon")
+        mark_words(session, Words(1, "men"), "who?")
+        session.resolve_mark(4)
+    return moon
+
+
+def test_marks_may_be_those_of_a_paragraph_and_the_open_ones_alone(
+    marked: Path,
+) -> None:
+    def shown(*words: str) -> list[str]:
+        ran = scribe("marks", marked, *words, folder=marked.parent)
+        return [line.split(":")[0] for line in (ran.shown + ran.said).splitlines()]
+
+    open_ones = [
+        "Mark 3, open, paragraph 2, on “moons”",
+        "Mark 1, open, paragraph 1, on “20”",
+        "Mark 2, open, paragraph 1, on “there”",
+    ]
+    resolved = "Mark 4, resolved, paragraph 1, on “men”"
+    every = "The book has 3 open and 1 resolved marks."
+    assert shown() == [*open_ones, resolved, every]
+    assert shown("--open") == [*open_ones, every]
+    assert shown("2") == [open_ones[0], "Paragraph 2 has 1 open mark."]
+    assert shown("9") == ["The book has no paragraph 9"]
+
+
+def test_the_next_open_mark_comes_in_the_order_of_the_book(marked: Path) -> None:
+    def shown(*words: str) -> list[str]:
+        ran = scribe("next", marked, *words, "--width", "60", folder=marked.parent)
+        return (ran.shown + ran.said).splitlines()
+
+    assert shown() == [
+        "Mark 3, open, paragraph 2, on “moons”: one moon",
+        "Paragraph 2: Two [moons]",
+        "2 other marks are open.",
+    ]
+    assert shown("3")[0] == "Mark 1, open, paragraph 1, on “20”: the day?"
+    # mark 4, which is resolved, is left out, but may be named
+    assert shown("1")[0] == "Mark 2, open, paragraph 1, on “there”: where?"
+    assert shown("4")[0] == "Mark 2, open, paragraph 1, on “there”: where?"
+    assert shown("2") == [
+        *shown()[:2],
+        "It is the first of the book again. 2 other marks are open.",
+    ]
+    assert shown("9") == [
+        "The book has no mark 9. Nothing was changed. The command",
+        "marks shows which there are.",
+    ]
+    with Session(marked) as session:
+        session.resolve_mark(1)
+        session.resolve_mark(2)
+    assert shown("3")[-1] == "No other mark is open."
+    with Session(marked) as session:
+        session.resolve_mark(3)
+    assert shown() == ["The book has no open mark."]

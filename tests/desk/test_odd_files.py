@@ -122,17 +122,18 @@ def test_a_path_that_is_typed_with_nul_is_refused_in_a_sentence(sample: Path) ->
     assert stop.value.sentence == (
         "mo\0on can't be a path, which has no character U+0000. Nothing was exported."
     )
-    console = Console(
-        BytesIO(b"table-file\nown\nmo\0on\n\n"), StringIO(), said := StringIO()
-    )
+    console = Console(BytesIO(b"table own mo\0on\n"), StringIO(), said := StringIO())
     assert run_words(["talk", "moon.braildesk"], console) == 0
-    assert said.getvalue() == "There is no file mo<U+0000>on.\n"
+    assert said.getvalue() == (
+        "The table mo<U+0000>on can't be read: no path has the character U+0000. Nothing\n"
+        "was changed.\n"
+    )
 
 
 def test_a_path_that_can_not_be_looked_at_ends_no_talk_and_no_trial(
     sample: Path, monkeypatch: pytest.MonkeyPatch
 ) -> None:
-    given = b"table-file\nown\n" + b"x" * 300 + b"\nversion\n"
+    given = b"table own " + b"x" * 300 + b"\nversion\n"
     shown, said = StringIO(), StringIO()
     status = run_words(["talk", "moon.braildesk"], Console(BytesIO(given), shown, said))
     assert (status, shown.getvalue().splitlines()[-2:]) == (
@@ -140,8 +141,7 @@ def test_a_path_that_can_not_be_looked_at_ends_no_talk_and_no_trial(
         ["The book is at version 7."] * 2,
     )
     assert " ".join(said.getvalue().split()).endswith(
-        "could not be read or written: File name too long. What was reported as kept is in the"
-        " book."
+        "can't be read: File name too long. Nothing was changed."
     )
 
     def refused(trial: Trial) -> bool:

@@ -201,7 +201,7 @@ def test_pages_of_20_000_paragraphs_are_found(big_book: Path) -> None:
     assert lines[-2].startswith("Page 834, line 8, paragraph 20000: Paragraph number")
 
 
-def test_a_book_that_is_changed_meanwhile_is_said_to_be(
+def test_nobody_changes_a_book_while_its_pages_are_compared(
     moon: Path, program: str
 ) -> None:
     other = moon.parent / "other"
@@ -211,8 +211,7 @@ def test_a_book_that_is_changed_meanwhile_is_said_to_be(
         'exec "$PROGRAM" "$@"\n'
     )
     other.chmod(other.stat().st_mode | stat.S_IXUSR)
-    with Session(moon) as session:
-        version = session.last_version
+    version, wanted = braildesk.check(moon), pages(moon)
     ran = scribe(
         "pages",
         moon,
@@ -221,9 +220,6 @@ def test_a_book_that_is_changed_meanwhile_is_said_to_be(
         PROGRAM=program,
         BOOK=str(moon),
     )
-    assert ran == Ran(
-        3,
-        "",
-        f"Another program changed the book meanwhile: it was at version {version} and is at"
-        f" {version + 1} now. Nothing is shown. Ask again.\n",
-    )
+    assert ran == wanted and ran.status == 0
+    assert (moon.parent / "changed").read_text() == ""
+    assert braildesk.check(moon) == version

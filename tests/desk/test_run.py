@@ -206,8 +206,8 @@ def test_a_line_that_is_no_request_is_explained(moon: Path) -> None:
 def test_the_form_of_a_request_is_shown_where_it_is_missed(moon: Path) -> None:
     ran = scribe("run", moon, folder=moon.parent, given="correct 1 2\n")
     assert ran.said == (
-        "Line 1: The request correct is written as: correct PARA START COUNT TEXT. One"
-        " blank stands between fields, and none at the end. Nothing was changed.\n"
+        "Line 1: The request correct is written as: correct PARA START COUNT TEXT."
+        " START is counted from 0. One blank stands between fields, and none at the end. Nothing was changed.\n"
     )
 
 
@@ -228,7 +228,7 @@ def test_a_control_character_is_refused_and_nothing_is_sent(
         2,
         "end 7\n",
         f"Line 1: Character 14 of the line is {name}. Texts and notes can't have one"
-        " here. Nothing was sent.\n",
+        " here. Nothing was changed.\n",
     )
 
 

@@ -3,10 +3,14 @@
 import os
 import re
 import signal
+import sys
 from pathlib import Path
+
+import pexpect  # type: ignore[import]
 
 from braildesk.desk.drafts import Drafts
 from terminal import Open, once_free
+from tool import environment, scribe_in_copy
 
 #: What sets a colour of letters or of what is behind them.
 COLOURS = re.compile(rb"\x1b\[(?:[0-9]+;)*(?:3[0-8]|4[0-8]|9[0-7]|10[0-7])[;m]")
@@ -86,3 +90,25 @@ def test_a_terminal_that_is_closed_leaves_the_text_which_is_offered_again(
     again.keys("enter")
     lines = again.wait("kept: correction 2 of paragraph 1")
     assert lines[9] == ",OH1 ,THE {MOON} IS FAR AWAY|4|"
+
+
+def test_a_dumb_terminal_is_refused_and_talk_is_named(moon: Path) -> None:
+    words = ["edit", "moon.braildesk"]
+    settings = environment(TERM="dumb")
+    child = pexpect.spawn(
+        sys.executable,
+        ["-m", "scribe", *words],
+        cwd=moon.parent,
+        env=settings,
+        preexec_fn=scribe_in_copy(words, settings),
+        encoding="utf-8",
+        timeout=60,
+        dimensions=(24, 200),
+    )
+    child.expect(pexpect.EOF)
+    child.close()
+    assert child.before == (
+        "scribe edit needs a terminal on which the cursor moves, and TERM says that this one is"
+        " dumb. scribe talk moon.braildesk works here. Nothing was changed.\r\n"
+    )
+    assert child.exitstatus == 2

@@ -6,6 +6,7 @@ import pytest
 from tool import Ran, scribe
 
 from braildesk import Session
+from braildesk.text.cells import Notation
 
 # letters of several scripts, each a cell of its own, and a control character
 LETTERS = "".join(
@@ -192,3 +193,38 @@ def test_a_mark_whose_words_are_gone_says_where_it_is(moon: Path) -> None:
         session.correct(1, 10, 4, "")
     lines = show(moon, "--paragraphs", "1", "--width", "80").shown.split("\n")
     assert lines[4] == "Mark 2, open, touched, on no words, at character 11."
+
+
+@pytest.mark.parametrize(
+    "locale, words, cells",
+    [
+        ("C.UTF-8", (), "⠠⠞⠓⠑⠀⠠⠞⠊⠙⠑⠎"),
+        ("de_DE.utf8", (), "⠠⠞⠓⠑⠀⠠⠞⠊⠙⠑⠎"),
+        ("C", (), ",THE ,TIDES"),
+        ("de_DE.ISO-8859-1", (), ",THE ,TIDES"),
+        ("C", ("--unicode",), "⠠⠞⠓⠑⠀⠠⠞⠊⠙⠑⠎"),
+        ("C.UTF-8", ("--ascii",), ",THE ,TIDES"),
+        ("C", ("--ascii-small",), ",the ,tides"),
+    ],
+)
+def test_cells_are_written_as_the_locale_or_the_words_say(
+    book: Path, locale: str, words: tuple[str, ...], cells: str
+) -> None:
+    with Session(book) as session:
+        session.add_paragraph("end", "en", "The Moon")
+        session.add_paragraph("end", "en", "The Tides")
+    asked: tuple[str | Path, ...] = ("show", book, "2", *words)
+    ran = scribe(*asked, folder=book.parent, LC_ALL=locale)
+    assert ran.shown.splitlines()[-1] == cells
+    talked = scribe(
+        "talk", book, *words, folder=book.parent, given="braille 2\n", LC_ALL=locale
+    )
+    assert talked.shown.splitlines()[1] == cells
+
+
+def test_each_cell_has_a_small_letter_without_dot_7() -> None:
+    cells = "".join(chr(0x2800 + mask) for mask in range(64))
+    # from docs/FORMATS.md, with small letters, and ` { | } ~ for @ [ \\ ] ^
+    wanted = " a1b'k2l`cif/msp\"e3h9o6r~djg>ntq,*5<-u8v.%{$+x!&;:4|0z7(_?w}#y)="
+    assert Notation.SMALL.write(cells) == wanted
+    assert Notation.SMALL.write("⠁⡁") == "a⡁"

@@ -7,6 +7,7 @@ import stat
 import tempfile
 import threading
 from collections.abc import Callable
+from concurrent.futures import ThreadPoolExecutor
 from contextlib import closing
 from pathlib import Path
 from typing import BinaryIO
@@ -23,8 +24,10 @@ from braildesk.snapshot import snapshot
 
 from tool import scribe
 
-#: How many snapshots are taken beside a session that writes without a pause.
-SNAPSHOTS = int(os.environ.get("SNAPSHOTS", "40"))
+#: How many snapshots are taken beside a session that writes without a pause, and how many at once.
+#: SNAPSHOTS=1000 takes a minute or two.
+SNAPSHOTS = int(os.environ.get("SNAPSHOTS", "200"))
+AT_ONCE = 16
 
 
 class Writer(threading.Thread):
@@ -44,21 +47,28 @@ class Writer(threading.Thread):
                     self.version = session.last_version
 
 
+def taken(book: Path, writer: Writer) -> tuple[int, int]:
+    """The version of a snapshot, and the one that was acknowledged before it was begun."""
+    kept = writer.version
+    with snapshot(book) as copied:
+        return check(copied), kept
+
+
 def test_a_snapshot_has_every_command_that_was_kept_before_it(moon: Path) -> None:
     writer = Writer(moon)
     writer.start()
     try:
         while not writer.version:
             pass
-        for _ in range(SNAPSHOTS):
-            kept = writer.version
-            with snapshot(moon) as copied:
-                assert check(copied) >= kept
+        with ThreadPoolExecutor(AT_ONCE) as several:
+            found = list(several.map(lambda _: taken(moon, writer), range(SNAPSHOTS)))
+        # the log is emptied meanwhile, which happens at each 1,000 of its pages
+        while writer.version <= 1_000:
+            found.append(taken(moon, writer))
+        assert all(copied >= kept for copied, kept in found), found
     finally:
         writer.is_to_end = True
         writer.join()
-    # the log was emptied meanwhile, which happens at each 1,000 of its pages
-    assert writer.version > 1_000
 
 
 def test_a_snapshot_leaves_nothing_and_changes_nothing(moon: Path) -> None:
@@ -78,7 +88,7 @@ def test_a_snapshot_of_a_book_that_is_closed_is_that_book(moon: Path) -> None:
         assert check(copied) == check(moon)
 
 
-@pytest.mark.parametrize("words", ["show", "marks", "find {} moon", "pages"])
+@pytest.mark.parametrize("words", ["show", "marks", "next", "find {} moon", "pages"])
 def test_a_book_is_looked_at_while_it_is_open(moon: Path, words: str) -> None:
     words = words if "{}" in words else f"{words} {{}}"
     asked = words.format(moon.name).split()

@@ -12,6 +12,8 @@ import pexpect  # type: ignore[import]
 import pytest
 
 import braildesk
+from scribe.cli.commands import AT_PROMPT
+from scribe.words.typed import InvalidInput, words_of
 from tool import Ran, environment, is_taken_at_start, scribe, scribe_in_copy
 
 #: Longer than what a terminal that collects lines gives to a program.
@@ -122,8 +124,8 @@ def test_queries_are_answered_in_words(talk: Talk) -> None:
         "  character 5 (in requests, cell 5 and",
         "  place 4).",
     ]
-    assert talk.type("marks 1") == ["Mark 1, open, on “moon”: spelled so?"]
-    assert talk.type("marks 2") == ["Paragraph 2 has no marks."]
+    assert talk.type("request marks 1") == ["Mark 1, open, on “moon”: spelled so?"]
+    assert talk.type("request marks 2") == ["Paragraph 2 has no marks."]
     assert talk.type("history 1") == ["1: “moon” for characters 5 to 7"]
     assert talk.type("history 2") == ["Nothing was corrected yet."]
     assert talk.type("version") == ["The book is at version 7."]
@@ -144,9 +146,10 @@ def test_a_refusal_is_a_sentence_and_the_talk_goes_on(talk: Talk) -> None:
     ]
     assert talk.type("correct 1") == [
         "The request correct is written as:",
-        "correct PARA START COUNT TEXT. One blank",
-        "stands between fields, and none at the",
-        "end. Nothing was sent.",
+        "correct PARA START COUNT TEXT. START is",
+        "counted from 0. One blank stands between",
+        "fields, and none at the end. Nothing was",
+        "changed.",
     ]
     assert talk.type("stryke 1") == [
         "There is no stryke. Did you mean strike?",
@@ -160,7 +163,8 @@ def test_words_count_from_1_and_say_that_requests_do_not(talk: Talk) -> None:
         "Paragraph 1 doesn't have the characters 31 to 32: it has 21 characters. Nothing was"
         " changed. Requests count from 0, sentences from 1."
     )
-    assert "Requests count places and cells from 0." in " ".join(talk.type("help"))
+    overview = " ".join(" ".join(talk.type("help")).split())
+    assert "requests, which count places and cells from 0, while all" in overview
     talk.type("correct 1 0 0 Oh, ")
     talk.type("correct 1 7 1 ")
     assert talk.type("history 1") == [
@@ -171,26 +175,33 @@ def test_words_count_from_1_and_say_that_requests_do_not(talk: Talk) -> None:
 
 
 def test_words_that_stand_otherwise_are_shown(talk: Talk) -> None:
-    assert talk.type("find-text MOON") == [
-        "“MOON” stands nowhere in the book as",
-        "typed. With other capitals it stands",
-        "once in one paragraph:",
-        "Paragraph 1, character 5: The [moon] is…",
+    assert talk.type("find MOON") == [
+        "“MOON” isn't in the book as typed. With",
+        "other capitals it is there once; --alike",
+        "shows where.",
     ]
-    talk.type("change-text 1", ": ")
+    talk.type("change 1", ": ")
     assert talk.type("FAR", ": ")[:3] == [
-        "“FAR” stands nowhere in paragraph 1 as",
-        "typed; with other capitals it is “far”.",
-        "Which words go? Type them as they stand",
+        "“FAR” isn't in paragraph 1 as typed;",
+        "with other capitals it is “far”.",
+        "Which words go? An empty line gives up.",
     ]
     talk.type("")
 
 
 def test_help_names_each_thing_that_can_be_typed(talk: Talk) -> None:
     overview = " ".join(talk.type("help"))
-    for name in ("change-text", "all-marks", "correct-by", "whence", "quit"):
+    for name in (*AT_PROMPT, "correct-by", "whence", "quit"):
         assert name in overview
     assert talk.type("help undo") == [
+        "undo PARA [--width N]",
+        "Takes back the newest correction of a",
+        "  paragraph.",
+        "Nothing is erased: the history keeps the",
+        "  correction and that it was taken back.",
+        "For example: undo 1",
+    ]
+    assert talk.type("help request undo") == [
         "undo PARA: Takes back the newest",
         "  correction of a paragraph that is in",
         "  force.",
@@ -198,25 +209,100 @@ def test_help_names_each_thing_that_can_be_typed(talk: Talk) -> None:
         "@12 undo 1 does the same only where the",
         "  book is at version 12.",
     ]
-    assert talk.type("help change-text") == [
-        "change-text: Puts words in place of",
-        "  others.",
-        "Type its name, and answer what it asks.",
-    ]
+
+
+def test_a_command_and_a_request_of_one_name_are_told_apart(talk: Talk) -> None:
+    assert talk.type("mark 1 moon so?")[0] == "Mark 2, open, on “moon”: so?"
+    assert talk.type("request mark 1 5 4 so?")[0] == (
+        "Mark 3, open, paragraph 1, on “moon”:"
+    )
+    assert talk.type("@9 mark 1 5 4 so?")[0] == "Mark 4, open, paragraph 1, on “moon”:"
+
+
+@pytest.mark.parametrize("line", ["quit", "q ", " exit"])
+def test_a_talk_ends_by_each_of_its_words(talk: Talk, line: str) -> None:
+    assert talk.end(f"{line}\r").status == 0
+
+
+def test_a_blank_at_the_end_or_the_front_of_a_line_is_taken(talk: Talk) -> None:
+    assert talk.type("  ") == []
+    assert talk.type(" help quit ")[0] == "quit, q or exit ends the conversation."
+    assert talk.type("print 1 ") == ["The moon is far away."]
+    assert talk.type(" strike 2 ")[-1] == "The book is at version 8."
+    talk.type("change", ": ")
+    assert talk.type("3 ", ": ")[0] == "Paragraph 3: Twice a day the sea comes…"
+    talk.type("")
+    # the text of a request is taken with its blanks
+    talk.type("correct 1 8 0  ")
+    assert talk.type("history 1")[-1] == "2: “ ” put in after character 8"
+
+
+@pytest.mark.parametrize(
+    "line, answer",
+    [
+        (
+            "find far away",
+            "The line has too many words: “away”. Put words with blanks between them in quotation"
+            " marks, as in 'far away'. It is typed as: find TEXT [--braille | --alike] [--width N]",
+        ),
+        (
+            "find 'far",
+            "The quotation mark ' is opened and not closed. Nothing was changed.",
+        ),
+        (
+            "change x",
+            "Argument PARA: 'x' is not a number. It is typed as: change PARA OLD NEW [--nth N]"
+            " [--by WHO] [--width N]",
+        ),
+        ("find don't", "“don't” isn't in the book."),
+    ],
+)
+def test_words_that_are_refused_say_how_the_line_is_typed(
+    talk: Talk, line: str, answer: str
+) -> None:
+    assert " ".join(" ".join(talk.type(line)).split()) == answer
+
+
+@pytest.mark.parametrize(
+    "line, words",
+    [
+        ("", []),
+        ("  1  far   near ", ["1", "far", "near"]),
+        ("1 'far away' near", ["1", "far away", "near"]),
+        ('1 "far away" near', ["1", "far away", "near"]),
+        ("1 don't l'été l'hiver", ["1", "don't", "l'été", "l'hiver"]),
+        ("1 far ''", ["1", "far", ""]),
+        (r'"she said \"no\"" it\'s a\ b', ['she said "no"', "it's", "a b"]),
+        (r"'a\b' c\\d", [r"a\b", r"c\d"]),
+        ("“far away”", ["“far", "away”"]),
+        ("5 o'clock\tsharp", ["5", "o'clock\tsharp"]),
+    ],
+)
+def test_a_line_is_parted_into_words(line: str, words: list[str]) -> None:
+    assert words_of(line) == words
+
+
+@pytest.mark.parametrize("line", ["'far", '1 "far away', "'tis far", "a 'b'c"])
+def test_a_quotation_mark_that_is_not_closed_is_refused(line: str) -> None:
+    with pytest.raises(InvalidInput):
+        words_of(line)
 
 
 def test_words_are_changed_without_counting(moon: Path) -> None:
     talk = Talk(moon, "--width", "40", "--by", "anna")
-    assert talk.type("change-text", ": ") == [
+    assert talk.type("change", ": ") == [
         "Which paragraph? Type its number. An",
         "  empty line gives up.",
     ]
-    assert talk.type("3", ": ") == [
-        "Twice a day the sea comes up.",
-        "Which words go? Type them as they stand",
-        "  there. An empty line gives up.",
+    assert talk.type("9", ": ")[:2] == [
+        "The book has no paragraph 9: it has the",
+        "paragraphs 1 to 3.",
     ]
-    assert talk.type("the ocean", ": ")[0] == "“the ocean” stands nowhere in paragraph"
+    assert talk.type("3", ": ") == [
+        "Paragraph 3: Twice a day the sea comes…",
+        "Which words go? An empty line gives up.",
+    ]
+    assert talk.type("the ocean", ": ")[0] == "“the ocean” isn't in paragraph 3."
     assert talk.type("e", ": ") == [
         "1: Twic[e] a day the sea comes up.",
         "2: Twice a day th[e] sea comes up.",
@@ -227,8 +313,8 @@ def test_words_are_changed_without_counting(moon: Path) -> None:
     ]
     assert talk.type("5", ": ")[0] == "The places are 1 to 4."
     assert talk.type("2", ": ") == [
-        "What comes in their place? An empty line",
-        "  gives up.",
+        "What comes in their place? Type '' to",
+        "  take them out. An empty line gives up.",
     ]
     now, before, *_ = talk.type("at")
     assert now.startswith("Paragraph 3: ") and "th[at] sea" in now
@@ -240,18 +326,32 @@ def test_words_are_changed_without_counting(moon: Path) -> None:
 
 
 def test_words_are_taken_out(talk: Talk) -> None:
-    talk.type("remove-text 1", ": ")
-    assert talk.type(" far")[0] == "Paragraph 1: The moon is[] away."
+    talk.type("change 1 ' far'", ": ")
+    assert talk.type("''")[0] == "Paragraph 1: The moon is[] away."
+    assert talk.type("change 1 ' is' ''")[0] == "Paragraph 1: The moon[] away."
+
+
+def test_words_of_a_line_that_stand_more_than_once_are_asked_about(talk: Talk) -> None:
+    assert talk.type("change 1 a o", ": ")[:3] == [
+        "1: The moon is f[a]r away.",
+        "2: The moon is far [a]way.",
+        "3: The moon is far aw[a]y.",
+    ]
+    assert talk.type("1")[0] == "Paragraph 1: The moon is f[o]r away."
+    assert (
+        talk.type("change 1 a o --nth 1")[0] == "Paragraph 1: The moon is for [o]way."
+    )
 
 
 def test_a_mark_is_put_on_words(talk: Talk) -> None:
-    talk.type("mark-text 2", ": ")
+    talk.type("mark 2", ": ")
     talk.type("Tides", ": ")
     assert talk.type("a capital?") == [
         "Mark 2, open, on “Tides”: a capital?",
+        "Paragraph 2: The [Tides]",
         "The book is at version 8.",
     ]
-    assert talk.type("all-marks") == [
+    assert talk.type("marks") == [
         "Mark 1, open, paragraph 1, on “moon”:",
         "  spelled so?",
         "Mark 2, open, paragraph 2, on “Tides”: a",
@@ -261,26 +361,39 @@ def test_a_mark_is_put_on_words(talk: Talk) -> None:
 
 
 def test_paragraphs_are_shown_and_words_found(talk: Talk) -> None:
-    assert talk.type("show 2") == [
+    assert talk.type("show --paragraphs 2") == [
         "Paragraph 2, body",
         "The Tides",
         "⠠⠞⠓⠑⠀⠠⠞⠊⠙⠑⠎",
     ]
-    place, count = talk.type("find-text sea")
-    assert place.startswith("Paragraph 3, character 17: ") and "[sea]" in place
-    assert count == "“sea” stands once in one paragraph."
+    assert talk.type("find sea") == [
+        "Paragraph 3, character 17:",
+        "Twice a day the [sea] comes up.",
+        "Found “sea” once.",
+    ]
 
 
 def test_an_empty_line_gives_up_what_was_asked_for(talk: Talk) -> None:
-    talk.type("change-text 1", ": ")
-    assert talk.type("") == ["Given up. Nothing was sent."]
+    talk.type("change 1", ": ")
+    assert talk.type("") == ["Given up. Nothing was changed."]
     assert talk.type("version") == ["The book is at version 7."]
 
 
+def test_a_command_that_is_no_answer_gives_up_the_question(talk: Talk) -> None:
+    talk.type("change 1", ": ")
+    assert talk.type("strike 2") == [
+        "“strike 2” isn't in paragraph 1.",
+        "Given up. Nothing was changed.",
+    ]
+    assert talk.type("version") == ["The book is at version 7."]
+    talk.type("change 1", ": ")
+    talk.type("moon", ": ")
+    # what can be an answer is one
+    assert talk.type("list of")[0] == "Paragraph 1: The [list of] is far away."
+
+
 def test_a_table_is_put_into_the_book_from_a_file(talk: Talk, moon: Path) -> None:
-    talk.type("table-file", ": ")
-    talk.type("own", ": ")
-    assert talk.type(str(moon.with_name("plain.utb"))) == [
+    assert talk.type(f"table own {moon.with_name('plain.utb')}") == [
         "Table own is in the book. No paragraph",
         "  has it yet.",
         "The book is at version 8.",
@@ -288,7 +401,7 @@ def test_a_table_is_put_into_the_book_from_a_file(talk: Talk, moon: Path) -> Non
 
 
 def test_the_lines_of_a_table_are_asked_for(talk: Talk) -> None:
-    assert talk.type("table own 2", "1 of 2: ") == [
+    assert talk.type("request table own 2", "1 of 2: ") == [
         "Now the 2 lines of the table own. Ctrl-C",
         "  gives it up.",
     ]
@@ -302,10 +415,10 @@ def test_the_lines_of_a_table_are_asked_for(talk: Talk) -> None:
 
 
 def test_arrow_keys_never_get_into_a_note(talk: Talk) -> None:
-    talk.keys("mark 1 0 4 ac\x1b[D")
+    talk.keys("request mark 1 0 4 ac\x1b[D")
     talk.keys("b")
     talk.type("\x1b[C\x1b[C")
-    assert talk.type("marks 1")[-1] == "Mark 2, open, on “The”: abc"
+    assert talk.type("request marks 1")[-1] == "Mark 2, open, on “The”: abc"
 
 
 def test_the_line_before_comes_back(talk: Talk) -> None:
@@ -314,16 +427,16 @@ def test_the_line_before_comes_back(talk: Talk) -> None:
 
 
 def test_a_control_character_is_refused(talk: Talk) -> None:
-    assert talk.type("mark 1 0 3 a\x16\x1bb") == [
+    assert talk.type("request mark 1 0 3 a\x16\x1bb") == [
         "Character 13 of the line is U+001B",
         "ESCAPE, a control character. Texts and",
         "notes can't have one here. Nothing was",
-        "sent.",
+        "changed.",
     ]
 
 
 def test_a_tab_is_a_character_of_a_note(talk: Talk, moon: Path) -> None:
-    talk.type("mark 1 0 3 a\tb")
+    talk.type("mark 1 The a\tb")
     talk.end("quit\r")
     with braildesk.Session(moon) as session:
         assert session.marks_of(1)[-1].note == "a\tb"
@@ -349,7 +462,7 @@ def test_ctrl_c_gives_up_the_line_and_not_the_talk(talk: Talk) -> None:
     talk.keys("strike 1")
     talk.wait_for("strike 1")
     talk.keys("\x03")
-    talk.wait_for("Given up. Nothing was sent.\r\n> ")
+    talk.wait_for("Given up. Nothing was changed.\r\n> ")
     assert talk.type("version") == ["The book is at version 7."]
 
 
@@ -385,7 +498,7 @@ def test_a_talk_whose_book_can_not_be_opened_again_ends(talk: Talk, moon: Path) 
 
 def test_no_line_is_over_the_width_and_nothing_moves_the_cursor(moon: Path) -> None:
     text = "It rises in the east-north-east of all the places and skies " * 3
-    given = f"type end en {text}\nshow all\nhelp\nhelp mark\nlist\nundo 99\nbraille 4\n"
+    given = f"type end en {text}\nshow\nhelp\nhelp mark\nlist\nundo 99\nbraille 4\n"
     ran = scribe("talk", moon, "--width", "20", folder=moon.parent, given=given)
     lines = (ran.shown + ran.said).splitlines()
     assert max(map(len, lines)) <= 20 and len(lines) > 60
@@ -395,7 +508,7 @@ def test_no_line_is_over_the_width_and_nothing_moves_the_cursor(moon: Path) -> N
 
 def test_letters_of_all_languages_are_typed_in_any_locale(moon: Path) -> None:
     talk = Talk(moon, LC_ALL="C")
-    talk.type("mark 1 0 4 Zdeňkův ⠍")
+    talk.type("request mark 1 0 4 Zdeňkův ⠍")
     assert talk.type("\x1b[A")[0].endswith("on “The”: Zdeňkův ⠍")
     talk.end("quit\r")
     with braildesk.Session(moon) as session:
@@ -413,7 +526,7 @@ def test_the_terminal_is_left_as_it_was(moon: Path) -> None:
 
 
 def test_a_talk_takes_lines_from_a_pipe_too(moon: Path) -> None:
-    given = "change-text 1\nfar\nnear\n"
+    given = "change 1\nfar\nnear\n"
     ran = scribe("talk", moon, "--width", "60", folder=moon.parent, given=given)
     assert ran.status == 0
     assert ran.shown.splitlines()[-4:] == [

@@ -14,7 +14,7 @@ from braildesk import Session
 from braildesk.protocol.requests import BY_NAME
 from scribe.cli.commands import COMMANDS
 from scribe.cli.parser import unknown_command
-from scribe.prompt import help
+from scribe.cli import prompt_words
 from scribe.prompt.grammar import unknown_request
 from scribe.words.elsewhere import AMONG_REQUESTS, AT_PROMPT, AT_SHELL
 from tool import ROOT, Ran, environment, scribe
@@ -24,7 +24,7 @@ NAMES = list(COMMANDS)
 #: The commands of the desk.
 ALL = (
     "new edit run talk import table check-table try show find change undo resolve strike restore heading body"
-    " volume move retable mark marks pages export proof copy bring tune"
+    " volume move retable mark marks next pages export proof copy bring tune"
 ).split()
 
 
@@ -152,13 +152,13 @@ def test_a_word_of_another_place_is_named_at_a_prompt_and_among_requests(
         "There is no export. export is a command of the shell, where scribe export --help says"
         " more. End this first, since the book is in use here. help says what can be typed.",
     ]
-    assert unknown_request("mark-text") == (
-        "There is no request “mark-text”. mark-text is a command of scribe talk."
+    assert unknown_request("pages") == (
+        "There is no request “pages”. scribe pages says what stands on which page and line."
     )
 
 
 def test_each_word_of_another_place_is_known() -> None:
-    requests, prompt = set(BY_NAME), set(help.names())
+    requests, prompt = set(BY_NAME), set(prompt_words.names())
     assert set(AT_SHELL) - set(NAMES) == prompt - set(NAMES)
     assert set(AT_PROMPT) == set(NAMES) - prompt
     assert set(AMONG_REQUESTS) == (set(NAMES) | prompt) - requests

@@ -14,6 +14,7 @@ from typing import TextIO
 
 from scribe.cli import main
 from scribe.screen import terminal
+from scribe.words import console
 
 ROOT = Path(__file__).resolve().parents[2]
 # what Python takes from the environment as it is started, and not later
@@ -30,8 +31,9 @@ class Ran:
 
 
 def environment(**more: str) -> dict[str, str]:
-    """The environment in which scribe is found."""
-    return {**os.environ, "PYTHONPATH": str(ROOT / "src"), **more}
+    """The environment in which scribe is found, and cells are shown as Unicode characters."""
+    usual = {"LANG": "C.UTF-8", **os.environ}
+    return {**usual, "PYTHONPATH": str(ROOT / "src"), **more}
 
 
 def scribe(
@@ -92,6 +94,7 @@ def scribe_in_copy(
                 signal.signal(each, signal.SIG_IGN)
             # the environment with which a process was started can't be changed in it
             terminal.first_environment = lambda: dict(settings)
+            console.first_environment = lambda: dict(settings)
             sys.argv = ["scribe", *map(str, words)]
             for number, name in enumerate(("stdin", "stdout", "stderr")):
                 setattr(sys, name, _stream(number))

@@ -25,6 +25,7 @@ WORDS: dict[str, list[str]] = {
     "change": ["moon.braildesk", "1", "far away", "near"],
     "mark": ["moon.braildesk", "1", "far", "how far?"],
     "marks": ["moon.braildesk"],
+    "next": ["moon.braildesk"],
     "undo": ["moon.braildesk", "1"],
     "resolve": ["moon.braildesk", "1"],
     "strike": ["moon.braildesk", "1"],

@@ -3,6 +3,7 @@
 from dataclasses import dataclass
 
 from braildesk import Mark, Session
+from braildesk.desk import Problem
 from braildesk.desk.places import Words, cells_of
 from braildesk.desk.readings import answers, prints
 from braildesk.protocol.requests import Marks
@@ -18,18 +19,60 @@ class MarkOfBook:
     text: str
 
 
+class NoMark(Problem):
+    """The book has no mark of this number."""
+
+    def __init__(self, number: int) -> None:
+        super().__init__(number)
+        self.number = number
+
+
 def all_marks(session: Session) -> list[MarkOfBook]:
     """The marks of a book, the open ones first, by paragraph and place."""
+    return sorted(_in_order(session), key=lambda each: each.mark.resolved)
+
+
+def _in_order(session: Session) -> list[MarkOfBook]:
+    """The marks of a book by paragraph and place."""
     book = session.paragraphs()
     marks = list(answers(session, (Marks(each.id) for each in book)))
     pairs = [(each, its) for each, its in zip(book, marks) if its]
     texts = prints(session, [each for each, _ in pairs])
-    placed = [
+    return [
         MarkOfBook(mark, paragraph.id, text)
         for (paragraph, its), text in zip(pairs, texts)
         for mark in sorted(its, key=lambda mark: (mark.start, mark.stop, mark.id))
     ]
-    return sorted(placed, key=lambda each: each.mark.resolved)
+
+
+@dataclass(frozen=True)
+class NextMark:
+    """The open mark that comes next, if there is one, and how many others are open."""
+
+    mark: MarkOfBook | None
+    others: int
+    #: Whether it was looked for from the front of the book again.
+    is_from_front: bool
+
+
+def next_open(session: Session, after: int | None) -> NextMark:
+    """The next open mark after one of the book, or its first one; raises `NoMark`.
+
+    After the last one comes the first again.
+    """
+    placed = _in_order(session)
+    numbers = [each.mark.id for each in placed]
+    if after is not None and after not in numbers:
+        raise NoMark(after)
+    place = 0 if after is None else numbers.index(after) + 1
+    later, earlier = (
+        [each for each in part if not each.mark.resolved]
+        for part in (placed[place:], placed[:place])
+    )
+    found = [*later, *earlier]
+    if not found:
+        return NextMark(None, 0, False)
+    return NextMark(found[0], len(found) - 1, not later)
 
 
 @dataclass(frozen=True)

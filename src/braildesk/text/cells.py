@@ -1,6 +1,7 @@
 """Cells of braille as characters of Braille Patterns and as bytes of North American Braille ASCII."""
 
 import re
+from enum import StrEnum
 
 EMPTY_CELL = "\u2800"
 #: The characters between words, of print and of braille.
@@ -13,6 +14,29 @@ _SIX_DOTS = re.compile("[\u2800-\u283f]*")
 _TO_ASCII = {chr(0x2800 + mask): letter for mask, letter in enumerate(_ASCII)}
 _FROM_ASCII = {letter: pattern for pattern, letter in _TO_ASCII.items()}
 _SMALL_LETTERS = {chr(code): chr(code - 0x20) for code in range(0x60, 0x7F)}
+
+
+_SMALL = {ord(letter): small for small, letter in _SMALL_LETTERS.items()}
+
+
+class Notation(StrEnum):
+    """How cells are written for a person."""
+
+    #: Characters of Braille Patterns.
+    UNICODE = "unicode"
+    #: Braille ASCII.
+    ASCII = "ascii"
+    #: Braille ASCII with small letters: a display of 8 dots shows a capital with dot 7.
+    SMALL = "ascii-small"
+
+    def write(self, braille: str) -> str:
+        """Cells that are given as characters of Braille Patterns."""
+        match self:
+            case Notation.UNICODE:
+                return braille
+            case Notation.ASCII:
+                return braille_ascii(braille)
+        return braille_ascii(braille).translate(_SMALL)
 
 
 class NotCells(ValueError):

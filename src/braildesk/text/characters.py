@@ -98,7 +98,7 @@ def control_refused(line: bytes) -> str | None:
     character = found.group().decode()
     return (
         f"Character {len(before) + 1} of the line is {code_and_name(character)}, a control"
-        " character. Texts and notes can't have one here. Nothing was sent."
+        " character. Texts and notes can't have one here. Nothing was changed."
     )
 
 

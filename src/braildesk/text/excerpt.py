@@ -5,9 +5,12 @@ from collections.abc import Callable
 from braildesk.text.cells import BLANKS
 from braildesk.text.characters import visible
 from braildesk.text.sequences import sequences
-from braildesk.text.wrapping import columns, measure
+from braildesk.text.wrapping import columns, measure, wrap
 
 _CUT = "…"
+_INDENT = "  "
+#: How much of a text beside the words is worth the rest of a line.
+_BESIDE = 10
 
 
 def excerpt(text: str, start: int, stop: int, width: int) -> str:
@@ -22,6 +25,24 @@ def excerpt(text: str, start: int, stop: int, width: int) -> str:
     return front + words + opening(after, room - columns(front))
 
 
+def excerpt_lines(head: str, text: str, start: int, stop: int, width: int) -> list[str]:
+    """A head and an excerpt after it, in as few lines of the width as have all of the words.
+
+    The excerpt begins a line of its own where the rest of the head's line is short, and goes on in
+    others where the words fill more than one.
+    """
+    words = f"[{visible(text[start:stop])}]"
+    size, room = columns(words), width - columns(head)
+    beside = min(_BESIDE, len(text) - (stop - start))
+    if size + beside <= room:
+        return [head + excerpt(text, start, stop, room)]
+    lines = wrap(head, width, _INDENT)
+    if size <= width:
+        return [*lines, excerpt(text, start, stop, width)]
+    before, after = _CUT if start else "", _CUT if stop < len(text) else ""
+    return [*lines, *wrap(before + words + after, width, _INDENT)]
+
+
 def opening(text: str, width: int) -> str:
     """The first words of a text, in a line of a width."""
     size_of = measure(text)
@@ -30,6 +51,9 @@ def opening(text: str, width: int) -> str:
     if size_of is len and width > 0:
         # each character is a sequence of one column
         blank = max(text.rfind(each, 1, width) for each in BLANKS)
+        if blank < 0 and text[0] in BLANKS:
+            # no word is cut where another one ends before it
+            return (text[0] if width > 1 else "") + _CUT
         return text[: blank if blank > 0 else width - 1] + _CUT
     return "".join(_fitting(sequences(text), width, size_of))
 
@@ -42,8 +66,10 @@ def ending(text: str, width: int) -> str:
     if size_of is len and width > 0:
         front = len(text) - width
         blanks = (text.find(each, front, -1) for each in BLANKS)
-        blank = min((each for each in blanks if each >= 0), default=front)
-        return _CUT + text[blank + 1 :]
+        blank = min((each for each in blanks if each >= 0), default=-1)
+        if blank < 0 and text[-1] in BLANKS:
+            return _CUT + (text[-1] if width > 1 else "")
+        return _CUT + text[(front if blank < 0 else blank) + 1 :]
     return "".join(reversed(_fitting(sequences(text)[::-1], width, size_of)))
 
 
@@ -66,4 +92,6 @@ def _fitting(pieces: list[str], width: int, size_of: Callable[[str], int]) -> li
         taken += 1
         if pieces[taken] in BLANKS:
             blank = taken
+    if not blank and pieces[0] in BLANKS:
+        taken = min(taken, 1)
     return [*pieces[: blank or taken], _CUT]

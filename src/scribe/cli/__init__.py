@@ -7,6 +7,7 @@ from contextlib import suppress
 
 from scribe.cli.commands import COMMANDS, command
 from scribe.cli.endings import ended
+from scribe.cli.width import as_asked
 from scribe.cli.parser import Parser, TextAsked, WordsRefused, unknown_command
 from scribe.words.console import Console, InputFailed, OutputFailed
 from scribe.words.failures import in_sentences
@@ -47,6 +48,7 @@ def run_words(words: Sequence[str], console: Console) -> Status:
         if words and not words[0].startswith("-") and words[0] not in COMMANDS:
             parser.refuse(unknown_command(words[0], list(COMMANDS)))
         arguments = parser.parse_args(words)
+        console = as_asked(console, arguments)
         with in_sentences():
             status: Status = arguments.run(arguments, console)
             console.flush()

@@ -5,7 +5,7 @@ from collections.abc import Iterator
 from contextlib import contextmanager
 
 from braildesk.desk.places import ManyPlaces
-from braildesk.text.excerpt import excerpt
+from braildesk.text.excerpt import excerpt_lines
 from braildesk.text.spans import Span
 
 from scribe.cli.parser import number
@@ -30,7 +30,11 @@ def places_shown(width: int) -> Iterator[None]:
         yield
     except ManyPlaces as many:
         found = enumerate(many.places, 1)
-        lines = [_place_line(many.text, place, nth, width) for nth, place in found]
+        lines = [
+            line
+            for nth, place in found
+            for line in _place_lines(many.text, place, nth, width)
+        ]
         raise Stop(_sentence(many), more=lines) from many
 
 
@@ -41,15 +45,15 @@ def _sentence(many: ManyPlaces) -> str:
         "Say which by --nth" if many.nth is None else f"There is no place {many.nth}"
     )
     return (
-        f"{quoted(many.sought)} stands {times} in paragraph {many.paragraph}. {wanted}."
+        f"Paragraph {many.paragraph} has {quoted(many.sought)} {times}. {wanted}."
         " Nothing was changed."
     )
 
 
-def _place_line(text: str, place: Span, nth: int, width: int) -> str:
+def _place_lines(text: str, place: Span, nth: int, width: int) -> list[str]:
     """A place with the words around it."""
     head = f"--nth {nth}, character {place.start + 1}: "
-    return head + excerpt(text, place.start, place.stop, width - len(head))
+    return excerpt_lines(head, text, place.start, place.stop, width)
 
 
 def _counted_from_one(word: str) -> int:

@@ -2,17 +2,16 @@
 
 import argparse
 from collections.abc import Callable, Sequence
+from dataclasses import dataclass
 from pathlib import Path
-from typing import TYPE_CHECKING, Any, NoReturn, TypeVar
+from typing import Any, NoReturn, TypeVar, cast
 
 from braildesk.desk import USUAL_WAIT
+from braildesk.text.wrapping import wrap
 from braildesk.version import version
 
 from scribe.cli.commands import COMMANDS
 from scribe.words import typed
-
-if TYPE_CHECKING:
-    from braildesk import After
 
 # The object on which a command calls add_parser.
 Subparsers = Any
@@ -41,17 +40,52 @@ class _Help(argparse.Action):
         raise TextAsked(parser.format_help())
 
 
+class _Formatter(argparse.RawDescriptionHelpFormatter):
+    """Paragraphs that flow in the width, with lines that begin with blanks as they are."""
+
+    def _fill_text(self, text: str, width: int, indent: str) -> str:
+        lines: list[str] = []
+        for paragraph in text.split("\n\n"):
+            words: list[str] = []
+            lines.append("")
+            for line in [*paragraph.splitlines(), " "]:
+                if line.startswith(" "):
+                    lines += wrap(" ".join(words), width) if words else []
+                    lines += [line] if line.strip() else []
+                    words = []
+                else:
+                    words.append(line)
+        return "\n".join(lines[1:])
+
+
 class _Version(argparse.Action):
     def __call__(self, parser: argparse.ArgumentParser, *_: Any) -> NoReturn:
         raise TextAsked(f"{parser.prog} {version()}")
+
+
+@dataclass(frozen=True)
+class Asked:
+    """A word that has to be there. A prompt asks for it where it is missing."""
+
+    action: argparse.Action
+    read: Callable[[str], Any]
+    question: str
+    #: The same in a word or two.
+    short: str
+    #: Whether it is words that stand in the print of the paragraph that is named before them.
+    stands: bool = False
+    #: Whether the mark that is dealt with says which it is.
+    in_hand: bool = False
 
 
 class Parser(argparse.ArgumentParser):
     """A parser that raises what it has to say, so that a command is tried without a process."""
 
     def __init__(self, **options: Any) -> None:
-        options.setdefault("formatter_class", argparse.RawDescriptionHelpFormatter)
+        options.setdefault("formatter_class", _Formatter)
         super().__init__(add_help=False, allow_abbrev=False, **options)
+        #: The words that have to be there, in their order.
+        self.asked: list[Asked] = []
         self.add_argument(
             "-h",
             "--help",
@@ -66,6 +100,24 @@ class Parser(argparse.ArgumentParser):
             "--version", action=_Version, nargs=0, help="show the version of scribe"
         )
 
+    def add_asked(
+        self,
+        name: str,
+        metavar: str,
+        read: Callable[[str], Any],
+        does: str,
+        question: str,
+        short: str = "",
+        stands: bool = False,
+        in_hand: bool = False,
+    ) -> None:
+        """Adds a word that has to be there, with the question by which a prompt asks for it."""
+        action = self.add_argument(
+            name, metavar=metavar, type=argument(read), help=does
+        )
+        asked = Asked(action, read, question, short or name, stands, in_hand)
+        self.asked.append(asked)
+
     def refuse(self, sentence: str) -> NoReturn:
         """Refuses the words with a sentence."""
         raise WordsRefused(sentence, self.format_usage().strip())
@@ -77,7 +129,7 @@ class Parser(argparse.ArgumentParser):
 
 def command_parser(
     subparsers: Subparsers, name: str, example: str, more: str = ""
-) -> argparse.ArgumentParser:
+) -> Parser:
     """Adds a command's parser: its help is the sentence of `COMMANDS`, and an example.
 
     The example is one or more lines for a shell, which run as they stand in the folder that the
@@ -86,10 +138,10 @@ def command_parser(
     _, does = COMMANDS[name]
     description = f"{does}\n\n{more}" if more else does
     lines = "\n".join(f"  {line}" for line in example.splitlines())
-    parser: argparse.ArgumentParser = subparsers.add_parser(
+    parser = subparsers.add_parser(
         name, help=does, description=description, epilog=f"example:\n{lines}"
     )
-    return parser
+    return cast(Parser, parser)
 
 
 def add_file(parser: argparse.ArgumentParser, wait: float = USUAL_WAIT) -> None:
@@ -108,10 +160,15 @@ def add_file(parser: argparse.ArgumentParser, wait: float = USUAL_WAIT) -> None:
     )
 
 
-def add_paragraph(parser: argparse.ArgumentParser) -> None:
+def add_paragraph(parser: Parser, in_hand: bool = False) -> None:
     """Adds the word PARA: the number of a paragraph, as `arguments.paragraph`."""
-    parser.add_argument(
-        "paragraph", metavar="PARA", type=number, help="the number of the paragraph"
+    parser.add_asked(
+        "paragraph",
+        "PARA",
+        typed.number,
+        "the number of the paragraph",
+        "Which paragraph? Type its number.",
+        in_hand=in_hand,
     )
 
 
@@ -130,6 +187,7 @@ def argument(read: Callable[[str], Value]) -> Callable[[str], Value]:
 number = argument(typed.number)
 text = argument(typed.text)
 words = argument(typed.words)
+after = argument(typed.after)
 
 
 def seconds(word: str) -> float:
@@ -137,20 +195,6 @@ def seconds(word: str) -> float:
     if not (word.isascii() and word.replace(".", "", 1).isdigit() and len(word) <= 8):
         raise argparse.ArgumentTypeError(f"{word!r} is no number of seconds")
     return float(word)
-
-
-def after(word: str) -> "After":
-    """Where a paragraph is put: front, end, or the number of the one before it."""
-    if word == "front":
-        return "front"
-    if word == "end":
-        return "end"
-    try:
-        return number(word)
-    except argparse.ArgumentTypeError:
-        raise argparse.ArgumentTypeError(
-            f"{word!r} is none of front, end and the number of a paragraph"
-        ) from None
 
 
 def unknown_command(word: str, names: Sequence[str]) -> str:

@@ -1,52 +1,50 @@
 """A conversation about a book: lines are typed, and each is answered in words."""
 
-from collections.abc import Callable
+from collections.abc import Callable, Collection
 from dataclasses import dataclass, field
 from typing import Any, TypeVar
 
 from braildesk import Refused, Session, limits
+from braildesk.desk.marks import MarkOfBook
 from braildesk.protocol.requests import Command, Request, TableHead
 from braildesk.text.characters import control_refused
-from braildesk.text.wrapping import wrap
 
 from scribe.prompt.grammar import NotARequest, read_head
 from scribe.prompt.typed_lines import GivenUp, Lines
 from scribe.words.changes import carried_out
 from scribe.words.console import Console
+from scribe.words.paragraph import mark_line
 from scribe.words.queries import shown
 from scribe.words.replies import refusal_sentence
 from scribe.words.typed import InvalidInput
 
 Value = TypeVar("Value")
-_INDENT = "  "
+#: What is typed for a text without characters, since an empty line gives up.
+_EMPTY = ("''", '""')
 
 
 class Ended(Exception):
     """There are no more lines."""
 
 
-@dataclass(frozen=True)
+@dataclass
 class Conversation:
     """A session with a book and a person, and how they are spoken to."""
 
     session: Session
     lines: Lines
+    #: The words that a line begins with.
+    commands: Collection[str]
+    #: Where lines are shown, none of them over its width.
     console: Console
-    width: int
-    #: The proofreader whose name corrections by text keep.
+    #: The proofreader whose name corrections keep.
     by: str | None = None
+    #: Whether questions are asked in a word or two.
+    is_short: bool = False
+    #: The mark that the person deals with.
+    hand: MarkOfBook | None = None
     #: The lines that were typed since the last prompt for a command.
     typed: list[str] = field(default_factory=list)
-
-    def show(self, *texts: str) -> None:
-        """Shows what was asked for, in lines of the width."""
-        for text in texts:
-            self.console.show(*wrap(text, self.width, _INDENT))
-
-    def say(self, *sentences: str) -> None:
-        """Says sentences, in lines of the width."""
-        for sentence in sentences:
-            self.console.say(*wrap(sentence, self.width))
 
     def next_line(self, prompt: str, is_kept: bool = False) -> bytes:
         """The next line that is typed; Ended where there is none, GivenUp by Ctrl-C."""
@@ -57,63 +55,112 @@ class Conversation:
         self.typed.append(line.decode(errors="replace"))
         return line
 
-    def ask(
-        self, question: str, read: Callable[[str], Value], given: str = ""
-    ) -> Value:
-        """The answer to a question, asked until it can be read; an empty line gives up."""
-        answer = given
-        while True:
-            if not answer:
-                self.show(f"{question} An empty line gives up.")
-                answer = self._answer()
-            try:
-                return read(answer)
-            except InvalidInput as fault:
-                sentence = str(fault)
-                self.say(sentence[:1].upper() + sentence[1:].rstrip(".") + ".")
-                answer = ""
+    def ask(self, question: str, short: str, read: Callable[[str], Value]) -> Value:
+        """The answer to a question, asked until it can be read; an empty line gives up.
 
-    def _answer(self) -> str:
-        line = self.next_line(": ")
-        if not line:
-            raise GivenUp
-        return line.decode("utf-8", "surrogateescape")
+        So does a line that is no answer and begins as a command does.
+        """
+        while True:
+            line = self._answer(question, short)
+            if not line:
+                raise GivenUp
+            answer = line.decode("utf-8", "surrogateescape")
+            try:
+                return _read("" if answer in _EMPTY else answer, read)
+            except InvalidInput as fault:
+                # a short question doesn't say it
+                way_out = " An empty line gives up." if self.is_short else ""
+                self.console.say(sentence(str(fault)) + way_out)
+                if answer.split(" ")[0] in self.commands:
+                    # somebody who types a command has forgotten the question
+                    raise GivenUp from fault
+
+    def _answer(self, question: str, short: str) -> bytes:
+        """The line that is typed after a question, or after the same in a word or two."""
+        if not self.is_short:
+            self.console.show(f"{question} An empty line gives up.")
+            return self.next_line(": ")
+        if not self.lines.has_prompts:
+            self.console.show(f"{short}:")
+        return self.next_line(f"{short}: ")
+
+    def remind(self) -> None:
+        """Shows the mark in hand again where its paragraph is corrected, until it is resolved."""
+        was = self.hand
+        if was is None:
+            return
+        number = was.paragraph
+        marks = self.session.marks_of(number)
+        (mark,) = (each for each in marks if each.id == was.mark.id)
+        text = self.session.print_of(number)
+        self.hand = MarkOfBook(mark, number, text)
+        # a mark that was touched just now is shown with the change
+        is_shown = mark.touched != was.mark.touched
+        if text != was.text and not (mark.resolved or is_shown):
+            self.console.show(mark_line(mark, text, number))
+
+
+def _read(answer: str, read: Callable[[str], Value]) -> Value:
+    """What an answer is read as, without the blanks around it where it is none with them."""
+    try:
+        return read(answer)
+    except InvalidInput:
+        if answer == answer.strip():
+            raise
+        return read(answer.strip())
+
+
+def sentence(words: str) -> str:
+    """A sentence of words that may be only its end."""
+    return words[:1].upper() + words[1:].rstrip(".") + "."
 
 
 def request_line(conversation: Conversation, line: bytes) -> None:
     """Answers a line of the requests' grammar."""
+    say = conversation.console.say
     try:
-        read = read_head(line)
+        read = _head(line)
         control = control_refused(line)
         request = read
         if isinstance(read, TableHead):
             request = read.request(_block(conversation, read))
     except NotARequest as fault:
-        conversation.say(f"{fault.sentence} Nothing was sent.")
+        say(f"{fault.sentence} Nothing was changed.")
         return
     if control is not None:
-        conversation.say(control)
+        say(control)
         return
     assert isinstance(request, Request)
-    answer_request(conversation, request)
+    _answer(conversation, request)
 
 
-def answer_request(conversation: Conversation, request: Request[Any]) -> None:
+def _head(line: bytes) -> Request[Any] | TableHead:
+    """The request of a line, without the blanks at its end where it is none with them."""
+    try:
+        return read_head(line)
+    except NotARequest:
+        if line == line.rstrip(b" "):
+            raise
+        return read_head(line.rstrip(b" "))
+
+
+def _answer(conversation: Conversation, request: Request[Any]) -> None:
     """Sends a request, and answers in words."""
+    session, console = conversation.session, conversation.console
     try:
         if isinstance(request, Command):
-            lines = carried_out(conversation.session, request, conversation.width)
+            lines = carried_out(session, request, console.columns, console.cells)
         else:
-            lines = shown(conversation.session, request)
+            lines = shown(session, request, console.cells)
     except Refused as refused:
-        conversation.say(refusal_sentence(refused, has_line=False))
+        console.say(refusal_sentence(refused, has_line=False))
         return
-    conversation.show(*lines)
+    console.show(*lines)
 
 
 def _block(conversation: Conversation, head: TableHead) -> bytes:
     """The lines of a table's text, as they are typed."""
-    conversation.show(
+    conversation.console.show(
         f"Now the {head.lines:,} lines of the table {head.table}. Ctrl-C gives it up."
     )
     lines = []

@@ -3,10 +3,21 @@
 from dataclasses import replace
 from typing import Any
 
-from braildesk.protocol.requests import BY_NAME, EXPECTED, Command, Request, TableHead
+from braildesk.protocol.requests import (
+    BY_NAME,
+    EXPECTED,
+    Command,
+    Request,
+    TableHead,
+    fields_of,
+)
 from braildesk.text import limits
 
 from scribe.words.elsewhere import AMONG_REQUESTS, hint
+
+
+# the fields that people would count from 1
+_PLACES = ("START", "CELL", "PLACE")
 
 
 class NotARequest(Exception):
@@ -65,9 +76,15 @@ def _request(kind: type[Request[Any]], rest: str | None) -> Request[Any] | Table
         return kind.read(rest)
     except ValueError:
         raise NotARequest(
-            f"The request {kind.name} is written as: {kind.form()}. One blank stands between"
-            " fields, and none at the end."
+            f"The request {kind.name} is written as: {kind.form()}.{_counting(kind)} One blank"
+            " stands between fields, and none at the end."
         ) from None
+
+
+def _counting(kind: type[Request[Any]]) -> str:
+    """From where a request counts, if it has a place or a cell."""
+    counted = [each.word for each in fields_of(kind).values() if each.word in _PLACES]
+    return f" {counted[0]} is counted from 0." if counted else ""
 
 
 def _expecting(

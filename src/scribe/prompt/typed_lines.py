@@ -52,6 +52,9 @@ def never() -> bool:
 class Lines(Protocol):
     """Where lines come from."""
 
+    #: Whether a person sees the prompts.
+    has_prompts: bool
+
     def line(
         self,
         prompt: str,
@@ -68,6 +71,8 @@ class Lines(Protocol):
 class PipedLines:
     """Lines that come from no terminal, or while nothing is shown at one, so without a prompt."""
 
+    has_prompts = False
+
     def __init__(self, console: Console) -> None:
         self._console = console
         self._may_be_cut = console.input.isatty()
@@ -82,13 +87,15 @@ class PipedLines:
         line = self._console.read_line()
         if self._may_be_cut and len(line) >= CUT_BYTES:
             raise Stop(
-                f"The terminal may have cut this line after {CUT_BYTES:,} bytes. Nothing was sent."
+                f"The terminal may have cut this line after {CUT_BYTES:,} bytes. Nothing was changed."
             )
         return line.removesuffix(b"\n") if line else None
 
 
 class TypedLines(AbstractContextManager["TypedLines"]):
     """Lines that are typed at a terminal, and edited while they are."""
+
+    has_prompts = True
 
     def __init__(self) -> None:
         _read_utf8()

@@ -12,9 +12,9 @@ from braildesk.desk.places import NoPlace
 from braildesk.desk.readings import answers
 from braildesk.protocol.requests import Command, Request
 from braildesk.protocol.values import After, Corrected, Done, Marked, Typed
-from braildesk.text.cells import BLANKS
+from braildesk.text.cells import BLANKS, Notation
 from braildesk.text.characters import visible
-from braildesk.text.excerpt import excerpt, opening
+from braildesk.text.excerpt import excerpt, excerpt_lines, opening
 from braildesk.text.wrapping import columns
 
 from scribe.words.find import instead
@@ -24,11 +24,13 @@ from scribe.words.paragraph import mark_line, quoted
 Answer = TypeVar("Answer")
 
 
-def carried_out(session: Session, command: Command[Any], width: int) -> list[str]:
+def carried_out(
+    session: Session, command: Command[Any], width: int, cells: Notation
+) -> list[str]:
     """Sends a command, and says what it changed; Refused where it is refused."""
     before = session.last_version
     try:
-        return _carried_out(session, command, width)
+        return _carried_out(session, command, width, cells)
     except NoMemory:
         if session.last_version == before:
             raise
@@ -36,7 +38,9 @@ def carried_out(session: Session, command: Command[Any], width: int) -> list[str
         return [kept, at_version(session.last_version)]
 
 
-def _carried_out(session: Session, command: Command[Any], width: int) -> list[str]:
+def _carried_out(
+    session: Session, command: Command[Any], width: int, cells: Notation
+) -> list[str]:
     match command:
         case requests.Type():
             return _typed(session, command, width)
@@ -54,7 +58,7 @@ def _carried_out(session: Session, command: Command[Any], width: int) -> list[st
         case requests.Volume(begins=begins):
             return _flagged(session, command, _volume, width, begins_volume=begins)
         case requests.Retable():
-            return _retabled(session, command, width)
+            return _retabled(session, command, width, cells)
         case requests.Move():
             return _moved(session, command, width)
         case requests.Table() | requests.Supply():
@@ -181,15 +185,21 @@ def _flagged(
     ]
 
 
-def _retabled(session: Session, command: requests.Retable, width: int) -> list[str]:
+def _retabled(
+    session: Session, command: requests.Retable, width: int, cells: Notation
+) -> list[str]:
     number = command.paragraph
     book = session.paragraphs()
-    cells = _before(session, requests.Braille(number)) or ""
+    was = _before(session, requests.Braille(number)) or ""
     done: Done = session.ask(command)
     before = _paragraph(book, number)
     braille = session.braille_of(number)
     lines = difference(
-        cells, braille, width, "Its braille", "Its braille is as before."
+        cells.write(was),
+        cells.write(braille),
+        width,
+        "Its braille",
+        "Its braille is as before.",
     )
     if before.table == command.table:
         change = f"table {command.table}, as before"
@@ -257,12 +267,14 @@ def _volume(paragraph: Paragraph) -> str:
 def change_lines(change: Change, width: int) -> list[str]:
     """What is now first, then what was, then each mark that the change touched."""
     head, former = f"Paragraph {change.paragraph}: ", "Before: "
-    now = excerpt(change.now, change.came.start, change.came.stop, width - len(head))
-    before = excerpt(
-        change.before, change.went.start, change.went.stop, width - len(former)
-    )
+    came, went = change.came, change.went
     marks = (mark_line(mark, change.now) for mark in change.touched)
-    return [head + now, former + before, *marks, at_version(change.version)]
+    return [
+        *excerpt_lines(head, change.now, came.start, came.stop, width),
+        *excerpt_lines(former, change.before, went.start, went.stop, width),
+        *marks,
+        at_version(change.version),
+    ]
 
 
 def wider(marked: MarkedWords) -> str:
@@ -271,11 +283,11 @@ def wider(marked: MarkedWords) -> str:
     wanted = quoted(marked.text[place.start : place.stop])
     found = quoted(marked.text[mark.start : mark.stop])
     return (
-        f"The cells of {wanted} stand for print beside it too: the mark is on {found}."
+        f"{wanted} shares its cells with what is beside it, so the mark is on {found}."
     )
 
 
 def no_place(none: NoPlace) -> str:
     """The sentence for words that stand nowhere in a paragraph."""
     where = f"in paragraph {none.paragraph}{instead(none.sought, none.text)}"
-    return f"{quoted(none.sought)} stands nowhere {where}. Nothing was changed."
+    return f"{quoted(none.sought)} isn't {where}. Nothing was changed."

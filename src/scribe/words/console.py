@@ -2,17 +2,23 @@
 
 import errno
 import os
+import shutil
 import sys
 import time
-from collections.abc import Callable
+from collections.abc import Callable, Iterable, Iterator
 from contextlib import suppress
 from dataclasses import dataclass
 from typing import BinaryIO, TextIO
 
 from braildesk.text import limits
+from braildesk.text.cells import Notation
 from braildesk.text.characters import visible
+from braildesk.text.wrapping import columns, wrap
 
 PROGRESS_SECONDS = 2.0
+LEAST_WIDTH = 10
+_USUAL_WIDTH = 80
+_INDENT = "  "
 # a line that a request may have, CR LF and one byte more
 _LINE = limits.LINE_BYTES + 3
 
@@ -67,7 +73,8 @@ class Console:
 
     What a person asked for is shown on the output, sentences are said on the errors. Both are
     UTF-8 whatever the locale says, as a book is. What would move the cursor or end a line, as a
-    name of a file may have it, is written out here, so that no sentence can forget it.
+    name of a file may have it, is written out here, so that no sentence can forget it. No line is
+    over the width, if there is one.
     """
 
     input: BinaryIO
@@ -75,6 +82,15 @@ class Console:
     errors: TextIO
     #: Raises Interrupted where the work is to end: at the process's own streams a signal does that.
     check: Callable[[], None] = lambda: None
+    #: The columns of a line; None where a line is as long as it comes, as for another program.
+    width: int | None = None
+    #: How cells are written.
+    cells: Notation = Notation.UNICODE
+
+    @property
+    def columns(self) -> int:
+        """The columns in which what is shown is laid out."""
+        return _USUAL_WIDTH if self.width is None else self.width
 
     @classmethod
     def of_process(cls) -> "Console":
@@ -86,7 +102,8 @@ class Console:
             raise OutputClosed
         source = _closed_input() if sys.stdin is None else sys.stdin.buffer
         try:
-            return cls(source, _utf8_writer(1), _utf8_writer(2))
+            writers = _utf8_writer(1), _utf8_writer(2)
+            return cls(source, *writers, width=_width_of_output(), cells=_usual_cells())
         except OSError as cause:
             raise OutputFailed(cause) from cause
 
@@ -110,8 +127,15 @@ class Console:
 
     def show(self, *lines: str) -> None:
         """Writes lines that a person asked for."""
+        self._write(self._lines(lines, _INDENT))
+
+    def pass_on(self, *lines: str) -> None:
+        """Writes lines that another program reads, as long as they come."""
+        self._write(visible(line) + "\n" for line in lines)
+
+    def _write(self, lines: Iterable[str]) -> None:
         try:
-            self.output.writelines(visible(line) + "\n" for line in lines)
+            self.output.writelines(lines)
         except OSError as cause:
             raise OutputFailed(cause) from cause
 
@@ -126,10 +150,18 @@ class Console:
         """Writes sentences, after all that was shown before them."""
         self.flush()
         try:
-            self.errors.writelines(visible(sentence) + "\n" for sentence in sentences)
+            self.errors.writelines(self._lines(sentences))
             self.errors.flush()
         except OSError as cause:
             raise OutputFailed(cause, "Standard error") from cause
+
+    def _lines(self, texts: Iterable[str], indent: str = "") -> Iterator[str]:
+        """Texts in lines of the width, each with its ending."""
+        for text in map(visible, texts):
+            if self.width is None or columns(text) <= self.width:
+                yield text + "\n"
+            else:
+                yield from (line + "\n" for line in wrap(text, self.width, indent))
 
     def progress(self, what: str) -> Callable[[int, int], None]:
         """A function of how many are done, of how many, that says so from time to time.
@@ -150,6 +182,31 @@ class Console:
                     self.say(f"{done:,} of {total:,} {what}.")
 
         return report
+
+
+def _width_of_output() -> int | None:
+    """The columns that COLUMNS says, or those of the terminal of the output, if it is one."""
+    found = shutil.get_terminal_size((0, 0)).columns
+    return max(found, LEAST_WIDTH) if found else None
+
+
+def first_environment() -> dict[str, str]:
+    """The environment as scribe was started with it, before Python took another locale."""
+    try:
+        with open("/proc/self/environ", "rb") as file:
+            words = file.read().decode(errors="replace").split("\0")
+    except OSError:
+        return dict(os.environ)
+    return dict(word.split("=", 1) for word in words if "=" in word)
+
+
+def _usual_cells() -> Notation:
+    """How cells are written where nothing says how: in Braille ASCII if the locale isn't UTF-8."""
+    environment = first_environment()
+    names = ("LC_ALL", "LC_CTYPE", "LANG")
+    found = next((environment[name] for name in names if environment.get(name)), "")
+    is_utf8 = found.lower().replace("-", "").endswith("utf8")
+    return Notation.UNICODE if is_utf8 else Notation.ASCII
 
 
 def _closed_input() -> BinaryIO:

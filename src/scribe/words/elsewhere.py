@@ -26,12 +26,9 @@ AT_SHELL: Mapping[str, str] = {
     "whence": "whence is a request of scribe talk. scribe edit shows the characters of each cell.",
     "list": "scribe show shows the paragraphs of a book.",
     "version": "version is a request of scribe talk. scribe --version shows that of scribe.",
-    "find-text": "scribe find finds words.",
-    "change-text": "scribe change puts words in place of others.",
-    "remove-text": "scribe change takes words out where '' comes in their place.",
-    "mark-text": "scribe mark puts a mark on words.",
-    "all-marks": "scribe marks shows all marks.",
-    "table-file": "scribe table puts the table in a file into a book.",
+    "request": "request is a word of scribe talk, and scribe run answers requests.",
+    "short": "scribe talk --short asks its questions in a word or two.",
+    "long": "long is a word of scribe talk.",
     "help": "scribe --help lists the commands, and --help after one says more of it.",
     "quit": "quit ends scribe talk.",
 }
@@ -40,38 +37,29 @@ _OF_SHELL = "is a command of the shell, where scribe {name} --help says more."
 _CLOSED = "End this first, since the book is in use here."
 #: Commands of the shell, for somebody at a prompt.
 AT_PROMPT: Mapping[str, str] = {
-    "find": "find-text finds words.",
-    "change": "change-text puts words in place of others.",
-    "heading": "style PARA heading makes a paragraph a heading.",
-    "body": "style PARA body makes a paragraph body text.",
     **{
         name: f"{name} {_OF_SHELL.format(name=name)} {_CLOSED}"
         for name in ("edit", "run", "talk", "import", "export", "tune")
     },
     **{
         name: f"{name} {_OF_SHELL.format(name=name)}"
-        for name in ("new", "pages", "proof", "copy", "check-table", "try", "bring")
+        for name in ("new", "proof", "copy", "check-table", "try", "bring")
     },
 }
 
-_OF_TALK = "{name} is a command of scribe talk."
 #: Commands of the shell and of scribe talk, among requests.
 AMONG_REQUESTS: Mapping[str, str] = {
     **AT_PROMPT,
     "show": "print, braille and marks show a paragraph.",
     "find": "scribe find finds words.",
     "change": "correct puts text in place of characters.",
+    "pages": "scribe pages says what stands on which page and line.",
+    "next": "scribe next shows the next open mark.",
+    "heading": "style PARA heading makes a paragraph a heading.",
+    "body": "style PARA body makes a paragraph body text.",
     **{
-        name: _OF_TALK.format(name=name)
-        for name in (
-            "find-text",
-            "change-text",
-            "remove-text",
-            "mark-text",
-            "all-marks",
-            "table-file",
-            "help",
-        )
+        name: f"{name} is a word of scribe talk."
+        for name in ("help", "request", "short", "long")
     },
     "quit": "The end of the input ends the session.",
 }

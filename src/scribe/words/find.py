@@ -3,7 +3,8 @@
 from collections.abc import Iterator, Sequence
 
 from braildesk.desk.find import Hit, Kind, Tally, alike, unlike
-from braildesk.text.excerpt import excerpt
+from braildesk.text.cells import Notation
+from braildesk.text.excerpt import excerpt_lines
 from braildesk.text.spans import Span, find_spans
 
 from scribe.words.paragraph import quoted
@@ -33,35 +34,38 @@ def instead(sought: str, text: str) -> str:
 
 
 def word_lines(hit: Hit, width: int) -> Iterator[str]:
-    """A line for each place of a print."""
+    """A line for each place of a print, or more where the words need them."""
     for place in hit.places:
         head = f"{_title(hit)}, character {place.start + 1}: "
-        room = width - len(head)
-        yield head + excerpt(hit.text, place.start, place.stop, room)
+        yield from excerpt_lines(head, hit.text, place.start, place.stop, width)
 
 
 def cell_lines(
-    hit: Hit, text: str, origins: Sequence[Span], width: int
+    hit: Hit, text: str, origins: Sequence[Span], width: int, cells: Notation
 ) -> Iterator[str]:
-    """Two lines for each place of a braille: its cells, and the print that they stand for."""
+    """Two lines for each place of a braille: its cells, and the print that they stand for.
+
+    There are more of them where the cells or the words need them.
+    """
     for place, origin in zip(hit.places, origins):
         head = f"{_title(hit)}, cell {place.start + 1}: "
-        yield head + excerpt(hit.text, place.start, place.stop, width - len(head))
+        braille = cells.write(hit.text)
+        yield from excerpt_lines(head, braille, place.start, place.stop, width)
         head = f"  character {origin.start + 1}: "
-        yield head + excerpt(text, origin.start, origin.stop, width - len(head))
+        yield from excerpt_lines(head, text, origin.start, origin.stop, width)
 
 
 def found_summary(text: str, tally: Tally, others: Tally, offer: str) -> str:
     """What was found, in a sentence, or what else there is that is like it, after an offer."""
     if others.count:
         return (
-            f"{quoted(text)} stands nowhere in the book as typed. With {in_words(others.kinds)} it"
-            f" stands {_counted(others)}{offer}"
+            f"{quoted(text)} isn't in the book as typed. With {in_words(others.kinds)} it is there"
+            f" {_counted(others)}{offer}"
         )
     if not tally.count:
-        return f"{quoted(text)} stands nowhere in the book."
-    how = f", found with {in_words(tally.kinds)} too" if tally.kinds else ""
-    return f"{quoted(text)} stands {_counted(tally)}{how}."
+        return f"{quoted(text)} isn't in the book."
+    how = f", with {in_words(tally.kinds)} too" if tally.kinds else ""
+    return f"Found {quoted(text)} {_counted(tally)}{how}."
 
 
 def _title(hit: Hit) -> str:
@@ -71,7 +75,8 @@ def _title(hit: Hit) -> str:
 
 def _counted(tally: Tally) -> str:
     """How much was found."""
-    times = "once" if tally.count == 1 else f"{tally.count:,} times"
+    if tally.count == 1:
+        return "once"
     if tally.paragraphs == 1:
-        return f"{times} in one paragraph"
-    return f"{times} in {tally.paragraphs:,} paragraphs"
+        return f"{tally.count:,} times, in one paragraph"
+    return f"{tally.count:,} times, in {tally.paragraphs:,} paragraphs"

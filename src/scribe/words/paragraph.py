@@ -3,7 +3,7 @@
 from collections.abc import Sequence
 
 from braildesk import Mark, Paragraph, Style
-from braildesk.desk.marks import MarkOfBook
+from braildesk.desk.marks import MarkOfBook, NextMark
 from braildesk.text.characters import visible
 from braildesk.text.excerpt import opening
 
@@ -35,19 +35,32 @@ def mark_line(mark: Mark, text: str, paragraph: int | None = None) -> str:
     return f"{line}: {visible(mark.note)}" if mark.note else line + "."
 
 
-def marks_summary(marks: Sequence[MarkOfBook]) -> str:
-    """How many marks a book has, in a sentence."""
+def marks_summary(marks: Sequence[MarkOfBook], whose: str = "The book") -> str:
+    """How many marks a book or a paragraph has, in a sentence."""
     resolved = sum(each.mark.resolved for each in marks)
     opened = len(marks) - resolved
     if not opened and not resolved:
-        return "The book has no marks."
+        return f"{whose} has no marks."
     kinds = []
     if opened:
         kinds.append(f"{opened:,} open")
     if resolved:
         kinds.append(f"{resolved:,} resolved")
     word = "mark" if opened + resolved == 1 else "marks"
-    return f"The book has {' and '.join(kinds)} {word}."
+    return f"{whose} has {' and '.join(kinds)} {word}."
+
+
+def next_summary(found: NextMark) -> str:
+    """What is said after the next open mark: how many others are open."""
+    if found.mark is None:
+        return "The book has no open mark."
+    again = "It is the first of the book again. " if found.is_from_front else ""
+    match found.others:
+        case 0:
+            return "No other mark is open."
+        case 1:
+            return f"{again}1 other mark is open."
+    return f"{again}{found.others:,} other marks are open."
 
 
 def marked_words(mark: Mark, text: str) -> str:
@@ -61,6 +74,11 @@ def marked_words(mark: Mark, text: str) -> str:
 def quoted(text: str) -> str:
     """The first words of a text in quotation marks."""
     return f"“{opening(visible(text), _WORDS)}”"
+
+
+def no_mark(number: int, command: str = "The command marks") -> str:
+    """The sentence for a mark that isn't there, with what shows those that are."""
+    return f"The book has no mark {number}. Nothing was changed. {command} shows which there are."
 
 
 def no_paragraph(number: int, count: int) -> str:

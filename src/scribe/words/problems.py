@@ -5,6 +5,7 @@ from braildesk.desk.change import SameWords
 from braildesk.desk.drafts import NotKept
 from braildesk.desk.export import BookChanges, NoFolder, NotWritten
 from braildesk.desk.intake import NotImported
+from braildesk.desk.marks import NoMark
 from braildesk.desk.paragraph_ranges import BackwardRange, NoParagraph
 from braildesk.desk.places import NoPlace
 from braildesk.desk.tables import NoSuchTable, UnreadableTable
@@ -13,7 +14,7 @@ from scribe.words import export
 from scribe.words.changes import no_place
 from scribe.words.drafts import not_kept
 from scribe.words.import_text import not_imported
-from scribe.words.paragraph import no_paragraph
+from scribe.words.paragraph import no_mark, no_paragraph
 from scribe.words.status import Status, Stop
 
 
@@ -27,6 +28,8 @@ def as_stop(problem: Problem) -> Stop:
                 f"Paragraph {last} stands before paragraph {first} in the book: ask for"
                 f" {last}-{first}."
             )
+        case NoMark(number=number):
+            return Stop(no_mark(number))
         case NotImported():
             return not_imported(problem)
         case NotKept():

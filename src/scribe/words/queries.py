@@ -4,19 +4,22 @@ from typing import Any
 
 from braildesk import Entry, Kind, Session, requests
 from braildesk.protocol.requests import Request
+from braildesk.text.cells import Notation
 from braildesk.text.characters import visible
 from braildesk.text.spans import Span
 
 from scribe.words.paragraph import mark_line, title
 
 
-def shown(session: Session, query: Request[Any]) -> list[str]:
+def shown(
+    session: Session, query: Request[Any], cells: Notation = Notation.UNICODE
+) -> list[str]:
     """Sends a query, and gives what it shows; ``Refused`` if it is refused."""
     match query:
         case requests.Print():
             return [visible(session.ask(query)) or "The print is empty."]
         case requests.Braille():
-            return [session.ask(query) or "There are no cells."]
+            return [cells.write(session.ask(query)) or "There are no cells."]
         case requests.History():
             entries = session.ask(query)
             return [*map(_entry_line, entries)] or ["Nothing was corrected yet."]

@@ -4,9 +4,16 @@ import re
 from pathlib import Path
 
 from braildesk.desk.paragraph_ranges import ParagraphRange
+from braildesk.protocol.values import After
 from braildesk.text.characters import control_refused
 
 _LONE = range(0xDC80, 0xDD00)
+# between single marks, between double ones, or up to a blank
+_WORD = re.compile(
+    r"""\ *(?:'([^']*)'(?=\ |$)|"((?:[^"\\]|\\.)*)"(?=\ |$)|((?:[^\ \\]|\\.|\\$)+))""",
+    re.DOTALL,
+)
+_ESCAPED = re.compile(r"\\(.)", re.DOTALL)
 _RANGE = re.compile(r"([0-9]{1,16})?(-)?([0-9]{1,16})?", re.ASCII)
 
 
@@ -38,6 +45,27 @@ def words(word: str) -> str:
     return text(word)
 
 
+def after(word: str) -> After:
+    """Where a paragraph is put: front, end, or the number of the one before it."""
+    if word == "front":
+        return "front"
+    if word == "end":
+        return "end"
+    try:
+        return number(word)
+    except InvalidInput:
+        raise InvalidInput(
+            f"{word!r} is none of front, end and the number of a paragraph"
+        ) from None
+
+
+def switch(word: str) -> bool:
+    """Whether something is on."""
+    if word not in ("on", "off"):
+        raise InvalidInput(f"{word!r} is neither on nor off")
+    return word == "on"
+
+
 def paragraph_ranges(word: str) -> tuple[ParagraphRange, ...]:
     """The ranges of paragraphs that a word names, as in `3-9,12`."""
     found = []
@@ -49,6 +77,27 @@ def paragraph_ranges(word: str) -> tuple[ParagraphRange, ...]:
         last = int(match[3]) if match[3] else None
         found.append(ParagraphRange(first, last if match[2] else first))
     return tuple(found)
+
+
+def words_of(line: str) -> list[str]:
+    """The words of a line as a shell parts them, but that an apostrophe within a word is one.
+
+    A word that begins with a quotation mark goes on to the next one. A backslash takes the next
+    character as it is, but not between single marks.
+    """
+    found: list[str] = []
+    place = 0
+    while match := _WORD.match(line, place):
+        place = match.end()
+        single, double, bare = match.groups()
+        if bare is not None and bare[0] in "'\"":
+            raise InvalidInput(
+                f"The quotation mark {bare[0]} is opened and not closed."
+            )
+        found.append(
+            _ESCAPED.sub(r"\1", double or bare or "") if single is None else single
+        )
+    return found
 
 
 def typed_path(word: str) -> Path:

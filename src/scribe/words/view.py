@@ -5,7 +5,7 @@ from collections.abc import Callable, Iterator
 from dataclasses import dataclass
 
 from braildesk.desk.readings import ParagraphReading
-from braildesk.text.cells import EMPTY_CELL, braille_ascii
+from braildesk.text.cells import EMPTY_CELL, Notation
 from braildesk.text.characters import visible
 from braildesk.text.wrapping import measure, wrap
 
@@ -22,7 +22,7 @@ class View:
     width: int
     has_print: bool = True
     has_braille: bool = True
-    is_ascii: bool = False
+    notation: Notation = Notation.UNICODE
     has_table: bool = False
 
     def lines(self, reading: ParagraphReading) -> list[str]:
@@ -37,7 +37,7 @@ class View:
 
     def _body(self, reading: ParagraphReading) -> list[str]:
         text = visible(reading.text)
-        cells = braille_ascii(reading.braille) if self.is_ascii else reading.braille
+        cells = self.notation.write(reading.braille)
         if not self.has_braille:
             return wrap(text, self.width)
         if not self.has_print:

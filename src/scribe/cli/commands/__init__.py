@@ -6,6 +6,7 @@ from importlib import import_module
 from typing import TYPE_CHECKING, Protocol, cast
 
 if TYPE_CHECKING:
+    from scribe.cli.book_command import BookCommand
     from scribe.cli.parser import Subparsers
     from scribe.words.console import Console
     from scribe.words.status import Status
@@ -30,6 +31,7 @@ COMMANDS: Mapping[str, tuple[str, str]] = {
     "change": ("change", "Puts words in place of others."),
     "mark": ("mark", "Puts a mark on words, with a note."),
     "marks": ("marks", "Shows all marks with their words and notes."),
+    "next": ("next_mark", "Shows the next open mark, with the words around it."),
     "undo": ("edits", "Takes back the newest correction of a paragraph."),
     "resolve": ("edits", "Says that a mark is dealt with."),
     "strike": ("edits", "Takes a paragraph out of the volumes."),
@@ -48,6 +50,14 @@ COMMANDS: Mapping[str, tuple[str, str]] = {
 }
 
 
+#: The commands that `scribe talk` takes too, by the same words, in the order in which its help lists
+#: them: each module has a `BookCommand`.
+AT_PROMPT = (
+    *("show", "find", "marks", "next", "pages", "change", "mark", "resolve", "undo"),
+    *("strike", "restore", "heading", "body", "volume", "move", "retable", "table"),
+)
+
+
 class Command(Protocol):
     """A module of this folder, which has these two functions, or an object with these methods."""
 
@@ -62,4 +72,11 @@ def command(name: str) -> Command:
     """The command of a name."""
     module, _ = COMMANDS[name]
     found = import_module(f"{__name__}.{module}")
-    return cast(Command, found.EDITS[name] if module == _EDITS else found)
+    if module == _EDITS:
+        return cast(Command, found.EDITS[name])
+    return cast(Command, getattr(found, "COMMAND", found))
+
+
+def prompt_command(name: str) -> "BookCommand":
+    """The command of a name that `scribe talk` takes too."""
+    return cast("BookCommand", command(name))

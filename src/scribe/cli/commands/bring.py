@@ -226,7 +226,7 @@ def _why_not(brought: Converted) -> str:
 
 def _written(text: str, file: Path | None, console: Console) -> Status:
     if file is None:
-        console.show(*text.removesuffix("\n").split("\n"))
+        console.pass_on(*text.removesuffix("\n").split("\n"))
         return Status.DONE
     try:
         write_whole(file, text.encode())

@@ -49,9 +49,9 @@ def run(arguments: Namespace, console: Console) -> Status:
     rare = warnings(reading.table, is_for_embosser=not arguments.display)
     found = [] if reading.faults else rare
     for line in [*fault_lines(reading), *warning_lines(found, reading)]:
-        console.show(*wrap(line, arguments.width, _INDENT))
+        console.show(*wrap(line, console.columns, _INDENT))
     summary = _summary(arguments.table.name, reading, found)
-    console.show(*wrap(summary, arguments.width, _INDENT))
+    console.show(*wrap(summary, console.columns, _INDENT))
     return Status.REFUSED if reading.faults else Status.DONE
 
 

@@ -1,5 +1,7 @@
 """`scribe edit`: the book on the screen."""
 
+import os
+import shlex
 import shutil
 import sys
 from argparse import ArgumentParser, Namespace
@@ -47,6 +49,12 @@ def run(arguments: Namespace, console: Console) -> Status:
         raise Stop(
             "scribe edit needs a terminal, with which nothing else is read or written. scribe"
             " run and scribe talk work without one. Nothing was changed."
+        )
+    if os.environ.get("TERM") == "dumb":
+        raise Stop(
+            "scribe edit needs a terminal on which the cursor moves, and TERM says that this one is"
+            f" dumb. scribe talk {shlex.quote(str(arguments.file))} works here. Nothing was"
+            " changed."
         )
     try:
         # imported here, since only this command needs prompt_toolkit

@@ -1,161 +1,158 @@
 """The commands that send one request each, and show what it changed."""
 
-import argparse
 import shlex
-from argparse import ArgumentParser, Namespace
+from argparse import Namespace
 from collections.abc import Callable
-from dataclasses import dataclass
 from typing import Any
 
 from braildesk import Code, NotFound, Session, Style, requests
 from braildesk.protocol.requests import Command
 
-from scribe.cli.parser import (
-    Subparsers,
-    add_file,
-    add_paragraph,
-    after,
-    command_parser,
-    number,
-    words,
-)
+from scribe.cli.book_command import BookCommand
+from scribe.cli.parser import Parser, add_paragraph
 from scribe.cli.width import add_width
 from scribe.words.changes import carried_out
 from scribe.words.console import Console
-from scribe.words.status import Status, Stop
+from scribe.words.paragraph import no_mark
+from scribe.words.status import Stop
+from scribe.words.typed import after, number, switch, words
 
 
-@dataclass(frozen=True)
-class Edit:
+def edit(
+    name: str,
+    example: str,
+    add_words: Callable[[Parser], None],
+    request: Callable[[Namespace], Command[Any]],
+    more: str = "",
+) -> BookCommand:
     """A command of the command line that is one request of a book."""
 
-    name: str
-    example: str
-    add_words: Callable[[ArgumentParser], None]
-    request: Callable[[Namespace], Command[Any]]
-    more: str = ""
-
-    def add_parser(self, subparsers: Subparsers) -> ArgumentParser:
-        """Adds the words of the command."""
-        parser = command_parser(subparsers, self.name, self.example, self.more)
-        add_file(parser)
-        self.add_words(parser)
+    def add_all(parser: Parser) -> None:
+        add_words(parser)
         add_width(parser)
-        return parser
 
-    def run(self, arguments: Namespace, console: Console) -> Status:
-        """Sends the request, and shows what it changed."""
-        with Session(arguments.file, timeout=arguments.wait) as session:
-            try:
-                lines = carried_out(session, self.request(arguments), arguments.width)
-            except NotFound as missing:
-                if missing.code == Code.NO_MARK:
-                    raise Stop(_no_mark(arguments)) from missing
-                raise
+    def answer(session: Session, arguments: Namespace, console: Console) -> None:
+        try:
+            lines = carried_out(
+                session, request(arguments), console.columns, console.cells
+            )
+        except NotFound as missing:
+            if missing.code == Code.NO_MARK:
+                raise Stop(_no_mark(arguments)) from missing
+            raise
         console.show(*lines)
-        return Status.DONE
+
+    return BookCommand(name, example, add_all, answer, more)
 
 
 def _no_mark(arguments: Namespace) -> str:
+    if "wait" not in arguments:
+        # at the prompt of talk, which has the book open
+        return no_mark(arguments.mark)
     command = shlex.join(["scribe", "marks", str(arguments.file)])
-    return (
-        f"The book has no mark {arguments.mark}. Nothing was changed. {command} shows which there"
-        " are."
+    return no_mark(arguments.mark, command)
+
+
+def _add_mark(parser: Parser) -> None:
+    parser.add_asked(
+        "mark",
+        "MARK",
+        number,
+        "the number of the mark",
+        "Which mark? Type its number.",
+        in_hand=True,
     )
 
 
-def switch(word: str) -> bool:
-    """Whether something is on."""
-    if word not in ("on", "off"):
-        raise argparse.ArgumentTypeError(f"{word!r} is neither on nor off")
-    return word == "on"
-
-
-def _add_mark(parser: ArgumentParser) -> None:
-    parser.add_argument(
-        "mark", metavar="MARK", type=number, help="the number of the mark"
-    )
-
-
-def _add_switch(parser: ArgumentParser) -> None:
+def _add_switch(parser: Parser) -> None:
     add_paragraph(parser)
-    parser.add_argument(
-        "begins", metavar="on|off", type=switch, help="whether it begins a volume"
+    parser.add_asked(
+        "begins",
+        "on|off",
+        switch,
+        "whether it begins a volume",
+        "Does it begin a volume? Type on or off.",
+        "on or off",
     )
 
 
-def _add_after(parser: ArgumentParser) -> None:
+def _add_after(parser: Parser) -> None:
     add_paragraph(parser)
-    parser.add_argument(
+    parser.add_asked(
         "after",
-        metavar="AFTER",
-        type=after,
-        help="front, end, or the number of the paragraph after which it comes",
+        "AFTER",
+        after,
+        "front, end, or the number of the paragraph after which it comes",
+        "After which paragraph? Type its number, front or end.",
     )
 
 
-def _add_table(parser: ArgumentParser) -> None:
+def _add_table(parser: Parser) -> None:
     add_paragraph(parser)
-    parser.add_argument(
-        "table", metavar="NAME", type=words, help="the name of a table of the book"
+    parser.add_asked(
+        "table",
+        "NAME",
+        words,
+        "the name of a table of the book",
+        "Which table? Type its name.",
     )
 
 
 _EDITS = (
-    Edit(
+    edit(
         "undo",
         "scribe undo moon.braildesk 1",
         add_paragraph,
         lambda words: requests.Undo(words.paragraph),
         "Nothing is erased: the history keeps the correction and that it was taken back.",
     ),
-    Edit(
+    edit(
         "resolve",
         "scribe resolve moon.braildesk 1",
         _add_mark,
         lambda words: requests.Resolve(words.mark),
         "scribe marks shows the numbers of marks.",
     ),
-    Edit(
+    edit(
         "strike",
         "scribe strike moon.braildesk 2",
         add_paragraph,
         lambda words: requests.Strike(words.paragraph),
         "It stays in the book, and scribe restore puts it back.",
     ),
-    Edit(
+    edit(
         "restore",
         "scribe strike moon.braildesk 2\nscribe restore moon.braildesk 2",
         add_paragraph,
         lambda words: requests.Restore(words.paragraph),
     ),
-    Edit(
+    edit(
         "heading",
         "scribe heading moon.braildesk 2",
         add_paragraph,
         lambda words: requests.Style(words.paragraph, Style.HEADING),
     ),
-    Edit(
+    edit(
         "body",
         "scribe body moon.braildesk 2",
         add_paragraph,
         lambda words: requests.Style(words.paragraph, Style.BODY),
     ),
-    Edit(
+    edit(
         "volume",
         "scribe volume moon.braildesk 2 on",
         _add_switch,
         lambda words: requests.Volume(words.paragraph, words.begins),
         "The first paragraph that isn't struck begins volume 1 in any case.",
     ),
-    Edit(
+    edit(
         "move",
         "scribe move moon.braildesk 2 front",
         _add_after,
         lambda words: requests.Move(words.paragraph, words.after),
         "It keeps its number.",
     ),
-    Edit(
+    edit(
         "retable",
         "scribe retable moon.braildesk 2 plain",
         _add_table,
@@ -165,4 +162,4 @@ _EDITS = (
 )
 
 #: The commands by their names.
-EDITS = {edit.name: edit for edit in _EDITS}
+EDITS = {each.name: each for each in _EDITS}

@@ -1,18 +1,19 @@
 """`scribe find`: where words or cells stand in a book."""
 
-from argparse import ArgumentParser, Namespace
+from argparse import Namespace
 
+from braildesk import Session
 from braildesk.desk.find import Tally, alike, find_cells, find_words, print_of, tallied
 from braildesk.text.cells import NotCells, braille_patterns
 from braildesk.text.characters import code_and_name
 from braildesk.text.sequences import composed
 
-from scribe.cli.looking import looked_at
-from scribe.cli.parser import Subparsers, WordsRefused, add_file, command_parser, words
+from scribe.cli.book_command import BookCommand
+from scribe.cli.parser import Parser, WordsRefused
 from scribe.cli.width import add_width
 from scribe.words.console import Console
 from scribe.words.find import cell_lines, found_summary, word_lines
-from scribe.words.status import Status
+from scribe.words.typed import words
 
 MORE = """\
 Each place is shown by its paragraph, its first character, counted from 1, and the words
@@ -26,11 +27,15 @@ scribe find moon.braildesk --braille ',THE MOON'"""
 _OFFER = "; --alike shows where."
 
 
-def add_parser(subparsers: Subparsers) -> ArgumentParser:
-    parser = command_parser(subparsers, "find", EXAMPLE, MORE)
-    add_file(parser, wait=0.0)
-    parser.add_argument(
-        "text", metavar="TEXT", type=words, help="the words, or cells, to look for"
+def add_words(parser: Parser) -> None:
+    """Adds the words of `find`."""
+    parser.add_asked(
+        "text",
+        "TEXT",
+        words,
+        "the words, or cells, to look for",
+        "Which words are looked for?",
+        "words",
     )
     which = parser.add_mutually_exclusive_group()
     which.add_argument(
@@ -43,26 +48,25 @@ def add_parser(subparsers: Subparsers) -> ArgumentParser:
     )
     add_width(parser)
     parser.set_defaults(usage=parser.format_usage().strip())
-    return parser
 
 
-def run(arguments: Namespace, console: Console) -> Status:
-    text, width = arguments.text, arguments.width
+def answer(session: Session, arguments: Namespace, console: Console) -> None:
+    """Shows where the words or cells stand, and how often."""
+    text, width = arguments.text, console.columns
     tally = others = Tally()
-    with looked_at(arguments, console) as (session, _):
-        if arguments.braille:
-            for hit in find_cells(session, sought := cells(arguments)):
-                tally = tally.with_hit(hit, sought)
-                console.show(*cell_lines(hit, *print_of(session, hit), width))
-        else:
-            form = alike if arguments.alike else composed
-            for hit in find_words(session, text, form):
-                tally = tally.with_hit(hit, text)
-                console.show(*word_lines(hit, width))
-            if not (tally.count or arguments.alike):
-                others = tallied(find_words(session, text, alike), text)
+    if arguments.braille:
+        for hit in find_cells(session, sought := cells(arguments)):
+            tally = tally.with_hit(hit, sought)
+            found = print_of(session, hit)
+            console.show(*cell_lines(hit, *found, width, console.cells))
+    else:
+        form = alike if arguments.alike else composed
+        for hit in find_words(session, text, form):
+            tally = tally.with_hit(hit, text)
+            console.show(*word_lines(hit, width))
+        if not (tally.count or arguments.alike):
+            others = tallied(find_words(session, text, alike), text)
     console.say(found_summary(text, tally, others, _OFFER))
-    return Status.DONE
 
 
 def cells(arguments: Namespace) -> str:
@@ -75,3 +79,6 @@ def cells(arguments: Namespace) -> str:
             f"Argument TEXT: {character} is no cell in Braille ASCII or Unicode.",
             arguments.usage,
         ) from fault
+
+
+COMMAND = BookCommand("find", EXAMPLE, add_words, answer, MORE, looks=True)

@@ -1,34 +1,50 @@
 """`scribe marks`: all marks of a book."""
 
-from argparse import ArgumentParser, Namespace
+from argparse import Namespace
 
+from braildesk import Session
 from braildesk.desk.marks import all_marks
 
-from scribe.cli.looking import looked_at
-from scribe.cli.parser import Subparsers, add_file, command_parser
+from scribe.cli.book_command import BookCommand
+from scribe.cli.parser import Parser, number
+from scribe.cli.width import add_width
 from scribe.words.console import Console
 from scribe.words.paragraph import mark_line, marks_summary
-from scribe.words.status import Status
 
 MORE = """\
-Open marks come first, then those that are resolved, both in the order of the book."""
+Open marks come first, then those that are resolved, both in the order of the book. With
+PARA these are the marks of that paragraph, and with --open only those that are open."""
 EXAMPLE = "scribe marks moon.braildesk"
 
 
-def add_parser(subparsers: Subparsers) -> ArgumentParser:
-    parser = command_parser(
-        subparsers,
-        "marks",
-        EXAMPLE,
-        MORE,
+def add_words(parser: Parser) -> None:
+    """Adds the words of `marks`."""
+    parser.add_argument(
+        "paragraph",
+        metavar="PARA",
+        type=number,
+        nargs="?",
+        help="the number of a paragraph",
     )
-    add_file(parser, wait=0.0)
-    return parser
+    parser.add_argument("--open", action="store_true", help="only those that are open")
+    add_width(parser)
 
 
-def run(arguments: Namespace, console: Console) -> Status:
-    with looked_at(arguments, console) as (session, _):
-        marks = all_marks(session)
-    console.show(*(mark_line(each.mark, each.text, each.paragraph) for each in marks))
-    console.say(marks_summary(marks))
-    return Status.DONE
+def answer(session: Session, arguments: Namespace, console: Console) -> None:
+    """Shows the marks, and how many there are."""
+    number, marks = arguments.paragraph, all_marks(session)
+    if number is not None:
+        session.print_of(number)  # which refuses a paragraph that isn't there
+        marks = [each for each in marks if each.paragraph == number]
+    console.show(
+        *(
+            mark_line(each.mark, each.text, each.paragraph)
+            for each in marks
+            if not (arguments.open and each.mark.resolved)
+        )
+    )
+    whose = "The book" if number is None else f"Paragraph {number}"
+    console.say(marks_summary(marks, whose))
+
+
+COMMAND = BookCommand("marks", EXAMPLE, add_words, answer, MORE, looks=True)

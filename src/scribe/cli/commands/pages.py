@@ -1,22 +1,23 @@
 """`scribe pages`: on which page and line each paragraph stands, and what stands on a page."""
 
-from argparse import ArgumentParser, Namespace
+from argparse import Namespace
 from collections.abc import Iterator, Sequence
 from dataclasses import dataclass
 from pathlib import Path
 
-from braildesk import NotFound, Session, check, export
+from braildesk import NotFound, Session, export
 from braildesk.desk.layout import Layout, PageSize, Row
 from braildesk.desk.places import words_of
 from braildesk.desk.readings import prints
 from braildesk.desk.volumes import Volume, parted, volume
+from braildesk.snapshot import snapshot
 from braildesk.text.characters import visible
 from braildesk.text.excerpt import opening
 from braildesk.text.spans import Span
 
-from scribe.cli.looking import looked_at
+from scribe.cli.book_command import BookCommand
 from scribe.cli.page_size import add_page_size, page_size_of
-from scribe.cli.parser import Subparsers, add_file, command_parser, number
+from scribe.cli.parser import Parser, number
 from scribe.words.console import Console
 from scribe.words.page_size import described
 from scribe.words.status import Status, Stop
@@ -32,9 +33,8 @@ scribe pages moon.braildesk 1 --page 1 --width 30 --lines 10"""
 _OPENING = 40
 
 
-def add_parser(subparsers: Subparsers) -> ArgumentParser:
-    parser = command_parser(subparsers, "pages", EXAMPLE, MORE)
-    add_file(parser, wait=0.0)
+def add_words(parser: Parser) -> None:
+    """Adds the words of `pages`."""
     parser.add_argument(
         "volume", metavar="VOLUME", type=number, nargs="?", help="only this volume"
     )
@@ -44,23 +44,19 @@ def add_parser(subparsers: Subparsers) -> ArgumentParser:
     which.add_argument(
         "--paragraph", metavar="N", type=number, help="the lines of a paragraph"
     )
-    return parser
 
 
-def run(arguments: Namespace, console: Console) -> Status:
-    page_size, wait = page_size_of(arguments), arguments.wait
-    with looked_at(arguments, console) as (session, path):
-        volumes = laid_out(session, arguments.volume, page_size)
-        parts = shown(session, volumes, arguments.page, arguments.paragraph)
-        version = session.last_version
-        session.close()
+def answer(session: Session, arguments: Namespace, console: Console) -> None:
+    """Shows what is laid out, once it was compared with what export writes of the book."""
+    volumes = laid_out(session, arguments.volume, page_size_of(arguments))
+    parts = shown(session, volumes, arguments.page, arguments.paragraph)
+    # a book that is open is exported from a copy, and nobody else changes it meanwhile
+    with snapshot(arguments.read_at) as copied:
         for part in parts:
-            if not _is_exported(path, part, wait):
-                why = _why_otherwise(path, part.volume, version, wait)
-                raise Stop(why, Status.FAILED)
+            if not _is_exported(copied, part):
+                raise Stop(_otherwise(part.volume), Status.FAILED)
     for part in parts:
         console.show(*part.lines)
-    return Status.DONE
 
 
 @dataclass(frozen=True)
@@ -72,14 +68,13 @@ class Part:
     pages: Sequence[int]
 
 
-def _is_exported(book: Path, part: Part, wait: float) -> bool:
+def _is_exported(book: Path, part: Part) -> bool:
     """Whether export writes the pages as they were laid out of which something is shown."""
     its = part.volume.layout
     width, lines = its.page_size.width, its.page_size.lines
     try:
-        written = export(book, part.volume.number, width, lines, timeout=wait)
+        written = export(book, part.volume.number, width, lines)
     except NotFound:
-        # another program may have struck all of it
         return False
     pages = written.split(b"\f")
     # the last one ends in a form feed too
@@ -88,14 +83,7 @@ def _is_exported(book: Path, part: Part, wait: float) -> bool:
     )
 
 
-def _why_otherwise(book: Path, its: Volume, version: int, wait: float) -> str:
-    """Why the pages of a volume aren't those that were laid out from a version of the book."""
-    now = check(book, timeout=wait)
-    if now != version:
-        return (
-            f"Another program changed the book meanwhile: it was at version {version:,} and is at"
-            f" {now:,} now. Nothing is shown. Ask again."
-        )
+def _otherwise(its: Volume) -> str:
     return (
         f"The pages of volume {its.number} were laid out otherwise than export writes them, so"
         " nothing is shown. The book is as it was."
@@ -202,3 +190,6 @@ def _not_there(volumes: Sequence[Volume], what: str) -> str:
     if len(volumes) > 1:
         return f"No volume has {what}."
     return f"Volume {volumes[0].number} has no {what}."
+
+
+COMMAND = BookCommand("pages", EXAMPLE, add_words, answer, MORE, looks=True)

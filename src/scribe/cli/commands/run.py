@@ -96,7 +96,7 @@ def answered(
         read = read_head(head)
         request = _whole(read, lines) if isinstance(read, TableHead) else read
     except NotARequest as fault:
-        console.show("no 1")
+        console.pass_on("no 1")
         return f"{fault.sentence} Nothing was changed."
     control = control_refused(head)
     if control is not None:
@@ -124,8 +124,8 @@ def _asked(session: Session, request: Request[Any], console: Console) -> str | N
     try:
         reply = session.reply(request)
     except Refused as refused:
-        console.show(refusal_line(refused))
+        console.pass_on(refusal_line(refused))
         return refusal_sentence(refused, has_line=True)
-    console.show(*reply_lines(reply))
+    console.pass_on(*reply_lines(reply))
     console.flush()
     return None

@@ -1,6 +1,6 @@
 """`scribe show`: the book as a person reads it."""
 
-from argparse import ArgumentParser, Namespace
+from argparse import Namespace
 from collections.abc import Sequence
 from pathlib import Path
 
@@ -9,60 +9,61 @@ from braildesk.desk.paragraph_ranges import ParagraphRange
 from braildesk.desk.readings import readings
 from braildesk.desk.state_folder import may_have
 
-from scribe.cli.looking import looked_at
-from scribe.cli.parser import Subparsers, add_file, argument, command_parser
-from scribe.cli.width import add_width
+from scribe.cli.book_command import BookCommand
+from scribe.cli.parser import Parser, argument
+from scribe.cli.width import add_cells, add_width
 from scribe.words.console import Console
-from scribe.words.status import Status
 from scribe.words.typed import paragraph_ranges
 from scribe.words.view import View
 
 MORE = """\
 Print and braille stand under one another, and after them the marks with their notes.
---paragraphs 3-9 shows what the book has from paragraph 3 to paragraph 9, in its own
-order; 3- goes on to its end, -9 begins at its front, and 3-9,12 shows both. An import
+With PARAS as in 3-9 this is what the book has from paragraph 3 to paragraph 9, in its
+own order; 3- goes on to its end, -9 begins at its front, and 3-9,12 shows both. An import
 that was cut short, so that the book has a part of its text, is named at the end."""
-EXAMPLE = "scribe show moon.braildesk --paragraphs 1-2"
+EXAMPLE = "scribe show moon.braildesk 1-2"
 
 
-def add_parser(subparsers: Subparsers) -> ArgumentParser:
-    parser = command_parser(subparsers, "show", EXAMPLE, MORE)
-    add_file(parser, wait=0.0)
+def add_words(parser: Parser) -> None:
+    """Adds the words of `show`."""
+    parser.add_argument(
+        "range",
+        metavar="PARAS",
+        type=argument(paragraph_ranges),
+        nargs="?",
+        help="only these paragraphs, as in 3-9",
+    )
     parser.add_argument(
         "--paragraphs",
-        metavar="3-9",
+        metavar="PARAS",
         type=argument(paragraph_ranges),
         default=(ParagraphRange(),),
-        help="only these paragraphs",
+        help="the same",
     )
     parser.add_argument("--print", action="store_true", help="only the print")
     parser.add_argument("--braille", action="store_true", help="only the braille")
-    parser.add_argument(
-        "--ascii", action="store_true", help="the cells in Braille ASCII"
-    )
+    add_cells(parser)
     add_width(parser)
-    return parser
 
 
-def run(arguments: Namespace, console: Console) -> Status:
-    with looked_at(arguments, console) as (session, _):
-        book = session.paragraphs()
-        parts = [each.of(book) for each in arguments.paragraphs]
-        view = View(
-            width=arguments.width,
-            has_print=arguments.print or not arguments.braille,
-            has_braille=arguments.braille or not arguments.print,
-            is_ascii=arguments.ascii,
-            has_table=len({paragraph.table for paragraph in book}) > 1,
-        )
-        chosen = [paragraph for part in parts for paragraph in part]
-        for count, reading in enumerate(readings(session, chosen)):
-            console.show(*([""] if count else []), *view.lines(reading))
-        cut_short = _cut_short(session, book, arguments.file)
+def answer(session: Session, arguments: Namespace, console: Console) -> None:
+    """Shows the paragraphs, and names imports that were cut short."""
+    book = session.paragraphs()
+    ranges = arguments.range or arguments.paragraphs
+    parts = [each.of(book) for each in ranges]
+    view = View(
+        width=console.columns,
+        has_print=arguments.print or not arguments.braille,
+        has_braille=arguments.braille or not arguments.print,
+        notation=console.cells,
+        has_table=len({paragraph.table for paragraph in book}) > 1,
+    )
+    chosen = [paragraph for part in parts for paragraph in part]
+    for count, reading in enumerate(readings(session, chosen)):
+        console.show(*([""] if count else []), *view.lines(reading))
     if not book:
         console.say("The book has no paragraphs.")
-    console.say(*cut_short)
-    return Status.DONE
+    console.say(*_cut_short(session, book, arguments.file))
 
 
 def _cut_short(
@@ -78,3 +79,6 @@ def _cut_short(
 
     found = to_go_on(Drafts(file), session, book)
     return tuple(sentence for each in found for sentence in reminders(each, file))
+
+
+COMMAND = BookCommand("show", EXAMPLE, add_words, answer, MORE, looks=True)

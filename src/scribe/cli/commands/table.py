@@ -1,16 +1,16 @@
 """`scribe table`: a table put into a book."""
 
-from argparse import ArgumentParser, Namespace
-from pathlib import Path
+from argparse import Namespace
 
 from braildesk import Session
 from braildesk.desk.tables import table_request
 
-from scribe.cli.parser import Subparsers, add_file, command_parser, words
+from scribe.cli.book_command import BookCommand
+from scribe.cli.parser import Parser
 from scribe.cli.width import add_width
 from scribe.words.changes import carried_out
 from scribe.words.console import Console
-from scribe.words.status import Status
+from scribe.words.typed import typed_path, words
 
 MORE = """\
 TEXT is the file of the table. Without it NAME is one of the tables that are installed
@@ -22,24 +22,25 @@ scribe table moon.braildesk en
 scribe table moon.braildesk own plain.utb"""
 
 
-def add_parser(subparsers: Subparsers) -> ArgumentParser:
+def add_words(parser: Parser) -> None:
     """Adds the words of `table`."""
-    parser = command_parser(subparsers, "table", EXAMPLE, MORE)
-    add_file(parser)
-    parser.add_argument(
-        "name", metavar="NAME", type=words, help="the name that it has in the book"
+    parser.add_asked(
+        "name",
+        "NAME",
+        words,
+        "the name that it has in the book",
+        "Which name does the table have in the book?",
     )
     parser.add_argument(
-        "text", metavar="TEXT", type=Path, nargs="?", help="the file of the table"
+        "text", metavar="TEXT", type=typed_path, nargs="?", help="the file of the table"
     )
     add_width(parser)
-    return parser
 
 
-def run(arguments: Namespace, console: Console) -> Status:
+def answer(session: Session, arguments: Namespace, console: Console) -> None:
     """Puts the table into the book, or says which line of it is wrong."""
     request = table_request(arguments.name, arguments.text)
-    with Session(arguments.file, timeout=arguments.wait) as session:
-        lines = carried_out(session, request, arguments.width)
-    console.show(*lines)
-    return Status.DONE
+    console.show(*carried_out(session, request, console.columns, console.cells))
+
+
+COMMAND = BookCommand("table", EXAMPLE, add_words, answer, MORE)

@@ -1,35 +1,36 @@
 """`scribe talk`: a book at a prompt, in words."""
 
-import shutil
 from argparse import ArgumentParser, Namespace
 from contextlib import AbstractContextManager, ExitStack, nullcontext
 from dataclasses import replace
+from pathlib import Path
 
 from braildesk import Lost, Refused, Session
 from braildesk.desk.aftermath import opened_again
 from braildesk.protocol.requests import BY_NAME
 from braildesk.text.characters import visible
 
+from scribe.cli import prompt_words
+from scribe.cli.commands import AT_PROMPT
 from scribe.cli.parser import Subparsers, add_file, command_parser, words
-from scribe.cli.width import width
-from scribe.prompt import help
+from scribe.cli.width import add_cells, width
 from scribe.prompt.conversation import Conversation, Ended, request_line
-from scribe.prompt.dialogues import DIALOGUES
 from scribe.prompt.typed_lines import GivenUp, Lines, PipedLines, TypedLines, are_typed
 from scribe.words.console import Console
-from scribe.words.elsewhere import AT_PROMPT, hint
+from scribe.words.elsewhere import AT_PROMPT as KNOWN, hint
 from scribe.words.failures import in_sentences
 from scribe.words.status import Status, Stop
 
 MORE = """\
-Requests of a book are typed as docs/FORMATS.md has them and answered in words. Other
-commands, such as change-text, ask for what they need, one thing at a time. help lists
-all, quit ends. Each answer begins with what changed, and is kept when it is shown.
-Requests count places and cells from 0, and what is said in words counts from 1.
-Ctrl-C gives up the line that is typed."""
-EXAMPLE = "echo 'print 1' | scribe talk moon.braildesk"
+The commands are those of the shell without the file, as in change 1 mon moon, and ask for
+words that a line lacks, one at a time. Requests of a book are typed as docs/FORMATS.md
+has them and answered in words. help lists all; quit, q or exit ends. Each answer begins
+with what changed, and is kept when it is shown. Requests count places and cells from 0,
+and what is said in words counts from 1. Ctrl-C gives up the line that is typed."""
+EXAMPLE = "echo 'change 1 far near' | scribe talk moon.braildesk"
 PROMPT = "> "
 USUAL_WIDTH = 80
+_ENDS = ("quit", "q", "exit")
 
 
 def add_parser(subparsers: Subparsers) -> ArgumentParser:
@@ -40,13 +41,17 @@ def add_parser(subparsers: Subparsers) -> ArgumentParser:
         "--by",
         metavar="WHO",
         type=words,
-        help="the proofreader whose name change-text keeps",
+        help="the proofreader whose name corrections keep",
+    )
+    add_cells(parser)
+    parser.add_argument(
+        "--short", action="store_true", help="ask questions in a word or two"
     )
     parser.add_argument(
         "--width",
+        dest="columns",
         metavar="N",
         type=width,
-        default=min(USUAL_WIDTH, shutil.get_terminal_size().columns),
         help=f"no line over N columns; {USUAL_WIDTH}, or the terminal's width where that is"
         " less, where it isn't given",
     )
@@ -58,25 +63,32 @@ def run(arguments: Namespace, console: Console) -> Status:
     with ExitStack() as opened:
         session = opened.enter_context(Session(arguments.file, timeout=arguments.wait))
         lines = opened.enter_context(_lines(console))
+        usual = arguments.columns or min(USUAL_WIDTH, console.columns)
+        console = replace(console, width=usual)
         conversation = Conversation(
-            session, lines, console, arguments.width, arguments.by
+            session,
+            lines,
+            [*_ENDS, *prompt_words.names()],
+            console,
+            arguments.by,
+            arguments.short,
         )
         count = len(session.paragraphs())
-        conversation.show(
+        console.show(
             f"{arguments.file.name}: version {session.last_version:,}, {count:,}"
             f" {'paragraph' if count == 1 else 'paragraphs'}. Type help, or quit to end."
         )
-        while (lost := _talk(conversation)) is not None:
+        while (lost := _talk(conversation, arguments.file)) is not None:
             again, said = opened_again(arguments.file, lost)
-            conversation.say(*said)
+            console.say(*said)
             if again is None:
                 return Status.FAILED
             session = opened.enter_context(again)
             if not isinstance(lines, TypedLines):
                 # nobody has read what was said, and the lines were written before it
                 return Status.FAILED
-            conversation = replace(conversation, session=session)
-        conversation.show(f"The book is at version {session.last_version:,}.")
+            conversation.session = session
+        console.show(f"The book is at version {session.last_version:,}.")
     return Status.DONE
 
 
@@ -84,56 +96,66 @@ def _lines(console: Console) -> AbstractContextManager[Lines]:
     return TypedLines() if are_typed() else nullcontext[Lines](PipedLines(console))
 
 
-def _talk(conversation: Conversation) -> Lost | None:
+def _talk(conversation: Conversation, file: Path) -> Lost | None:
     """Answers line after line to the end, or until the session is lost."""
+    console = conversation.console
     while True:
         try:
             conversation.typed.clear()
             line = conversation.next_line(PROMPT, is_kept=True)
-            if line.strip() == b"quit":
+            if line.decode(errors="replace").strip() in _ENDS:
                 return None
+            version = conversation.session.last_version
             with in_sentences():
-                _answer(conversation, line)
+                _answer(conversation, file, line)
+            if conversation.session.last_version != version:
+                conversation.remind()
         except GivenUp:
-            conversation.show("Given up. Nothing was sent.")
+            console.show("Given up. Nothing was changed.")
         except Stop as stop:
-            conversation.say(*stop.lines)
+            console.say(*stop.lines)
         except Refused as refused:
-            conversation.say(refused.sentence)
+            console.say(refused.sentence)
         except Ended:
             return None
         except Lost as lost:
-            conversation.say("What was typed last may not be in the book:")
-            conversation.say(*map(visible, conversation.typed))
+            console.say("What was typed last may not be in the book:")
+            console.say(*map(visible, conversation.typed))
             return lost
 
 
-def _answer(conversation: Conversation, line: bytes) -> None:
-    """Answers one line: help, a command by text, or a request."""
-    name, _, rest = line.decode(errors="replace").strip().partition(" ")
+def _answer(conversation: Conversation, file: Path, line: bytes) -> None:
+    """Answers one line: help, a command of the shell, or a request."""
+    line = line.lstrip(b" ")
+    name, _, rest = line.decode("utf-8", "surrogateescape").partition(" ")
     if not name:
         return
     if name == "help":
         _help(conversation, rest.strip())
-        return
-    for dialogue in DIALOGUES:
-        if dialogue.name == name:
-            dialogue.run(conversation, rest)
-            return
-    if name in BY_NAME or name.startswith("@"):
+    elif name in ("short", "long"):
+        conversation.is_short = name == "short"
+        console = conversation.console
+        console.show(
+            f"Questions are {'short' if name == 'short' else 'in sentences'} now."
+        )
+    elif name in AT_PROMPT:
+        prompt_words.command_answered(conversation, file, name, rest)
+    elif name == "request":
+        request_line(conversation, line.removeprefix(b"request").lstrip(b" "))
+    elif name in BY_NAME or name.startswith("@"):
         request_line(conversation, line)
-        return
-    conversation.say(_unknown(name))
+    else:
+        conversation.console.say(_unknown(name))
 
 
 def _help(conversation: Conversation, name: str) -> None:
-    lines = help.of(name) if name else help.overview()
+    lines = prompt_words.help_of(name) if name else prompt_words.overview()
     if lines is None:
-        conversation.say(_unknown(name))
+        conversation.console.say(_unknown(name))
     else:
-        conversation.show(*lines)
+        conversation.console.show(*lines)
 
 
 def _unknown(name: str) -> str:
-    said = hint(name, help.names(), AT_PROMPT)
+    said = hint(name, prompt_words.names(), KNOWN)
     return f"There is no {visible(name[:40])}.{said} help says what can be typed."

@@ -93,7 +93,7 @@ def run(arguments: Namespace, console: Console) -> Status:
     """Answers line after line until the person ends it."""
     trial = Trial(arguments.table)
     with _lines(console) as lines:
-        talk = _Talk(trial, lines, console, arguments.width)
+        talk = _Talk(trial, lines, console, console.columns)
         talk.show(*trial.state(), "Type print, or quit to end.")
         last = ""
         while True:

@@ -90,7 +90,7 @@ def run(arguments: Namespace, console: Console) -> Status:
     )
     lines = [head, *_found(tuned, book)]
     for line in lines:
-        console.show(*wrap(line, arguments.width, _INDENT))
+        console.show(*wrap(line, console.columns, _INDENT))
     if tuned.mends:
         _end(arguments, book, tuned, console)
     return Status.DONE

@@ -1,0 +1,207 @@
+"""The commands of the shell at the prompt of `talk`: the words of a line, and those it lacks."""
+
+import re
+from argparse import Namespace
+from collections.abc import Callable
+from pathlib import Path
+from typing import Any
+
+from braildesk import NotFound
+from braildesk.protocol.requests import BY_NAME, REQUESTS, Command
+from braildesk.text.characters import visible
+from braildesk.text.excerpt import excerpt_lines, opening
+from braildesk.text.spans import find_spans
+
+from scribe.cli.commands import AT_PROMPT, COMMANDS, prompt_command
+from scribe.cli.width import as_asked
+from scribe.cli.parser import Asked, Parser, TextAsked, WordsRefused
+from scribe.prompt.conversation import Conversation
+from scribe.words.find import instead
+from scribe.words.paragraph import quoted
+from scribe.words.typed import InvalidInput, number, words_of
+
+_OWN = {
+    "request": "request LINE sends a line of the requests' grammar, which counts places and cells"
+    " from 0, also where its first word is that of a command here.",
+    "help": "help says what can be typed; help and a name says more of it.",
+    "short": "short has questions be asked in a word or two.",
+    "long": "long has questions be asked in whole sentences.",
+    "quit": "quit, q or exit ends the conversation. What was answered is kept already.",
+}
+# the name, the options in brackets, and the words
+_USAGE = re.compile(r"usage: (\S+) ?((?:\[-[^]]*\] ?)*)(.*)")
+_IN_MARKS = "Put words with blanks between them in quotation marks, as in 'far away'."
+
+
+def names() -> list[str]:
+    """Everything that a line may begin with."""
+    return [*AT_PROMPT, *_OWN, *(name for name in BY_NAME if name not in AT_PROMPT)]
+
+
+def overview() -> list[str]:
+    """What can be typed."""
+    others = [each for each in REQUESTS if each.name not in AT_PROMPT]
+    changing = [each.name for each in others if issubclass(each, Command)]
+    looking = [each.name for each in others if not issubclass(each, Command)]
+    return [
+        f"These commands are those of the shell, without the file: {', '.join(AT_PROMPT)}. Words"
+        f" that a line lacks are asked for. {_IN_MARKS}",
+        "These are requests, which count places and cells from 0, while all that is said in words"
+        f" counts from 1: {', '.join(looking)} show something, and {', '.join(changing)} change"
+        " the book.",
+        "short has questions be asked in a word or two, and long in sentences. help and a name says"
+        " more of it. quit, q or exit ends.",
+    ]
+
+
+def help_of(name: str) -> list[str] | None:
+    """What is said of one thing that can be typed, or None if there is no such thing."""
+    if name in AT_PROMPT:
+        return _help_of_command(name)
+    if name in _OWN:
+        return [_OWN[name]]
+    asked = BY_NAME.get(name.removeprefix("request "))
+    if asked is None:
+        return None
+    lines = [f"{asked.form()}: {asked.__doc__}", f"For example: {asked.example}"]
+    if issubclass(asked, Command):
+        lines.append(
+            f"@12 {asked.example} does the same only where the book is at version 12."
+        )
+    return lines
+
+
+def _help_of_command(name: str) -> list[str]:
+    its = prompt_command(name)
+    example = its.example.splitlines()[0].removeprefix("scribe ")
+    _, does = COMMANDS[name]
+    lines = [_usage(its.prompt_parser()), does]
+    if its.more:
+        lines.append(" ".join(its.more.split()))
+    return [*lines, f"For example: {example.replace(' moon.braildesk', '')}"]
+
+
+def _usage(parser: Parser) -> str:
+    """How a line is typed: its words in their order, then the options."""
+    usage = " ".join(parser.format_usage().split()).replace("[-h] ", "")
+    parts = _USAGE.fullmatch(usage)
+    return " ".join(" ".join(parts.group(1, 3, 2)).split()) if parts else usage
+
+
+def _why_refused(refused: WordsRefused) -> str:
+    """Why the words of a line aren't taken."""
+    _, is_over, words = refused.sentence.partition("Unrecognized arguments: ")
+    if not is_over or words.startswith("-"):
+        return refused.sentence
+    return f"The line has too many words: “{words.removesuffix('.')}”. {_IN_MARKS}"
+
+
+def command_answered(talk: Conversation, file: Path, name: str, rest: str) -> None:
+    """Answers a line that begins with a command of the shell."""
+    its = prompt_command(name)
+    parser = its.prompt_parser()
+    arguments = Namespace(file=file, read_at=file)
+    try:
+        parser.parse_args(words_of(rest), arguments)
+    except TextAsked as asked:
+        talk.console.show(*asked.text.rstrip("\n").split("\n"))
+        return
+    except InvalidInput as fault:
+        talk.console.say(f"{fault} Nothing was changed.")
+        return
+    except WordsRefused as refused:
+        talk.console.say(_why_refused(refused), f"It is typed as: {_usage(parser)}")
+        return
+    _complete(talk, parser, arguments)
+    console = as_asked(talk.console, arguments)
+    talk.hand = its.answer(talk.session, arguments, console) or talk.hand
+
+
+def _complete(talk: Conversation, parser: Parser, arguments: Namespace) -> None:
+    """Asks for the words that a line lacks."""
+    _take_known(talk, parser, arguments)
+    for asked in parser.asked:
+        given = getattr(arguments, asked.action.dest)
+        if given is None:
+            read = _reader(talk, asked, arguments)
+            given = talk.ask(asked.question, asked.short, read)
+            setattr(arguments, asked.action.dest, given)
+        is_last = asked is parser.asked[-1]
+        if asked.action.dest == "paragraph" and not is_last:
+            _show_paragraph(talk, parser, arguments)
+        if asked.stands and arguments.nth is None:
+            arguments.nth = _which(talk, arguments.paragraph, given)
+
+
+def _take_known(talk: Conversation, parser: Parser, arguments: Namespace) -> None:
+    """Takes words that a line lacks from what is known: who talks, and the mark in hand."""
+    hand = talk.hand
+    known: dict[str, Any] = {"by": talk.by}
+    if hand is not None:
+        known["after_mark"] = hand.mark.id
+    if hand is not None and not hand.mark.resolved:
+        its = {"paragraph": hand.paragraph, "mark": hand.mark.id}
+        in_hand = {each.action.dest for each in parser.asked if each.in_hand}
+        known.update((name, its[name]) for name in its if name in in_hand)
+    for name, value in known.items():
+        if name in arguments and getattr(arguments, name) is None:
+            setattr(arguments, name, value)
+
+
+def _reader(
+    talk: Conversation, asked: Asked, arguments: Namespace
+) -> Callable[[str], Any]:
+    """What reads an answer, and refuses what the book doesn't have."""
+
+    def paragraph(answer: str) -> int:
+        try:
+            talk.session.print_of(number(answer))
+        except NotFound as missing:
+            raise InvalidInput(missing.sentence) from missing
+        return int(answer)
+
+    def standing(answer: str) -> Any:
+        text = talk.session.print_of(arguments.paragraph)
+        if not find_spans(text, asked.read(answer)):
+            where = f"in paragraph {arguments.paragraph}{instead(answer, text)}"
+            raise InvalidInput(f"{quoted(answer)} isn't {where}")
+        return answer
+
+    if asked.action.dest == "paragraph":
+        return paragraph
+    return standing if asked.stands else asked.read
+
+
+def _show_paragraph(talk: Conversation, parser: Parser, arguments: Namespace) -> None:
+    """Shows how a paragraph begins, or its mark in hand, where more will be asked for."""
+    if all(getattr(arguments, each.action.dest) is not None for each in parser.asked):
+        return
+    number, width, hand = arguments.paragraph, talk.console.columns, talk.hand
+    head, text = f"Paragraph {number}: ", talk.session.print_of(number)
+    if hand is not None and hand.paragraph == number and not hand.mark.resolved:
+        start, stop = hand.mark.start, hand.mark.stop
+        talk.console.show(*excerpt_lines(head, text, start, stop, width))
+    else:
+        talk.console.show(opening(head + visible(text), width))
+
+
+def _which(talk: Conversation, paragraph: int, sought: str) -> int | None:
+    """In which of the places where words stand they are meant, counted from 1."""
+    text = talk.session.print_of(paragraph)
+    places = find_spans(text, sought)
+    if len(places) < 2:
+        return None
+    for nth, place in enumerate(places, 1):
+        talk.console.show(
+            *excerpt_lines(
+                f"{nth}: ", text, place.start, place.stop, talk.console.columns
+            )
+        )
+
+    def one_of_them(answer: str) -> int:
+        if not 1 <= number(answer) <= len(places):
+            raise InvalidInput(f"the places are 1 to {len(places)}")
+        return int(answer)
+
+    question = "Which of these places? Type its number."
+    return talk.ask(question, f"place 1 to {len(places)}", one_of_them)
