@@ -1,8 +1,9 @@
-"""Each key once in a terminal, at three sizes, and the whole screen after each.
+"""Each key once, at three sizes, and what a screen reader would say of the screen after each.
 
 `screens/80x24.txt` and the two others have the screens: after each line with keys the lines that
-changed, with their numbers, and where the cursor stands. With `SCREENS=write` in the environment
-the files are written as the screens are, to be read and compared by `git diff`.
+changed, in their order and with their numbers, and where the cursor stands. They are drawn without a
+terminal; the first keys are pressed in one too. With `SCREENS=write` in the environment the files
+are written as the screens are, to be read and compared by `git diff`.
 """
 
 import os
@@ -12,11 +13,18 @@ from pathlib import Path
 
 import pytest
 
+from braildesk.text.wrapping import columns
+
+from scribe.screen.drawing import draw
 from scribe.screen.keys import KEYS
-from terminal import Open, Terminal
+from scribe.screen.state import Size
+from sitting import Sat, Sit
+from terminal import Open
 
 SCREENS = Path(__file__).with_name("screens")
 SIZES = [(80, 24), (40, 12), (200, 60)]
+#: How many of the steps are pressed in a terminal too: those along the paragraph and to others.
+IN_TERMINAL = 26
 #: The keys of each step; what is in quotation marks is typed.
 STEPS = """
 right
@@ -34,6 +42,8 @@ c-home
 g
 '3' enter
 tab
+d
+d
 a
 a
 tab
@@ -137,39 +147,72 @@ class Wanted:
         self.file.write_text(text, encoding="utf-8")
 
 
-def pressed(terminal: Terminal, keys: str) -> None:
-    """Presses the keys of a step."""
-    while keys:
-        if keys[0] == "'":
-            typed, _, keys = keys[1:].partition("'")
-            terminal.keys(*typed)
+def keys_of(step: str) -> Iterator[str]:
+    """The keys of a step, one by one."""
+    while step:
+        if step[0] == "'":
+            typed, _, step = step[1:].partition("'")
+            yield from typed
         else:
-            key, _, keys = keys.partition(" ")
-            terminal.keys(" " if key == "space" else key)
-        keys = keys.lstrip()
+            key, _, step = step.partition(" ")
+            yield " " if key == "space" else key
+        step = step.lstrip()
+
+
+def pressed(sat: Sat, step: str) -> Shown:
+    """The screen once the keys of a step were pressed, and all that goes on beside it is done."""
+    for key in keys_of(step):
+        sat.press(key)
+        if sat.state.away:
+            sat.state = sat.desk.away(sat.state, lambda line: None)
+    sat.state = sat.desk.previewed(sat.state)
+    drawn = draw(sat.state)
+    line, place = drawn.cursor
+    before = "".join(piece.text for piece in drawn.lines[line])[:place]
+    return Shown(drawn.texts(), (line, columns(before)))
+
+
+def cells_alone(lines: list[str]) -> bool:
+    """Whether nothing but cells stands in the lines of cells of the paragraph."""
+    rule = next((n for n, each in enumerate(lines) if each.startswith("-- ")), None)
+    below = [] if rule is None else lines[rule + 1 :]
+    return all(
+        set(line) <= {chr(0x2800 + mask) for mask in range(256)}
+        for line in below
+        if line and 0x2800 <= ord(line[0]) < 0x2900 and ", cell" not in line
+    )
 
 
 @pytest.mark.parametrize("size", SIZES, ids=lambda size: f"{size[0]}x{size[1]}")
 def test_the_screen_after_each_key_is_what_has_to_be_there(
-    moon: Path, at: Open, size: tuple[int, int]
+    moon: Path, sit: Sit, size: tuple[int, int], monkeypatch: pytest.MonkeyPatch
 ) -> None:
-    columns, lines = size
+    monkeypatch.chdir(moon.parent)
     (moon.parent / "text.txt").write_text("The sun\n\nThe stars.\n")
-    empty = Shown([""] * lines, (0, 0))
-    wanted = Wanted(SCREENS / f"{columns}x{lines}.txt")
-    terminal = at(moon, columns, lines)
-    terminal.wait("? shows all keys.")
+    empty = Shown([""] * size[1], (0, 0))
+    wanted = Wanted(SCREENS / f"{size[0]}x{size[1]}.txt")
+    sat = sit(moon, size=Size(*size))
+    shown = [(keys, pressed(sat, keys)) for keys in ["", *STEPS]]
     if os.environ.get("SCREENS") == "write":
-        for keys in ["opened", *STEPS]:
-            pressed(terminal, keys if keys != "opened" else "")
-            terminal.settle()
-            wanted.steps.append((keys, Shown(terminal.lines, terminal.cursor)))
+        wanted.steps = [(keys or "opened", each) for keys, each in shown]
         wanted.write(empty)
         return
     wanted.read(empty)
     assert [keys for keys, _ in wanted.steps] == ["opened", *STEPS]
-    for keys, shown in wanted.steps:
-        pressed(terminal, keys if keys != "opened" else "")
+    for (keys, there), (_, each) in zip(wanted.steps, shown):
+        assert (keys, each.lines, each.cursor) == (keys, there.lines, there.cursor)
+        assert cells_alone(each.lines), keys
+
+
+def test_a_terminal_shows_the_same_after_each_of_the_first_keys(
+    moon: Path, at: Open
+) -> None:
+    wanted = Wanted(SCREENS / "40x12.txt")
+    wanted.read(Shown([""] * 12, (0, 0)))
+    terminal = at(moon, 40, 12)
+    terminal.wait("? shows all keys.")
+    for keys, shown in wanted.steps[: IN_TERMINAL + 1]:
+        terminal.keys(*([] if keys == "opened" else keys_of(keys)))
         terminal.wait_for(shown.lines, shown.cursor, keys)
     terminal.keys("q")
     assert terminal.ended() == 0

@@ -62,8 +62,8 @@ def test_the_book_is_shown_as_it_is_opened(reader: Sat) -> None:
         "",
         "",
         "-- Paragraph 1, body, table en " + "-" * 49,
-        "The {moon} is far away.",
-        "|⠠⠞|⠓⠑⠀{⠍⠕⠕⠝}⠀⠊⠎⠀⠋⠁⠗⠀⠁⠺⠁⠽⠲",
+        "The moon is far away.",
+        "⠠⠞⠓⠑⠀⠍⠕⠕⠝⠀⠊⠎⠀⠋⠁⠗⠀⠁⠺⠁⠽⠲",
     ]
     # the T with its sign
     assert sat.highlighted == ["T", "⠠⠞"]
@@ -82,11 +82,11 @@ def test_a_correction_is_kept_with_its_name_and_then_undone(
     assert sat.state.version == 7 and sat.state.kept == ""
     sat.press("enter")
     assert "kept: correction 2 of paragraph 1" in sat.lines[0]
-    assert sat.lines[8] == "The {Moon} is far away."
+    assert sat.lines[8] == "The Moon is far away."
     assert "Mark 1, open, touched, on “Moon”: spelled so?" in sat.lines
     sat.press("u")
     assert "version 9, table en, last kept: undo in paragraph 1" in sat.lines[0]
-    assert sat.lines[8] == "The {moon} is far away."
+    assert sat.lines[8] == "The moon is far away."
     sat.press("h")
     assert sat.lines[1:5] == [
         "History of paragraph 1. Lines 1 to 3 of 3.",

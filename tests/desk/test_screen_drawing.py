@@ -29,7 +29,6 @@ PRINT = "The moon is far away."
 CELLS = "⠠⠞⠓⠑⠀⠍⠕⠕⠝⠀⠊⠎⠀⠋⠁⠗⠀⠁⠺⠁⠽⠲"
 FIRST = Paragraph(1, "en", Style.BODY, False, False, 21)
 SECOND = Paragraph(2, "en", Style.HEADING, True, True, 9)
-MARKED_CELLS = "⠠⠞⠓⠑⠀{⠍⠕⠕⠝}⠀⠊⠎⠀⠋⠁⠗⠀⠁⠺⠁⠽⠲"
 MARK = Mark(1, 4, 8, False, False, "spelled so?")
 READING = ParagraphReading(FIRST, PRINT, CELLS, (MARK,))
 STATE = State(
@@ -52,8 +51,8 @@ SIZES = {
         "     2 heading, volume, struck: The Tides",
         *[""] * 4,
         "-- Paragraph 1, body, table en " + "-" * 49,
-        "The {moon} is far away.",
-        "⠠⠞⠓⠑⠀{⠍|⠕|⠕⠝}⠀⠊⠎⠀⠋⠁⠗⠀⠁⠺⠁⠽⠲",
+        PRINT,
+        CELLS,
         *[""] * 11,
         "“o” ⠕, character 6, cell 7",
         "Mark 1, open, on “moon”: spelled so?",
@@ -65,8 +64,8 @@ SIZES = {
         "     2 heading, volume, struck: The…",
         "",
         "-- Paragraph 1, body, table en ---------",
-        "The {moon} is far away.",
-        "⠠⠞⠓⠑⠀{⠍|⠕|⠕⠝}⠀⠊⠎⠀⠋⠁⠗⠀⠁⠺⠁⠽⠲",
+        PRINT,
+        CELLS,
         "",
         "",
         "“o” ⠕, character 6, cell 7",
@@ -79,8 +78,8 @@ SIZES = {
         "     2 heading, volume, struck: The Tides",
         *[""] * 16,
         "-- Paragraph 1, body, table en " + "-" * 169,
-        "The {moon} is far away.",
-        "⠠⠞⠓⠑⠀{⠍|⠕|⠕⠝}⠀⠊⠎⠀⠋⠁⠗⠀⠁⠺⠁⠽⠲",
+        PRINT,
+        CELLS,
         *[""] * 35,
         "“o” ⠕, character 6, cell 7",
         "Mark 1, open, on “moon”: spelled so?",
@@ -123,23 +122,58 @@ def test_the_picture_of_the_page_of_the_desk_is_what_is_drawn() -> None:
 def test_the_character_of_the_cursor_its_cells_and_the_marked_words_are_lit() -> None:
     drawn = draw(STATE)
     assert looks(drawn, HIGHLIGHTED) == ["o", "⠕"]
-    assert looks(drawn, MARKED) == ["{m", "on}", "{⠍", "⠕⠝}"]
-    assert drawn.lines[8][2].text == "o" and drawn.cursor == (8, 6)
+    assert looks(drawn, MARKED) == ["m", "on", "⠍", "⠕⠝"]
+    assert drawn.lines[8][2].text == "o" and drawn.cursor == (8, 5)
 
 
 def test_on_cells_the_cursor_stands_on_the_cell_and_its_characters_are_lit() -> None:
     highlighted = Highlighted(Span(0, 1), Span(0, 1))
     drawn = draw(replace(STATE, pane=Pane.CELLS, place=0, highlighted=highlighted))
     assert looks(drawn, HIGHLIGHTED) == ["T", "⠠"]
-    assert drawn.texts()[8:10] == ["|T|he {moon} is far away.", MARKED_CELLS]
+    assert drawn.texts()[8:10] == [PRINT, CELLS]
     assert drawn.cursor == (9, 0)
 
 
-def test_what_belongs_to_the_cursor_stands_between_bars_with_its_signs() -> None:
+def test_what_belongs_to_the_cursor_and_what_is_marked_is_said_in_words_below() -> None:
     highlighted = Highlighted(Span(0, 1), Span(0, 2))
     drawn = draw(replace(STATE, place=0, highlighted=highlighted))
-    assert drawn.texts()[8:10] == ["The {moon} is far away.", "|⠠⠞|" + MARKED_CELLS[2:]]
-    assert "“T” ⠠⠞, character 1, cells 1 to 2" in drawn.texts()
+    assert drawn.texts()[8:10] == [PRINT, CELLS]
+    assert drawn.texts()[-3:-1] == [
+        "“T” ⠠⠞, character 1, cells 1 to 2",
+        "Marked: “moon”.",
+    ]
+
+
+def test_all_marked_words_of_the_paragraph_are_named_in_their_order_in_one_line() -> (
+    None
+):
+    marks = (
+        Mark(1, 12, 15, False, False, "how far?"),
+        Mark(2, 4, 8, False, False, "spelled so?"),
+        Mark(3, 9, 9, False, True, "which?"),
+        Mark(4, 0, 3, True, False, "resolved already"),
+        Mark(5, 4, 8, False, False, "whose?"),
+    )
+    reading = ParagraphReading(FIRST, PRINT, CELLS, marks)
+    highlighted = Highlighted(Span(17, 18), Span(18, 19))
+    state = replace(STATE, reading=reading, place=17, highlighted=highlighted)
+    assert draw(state).texts()[-2] == (
+        "Marked: “moon”; no words, at character 10; “far”."
+    )
+    narrow = draw(replace(state, size=Size(40, 12))).texts()
+    assert narrow[-2] == "Marked: “moon”; no words, at character…"
+    new = replace(state, typed=Field(Purpose.AFTER, "It", 2))
+    assert not any(line.startswith("Marked") for line in draw(new).texts())
+
+
+def test_dots_7_and_8_say_what_is_marked_and_where_the_cursor_is() -> None:
+    dotted = replace(STATE, has_dots=True)
+    # dot 7 under the cells of “moon”, and dot 8 under the cell of the cursor
+    assert draw(dotted).texts()[8:10] == [PRINT, "⠠⠞⠓⠑⠀⡍⣕⡕⡝⠀⠊⠎⠀⠋⠁⠗⠀⠁⠺⠁⠽⠲"]
+    assert "“o” ⠕, character 6, cell 7" in draw(dotted).texts()
+    chosen = replace(dotted, pane=Pane.CELLS, anchor=1, place=3)
+    assert draw(chosen).texts()[9] == "⠠⢞⢓⢑⠀⡍⡕⡕⡝⠀⠊⠎⠀⠋⠁⠗⠀⠁⠺⠁⠽⠲"
+    assert draw(replace(dotted, is_ascii=True)).texts()[9] == ",THE MOON IS FAR AWAY4"
 
 
 def test_chosen_cells_are_lit_and_counted() -> None:
@@ -149,19 +183,19 @@ def test_chosen_cells_are_lit_and_counted() -> None:
     )
     assert looks(drawn, HIGHLIGHTED) == ["n", "⠍⠕⠕⠝"]
     line, place = drawn.cursor
-    assert drawn.texts()[line] == "⠠⠞⠓⠑⠀{|⠍⠕⠕⠝|}⠀⠊⠎⠀⠋⠁⠗⠀⠁⠺⠁⠽⠲"
+    assert drawn.texts()[line] == CELLS
     assert drawn.texts()[line][place] == "⠝"
     assert "4 cells chosen, at ⠝ “n”, cell 9, character 8" in drawn.texts()
     drawn = draw(
         replace(STATE, pane=Pane.CELLS, place=9, anchor=5, highlighted=highlighted)
     )
     line, place = drawn.cursor
-    assert drawn.texts()[line][:place] == "⠠⠞⠓⠑⠀{|⠍⠕⠕⠝}"
+    assert drawn.texts()[line][:place] == "⠠⠞⠓⠑⠀⠍⠕⠕⠝"
 
 
 def test_braille_ascii_is_shown_where_it_is_wanted() -> None:
     drawn = draw(replace(STATE, is_ascii=True))
-    assert ",THE {M|O|ON} IS FAR AWAY4" in drawn.texts()
+    assert ",THE MOON IS FAR AWAY4" in drawn.texts()
     assert "“o” O, character 6, cell 7" in drawn.texts()
     assert "".join(drawn.texts()[:-1]).count("⠕") == 0
 
@@ -247,7 +281,7 @@ def test_what_is_said_below_lines_that_are_looked_at_leaves_them_the_rest() -> N
 def test_a_long_refusal_leaves_room_for_the_book() -> None:
     drawn = draw(replace(STATE, size=Size(40, 12), message="No, never again. " * 40))
     assert len(drawn.lines) == 12
-    assert "The {moon} is far away." in drawn.texts()
+    assert PRINT in drawn.texts()
 
 
 @pytest.mark.parametrize("size", [*SIZES, (20, 8)])
@@ -261,7 +295,7 @@ def test_what_is_said_is_seen_whole_beside_the_chosen_paragraph(
         assert len(lines) == size[1] and all(columns(each) <= size[0] for each in lines)
         if size == (20, 8) and typed and typed.purpose is Purpose.NOTE:
             assert lines[2:] == [
-                "The {moon} is far",
+                "The moon is far",
                 "“Moon” stands",
                 "nowhere as typed;",
                 "with other capitals",

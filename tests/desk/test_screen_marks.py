@@ -192,7 +192,7 @@ def test_the_chosen_paragraph_is_listed_whatever_is_said_below(
         lines = sat.lines
         assert [line[:6] for line in lines if line[:1] == ">"] == [">    3"], size
         line, _ = draw(sat.state).cursor
-        assert lines[line].startswith("{Twice} a day")
+        assert lines[line].startswith("Twice a day")
         assert len(lines) == size.lines
         sat.desk.close()
 

@@ -34,30 +34,30 @@ def scripts(empty_book: Path) -> Path:
 
 
 @pytest.mark.parametrize("size", [(80, 24), (40, 12)])
-def test_marks_and_the_cursor_are_legible_without_looks(
+def test_marks_and_the_cursor_are_in_words_and_no_cell_is_put_in(
     moon: Path, at: Open, size: tuple[int, int]
 ) -> None:
     terminal = at(moon, *size)
     lines = terminal.wait(OPENED)
-    place = lines.index("The {moon} is far away.")
-    assert lines[place + 1] == "|⠠⠞|⠓⠑⠀{⠍⠕⠕⠝}⠀⠊⠎⠀⠋⠁⠗⠀⠁⠺⠁⠽⠲"
+    place = lines.index("The moon is far away.")
+    assert lines[place + 1] == "⠠⠞⠓⠑⠀⠍⠕⠕⠝⠀⠊⠎⠀⠋⠁⠗⠀⠁⠺⠁⠽⠲"
     assert "“T” ⠠⠞, character 1, cells 1 to 2" in lines
     assert terminal.cursor == (place, 0)
     terminal.keys("c-right", "right")
     lines = terminal.wait("“o” ⠕, character 6, cell 7")
-    assert lines[place + 1] == "⠠⠞⠓⠑⠀{⠍|⠕|⠕⠝}⠀⠊⠎⠀⠋⠁⠗⠀⠁⠺⠁⠽⠲"
+    assert lines[place + 1] == "⠠⠞⠓⠑⠀⠍⠕⠕⠝⠀⠊⠎⠀⠋⠁⠗⠀⠁⠺⠁⠽⠲"
     assert "Mark 1, open, on “moon”: spelled so?" in lines
-    assert terminal.cursor == (place, 6)
+    assert terminal.cursor == (place, 5)
     terminal.keys("tab", " ", "right")
     lines = terminal.wait("2 cells chosen, at ⠕ “o”, cell 8,")
     assert lines[place : place + 2] == [
-        "The {mo|o|n} is far away.",
-        "⠠⠞⠓⠑⠀{⠍|⠕⠕|⠝}⠀⠊⠎⠀⠋⠁⠗⠀⠁⠺⠁⠽⠲",
+        "The moon is far away.",
+        "⠠⠞⠓⠑⠀⠍⠕⠕⠝⠀⠊⠎⠀⠋⠁⠗⠀⠁⠺⠁⠽⠲",
     ]
-    assert terminal.cursor == (place + 1, 9)
+    assert terminal.cursor == (place + 1, 7)
     terminal.keys("a")
     lines = terminal.wait("2 cells chosen, at O “o”, cell 8,")
-    assert lines[place + 1] == ",THE {M|OO|N} IS FAR AWAY4"
+    assert lines[place + 1] == ",THE MOON IS FAR AWAY4"
 
 
 @pytest.mark.parametrize("size", [(80, 24), (40, 12)])
@@ -74,10 +74,7 @@ def test_hebrew_has_the_cursor_and_its_cells_on_their_columns(
         )
         assert terminal.cursor == (place, column)
         assert lines[place] == "ab אבג דהו a"
-        cells = "⠁⠃⠀⠁⠧⠛⠀⠙⠓⠺⠀⠁"
-        assert lines[place + 1] == (
-            f"{cells[:column]}|{cells[column]}|{cells[column + 1:]}"
-        )
+        assert lines[place + 1] == "⠁⠃⠀⠁⠧⠛⠀⠙⠓⠺⠀⠁"
         terminal.keys("right")
 
 
@@ -216,6 +213,6 @@ def test_a_locale_without_utf8_shows_braille_ascii(
 ) -> None:
     terminal = at(moon, LC_ALL=locale)
     lines = terminal.wait(OPENED)
-    assert "|,T|HE {MOON} IS FAR AWAY4" in lines
+    assert ",THE MOON IS FAR AWAY4" in lines
     terminal.keys("q")
     assert terminal.ended() == 0

@@ -87,7 +87,7 @@ def test_q_with_an_edited_line_is_a_letter(moon: Path, sit: Sit) -> None:
     sat = sit(moon)
     sat.press("enter", "q", "q", "enter")
     assert not sat.state.is_over
-    assert sat.lines[8] == "qqThe {moon} is far away."
+    assert sat.lines[8] == "qqThe moon is far away."
     sat.press("q")
     assert sat.state.is_over
 

@@ -1,7 +1,10 @@
 """Cells of braille as characters of Braille Patterns and as bytes of North American Braille ASCII."""
 
 import re
+from collections.abc import Iterable
 from enum import StrEnum
+
+from braildesk.text.spans import Span
 
 EMPTY_CELL = "\u2800"
 #: The characters between words, of print and of braille.
@@ -61,6 +64,15 @@ def braille_patterns(text: str) -> str:
         return "".join(_cell(character, {" ": EMPTY_CELL}) for character in text)
     letters = (_SMALL_LETTERS.get(character, character) for character in text)
     return "".join(_cell(letter, _FROM_ASCII) for letter in letters)
+
+
+def with_dots(braille: str, dot: int, spans: Iterable[Span]) -> str:
+    """Cells that have one dot more in some spans."""
+    cells = list(braille)
+    for span in spans:
+        for place in range(span.start, min(span.stop, len(cells))):
+            cells[place] = chr(ord(cells[place]) | 1 << dot - 1)
+    return "".join(cells)
 
 
 def _cell(character: str, cells: dict[str, str]) -> str:

@@ -7,7 +7,6 @@ the cursor there, and `pagelook` has the page of the cursor. `terminal` alone kn
 characters it has. `field` is a text that is being typed, `rows` parts a text into lines, `preview`
 translates what isn't in the book yet, and `draft` says what of it has to be kept.
 
-Of what is drawn, `body` has the print and the braille of a paragraph, `signs` those signs in them
-that say what is marked, `pager` what is looked at in place of the book, and `lines` what all of
-them are made of.
+Of what is drawn, `body` has the print and the braille of a paragraph, `pager` what is looked at in
+place of the book, and `lines` what all of them are made of.
 """

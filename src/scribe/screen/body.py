@@ -1,72 +1,62 @@
-"""The print and the braille of the chosen paragraph, or of what is typed."""
+"""The print and the braille of the chosen paragraph, or of what is typed.
 
+Nothing is put in among them that isn't in the book: braces and bars are cells themselves on a
+display that shows computer braille, and would shift what follows.
+"""
+
+from collections.abc import Sequence
 from dataclasses import dataclass
 from itertools import groupby
 
-from braildesk.text.cells import braille_ascii
+from braildesk.text.cells import braille_ascii, with_dots
 from braildesk.text.spans import Span
 
 from scribe.screen.field import Field
 from scribe.screen.lines import Area, HIGHLIGHTED, Line, MARKED, PLAIN, Piece
 from scribe.screen.rows import row_of, rows, shown
-from scribe.screen.signs import BAR, Signed, signed
 from scribe.screen.state import Pane, State
 
 _NOTHING = Span(0, 0)
+# what dot 7 and dot 8 say of a cell, where a key asked for them
+_DOT_OF_MARK, _DOT_OF_CURSOR = 7, 8
 
 
 @dataclass(frozen=True)
 class _Text:
-    """A text with its signs: what is highlighted in it, and the place around which it is looked at.
+    """A text, what is highlighted and marked in it, and the place around which it is looked at."""
 
-    Both are places of the text with its braces. Bars stand around what is highlighted only where the
-    cursor doesn't show it by itself.
-    """
-
-    signed: Signed
+    text: str
     place: int
     highlighted: Span = _NOTHING
-    has_bars: bool = False
+    marked: Sequence[Span] = ()
 
     def rows(self, width: int) -> list[Span]:
         """The places on each line."""
-        return rows(self.signed.text, width - 2 if self.has_bars else width)
+        return rows(self.text, width)
 
     def line(self, row: Span) -> Line:
         """A line of it."""
-        signs: list[tuple[str, str]] = []
-        for place in range(row.start, row.stop):
-            if (
-                self.has_bars
-                and place == self.highlighted.start < self.highlighted.stop
-            ):
-                signs.append((BAR, PLAIN))
-            signs.append((shown(self.signed.text[place]), self._look(place)))
-            if self.has_bars and place + 1 == self.highlighted.stop:
-                signs.append((BAR, PLAIN))
+        places = range(row.start, row.stop)
         return tuple(
-            Piece("".join(text for text, _ in group), look)
-            for look, group in groupby(signs, key=lambda sign: sign[1])
+            Piece("".join(shown(self.text[place]) for place in group), look)
+            for look, group in groupby(places, key=self._look)
         )
 
     def column(self, row: Span) -> int:
         """How many characters of a line stand before the place."""
-        before = self.signed.text[row.start : self.place]
-        ends = (
-            (self.highlighted.start, self.highlighted.stop - 1)
-            if self.highlighted.stop
-            else ()
-        )
-        bars = sum(
-            row.start <= end < row.stop and end + after <= self.place
-            for after, end in enumerate(ends)
-        )
-        return sum(len(shown(each)) for each in before) + (bars if self.has_bars else 0)
+        return sum(len(shown(each)) for each in self.text[row.start : self.place])
+
+    def dotted(self) -> "_Text":
+        """Cells with dot 7 where they are marked, and dot 8 where they belong to the cursor."""
+        text = with_dots(self.text, _DOT_OF_MARK, self.marked)
+        text = with_dots(text, _DOT_OF_CURSOR, [self.highlighted])
+        return _Text(text, self.place, self.highlighted, self.marked)
 
     def _look(self, place: int) -> str:
         if self.highlighted.start <= place < self.highlighted.stop:
             return HIGHLIGHTED
-        return MARKED if place in self.signed.marked else PLAIN
+        is_marked = any(span.start <= place < span.stop for span in self.marked)
+        return MARKED if is_marked else PLAIN
 
 
 def body(state: State, room: int) -> Area:
@@ -89,35 +79,29 @@ def _typed(state: State, typed: Field) -> tuple[_Text, _Text]:
     cells = state.preview.braille if state.preview else ""
     place = len(cells) * typed.place // (len(typed.text) or 1)
     text = braille_ascii(cells) if state.is_ascii else cells
-    return _Text(signed(typed.text, ()), typed.place), _Text(signed(text, ()), place)
+    return _Text(typed.text, typed.place), _Text(text, place)
 
 
 def _kept(state: State) -> tuple[_Text, _Text]:
     """The print and the braille as the book has them."""
-    reading, highlighted = state.reading, state.highlighted
+    reading, light = state.reading, state.highlighted
     if reading is None:
-        return _Text(signed("", ()), 0), _Text(signed("", ()), 0)
-    cells = braille_ascii(reading.braille) if state.is_ascii else reading.braille
-    above = signed(reading.text, state.marked_words)
-    below = signed(cells, state.marked_cells)
-    upper, lower = (
-        (highlighted.words.start, highlighted.cells.start) if highlighted else (0, 0)
-    )
+        return _Text("", 0), _Text("", 0)
     in_print = state.pane is Pane.PRINT
-    return (
-        _Text(
-            above,
-            above.places[state.place if in_print else upper],
-            above.span(highlighted.words) if highlighted else _NOTHING,
-            has_bars=not in_print,
-        ),
-        _Text(
-            below,
-            below.places[lower if in_print else state.place],
-            below.span(state.chosen_cells or _NOTHING),
-            has_bars=in_print or state.anchor is not None,
-        ),
+    words, cells = (light.words, light.cells) if light else (_NOTHING, _NOTHING)
+    upper = _Text(
+        reading.text,
+        state.place if in_print else words.start,
+        words,
+        state.marked_words,
     )
+    lower = _Text(
+        braille_ascii(reading.braille) if state.is_ascii else reading.braille,
+        cells.start if in_print else state.place,
+        state.chosen_cells or _NOTHING,
+        state.marked_cells,
+    )
+    return upper, lower.dotted() if state.has_dots and not state.is_ascii else lower
 
 
 def _window(lines: list[Span], place: int, room: int) -> list[Span]:

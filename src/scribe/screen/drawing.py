@@ -17,7 +17,7 @@ from scribe.screen.field import Field, Purpose
 from scribe.screen.lines import Area, CHOSEN, HEAD, Line, PLAIN, Piece, filled
 from scribe.screen.rows import shown
 from scribe.screen.state import Highlighted, Pages, Pane, Question, Size, State
-from scribe.words.paragraph import mark_line, title
+from scribe.words.paragraph import mark_line, marked_words, title
 
 # what is most needed comes first, since a narrow screen shows only the front of it
 HINT = (
@@ -260,8 +260,10 @@ def _marks(state: State) -> tuple[Mark, ...]:
 
 def _mark_lines(state: State, marks: tuple[Mark, ...], most: int) -> list[str]:
     """Marks in at most so many lines, of which the first has all that the others leave."""
-    if not marks or most < 1:
+    if most < 1:
         return []
+    if not marks:
+        return _marked(state)
     assert state.reading is not None
     text, width = state.reading.text, state.size.columns
     first = wrap(_how_many(marks) + mark_line(marks[0], text), width)
@@ -270,6 +272,23 @@ def _mark_lines(state: State, marks: tuple[Mark, ...], most: int) -> list[str]:
         others = [_at_most(each, 1, width) for each in others[: most // 3]]
     first = _at_most(first, most - sum(map(len, others)), width)
     return [*first, *(line for each in others for line in each)]
+
+
+def _marked(state: State) -> list[str]:
+    """On which words of the paragraph the open marks are, where the cursor is on none of them."""
+    is_new = state.typed is not None and state.typed.purpose.is_new
+    if state.reading is None or is_new:
+        return []
+    text = state.reading.text
+    marks = sorted(state.reading.marks, key=lambda mark: (mark.start, mark.id))
+    where = dict.fromkeys(
+        marked_words(each, text).removeprefix("on ")
+        for each in marks
+        if not each.resolved
+    )
+    if not where:
+        return []
+    return [opening(f"Marked: {'; '.join(where)}.", state.size.columns)]
 
 
 def _how_many(marks: tuple[Mark, ...]) -> str:

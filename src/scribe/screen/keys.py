@@ -43,6 +43,10 @@ _NO_ANSWER = "That key is no answer to the question."
 _NOT_ENTER = "The end of the pasted line was left out. Enter ends what is typed."
 _ASKED_LATER = "Nothing was typed. It is asked again when the book is opened."
 _STAYS_GIVEN_UP = "Nothing was sent. U asks about it again."
+_DOTS = (
+    "Dot 7 is under marked cells, dot 8 under those of the cursor. d takes both away."
+)
+_NO_DOTS = "Braille ASCII has no dots 7 and 8: a shows the cells as Unicode characters."
 # what is said before it is done, since the book keeps it
 _OF_MARK = "The book keeps each mark: r resolves it, and nothing takes it out."
 _OF_TABLE = "A table that the book lacks is put into it, and stays there."
@@ -587,6 +591,14 @@ def _ascii(state: State) -> Step:
     return Step(replace(state, is_ascii=not state.is_ascii))
 
 
+def _dots(state: State) -> Step:
+    """Has dots 7 and 8 say what is marked and where the cursor is, or not any more."""
+    if state.is_ascii:
+        return Step(state.saying(_NO_DOTS))
+    has_dots = not state.has_dots
+    return Step(replace(state, has_dots=has_dots).saying(_DOTS if has_dots else ""))
+
+
 def _help(state: State) -> Step:
     return Step(replace(state, pages=Pages("All keys.", help_lines())))
 
@@ -654,6 +666,7 @@ KEYS = {
     "g": Bound("goes to a paragraph by its number", _typed_for(Purpose.NUMBER)),
     "tab": Bound("from the print to the cells, and back", _other_pane),
     "a": Bound("cells in Braille ASCII, or as Unicode characters", _ascii, False),
+    "d": Bound("dots 7 and 8 under marked cells and the cursor, or not", _dots, False),
     "enter": Bound("edits the print; Enter keeps it, Escape doesn't", _edit),
     "o": Bound("a new paragraph after this one", _new(Purpose.AFTER), False),
     "O": Bound("a new paragraph before this one", _new(Purpose.BEFORE), False),

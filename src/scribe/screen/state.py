@@ -113,6 +113,8 @@ class State:
     size: Size
     by: str | None = None
     is_ascii: bool = False
+    #: Whether dots 7 and 8 of cells say what is marked, and what belongs to the cursor.
+    has_dots: bool = False
     #: The encoding of the terminal.
     encoding: str = "utf-8"
     #: The size of the pages that are looked at and exported.
