@@ -97,6 +97,11 @@ escape
 ?
 pagedown
 escape
+z
+o
+'Late.'
+escape
+z
 """.strip().split(
     "\n"
 )

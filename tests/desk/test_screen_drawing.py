@@ -53,23 +53,24 @@ SIZES = {
         "-- Paragraph 1, body, table en " + "-" * 49,
         PRINT,
         CELLS,
-        *[""] * 11,
+        *[""] * 8,
         "“o” ⠕, character 6, cell 7",
         "Mark 1, open, on “moon”: spelled so?",
+        *[""] * 3,
         "? keys  q ends  Enter edits  o new  u undo  Tab cells  m mark  n next mark  /…",
     ],
     (40, 12): [
         "version 7, table en, last kept: mark 1",
         ">    1 body, 1 open mark: The moon is…",
         "     2 heading, volume, struck: The…",
-        "",
         "-- Paragraph 1, body, table en ---------",
         PRINT,
         CELLS,
         "",
-        "",
         "“o” ⠕, character 6, cell 7",
         "Mark 1, open, on “moon”: spelled so?",
+        "",
+        "",
         "? keys  q ends  Enter edits  o new  u…",
     ],
     (200, 60): [
@@ -80,9 +81,10 @@ SIZES = {
         "-- Paragraph 1, body, table en " + "-" * 169,
         PRINT,
         CELLS,
-        *[""] * 35,
+        *[""] * 29,
         "“o” ⠕, character 6, cell 7",
         "Mark 1, open, on “moon”: spelled so?",
+        *[""] * 6,
         "? keys  q ends  Enter edits  o new  u undo  Tab cells  m mark  n next mark  / find"
         "  x export",
     ],
@@ -115,7 +117,7 @@ def test_the_picture_of_the_page_of_the_desk_is_what_is_drawn() -> None:
         3: Opening("The Tides", 0),
     }
     reading = ParagraphReading(book[1], PRINT, CELLS, (MARK,))
-    state = replace(STATE, size=Size(72, 14), book=book, chosen=1, openings=openings)
+    state = replace(STATE, size=Size(72, 15), book=book, chosen=1, openings=openings)
     assert draw(replace(state, reading=reading)).texts() == picture
 
 
@@ -138,7 +140,7 @@ def test_what_belongs_to_the_cursor_and_what_is_marked_is_said_in_words_below() 
     highlighted = Highlighted(Span(0, 1), Span(0, 2))
     drawn = draw(replace(STATE, place=0, highlighted=highlighted))
     assert drawn.texts()[8:10] == [PRINT, CELLS]
-    assert drawn.texts()[-3:-1] == [
+    assert drawn.texts()[-6:-4] == [
         "“T” ⠠⠞, character 1, cells 1 to 2",
         "Marked: “moon”.",
     ]
@@ -157,11 +159,11 @@ def test_all_marked_words_of_the_paragraph_are_named_in_their_order_in_one_line(
     reading = ParagraphReading(FIRST, PRINT, CELLS, marks)
     highlighted = Highlighted(Span(17, 18), Span(18, 19))
     state = replace(STATE, reading=reading, place=17, highlighted=highlighted)
-    assert draw(state).texts()[-2] == (
+    assert draw(state).texts()[-5] == (
         "Marked: “moon”; no words, at character 10; “far”."
     )
     narrow = draw(replace(state, size=Size(40, 12))).texts()
-    assert narrow[-2] == "Marked: “moon”; no words, at character…"
+    assert narrow[-4] == "Marked: “moon”; no words, at character…"
     new = replace(state, typed=Field(Purpose.AFTER, "It", 2))
     assert not any(line.startswith("Marked") for line in draw(new).texts())
 
@@ -204,7 +206,7 @@ def test_what_is_typed_stands_in_place_of_the_print_with_its_braille() -> None:
     typed = Field(Purpose.EDIT, "The mo", 6)
     drawn = draw(replace(STATE, typed=typed, preview=Preview("The mo", "⠠⠞⠓⠑⠀⠍⠕")))
     lines = drawn.texts()
-    assert "-- Paragraph 1, body, table en, being edited " + "-" * 35 in lines
+    assert "You are editing paragraph 1." in lines
     assert lines[8:10] == ["The mo", "⠠⠞⠓⠑⠀⠍⠕"]
     assert drawn.cursor == (8, 6)
 
@@ -260,14 +262,14 @@ def test_a_question_is_asked_on_the_last_line() -> None:
 def test_pages_are_looked_at_from_their_top_on() -> None:
     lines = tuple(f"line {n}" for n in range(1, 41))
     drawn = draw(replace(STATE, pages=Pages("All keys.", lines, 10)))
-    assert drawn.texts()[1:3] == ["All keys. Lines 11 to 31 of 40.", "line 11"]
+    assert drawn.texts()[1:3] == ["All keys. Lines 11 to 30 of 40.", "line 11"]
 
 
 def test_what_is_said_below_lines_that_are_looked_at_leaves_them_the_rest() -> None:
     lines = tuple(f"line {n}" for n in range(1, 41))
     said = "That key does nothing here. Escape goes back."
     state = replace(STATE, size=Size(40, 12), pages=Pages("All keys.", lines, 10, 18))
-    assert draw(state).texts()[10] == "line 19" and draw(state).cursor == (10, 0)
+    assert draw(state).texts()[9] == "line 19" and draw(state).cursor == (9, 0)
     drawn = draw(replace(state, message=said))
     assert drawn.texts()[1:3] == ["All keys. Lines 13 to 19 of 40.", "line 13"]
     assert drawn.texts()[8:11] == [
@@ -308,6 +310,73 @@ def test_what_is_said_is_seen_whole_beside_the_chosen_paragraph(
         assert any(line.startswith("The") for line in lines[2:])
 
 
+@pytest.mark.parametrize("size", [(80, 24), (40, 12)])
+def test_nothing_else_moves_when_something_is_said(size: tuple[int, int]) -> None:
+    text = " ".join(f"word{n:04}" for n in range(444))
+    long = ParagraphReading(FIRST, text, text.replace(" ", "\u2800"), ())
+    for reading in (READING, long):
+        for pane in Pane:
+            state = replace(STATE, size=Size(*size), reading=reading, pane=pane)
+            before = draw(state)
+            # a message of one row, and one of as many rows as messages have
+            for said in ("Given up.", "This stands nowhere in the whole of the book."):
+                after = draw(replace(state, message=said))
+                pairs = enumerate(zip(before.lines, after.lines))
+                changed = [n for n, (old, new) in pairs if old != new]
+                rows_of_said = 2 if len(said) > size[0] else 1
+                last = size[1] - 1
+                assert changed == list(range(last - rows_of_said, last))
+                assert after.cursor == before.cursor
+
+
+def test_a_long_sentence_covers_the_last_lines_and_the_print_stays() -> None:
+    state = replace(STATE, size=Size(40, 12))
+    before = draw(state).texts()
+    after = draw(replace(state, message="No, this can't be done. " * 7)).texts()
+    assert after[:5] == before[:5]
+    assert after[5:7] == [
+        "“o” ⠕, character 6, cell 7",
+        "Mark 1, open, on “moon”: spelled so?",
+    ]
+    assert after[7].startswith("No, this can't be done.")
+
+
+def test_a_quiet_screen_has_neither_list_nor_keys_nor_the_braille_of_what_is_typed() -> (
+    None
+):
+    quiet = replace(STATE, size=Size(40, 12), is_quiet=True)
+    assert draw(quiet).texts() == [
+        "version 7, table en, last kept: mark 1",
+        "-- Paragraph 1, body, table en ---------",
+        PRINT,
+        CELLS,
+        *[""] * 4,
+        "“o” ⠕, character 6, cell 7",
+        "Mark 1, open, on “moon”: spelled so?",
+        "",
+        "",
+    ]
+    edited = Field(Purpose.EDIT, "The mo", 6)
+    preview = Preview("The mo", "⠠⠞⠓⠑⠀⠍⠕")
+    assert draw(replace(quiet, typed=edited, preview=preview)).texts() == [
+        "version 7, table en, last kept: mark 1",
+        "-- Paragraph 1, body, table en ---------",
+        "The mo",
+        *[""] * 5,
+        "You are editing paragraph 1.",
+        "Mark 1, open, on “moon”: spelled so?",
+        "",
+        "",
+    ]
+    # what can't be written is said all the same
+    fault = Preview("ö", fault="The table en has no cells for “ö”.")
+    faulty = replace(quiet, typed=Field(Purpose.EDIT, "ö", 1), preview=fault)
+    assert draw(faulty).texts()[-1] == "The table en has no cells for “ö”."
+    note = draw(replace(quiet, typed=Field(Purpose.NOTE, "why?", 2)))
+    assert note.texts()[-1] == "Note of the mark: why?"
+    assert note.cursor == (11, 20)
+
+
 def test_several_marks_at_the_cursor_are_counted_and_a_long_note_is_wrapped() -> None:
     second = Mark(2, 5, 6, False, False, "so? " * 100)
     reading = replace(READING, marks=(second, MARK))
@@ -321,7 +390,7 @@ def test_several_marks_at_the_cursor_are_counted_and_a_long_note_is_wrapped() ->
         lines[-3].endswith("so?…")
         and lines[-2] == "Mark 1, open, on “moon”: spelled so?"
     )
-    assert len(lines) - place == 8
+    assert len(lines) - place == 6
 
 
 def test_a_character_that_can_not_be_seen_is_named_where_the_cursor_is() -> None:

@@ -379,7 +379,7 @@ def test_an_unbracketed_paste_at_the_terminal_changes_nothing_and_comes_back(
     terminal.keys("U", "y", "enter")
     terminal.wait("kept: paragraph 4")
     terminal.keys("enter", "end")
-    terminal.wait("being edited")
+    terminal.wait("You are editing paragraph")
     terminal.send(" One\rtwo")
     terminal.wait("Shall the first go on in this paragraph")
     terminal.keys("n")

@@ -172,7 +172,24 @@ ASKED = {
     ),
 }
 SAID = {
-    "an unknown key": (STATE, "z", "That key does nothing here. ? shows all keys."),
+    "an unknown key": (STATE, "%", "That key does nothing here. ? shows all keys."),
+    "z": (
+        STATE,
+        "z",
+        "Now without the list, and without braille while you type. z brings them back.",
+    ),
+    "z again": (replace(STATE, is_quiet=True), "z", ""),
+    "d": (
+        STATE,
+        "d",
+        "Dot 7 is under marked cells, dot 8 under those of the cursor. d takes both away.",
+    ),
+    "d again": (replace(STATE, has_dots=True), "d", ""),
+    "d in Braille ASCII": (
+        replace(STATE, is_ascii=True),
+        "d",
+        "Braille ASCII has no dots 7 and 8: a shows the cells as Unicode characters.",
+    ),
     "a key of the book while other lines are looked at": (
         replace(STATE, pages=Pages("All keys.", ("Up: to the paragraph before",))),
         "s",

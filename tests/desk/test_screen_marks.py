@@ -114,15 +114,15 @@ def test_each_mark_of_one_character_is_gone_to_shown_and_resolved(
     first = "Mark 1, open, on “moon”: spelled so?"
     second = "Mark 2, open, on “moon”: whose?"
     sat.press("n")
-    assert [f"2 marks here. {first}", second] == sat.lines[-3:-1]
+    assert [f"2 marks here. {first}", second] == sat.lines[-5:-3]
     sat.press("n")
-    assert [f"2 marks here. {second}", first] == sat.lines[-4:-2]
+    assert [f"2 marks here. {second}", first] == sat.lines[-5:-3]
     assert sat.lines[-2] == "Mark 2 begins here too."
     sat.press("n")
     assert sat.state.place == 5
-    assert sat.lines[-4].startswith("3 marks here. Mark 3, open, on “o”: one o?")
+    assert sat.lines[-5].startswith("3 marks here. Mark 3, open, on “o”: one o?")
     sat.press("N")
-    assert sat.lines[-3:-1] == [f"2 marks here. {second}", first]
+    assert sat.lines[-5:-3] == [f"2 marks here. {second}", first]
     sat.press("r")
     assert sat.state.kept == "kept: mark 2 resolved"
     assert sat.state.message == (
@@ -160,7 +160,7 @@ def test_marks_that_are_touched_besides_the_one_in_hand_are_named(
         session.add_mark(1, 10, 2, "is?")
     sat = sit(moon)
     sat.press("n", "enter", *["delete"] * 7, *"sun was", "home", "enter")
-    assert sat.lines[-3:-1] == [
+    assert [sat.lines[-5], sat.lines[-2]] == [
         "Mark 1, open, touched, on “sun wa”: spelled so?",
         "This touched mark 2.",
     ]

@@ -24,13 +24,13 @@ def looked_at(pages: Pages, size: Size) -> str:
 
 
 def test_the_cursor_stands_on_the_head_and_then_on_each_line() -> None:
-    assert looked_at(LINES, SMALL) == "All lines. Lines 1 to 9 of 25."
+    assert looked_at(LINES, SMALL) == "All lines. Lines 1 to 8 of 25."
     assert looked_at(pressed(LINES, SMALL, "down"), SMALL) == "line 1"
     pages = LINES
     for number in range(1, 26):
         pages = pressed(pages, SMALL, "down")
         assert looked_at(pages, SMALL) == f"line {number}"
-    assert seen(pages, SMALL).head == ("All lines. Lines 17 to 25 of 25.",)
+    assert seen(pages, SMALL).head == ("All lines. Lines 18 to 25 of 25.",)
     for number in range(24, 0, -1):
         pages = pressed(pages, SMALL, "up")
         assert looked_at(pages, SMALL) == f"line {number}"
@@ -40,15 +40,15 @@ def test_the_cursor_stands_on_the_head_and_then_on_each_line() -> None:
 def test_a_page_on_shows_the_lines_after_those_that_were_seen() -> None:
     first = seen(LINES, SMALL).lines
     second = seen(pressed(LINES, SMALL, "pagedown"), SMALL).lines
-    assert (first[-1], second[0]) == ("line 9", "line 10")
+    assert (first[-1], second[0]) == ("line 8", "line 9")
     assert seen(pressed(LINES, SMALL, "pagedown pagedown pagedown"), SMALL).lines == (
-        tuple(f"line {n}" for n in range(17, 26))
+        tuple(f"line {n}" for n in range(18, 26))
     )
-    assert seen(pressed(LINES, SMALL, "end pageup"), SMALL).lines[0] == "line 8"
+    assert seen(pressed(LINES, SMALL, "end pageup"), SMALL).lines[0] == "line 10"
 
 
 def test_a_page_at_the_end_goes_to_the_last_line_and_back_to_the_head() -> None:
-    last = pressed(LINES, SMALL, "pagedown pagedown pagedown")
+    last = pressed(LINES, SMALL, "pagedown pagedown pagedown pagedown")
     assert looked_at(last, SMALL) == "line 25"
     assert pressed(last, SMALL, "pageup pageup pageup pageup") == LINES
     assert pressed(last, SMALL, "home") == LINES
@@ -80,10 +80,10 @@ def test_a_head_that_is_too_long_is_wrapped_and_leaves_room_for_lines() -> None:
     found = seen(replace(LINES, title=title), SMALL)
     assert found.head == (
         "Paragraph 2: volume 1, page 1, line 2,",
-        "of 25 lines of 40 cells. Lines 1 to 7 of",
+        "of 25 lines of 40 cells. Lines 1 to 6 of",
         "25.",
     )
-    assert len(found.lines) == 7
+    assert len(found.lines) == 6
 
 
 def test_other_keys_move_nothing() -> None:

@@ -28,7 +28,7 @@ def test_the_book_of_the_readme_is_made_at_the_screen_alone(
     terminal.wait("8 cells chosen, at ⠽ “y”")
     terminal.keys("m", "how far?", "enter")
     terminal.wait("kept: mark 1")
-    terminal.wait_for(PICTURE, (6, 20), "what is marked")
+    terminal.wait_for(PICTURE, (5, 20), "what is marked")
     terminal.keys("w", *["backspace"] * 5, "30 5", "enter")
     terminal.wait("Pages of 5 lines of 30 cells")
     terminal.keys("x", "pages", "enter")

@@ -78,8 +78,8 @@ def test_a_terminal_may_change_its_size_while_print_is_typed_or_a_question_waits
     terminal.wait("⠠⠊⠞⠀⠗⠕⠎⠑⠲")
     terminal.resize(40, 12)
     lines = terminal.wait("-- New paragraph after paragraph 1,…----")
-    assert lines[5:7] == ["It rose.", "⠠⠊⠞⠀⠗⠕⠎⠑⠲"]
-    assert terminal.cursor == (5, 8)
+    assert lines[4:6] == ["It rose.", "⠠⠊⠞⠀⠗⠕⠎⠑⠲"]
+    assert terminal.cursor == (4, 8)
     terminal.paste("Then\nit set.")
     terminal.wait("y is yes, n is no.")
     terminal.resize(200, 60)

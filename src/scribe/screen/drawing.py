@@ -1,7 +1,7 @@
 """The lines of the screen, as a function of its state."""
 
 import unicodedata
-from dataclasses import dataclass
+from dataclasses import dataclass, replace
 
 from braildesk import Mark, Style
 from braildesk.desk.readings import ParagraphReading
@@ -44,6 +44,27 @@ _LEAST_TYPED = 16
 
 
 @dataclass(frozen=True)
+class _Own:
+    """The rows below the book that marks, and what is said, have of their own, and the last row.
+
+    They are there whatever stands in them, so that the book doesn't move when something is said.
+    """
+
+    marks: int
+    said: int
+    hint: int = 1
+
+    @property
+    def count(self) -> int:
+        """All rows below the book, with the one that says what the cursor is on."""
+        return 1 + self.marks + self.said + self.hint
+
+
+# the rows of screens of so many lines or more
+_OWN = {40: _Own(4, 3), 20: _Own(2, 2), 12: _Own(1, 2), 0: _Own(1, 1, 0)}
+
+
+@dataclass(frozen=True)
 class Drawing:
     """All lines of the screen, and where the terminal's cursor stands: a line and a character."""
 
@@ -59,8 +80,7 @@ def draw(state: State) -> Drawing:
     """The screen: a title, the book and the chosen paragraph, and what is said below."""
     bottom = _bottom(state)
     room = max(0, state.size.lines - 1 - len(bottom.lines))
-    middle = _pages(state, state.pages, room) if state.pages else _middle(state, room)
-    areas = [Area([_title(state)]), middle, bottom]
+    areas = [Area([_title(state)]), _above(state, room), bottom]
     lines: list[Line] = []
     cursor = (0, 0)
     for area in areas:
@@ -68,6 +88,30 @@ def draw(state: State) -> Drawing:
             cursor = (len(lines) + area.cursor[0], area.cursor[1])
         lines += area.lines
     return Drawing(tuple(lines[: state.size.lines]), cursor)
+
+
+def _above(state: State, room: int) -> Area:
+    """The book, or what is looked at in its place.
+
+    What needs more rows than it has of its own covers the last lines of the book, which stays where
+    it is, unless the cursor is there.
+    """
+    if state.pages:
+        return _pages(state, state.pages, room)
+    usual = max(room, state.size.lines - 1 - _own(state).count)
+    whole = _middle(state, usual)
+    line = whole.cursor[0] if whole.cursor else 0
+    if line >= room:
+        return _middle(state, room)
+    return Area(whole.lines[:room], whole.cursor)
+
+
+def _own(state: State) -> _Own:
+    """The rows below the book; a quiet screen names keys only where nothing else can be done."""
+    own = next(own for least, own in _OWN.items() if state.size.lines >= least)
+    if state.is_quiet and not (state.is_lost or state.away):
+        return replace(own, hint=0)
+    return own
 
 
 def _title(state: State) -> Line:
@@ -96,6 +140,8 @@ def _middle(state: State, room: int) -> Area:
         lines: list[Line] = [(Piece(each),) for each in wrap(text, state.size.columns)]
         return Area(filled(lines, room), (0, 0))
     listed = _listed(state, min(state.list_lines, max(1, room - 3)))
+    if state.is_quiet:
+        listed = []
     above = [*listed, _rule(state)] if room >= _LEAST_OF_BOOK else listed
     below = body(state, room - len(above))
     cursor = below.cursor and (len(above) + below.cursor[0], below.cursor[1])
@@ -131,7 +177,6 @@ def _rule(state: State) -> Line:
         text = f"New paragraph{name}, table {state.table}"
     elif paragraph:
         text = title(paragraph, True)
-        text += ", being edited" if typed and typed.purpose is Purpose.EDIT else ""
     else:
         text = ""
     text = opening(f"-- {text} ", state.size.columns)
@@ -153,15 +198,15 @@ def _bottom(state: State) -> Area:
     """Where the cursor is in words, the marks there, what is said, and what is typed."""
     if state.question and not state.is_lost:
         return _asked(state, state.question)
-    typed = None if state.is_lost else state.typed
-    width = state.size.columns
+    typed = None if state.is_lost or state.pages else state.typed
+    width, own = state.size.columns, _own(state)
     if typed and not typed.purpose.is_print:
         text, place = _tail(PROMPTS[typed.purpose], typed, width)
-        lines = _below(state, state.size.lines - 2)
+        lines = _below(state, state.size.lines - 2, own.count - 1)
         return Area([(Piece(line),) for line in [*lines, text]], (len(lines), place))
-    lines = _below(state, state.size.lines - 1)
+    lines = _below(state, state.size.lines - 1, own.count - own.hint)
     # the keys are what is needed least
-    if len(lines) < state.size.lines - 1 - _LEAST_OF_BOOK:
+    if own.hint and len(lines) < state.size.lines - 1 - _LEAST_OF_BOOK:
         lines.append(opening(_hint(state), width))
     return Area([(Piece(line),) for line in lines])
 
@@ -175,6 +220,12 @@ def _asked(state: State, question: Question) -> Area:
         # how it is answered stands at its end
         asked = [*_at_most(asked, most - 2, width), *asked[-2:]]
     lines = [*_message(state, most - len(asked)), *asked]
+    free = _own(state).count - len(lines)
+    if free > 0:
+        place = [] if state.pages else _place_lines(state)
+        marks = _mark_lines(state, _marks(state), free - len(place))
+        above = [*place, *marks][:free]
+        lines = [*above, *[""] * (free - len(above)), *lines]
     return Area([(Piece(line),) for line in lines], (len(lines) - 1, 0))
 
 
@@ -207,16 +258,20 @@ def _tail(prompt: str, typed: Field, width: int) -> tuple[str, int]:
     return line + after, len(line)
 
 
-def _below(state: State, room: int) -> list[str]:
-    """What the cursor stands on, the marks there, and what is said, where the book leaves room."""
+def _below(state: State, room: int, count: int) -> list[str]:
+    """What the cursor stands on, the marks there, and what is said, in so many rows of their own.
+
+    There are more rows where what is said needs them, as far as the book leaves room.
+    """
     said = _said(state, room - _LEAST_BESIDE_SAID)
     if state.pages:
-        return said
+        return [*[""] * (pager.SAID - len(said)), *said]
     rest = max(0, room - _LEAST_OF_BOOK - len(said))
-    # what is said besides leaves room for the book
-    most = max(1, state.size.lines // 4 - max(0, len(said) - 1))
-    marks = _mark_lines(state, _marks(state), min(most, rest))
-    return [*_place_lines(state)[: rest - len(marks)], *marks, *said]
+    # one row of the marks is seen beside whatever is said
+    marks = _mark_lines(state, _marks(state), min(max(1, count - 1 - len(said)), rest))
+    place = _place_lines(state)[: rest - len(marks)]
+    free = count - len(place) - len(marks) - len(said)
+    return [*place, *marks, *[""] * free, *said]
 
 
 def _said(state: State, most: int) -> list[str]:
@@ -244,11 +299,14 @@ def _message(state: State, most: int) -> list[str]:
 
 
 def _place_lines(state: State) -> list[str]:
-    """In words: what the cursor stands on; nothing where something is typed in its place."""
-    is_print = state.typed is not None and state.typed.purpose.is_print
-    if is_print or state.reading is None or state.highlighted is None:
-        return [] if _fault(state) else [""]
-    line = _cursor_in_words(state, state.reading, state.highlighted)
+    """In words: what the cursor stands on, or which paragraph is edited."""
+    typed, reading = state.typed, state.reading
+    if typed is not None and typed.purpose is Purpose.EDIT and reading is not None:
+        return [f"You are editing paragraph {reading.paragraph.id}."]
+    is_print = typed is not None and typed.purpose.is_print
+    if is_print or reading is None or state.highlighted is None:
+        return [""]
+    line = _cursor_in_words(state, reading, state.highlighted)
     return [opening(line, state.size.columns)]
 
 

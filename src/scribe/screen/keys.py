@@ -46,6 +46,7 @@ _STAYS_GIVEN_UP = "Nothing was sent. U asks about it again."
 _DOTS = (
     "Dot 7 is under marked cells, dot 8 under those of the cursor. d takes both away."
 )
+_QUIET = "Now without the list, and without braille while you type. z brings them back."
 _NO_DOTS = "Braille ASCII has no dots 7 and 8: a shows the cells as Unicode characters."
 # what is said before it is done, since the book keeps it
 _OF_MARK = "The book keeps each mark: r resolves it, and nothing takes it out."
@@ -599,6 +600,12 @@ def _dots(state: State) -> Step:
     return Step(replace(state, has_dots=has_dots).saying(_DOTS if has_dots else ""))
 
 
+def _quiet(state: State) -> Step:
+    """Hides the list of paragraphs and the braille of what is typed, or shows them."""
+    is_quiet = not state.is_quiet
+    return Step(replace(state, is_quiet=is_quiet).saying(_QUIET if is_quiet else ""))
+
+
 def _help(state: State) -> Step:
     return Step(replace(state, pages=Pages("All keys.", help_lines())))
 
@@ -667,6 +674,7 @@ KEYS = {
     "tab": Bound("from the print to the cells, and back", _other_pane),
     "a": Bound("cells in Braille ASCII, or as Unicode characters", _ascii, False),
     "d": Bound("dots 7 and 8 under marked cells and the cursor, or not", _dots, False),
+    "z": Bound("a quiet screen, without list and preview, or not", _quiet, False),
     "enter": Bound("edits the print; Enter keeps it, Escape doesn't", _edit),
     "o": Bound("a new paragraph after this one", _new(Purpose.AFTER), False),
     "O": Bound("a new paragraph before this one", _new(Purpose.BEFORE), False),

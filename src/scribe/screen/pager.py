@@ -8,8 +8,10 @@ from braildesk.text.wrapping import wrap
 
 from scribe.screen.state import HEAD_LINE, Pages, Size
 
-# the lines of the screen that aren't the pager's: the first has the book's name, the last keys
-OTHERS = 2
+#: The row for what is said below the lines.
+SAID = 1
+# the rows of the screen that aren't the pager's: the first has the book's name, the last keys
+OTHERS = 2 + SAID
 
 
 @dataclass(frozen=True)

@@ -115,6 +115,8 @@ class State:
     is_ascii: bool = False
     #: Whether dots 7 and 8 of cells say what is marked, and what belongs to the cursor.
     has_dots: bool = False
+    #: Whether neither the list of paragraphs nor the braille of what is typed is shown.
+    is_quiet: bool = False
     #: The encoding of the terminal.
     encoding: str = "utf-8"
     #: The size of the pages that are looked at and exported.
@@ -183,7 +185,7 @@ class State:
     @property
     def list_lines(self) -> int:
         """How many paragraphs are listed."""
-        return max(3, (self.size.lines - 6) // 3)
+        return max(2, (self.size.lines - 6) // 3)
 
     @property
     def listed(self) -> tuple[Paragraph, ...]:
