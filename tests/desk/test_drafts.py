@@ -207,7 +207,7 @@ def test_what_an_older_scribe_left_beside_the_book_is_moved_in(
     beside.write_text(json.dumps(FORGED))
     sat = sit(moon)
     assert " ".join(sat.lines[-2:]) == (
-        "A text of paragraph 2 was typed and not sent: “The Tide”. Shall it be typed"
+        "A text of paragraph 2 was typed and isn't in the book: “The Tide”. Shall it be typed"
         " further? y is yes, n is no. l leaves it for later."
     )
     assert not beside.exists()

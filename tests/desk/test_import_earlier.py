@@ -317,7 +317,8 @@ def test_the_desk_names_an_import_that_was_cut_short_beside_a_text_that_waits(
     sat.state = sat.desk.save_draft(sat.state)
     sat = sit_again(sat, sit)
     assert (
-        sat.state.question and "was typed and not sent" in sat.state.question.sentence
+        sat.state.question
+        and "was typed and isn't in the book" in sat.state.question.sentence
     )
     assert sat.state.message.endswith(
         " of the text. i and the name of that file go on."

@@ -62,12 +62,21 @@ r
 u
 h
 escape
+M
+?
+escape
+enter
+H
 o
+f1
+escape
 'It rose.'
 enter
+escape
 O
 'Soon.'
 enter
+escape
 o
 'Dusk.'
 escape
@@ -102,6 +111,10 @@ o
 'Late.'
 escape
 z
+j
+k
+c-down
+c-up
 """.strip().split(
     "\n"
 )
@@ -215,7 +228,7 @@ def test_a_terminal_shows_the_same_after_each_of_the_first_keys(
     wanted = Wanted(SCREENS / "40x12.txt")
     wanted.read(Shown([""] * 12, (0, 0)))
     terminal = at(moon, 40, 12)
-    terminal.wait("? shows all keys.")
+    terminal.wait("? shows the keys.")
     for keys, shown in wanted.steps[: IN_TERMINAL + 1]:
         terminal.keys(*([] if keys == "opened" else keys_of(keys)))
         terminal.wait_for(shown.lines, shown.cursor, keys)

@@ -117,7 +117,7 @@ def test_keys_that_were_typed_while_a_command_was_under_way_act_one_by_one(
     queue = moon.parent / "queue"
     os.mkfifo(queue)
     terminal = at(moon, **standing_in(1, READ, WAIT, str(queue)))
-    terminal.wait("? shows all keys.")
+    terminal.wait("? shows the keys.")
     terminal.keys("s")
     queue.read_bytes()
     for key in "bvbs":

@@ -40,7 +40,7 @@ def check_has_ended(terminal: Terminal, way: str) -> None:
 @pytest.mark.parametrize("way", WAYS)
 def test_print_that_is_edited_is_offered_again(moon: Path, at: Open, way: str) -> None:
     terminal = at(moon)
-    terminal.wait("? shows all keys.")
+    terminal.wait("? shows the keys.")
     terminal.keys("s")
     terminal.wait("kept: paragraph 1 struck")
     terminal.keys("down", "enter", "Oh, ")
@@ -66,7 +66,7 @@ def test_a_command_that_waits_for_its_reply_is_kept(
     queue = moon.parent / "queue"
     os.mkfifo(queue)
     terminal = at(moon, **standing_in(1, far, WAIT, str(queue)))
-    terminal.wait("? shows all keys.")
+    terminal.wait("? shows the keys.")
     terminal.keys("enter", "Oh, ", "enter")
     # until the command is under way, and then until the stand-in goes on
     queue.read_bytes()
@@ -79,7 +79,7 @@ def test_a_command_that_waits_for_its_reply_is_kept(
             and session.print_of(1) == "Oh, The moon is far away."
         )
     again = at(moon)
-    lines = again.wait("? shows all keys.")
+    lines = again.wait("? shows the keys.")
     assert lines[0] == "moon.braildesk, version 8, table en, nothing kept yet"
 
 
@@ -87,15 +87,16 @@ def test_a_note_that_is_typed_is_offered_again_on_its_cells(
     moon: Path, at: Open
 ) -> None:
     terminal = at(moon)
-    terminal.wait("? shows all keys.")
+    terminal.wait("? shows the keys.")
     terminal.keys("down", " ", "right", "right", "m", "which?")
     terminal.wait("Note of the mark: which?")
     terminal.hang_up()
     check_has_ended(terminal, HUNG_UP)
     again = at(moon)
     lines = again.wait("further? y is yes, n is no.")
-    assert "A note for a mark in paragraph 2 was typed and not sent: “which?”." in (
-        " ".join(lines)
+    assert (
+        "A note for a mark in paragraph 2 was typed and isn't in the book: “which?”."
+        in (" ".join(lines))
     )
     again.keys("y")
     again.wait("Note of the mark: which?")
@@ -112,7 +113,7 @@ def test_lines_that_were_pasted_and_not_answered_for_are_asked_about_again(
     moon: Path, at: Open
 ) -> None:
     terminal = at(moon)
-    terminal.wait("? shows all keys.")
+    terminal.wait("? shows the keys.")
     terminal.keys("o")
     terminal.wait("New paragraph after paragraph 1")
     terminal.paste("It rose.\nIt set.\n")
@@ -136,7 +137,7 @@ def test_a_question_about_a_text_stays_where_it_isnt_answered(
     moon: Path, at: Open
 ) -> None:
     terminal = at(moon)
-    terminal.wait("? shows all keys.")
+    terminal.wait("? shows the keys.")
     terminal.keys("enter", "Oh, ")
     terminal.wait("Oh, The moon is far away.")
     terminal.hang_up()
@@ -174,7 +175,7 @@ def test_what_the_system_refuses_is_said_and_the_screen_stays(
 ) -> None:
     failure = f"OSError(errno.{code}, os.strerror(errno.{code}))"
     terminal = at(moon, **failing(moon.parent, failure))
-    terminal.wait("? shows all keys.")
+    terminal.wait("? shows the keys.")
     terminal.paste("The sun")
     terminal.wait("The system failed: ")
     terminal.keys("s")
@@ -189,7 +190,7 @@ def test_a_fault_of_scribe_ends_the_screen_in_words_and_keeps_what_is_typed(
 ) -> None:
     settings = failing(moon.parent, "KeyError('moon')")
     terminal = at(moon, XDG_STATE_HOME=str(moon.parent / "state"), **settings)
-    terminal.wait("? shows all keys.")
+    terminal.wait("? shows the keys.")
     terminal.keys("enter", *"Oh, ")
     terminal.wait("Oh, The moon is far away.")
     terminal.paste("The sun")
@@ -205,7 +206,7 @@ def test_a_fault_of_scribe_ends_the_screen_in_words_and_keeps_what_is_typed(
 
 def test_a_text_that_can_not_be_kept_at_the_end_is_said(moon: Path, at: Open) -> None:
     terminal = at(moon, XDG_STATE_HOME="/proc/nowhere")
-    terminal.wait("? shows all keys.")
+    terminal.wait("? shows the keys.")
     terminal.keys("enter", "Oh, ")
     terminal.wait("Oh, The moon is far away.")
     # without another key

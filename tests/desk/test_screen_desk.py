@@ -85,7 +85,9 @@ def test_a_correction_is_kept_with_its_name_and_then_undone(
     assert sat.lines[8] == "The Moon is far away."
     assert "Mark 1, open, touched, on “Moon”: spelled so?" in sat.lines
     sat.press("u")
-    assert "version 9, table en, last kept: undo in paragraph 1" in sat.lines[0]
+    assert (
+        "version 9, table en, last kept: paragraph 1 as it was before" in sat.lines[0]
+    )
     assert sat.lines[8] == "The moon is far away."
     sat.press("h")
     assert sat.lines[1:5] == [
@@ -133,11 +135,11 @@ def test_paragraphs_are_typed_and_pasted_up_to_one_that_is_refused(
     sat.state = sat.desk.previewed(sat.state)
     assert sat.lines[7].startswith("-- New paragraph after paragraph 1, table en ")
     assert sat.lines[8:10] == ["It rose.", "⠠⠊⠞⠀⠗⠕⠎⠑⠲"]
-    sat.press("enter", "O")
+    sat.press("enter", "escape", "O")
     sat.write("Soon.")
     sat.press("enter")
     assert "kept: paragraph 5" in sat.lines[0]
-    sat.press("o")
+    sat.press("escape", "o")
     sat.state = sat.desk.paste(sat.state, "One.\nTwo.\n")
     sat.press("y", "o")
     sat.state = sat.desk.paste(sat.state, "Three.\nTěo.\nFour.")
@@ -223,7 +225,7 @@ def test_words_and_cells_are_found_and_found_again(reader: Sat) -> None:
     assert spots == [(0, 13), (0, 16), (0, 18), (2, 6), (2, 9), (2, 18)]
     sat.press("*")
     assert (sat.state.chosen, sat.state.place) == (0, 13)
-    around = "“a” stands nowhere further on: this is the first in the book."
+    around = "“a” isn't further on; this is the first in the book."
     assert around in sat.lines
     sat.press("tab", "/")
     sat.write("tides")
@@ -232,7 +234,7 @@ def test_words_and_cells_are_found_and_found_again(reader: Sat) -> None:
     sat.press("/", "é", "enter")
     assert "is no cell in Braille ASCII or Unicode" in " ".join(sat.lines)
     sat.press("tab", "/", "z", "enter")
-    assert "“z” stands nowhere in the print of the book." in sat.lines
+    assert "“z” isn't in the print of the book." in sat.lines
 
 
 def test_words_that_stand_nowhere_else_are_said_to(reader: Sat) -> None:
@@ -241,17 +243,15 @@ def test_words_that_stand_nowhere_else_are_said_to(reader: Sat) -> None:
     assert (sat.state.chosen, sat.state.place, sat.state.message) == (1, 4, "")
     sat.press("*")
     assert (sat.state.chosen, sat.state.place) == (1, 4)
-    assert sat.lines[-2] == "“Tides” stands nowhere else in the book."
+    assert sat.lines[-2] == "“Tides” is nowhere else in the book."
     sat.press("/", *"moon", "enter")
     assert (sat.state.chosen, sat.state.place) == (0, 4)
-    assert sat.lines[-2] == (
-        "“moon” stands nowhere further on: this is the first in the book."
-    )
+    assert sat.lines[-2] == ("“moon” isn't further on; this is the first in the book.")
 
 
 def test_what_is_said_again_is_drawn_otherwise(reader: Sat) -> None:
     sat = reader
-    nowhere = "“z” stands nowhere in the print of the book."
+    nowhere = "“z” isn't in the print of the book."
     sat.press("/", "z", "enter")
     assert sat.lines[-2] == nowhere
     sat.press("*")
@@ -261,7 +261,7 @@ def test_what_is_said_again_is_drawn_otherwise(reader: Sat) -> None:
     sat.press("left", "*")
     assert sat.lines[-2] == nowhere
     sat.press("%", "%")
-    assert sat.lines[-2] == "Again: That key does nothing here. ? shows all keys."
+    assert sat.lines[-2] == "Again: That key does nothing here. ? shows the keys."
 
 
 @pytest.mark.parametrize(
@@ -283,7 +283,7 @@ def test_words_that_are_otherwise_in_the_book_are_offered_and_gone_to(
     sat = sit(moon)
     sat.press("right", "/", *sought, "enter")
     assert sat.state.message == (
-        f"“{sought}” stands nowhere as typed; with {how} it is in paragraph"
+        f"“{sought}” isn't in the book as typed; with {how} it is in paragraph"
         f" {place[0] + 1}: * goes there."
     )
     assert (sat.state.chosen, sat.state.place) == (0, 1)
@@ -291,9 +291,9 @@ def test_words_that_are_otherwise_in_the_book_are_offered_and_gone_to(
     assert (sat.state.chosen, sat.state.place) == place
     assert sat.state.message == ""
     sat.press("*")
-    assert sat.state.message == f"“{sought}” stands nowhere else in the book."
+    assert sat.state.message == f"“{sought}” is nowhere else in the book."
     sat.press("/", *sought, "enter")
-    assert "stands nowhere as typed" in sat.state.message
+    assert "isn't in the book as typed" in sat.state.message
 
 
 def test_the_page_is_that_of_the_export(reader: Sat, moon: Path) -> None:
@@ -478,8 +478,8 @@ def test_a_killed_session_says_what_was_kept_and_keeps_what_was_typed(
     again = sit(moon)
     assert again.state.version == 9
     assert again.lines[-2:] == [
-        "A text of a new paragraph was typed and not sent: “It rose.”. Shall it be typed",
-        "further? y is yes, n is no. l leaves it for later.",
+        "A text of a new paragraph was typed and isn't in the book: “It rose.”. Shall it",
+        "be typed further? y is yes, n is no. l leaves it for later.",
     ]
     again.press("y", "enter")
     assert again.lines[0].endswith("kept: paragraph 4")
@@ -491,8 +491,8 @@ def test_a_text_that_waits_can_be_left_out(moon: Path, sit: Sit) -> None:
     Drafts(moon).save(Draft(Aim.EDIT, 2, "en", "The Tides", "The Tide"))
     sat = sit(moon)
     assert sat.lines[-2:] == [
-        "A text of paragraph 2 was typed and not sent: “The Tide”. Shall it be typed",
-        "further? y is yes, n is no. l leaves it for later.",
+        "A text of paragraph 2 was typed and isn't in the book: “The Tide”. Shall it be",
+        "typed further? y is yes, n is no. l leaves it for later.",
     ]
     sat.press("q", "n")
     assert sat.state.typed is None and sat.desk.drafts.waiting() is None

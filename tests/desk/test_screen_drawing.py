@@ -224,6 +224,21 @@ def test_a_note_is_typed_on_the_last_line_and_the_cursor_stands_there() -> None:
     assert drawn.cursor == (23, 20)
 
 
+def test_a_long_note_is_shown_from_a_word_on_while_it_is_typed() -> None:
+    note = "is it far away, or only a little way off"
+    narrow = replace(STATE, size=Size(40, 12))
+    shown = {}
+    for count in range(20, len(note) + 1):
+        drawn = draw(replace(narrow, typed=Field(Purpose.NOTE, note[:count], count)))
+        assert columns(drawn.texts()[-1]) < 40
+        shown[count] = drawn.texts()[-1]
+    assert shown[20] == "Note of the mark: is it far away, or o"
+    assert shown[21] == "Note of the mark: it far away, or on"
+    assert shown[24] == "Note of the mark: far away, or only"
+    assert shown[27] == "Note of the mark: away, or only a l"
+    assert shown[40] == "Note of the mark: a little way off"
+
+
 def test_a_long_paragraph_is_shown_around_the_cursor() -> None:
     text = " ".join(f"word{n:04}" for n in range(444))
     cells = text.replace(" ", "\u2800")
@@ -234,6 +249,18 @@ def test_a_long_paragraph_is_shown_around_the_cursor() -> None:
     assert drawn.texts()[line].startswith("word") and "word0443" in drawn.texts()[line]
     assert drawn.texts()[line][place - 3 : place + 5] == "word0443"
     assert len(drawn.lines) == 24
+
+
+def test_the_lines_of_a_long_paragraph_stay_while_the_cursor_goes_through_them() -> (
+    None
+):
+    text = " ".join(f"word{n:04}" for n in range(444))
+    reading = ParagraphReading(FIRST, text, text.replace(" ", "\u2800"), ())
+    state = replace(STATE, size=Size(40, 12), reading=reading, highlighted=None)
+    # a line has four words of nine characters with their blanks, and two lines are seen
+    for first in (0, 72, 144):
+        seen = [draw(replace(state, place=first + n)).texts()[4:6] for n in range(72)]
+        assert seen == [[text[first : first + 35], text[first + 36 : first + 71]]] * 72
 
 
 def test_wide_and_combining_characters_take_their_columns_and_are_not_cut() -> None:
@@ -290,7 +317,7 @@ def test_a_long_refusal_leaves_room_for_the_book() -> None:
 def test_what_is_said_is_seen_whole_beside_the_chosen_paragraph(
     size: tuple[int, int]
 ) -> None:
-    said = "“Moon” stands nowhere as typed; with other capitals it is in paragraph 1: * goes there."
+    said = "“Moon” isn't in the book as typed; with other capitals it is in paragraph 1: * goes there."
     for typed in (None, Field(Purpose.NOTE, "why?", 4), Field(Purpose.EDIT, "The", 3)):
         drawn = draw(replace(STATE, size=Size(*size), message=said, typed=typed))
         lines = drawn.texts()
@@ -298,10 +325,10 @@ def test_what_is_said_is_seen_whole_beside_the_chosen_paragraph(
         if size == (20, 8) and typed and typed.purpose is Purpose.NOTE:
             assert lines[2:] == [
                 "The moon is far",
-                "“Moon” stands",
-                "nowhere as typed;",
-                "with other capitals",
-                "it is in paragraph…",
+                "“Moon” isn't in the",
+                "book as typed; with",
+                "other capitals it is",
+                "in paragraph 1: *…",
                 "Note of… why?",
             ]
         else:

@@ -32,7 +32,7 @@ def asked(sat: Sat) -> str:
 def test_what_escape_gives_up_comes_back_by_a_key(moon: Path, sit: Sit) -> None:
     sat = sit(moon)
     sat.press("o", *"It rose.", "escape")
-    assert sat.state.message == "Given up. Nothing was sent. U brings it back."
+    assert sat.state.message == "Given up. The book is as it was. U brings it back."
     assert (sat.state.typed, sat.desk.drafts.waiting()) == (None, None)
     sat.press("c-end", "U")
     assert asked(sat) == (
@@ -65,7 +65,7 @@ def test_what_was_given_up_comes_back_when_the_book_is_opened_again(
     ]
     assert asked(again).endswith("n is no. U asks about the one before.")
     again.press("n")
-    assert again.state.message == "Nothing was sent. U asks about it again."
+    assert again.state.message == "It stays given up. U asks about it again."
     again.press("U", "U", "y", "enter")
     assert again.state.kept == "kept: mark 2"
     # what the book has isn't asked about any more
@@ -90,12 +90,12 @@ def test_no_to_a_text_that_waits_keeps_it_and_it_comes_back(
     Drafts(moon).save(Draft(Aim.EDIT, 2, "en", "The Tides", LONG))
     sat = sit(moon)
     assert asked(sat) == (
-        "A text of paragraph 2 was typed and not sent: “Twice a day the sea comes up, and twice…”."
+        "A text of paragraph 2 was typed and isn't in the book: “Twice a day the sea comes up, and twice…”."
         " It has 59 characters. Shall it be typed further? y is yes, n is no. l leaves it for"
         " later."
     )
     sat.press("n")
-    assert sat.state.message == "Given up. Nothing was sent. U brings it back."
+    assert sat.state.message == "Given up. The book is as it was. U brings it back."
     assert sat.desk.drafts.waiting() is None
     sat.press("U", "y")
     assert sat.state.typed and sat.state.typed.text == LONG
@@ -116,13 +116,13 @@ def test_a_text_that_is_left_for_later_waits_through_other_work(
     assert sat.state.message == (
         "The text waits for the next opening. U asks about it before."
     )
-    sat.press("s", "s", "o", *"It rose.", "enter", "o", *"It set.")
+    sat.press("s", "s", "o", *"It rose.", "enter", *"It set.")
     sat.state = sat.desk.save_draft(sat.state)
     waiting = sat.desk.drafts.waiting()
     assert waiting and waiting.text == "It set."
     # whatever stops the machine now, the text is there
     assert [each.text for each in sat.desk.drafts.given_up()] == ["The Tide"]
-    sat.press("enter", "q")
+    sat.press("enter", "escape", "q")
     sat.desk.close()
     again = sit(moon)
     assert "“The Tide”" in asked(again)
@@ -195,7 +195,7 @@ def test_pasted_lines_that_are_left_out_come_back(moon: Path, sit: Sit) -> None:
     paste(sat, ", it rose.\nIt set.")
     sat.press("escape")
     assert sat.state.message == (
-        "The pasted text was left out. Nothing was sent. After Enter or Escape, U brings it back."
+        "The pasted text isn't in the book. After Enter or Escape, U brings it back."
     )
     assert sat.state.typed and sat.state.typed.text == "Oh"
     sat.press("escape", "U", "U", "y")
@@ -373,12 +373,12 @@ def test_an_unbracketed_paste_at_the_terminal_changes_nothing_and_comes_back(
     moon: Path, at: Open
 ) -> None:
     terminal = at(moon)
-    terminal.wait("? shows all keys.")
+    terminal.wait("? shows the keys.")
     terminal.send("strike this bit and import.\r")
     terminal.wait("No key of it was obeyed.")
     terminal.keys("U", "y", "enter")
     terminal.wait("kept: paragraph 4")
-    terminal.keys("enter", "end")
+    terminal.keys("escape", "enter", "end")
     terminal.wait("You are editing paragraph")
     terminal.send(" One\rtwo")
     terminal.wait("Shall the first go on in this paragraph")

@@ -120,8 +120,14 @@ def check(state: State, key: str, sequence: str) -> None:
         assert text == f"The old{key} moon is far.", (sequence, key)
         return
     assert text == LEFT.get(key, TYPED), (sequence, key)
-    assert text.strip() in draw(taken.state).texts()[size_line(state)]
-    is_moved = typed != state.typed
+    shown = taken.state
+    if key in ("f1", "a-?"):
+        # the keys stand in place of the text until Escape
+        assert shown.pages and shown.pages.title == "Keys while typing."
+        shown = step(shown, "escape").state
+        assert shown.typed == state.typed
+    assert text.strip() in draw(shown).texts()[size_line(state)]
+    is_moved = typed != state.typed or taken.state.pages
     assert is_moved or taken.state.message, (sequence, key)
     if key.startswith(("c-", "a-")) and text != TYPED and key != "c-d":
         back = step(taken.state, "c-y").state.typed
@@ -143,7 +149,7 @@ def size_line(state: State) -> int:
 def test_a_key_that_isnt_bound_does_nothing_and_says_so(key: str) -> None:
     state = replace(state_of(SIZES[0]), typed=None)
     taken = step(state, key)
-    said = "That key does nothing here. ? shows all keys."
+    said = "That key does nothing here. ? shows the keys."
     if key == "a-up":
         said = "It is the first paragraph of the book."
     assert taken.asked is None
@@ -212,7 +218,7 @@ def test_keys_with_alt_at_the_terminal_leave_the_text_and_escape_alone_ends_it(
     moon: Path, at: Open
 ) -> None:
     terminal = at(moon)
-    terminal.wait("? shows all keys.")
+    terminal.wait("? shows the keys.")
     terminal.keys("enter", "end", "a-b", "Oh")
     terminal.wait("The moon is far Ohaway.")
     terminal.keys("a-s", "a-u", "a-q", "a-enter", "a-1", "f5")
@@ -223,7 +229,7 @@ def test_keys_with_alt_at_the_terminal_leave_the_text_and_escape_alone_ends_it(
     terminal.keys("escape")
     terminal.wait("Given up.")
     terminal.keys("a-s", "a-b", "a-q")
-    lines = terminal.wait("That key does nothing here. ? shows all keys.")
+    lines = terminal.wait("That key does nothing here. ? shows the keys.")
     assert lines[0] == "moon.braildesk, version 7, table en, nothing kept yet"
     terminal.keys("q")
     assert terminal.ended() == 0

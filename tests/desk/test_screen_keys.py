@@ -15,8 +15,12 @@ from scribe.screen.actions import (
     ExportTo,
     GiveTable,
     GiveUp,
+    GoOn,
     ImportFrom,
+    ListHeadings,
+    ListMarks,
     OpenAgain,
+    PutBy,
     PutOff,
     Quit,
     ShowHistory,
@@ -24,11 +28,22 @@ from scribe.screen.actions import (
     TakeBack,
     ToFound,
     ToMark,
+    ToPage,
     TypeAll,
 )
 from scribe.screen.field import Field, Purpose
-from scribe.screen.keys import KEYS, WHILE_TYPING, help_lines, pasted, step
-from scribe.screen.state import Highlighted, Opening, Pages, Pane, Question, Size, State
+from scribe.screen.keys import KEYS, keys_of, parted, pasted, step
+from scribe.screen.rows import rows
+from scribe.screen.state import (
+    Highlighted,
+    Opening,
+    Pages,
+    Pane,
+    Question,
+    Size,
+    State,
+    Target,
+)
 
 PRINT = "The moon is far away."
 CELLS = "⠠⠞⠓⠑⠀⠍⠕⠕⠝⠀⠊⠎⠀⠋⠁⠗⠀⠁⠺⠁⠽⠲"
@@ -83,6 +98,8 @@ ASKED = {
     "p looks at the page": (STATE, "p", ShowPage()),
     "n goes to the next mark": (STATE, "n", ToMark(False)),
     "N goes to the mark before": (STATE, "N", ToMark(True)),
+    "M lists the marks": (STATE, "M", ListMarks()),
+    "H lists the headings": (STATE, "H", ListHeadings()),
     "* finds again": (replace(STATE, sought="moon"), "*", ToFound("moon", True)),
     "q ends": (STATE, "q", Quit()),
     "Enter keeps an edit as the smallest correction": (
@@ -172,7 +189,7 @@ ASKED = {
     ),
 }
 SAID = {
-    "an unknown key": (STATE, "%", "That key does nothing here. ? shows all keys."),
+    "an unknown key": (STATE, "%", "That key does nothing here. ? shows the keys."),
     "z": (
         STATE,
         "z",
@@ -293,27 +310,54 @@ SAID = {
     "Escape at a prompt": (
         typed(Purpose.NUMBER, "x"),
         "escape",
-        "Given up. Nothing was sent.",
+        "Given up. The book is as it was.",
     ),
     "Escape while nothing is changed": (
         typed(Purpose.EDIT, PRINT),
         "escape",
-        "Given up. Nothing was sent.",
+        "Given up. The book is as it was.",
     ),
     "an edit that changes nothing": (
         typed(Purpose.EDIT, PRINT),
         "enter",
-        "The print reads as before, so nothing was sent.",
+        "The print reads as before, so there is nothing to keep.",
     ),
     "Enter on nothing, for a new paragraph": (
         typed(Purpose.AFTER, "  "),
         "enter",
-        "Nothing was typed, so nothing was done.",
+        "This paragraph was empty, and wasn't added.",
     ),
+    "Escape on nothing, for a new paragraph": (
+        typed(Purpose.AFTER),
+        "escape",
+        "This paragraph was empty, and wasn't added.",
+    ),
+    "Up on the first line that is typed": (
+        typed(Purpose.AFTER, "It rose."),
+        "up",
+        "This is the first line of the paragraph.",
+    ),
+    "Down on the last line that is typed": (
+        typed(Purpose.EDIT, "It rose."),
+        "down",
+        "This is the last line of the paragraph.",
+    ),
+    "Up at a prompt": (
+        typed(Purpose.NOTE, "why?"),
+        "up",
+        "That key does nothing here. Enter ends what is typed, Escape gives it up.",
+    ),
+    "k on the first line": (STATE, "k", "This is the first line of the paragraph."),
+    "Ctrl-Down on the last line": (
+        STATE,
+        "c-down",
+        "This is the last line of the paragraph.",
+    ),
+    "g": (STATE, "g", "A paragraph's number, or page 6 line 9, or words to find."),
     "Enter on a blank at a prompt": (
         typed(Purpose.TABLE, " "),
         "enter",
-        "Nothing was typed, so nothing was done.",
+        "Nothing was typed, so nothing is done.",
     ),
     "Ctrl-C while typing": (
         typed(Purpose.EDIT, "x"),
@@ -337,7 +381,7 @@ SAID = {
         " blank between them, as in 40 25.",
     ),
     "x": (STATE, "x", "Pages of 25 lines of 40 cells. Escape, then w, changes it."),
-    "* at first": (STATE, "*", "Nothing was looked for yet: / asks for it."),
+    "* at first": (STATE, "*", "Nothing was looked for yet. / asks for words."),
     "bytes that aren't UTF-8": (
         typed(Purpose.EDIT, "x"),
         "\udcff",
@@ -532,12 +576,160 @@ def test_pasted_lines_that_wait_from_before_are_asked_about_again() -> None:
     assert step(state, "y").asked == TypeAll(Purpose.BEFORE, ("One.", "Two."))
 
 
-def test_all_keys_are_in_the_help() -> None:
-    shown = "\n".join(help_lines())
-    assert all(bound.says in shown for bound in KEYS.values())
-    says = {bound.says for bound in KEYS.values()}
-    assert len(help_lines()) == len(says) + len(WHILE_TYPING)
-    assert step(STATE, "?").state.pages == Pages("All keys.", help_lines())
+def test_all_keys_of_the_book_are_shown_one_a_line() -> None:
+    what, lines = keys_of(STATE)
+    assert what == "in the book"
+    assert all(any(bound.says in line for line in lines) for bound in KEYS.values())
+    assert len(lines) == len({bound.says for bound in KEYS.values()})
+    assert "k, Ctrl-Up: to the line before in the paragraph" in lines
+    assert step(STATE, "?").state.pages == Pages("Keys in the book.", lines)
+
+
+CHOOSING = replace(STATE, pane=Pane.CELLS, anchor=6, place=6)
+LOOKING = replace(STATE, pages=Pages("History of paragraph 4.", ("1: …",)))
+LISTED = replace(STATE, pages=Pages("1 heading.", ("The Tides",), targets=(Target(2),)))
+
+
+@pytest.mark.parametrize(
+    "state, key, title, first, last",
+    [
+        (CHOOSING, "?", "Keys while choosing cells.", "Left, Right", "Tab"),
+        (LOOKING, "?", "Keys while looking.", "Up, Down", "Escape, Enter, q"),
+        (LISTED, "?", "Keys while looking.", "Enter", "Escape, q"),
+        (typed(Purpose.EDIT, "x"), "f1", "Keys while typing.", "Enter", "F1, Alt-?"),
+        (typed(Purpose.AFTER), "a-?", "Keys while typing.", "Enter", "F1, Alt-?"),
+        (
+            typed(Purpose.NOTE, "why"),
+            "f1",
+            "Keys while typing.",
+            "Left, Right",
+            "F1, Alt-?",
+        ),
+    ],
+)
+def test_the_keys_of_what_is_being_done_are_shown_and_left_again(
+    state: State, key: str, title: str, first: str, last: str
+) -> None:
+    shown = step(state, key).state
+    assert shown.pages and shown.pages.title == title
+    lines = shown.pages.lines
+    assert (lines[0].split(":")[0], lines[-1].split(":")[0]) == (first, last)
+    # they are shown once, and Escape goes back to what was being done
+    assert step(shown, "f1").state.pages == shown.pages
+    back = step(shown, "escape").state
+    assert (back.pages, back.typed, back.anchor) == (
+        state.pages,
+        state.typed,
+        state.anchor,
+    )
+
+
+def test_a_question_mark_is_typed_where_a_text_is() -> None:
+    state = step(typed(Purpose.NOTE, "why"), "?").state
+    assert (state.typed, state.pages) == (Field(Purpose.NOTE, "why?", 4), None)
+
+
+def test_pasted_text_goes_into_no_line_that_is_not_seen() -> None:
+    shown = step(typed(Purpose.EDIT, "x"), "f1").state
+    taken = pasted(shown, "moon")
+    assert (taken.asked, taken.state.typed) == (PutBy("moon"), shown.typed)
+
+
+@pytest.mark.parametrize(
+    "asked, wanted",
+    [
+        ("page 6 line 9", ToPage(6, 9)),
+        ("Page 6, line 9", ToPage(6, 9)),
+        ("p6 l9", ToPage(6, 9)),
+        ("page 6", ToPage(6)),
+        ("volume 2 page 6 line 9", ToPage(6, 9, 2)),
+        ("vol. 2, p. 6", ToPage(6, 1, 2)),
+        ("far away", ToFound("far away")),
+        ("page six", ToFound("page six")),
+        ("6 9", ToFound("6 9")),
+    ],
+)
+def test_g_goes_to_a_page_and_line_and_to_words(
+    asked: str, wanted: ToPage | ToFound
+) -> None:
+    taken = step(typed(Purpose.NUMBER, asked), "enter")
+    assert (taken.asked, taken.state.typed) == (wanted, None)
+    if isinstance(wanted, ToFound):
+        assert taken.state.sought == asked
+
+
+def test_enter_in_a_list_goes_to_the_place_of_its_line_with_its_mark_in_hand() -> None:
+    lines = ("Mark 1, open, page 1 line 1, paragraph 3, on “sea”: which?", "Mark 2")
+    targets = (Target(3, 12, 1), Target(2, 4, 2))
+    small = replace(STATE, size=Size(40, 12), pane=Pane.CELLS, anchor=3)
+    pages = Pages("2 open marks.", lines, targets=targets)
+    # the first one takes two lines of the screen
+    for place, wanted in ((0, (2, 12, 1)), (1, (2, 12, 1)), (2, (1, 4, 2))):
+        state = replace(small, pages=replace(pages, place=place))
+        gone = step(state, "enter").state
+        assert gone.in_hand
+        assert (gone.chosen, gone.place, gone.in_hand.mark) == wanted
+        assert (gone.pages, gone.pane, gone.anchor) == (None, Pane.PRINT, None)
+    # on the head of the list it goes back
+    gone = step(replace(small, pages=pages), "enter").state
+    assert (gone.pages, gone.chosen, gone.in_hand) == (None, 0, None)
+
+
+#: A text of three lines on a screen of 12 columns.
+THREE_LINES = "One, two three, four five, six"
+
+
+@pytest.mark.parametrize(
+    "keys, place, wanted",
+    [
+        ("down", 0, 9),
+        ("down", 4, 13),
+        ("down down", 4, 25),
+        # the last line is shorter
+        ("down", 19, 30),
+        ("down up", 3, 3),
+        ("end up", 0, 18),
+    ],
+)
+def test_up_and_down_go_by_the_lines_of_the_screen_while_print_is_typed(
+    keys: str, place: int, wanted: int
+) -> None:
+    assert rows(THREE_LINES, 12) == [Span(0, 9), Span(9, 21), Span(21, 30)]
+    narrow = replace(STATE, size=Size(12, 12))
+    state = replace(narrow, typed=Field(Purpose.AFTER, THREE_LINES, place), table="en")
+    for key in keys.split():
+        state = step(state, key).state
+    assert state.typed == Field(Purpose.AFTER, THREE_LINES, wanted)
+
+
+def test_print_that_is_too_long_is_asked_about_and_goes_on_in_a_new_paragraph() -> None:
+    sentence = "The moon is far away. "
+    text = sentence * 182
+    assert len(text) == 4_004
+    for purpose in (Purpose.AFTER, Purpose.EDIT):
+        asked = step(typed(purpose, text), "enter").state
+        assert asked.question and asked.question.sentence == (
+            "A paragraph has at most 4,000 characters, and this one has 4,004. Shall it go on"
+            " in a new paragraph from “The moon is far away. ” on?"
+        )
+        first = (sentence * 181).rstrip()
+        assert step(asked, "y").asked == GoOn(purpose, first, sentence)
+        for key in ("n", "escape"):
+            stays = step(asked, key).state
+            assert (stays.typed, stays.question) == (asked.typed, None)
+            assert stays.message == "It stays as it is typed. Enter asks again."
+    # as many as a paragraph can have are kept as they are
+    assert step(typed(Purpose.AFTER, text[:4_000]), "enter").asked == requests.Type(
+        4, "en", text[:4_000], expect=7
+    )
+
+
+def test_a_text_is_parted_at_a_sentence_at_a_blank_or_between_sequences() -> None:
+    assert parted("One two. Three four", 12) == ("One two.", "Three four")
+    assert parted("“One two.” Three four", 14) == ("“One two.”", "Three four")
+    assert parted("One. Two three four", 12) == ("One. Two", "three four")
+    assert parted("abcdefgh", 3) == ("abc", "defgh")
+    assert parted("abe\u0301fgh", 3) == ("ab", "e\u0301fgh")
 
 
 def test_a_lost_session_is_left_or_opened_again_and_nothing_else() -> None:

@@ -20,7 +20,7 @@ WORK = (
     ("c-right enter delete M enter", "kept: correction 2 of paragraph 1"),
     ("tab m w h y ? enter", "kept: mark 2"),
     ("o S o o n . enter", "kept: paragraph 4"),
-    ("down s", "kept: paragraph 2 struck"),
+    ("escape down s", "kept: paragraph 2 struck"),
     ("c-home u", "kept: paragraph 2 restored"),
 )
 #: The book after none of the commands, after the first one, and so on.
@@ -65,7 +65,7 @@ def on(session: Session, number: int, mark: Mark) -> str:
 
 def worked(terminal: Terminal, number: int) -> None:
     """Does the work up to a command, which is begun and not waited for."""
-    terminal.wait("? shows all keys.")
+    terminal.wait("? shows the keys.")
     for keys, said in WORK[: number - 1]:
         terminal.keys(*keys.split())
         terminal.wait(said)
@@ -118,7 +118,7 @@ def test_what_was_typed_two_seconds_before_scribe_is_killed_is_offered_again(
     moon: Path, at: Open
 ) -> None:
     terminal = at(moon)
-    terminal.wait("? shows all keys.")
+    terminal.wait("? shows the keys.")
     terminal.keys("enter", "Oh, ")
     terminal.wait("Oh, The moon is far away.")
     drafts = Drafts(moon)

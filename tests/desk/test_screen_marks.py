@@ -205,7 +205,7 @@ def test_marks_are_worked_through_in_a_terminal(
         session.add_mark(2, 6, 5, "which?")
         session.add_mark(3, 1, 5, "how often?")
     terminal = at(moon, *size)
-    terminal.wait("? shows all keys.")
+    terminal.wait("? shows the keys.")
     for number, typed in enumerate(("sun", "Waves", "Once"), 1):
         terminal.keys("n")
         terminal.wait(f"Mark {number}, open")
@@ -244,3 +244,27 @@ def test_ctrl_right_chooses_cells_to_the_end_of_a_word(
     # without a choice it goes to the front of the next word, as in the print
     sat.press("c-right")
     assert sat.state.place == 17
+
+
+@pytest.mark.parametrize(
+    "keys, words",
+    [
+        (["/", *"far away", "enter", "m"], (12, 20)),
+        (["g", *"far away", "enter", "m"], (12, 20)),
+        (["tab", "/", *"far", "enter", "m"], (12, 15)),
+        # once the cursor has moved, it is the character that is marked
+        (["/", *"far away", "enter", "right", "m"], (13, 14)),
+        (["/", *"far away", "enter", "right", "left", "m"], (12, 20)),
+        # chosen cells are meant rather than what was found
+        (["/", *"far away", "enter", " ", "right", "m"], (12, 14)),
+    ],
+)
+def test_a_mark_is_put_on_what_was_found(
+    moon: Path, sit: Sit, keys: list[str], words: tuple[int, int]
+) -> None:
+    sat = sit(moon)
+    sat.press(*keys, *"so?", "enter")
+    assert sat.state.kept == "kept: mark 2"
+    assert sat.state.reading
+    mark = sat.state.reading.marks[-1]
+    assert (mark.start, mark.stop, mark.note) == (*words, "so?")

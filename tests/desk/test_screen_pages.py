@@ -147,7 +147,7 @@ def test_the_page_is_that_of_the_words_of_the_cursor(
 def test_a_paragraph_without_a_page_says_why(tides: Path, sit: Sit) -> None:
     sat = sit(tides)
     sat.press("g", "4", "enter", "p")
-    assert "Paragraph 4 is struck, and stands on no page." in sat.lines
+    assert "Paragraph 4 is struck, so it is on no page." in sat.lines
     sat.press("g", "7", "enter", "p")
     assert "Paragraph 7 has no words, and takes no line." in sat.lines
     assert sat.state.pages is None

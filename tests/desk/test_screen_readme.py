@@ -21,7 +21,7 @@ def test_the_book_of_the_readme_is_made_at_the_screen_alone(
     terminal.wait("The book has no paragraphs. o types the first one")
     terminal.keys("o", "The mon is far away.", "enter")
     terminal.wait("kept: paragraph 1")
-    terminal.keys("c-right", "enter", "right", "o", "enter")
+    terminal.keys("escape", "c-right", "enter", "right", "o", "enter")
     terminal.wait("kept: correction 1 of paragraph 1")
     # from the f of “far” to the y of “away”
     terminal.keys("c-right", "c-right", " ", "c-right", *["right"] * 5)

@@ -37,7 +37,7 @@ SAID = {
     ),
     "a page of a struck paragraph": (
         "down p",
-        "Paragraph 2 is struck, and stands on no page.",
+        "Paragraph 2 is struck, so it is on no page.",
     ),
     "a table that isn't there": (
         "t x y enter",
@@ -53,13 +53,13 @@ SAID = {
         "g 9 enter",
         "There is no paragraph 9. The cursor stays where it is.",
     ),
-    "a paragraph by no number": (
+    "words to go to that aren't there": (
         "g x enter",
-        "There is no paragraph x. The cursor stays where it is.",
+        "“x” isn't in the print of the book.",
     ),
     "words that stand nowhere": (
         "/ z z enter",
-        "“zz” stands nowhere in the print of the book.",
+        "“zz” isn't in the print of the book.",
     ),
     "cells that are none": (
         "tab / é enter",
@@ -126,11 +126,14 @@ def test_a_text_that_is_too_long_stays_to_be_cut(moon: Path, sit: Sit) -> None:
     sat.press("enter")
     sat.state = sat.desk.paste(sat.state, "a" * 4_000)
     sat.press("enter")
-    assert sat.state.message == (
-        "The print of paragraph 1 would have over 4,000 characters. Nothing was changed. Cut"
-        " it, or type the rest as a paragraph of its own."
+    assert sat.state.question and sat.state.question.sentence == (
+        "A paragraph has at most 4,000 characters, and this one has 4,021. Shall it go on in"
+        " a new paragraph from “The moon is far away.” on?"
     )
+    sat.press("n")
+    assert sat.state.message == "It stays as it is typed. Enter asks again."
     assert sat.state.typed and len(sat.state.typed.text) == 4_021
+    assert sat.state.version == 7
     sat.press("escape", "m")
     sat.state = sat.desk.paste(sat.state, "b" * 501)
     sat.press("enter")

@@ -29,8 +29,8 @@ def test_the_book_opens_again_by_itself_with_what_was_typed(
     assert sat.lines[-4:] == [
         "The session was ended by signal 9. The book was opened again: it is at version",
         "8, as before.",
-        "A text of paragraph 2 was typed and not sent: “Oh, The Tides”. Shall it be typed",
-        "further? y is yes, n is no. l leaves it for later.",
+        "A text of paragraph 2 was typed and isn't in the book: “Oh, The Tides”. Shall it",
+        "be typed further? y is yes, n is no. l leaves it for later.",
     ]
     sat.press("y", "enter")
     assert sat.state.kept == "kept: correction 1 of paragraph 2"
@@ -43,19 +43,19 @@ def test_the_book_opens_again_by_itself_with_what_was_typed(
     [
         (
             "enter O h , enter",
-            "A text of paragraph 1 was typed and not sent: “Oh,The moon is far away.”.",
+            "A text of paragraph 1 was typed and isn't in the book: “Oh,The moon is far away.”.",
             "kept: correction 2 of paragraph 1",
             "in paragraph 1: “Oh,The moon is far away.”.",
         ),
         (
             "O S o o n . enter",
-            "A text of a new paragraph was typed and not sent: “Soon.”.",
+            "A text of a new paragraph was typed and isn't in the book: “Soon.”.",
             "kept: paragraph 4",
             "as paragraph 4: “Soon.”.",
         ),
         (
             "m w h y ? enter",
-            "A note for a mark in paragraph 1 was typed and not sent: “why?”.",
+            "A note for a mark in paragraph 1 was typed and isn't in the book: “why?”.",
             "kept: mark 2",
             "as mark 2: “why?”.",
         ),
@@ -260,7 +260,7 @@ def test_a_command_for_another_version_is_not_carried_out_and_the_book_is_shown_
 
 def test_the_book_is_opened_again_at_the_terminal(moon: Path, at: Open) -> None:
     terminal = at(moon)
-    terminal.wait("? shows all keys.")
+    terminal.wait("? shows the keys.")
     for number in (1, 2):
         os.kill(terminal.program(), signal.SIGKILL)
         terminal.wait("The book was opened again")

@@ -8,7 +8,7 @@ import pytest
 from braildesk import Session
 from terminal import Open
 
-OPENED = "? shows all keys."
+OPENED = "? shows the keys."
 HEBREW = "".join(
     f"letter {chr(0x05D0 + n)} {dots}\n"
     for n, dots in enumerate(

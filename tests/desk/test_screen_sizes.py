@@ -32,7 +32,7 @@ def test_wide_and_combining_characters_stand_in_their_columns(
         session.put_table("wide", WIDE.encode())
         session.add_paragraph("end", "wide", "月 q\u0303月a")
     terminal = at(book)
-    lines = terminal.wait("? shows all keys.")
+    lines = terminal.wait("? shows the keys.")
     assert lines[8] == "月 q\u0303月a" and terminal.cursor == (8, 0)
     for column in (2, 3, 4, 6):
         terminal.keys("right")
@@ -54,7 +54,7 @@ def test_a_paragraph_of_4000_characters_is_read_and_corrected_to_its_end(
     with Session(book) as session:
         session.add_paragraph("end", "en", words)
     terminal = at(book, *size)
-    terminal.wait("? shows all keys.")
+    terminal.wait("? shows the keys.")
     terminal.keys("end")
     lines = terminal.wait("“.” ⠲, character 4000, cell 4444")
     line, column = terminal.cursor
@@ -73,7 +73,7 @@ def test_a_terminal_may_change_its_size_while_print_is_typed_or_a_question_waits
     moon: Path, at: Open
 ) -> None:
     terminal = at(moon)
-    terminal.wait("? shows all keys.")
+    terminal.wait("? shows the keys.")
     terminal.keys("o", "It rose.")
     terminal.wait("⠠⠊⠞⠀⠗⠕⠎⠑⠲")
     terminal.resize(40, 12)

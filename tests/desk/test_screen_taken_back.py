@@ -63,14 +63,14 @@ def test_u_takes_back_one_thing_after_the_other(moon: Path, sit: Sit) -> None:
     assert whole(sat) == before
     # nothing that a key did is left, so it is the newest correction from before
     sat.press("u")
-    assert sat.state.kept == "kept: undo in paragraph 1"
+    assert sat.state.kept == "kept: paragraph 1 as it was before"
     assert sat.lines[8].startswith("The mon is far away.")
     assert sat.state.message == "Taken back: the newest correction of paragraph 1."
 
 
 def test_a_typed_paragraph_is_taken_back_by_striking_it(moon: Path, sit: Sit) -> None:
     sat = sit(moon)
-    sat.press("o", *"It rose.", "enter", "c-home", "u")
+    sat.press("o", *"It rose.", "enter", "escape", "c-home", "u")
     assert sat.state.message == (
         "Taken back: paragraph 4 was typed. The book keeps it, struck."
     )

@@ -20,7 +20,7 @@ def test_the_book_is_opened_corrected_marked_undone_and_exported(
     moon: Path, at: Open
 ) -> None:
     terminal = at(moon)
-    lines = terminal.wait("? shows all keys.")
+    lines = terminal.wait("? shows the keys.")
     assert lines[:3] == [
         "moon.braildesk, version 7, table en, nothing kept yet",
         ">    1 body, 1 open mark: The moon is far away.",
@@ -42,7 +42,7 @@ def test_the_book_is_opened_corrected_marked_undone_and_exported(
     terminal.keys("u")
     terminal.wait("kept: mark 2 resolved")
     terminal.keys("u")
-    terminal.wait("kept: undo in paragraph 1")
+    terminal.wait("kept: paragraph 1 as it was before")
     terminal.keys("x", "pages", "enter")
     lines = terminal.wait("Export. Lines 1 to 1 of 1.")
     assert lines[2] == "pages/moon-1.brf: volume 1, 1 page, 52 cells with dots."
@@ -56,14 +56,14 @@ def test_a_killed_session_leaves_what_the_screen_said_was_kept(
     moon: Path, at: Open
 ) -> None:
     terminal = at(moon, 40, 12)
-    terminal.wait("? shows all keys.")
+    terminal.wait("? shows the keys.")
     terminal.keys("down", "s")
     terminal.wait("     1 body, 1 open mark")
     terminal.wait(">    2 body, struck: The Tides")
     terminal.keys("o", "It rose.")
     terminal.wait("It rose.")
     os.kill(terminal.program(), signal.SIGKILL)
-    terminal.wait("Shall it be typed")
+    terminal.wait("be typed further? y is yes")
     terminal.hang_up()
     assert terminal.left() == 3
     with once_free(moon) as session:
@@ -76,7 +76,7 @@ def test_a_terminal_that_is_closed_leaves_the_text_which_is_offered_again(
     moon: Path, at: Open
 ) -> None:
     terminal = at(moon)
-    terminal.wait("? shows all keys.")
+    terminal.wait("? shows the keys.")
     terminal.keys("enter", "Oh, ")
     terminal.wait("Oh, The moon is far away.")
     terminal.hang_up()

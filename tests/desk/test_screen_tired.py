@@ -49,7 +49,7 @@ def test_escape_at_a_prompt_leaves_the_book_as_it_was(
 ) -> None:
     sat = sit(moon)
     sat.press("c-right", key, "q", "x", "escape")
-    assert sat.state.message.startswith("Given up. Nothing was sent.")
+    assert sat.state.message.startswith("Given up. The book is as it was.")
     assert (sat.state.version, sat.state.typed, sat.state.is_over) == (7, None, False)
     assert sat.desk.drafts.waiting() is None
     check(sat)
@@ -76,10 +76,11 @@ def test_enter_pressed_twice_keeps_one_paragraph(moon: Path, sit: Sit) -> None:
     sat = sit(moon)
     sat.press("o")
     sat.write("Soon.")
-    sat.press("enter", "enter", "enter")
+    sat.press("enter", "enter")
+    assert sat.state.message == "This paragraph was empty, and wasn't added."
     assert (sat.state.version, len(sat.state.book)) == (8, 4)
     sat.press("o", "enter", "o", " ", "enter")
-    assert sat.state.message == "Nothing was typed, so nothing was done."
+    assert sat.state.message == "This paragraph was empty, and wasn't added."
     assert (sat.state.version, len(sat.state.book)) == (8, 4)
 
 

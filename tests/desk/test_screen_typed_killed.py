@@ -34,12 +34,12 @@ WRITING = ("write", "fsync", "mkdir", *NAMING)
 #: that goes by, in which what is typed is kept.
 WORK = (
     "l c-home o 'It rose.' second ' It' second ' set.' enter"
-    " o 'Given up.' second escape"
+    " escape o 'Given up.' second escape"
     " down enter end ', she said' second c-w c-y second escape"
     " o 'Noon' second [One.|Two.|Three.] second y"
     " up u y away"
     " [pasted|where none|is typed] U U y n second ' And on.' enter"
-    " m 'which?' second escape U U n"
+    " escape m 'which?' second escape U U n"
     " enter 'Oh, ' second enter u"
     " s b u u"
     " U y second escape"

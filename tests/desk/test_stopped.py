@@ -223,7 +223,7 @@ def test_an_import_of_the_screen_ends_at_a_signal_and_says_what_is_in_the_book(
     os.mkfifo(queue)
     text.write_text("\n\n".join(LINES))
     terminal = at(book, **standing_in(3, KEPT, WAIT, str(queue)))
-    terminal.wait("? shows all keys.")
+    terminal.wait("? shows the keys.")
     terminal.keys("i", str(text), "enter")
     # until the third paragraph is kept, and then until the stand-in goes on
     queue.read_bytes()
@@ -248,7 +248,7 @@ def test_a_taking_back_of_the_screen_ends_at_a_signal_and_says_how_far_it_came(
     os.mkfifo(queue)
     book.with_name("text.txt").write_text("One\n\nTwo\n\nThree\n")
     terminal = at(book, **standing_in(2, KEPT, WAIT, str(queue)))
-    terminal.wait("? shows all keys.")
+    terminal.wait("? shows the keys.")
     terminal.keys("i", str(book.with_name("text.txt")), "enter")
     # the second paragraph that the import types, and then the second that is struck
     queue.read_bytes()

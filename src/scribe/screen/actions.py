@@ -37,6 +37,25 @@ class ShowPage:
 
 
 @dataclass(frozen=True)
+class ListMarks:
+    """Looks at the marks of the book, the open ones first, each with its page and line."""
+
+
+@dataclass(frozen=True)
+class ListHeadings:
+    """Looks at the headings of the book, each with its page and line."""
+
+
+@dataclass(frozen=True)
+class ToPage:
+    """To a line of a page, of the volume of the cursor where none is named; counted from 1."""
+
+    page: int
+    line: int = 1
+    volume: int | None = None
+
+
+@dataclass(frozen=True)
 class GiveTable:
     """Gives the chosen paragraph a table, or puts an installed one into the book."""
 
@@ -49,6 +68,15 @@ class TypeAll:
 
     purpose: Purpose
     lines: tuple[str, ...]
+
+
+@dataclass(frozen=True)
+class GoOn:
+    """Types the first part of a text that is too long, and goes on typing the rest after it."""
+
+    purpose: Purpose
+    first: str
+    rest: str
 
 
 @dataclass(frozen=True)
@@ -121,8 +149,12 @@ Action = (
     | ToMark
     | ShowHistory
     | ShowPage
+    | ListMarks
+    | ListHeadings
+    | ToPage
     | GiveTable
     | TypeAll
+    | GoOn
     | ExportTo
     | ImportFrom
     | LeaveImport

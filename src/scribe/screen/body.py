@@ -105,8 +105,12 @@ def _kept(state: State) -> tuple[_Text, _Text]:
 
 
 def _window(lines: list[Span], place: int, room: int) -> list[Span]:
-    """The lines around a place that there is room for."""
-    start = max(0, min(row_of(lines, place) - room // 2, len(lines) - room))
+    """The lines with a place that there is room for.
+
+    They are the same for each place among them, so that none moves while the cursor goes there.
+    """
+    page = row_of(lines, place) // room * room if room else 0
+    start = max(0, min(page, len(lines) - room))
     return lines[start : start + room]
 
 

@@ -29,15 +29,18 @@ from braildesk.text.excerpt import opening
 from braildesk.text.sequences import composed
 from braildesk.text.spans import Span
 
-from scribe.screen import deeds, finding, keys, pagelook, pager, taking_back
+from scribe.screen import deeds, finding, keys, lists, pagelook, pager, taking_back
 from scribe.screen.actions import (
     Action,
     BringBack,
     ExportTo,
     GiveTable,
     GiveUp,
+    GoOn,
     ImportFrom,
     LeaveImport,
+    ListHeadings,
+    ListMarks,
     OpenAgain,
     PutBy,
     PutOff,
@@ -47,6 +50,7 @@ from scribe.screen.actions import (
     TakeBack,
     ToFound,
     ToMark,
+    ToPage,
     TypeAll,
 )
 from scribe.screen.background import done_in_background, question_about
@@ -67,7 +71,7 @@ from scribe.words.paragraph import quoted
 from scribe.words.queries import shown
 from scribe.words.status import Interrupted, Stop
 
-_SHOWS_KEYS = "? shows all keys."
+_SHOWS_KEYS = "? shows the keys."
 _PASTED = (
     "Pasted text goes in after Enter or o. No key of it was obeyed. U brings it back, for a new"
     " paragraph."
@@ -99,8 +103,8 @@ class Desk:
         self._notices = self._take_up()
         #: The signal by which the work with the session closed is to end.
         self._stopped_by: signal.Signals | None = None
-        #: The volume that was laid out last.
-        self._laid: pagelook.Volume | None = None
+        #: The volumes that were laid out.
+        self._layouts = pagelook.Layouts()
         self._open()
 
     @property
@@ -191,8 +195,8 @@ class Desk:
         state = replace(state, away=None, message="")
         if isinstance(action, TakeBack):
             return self._all_taken_back(state, report)
-        if isinstance(action, ShowPage):
-            return self._laid_out(state, report)
+        if isinstance(action, ShowPage | ListMarks | ListHeadings | ToPage):
+            return self._laid_out(state, action, report)
         try:
             self._session.close()
             ending = done_in_background(self.path, action, report, self._check)
@@ -272,7 +276,7 @@ class Desk:
             if isinstance(found, Unfinished) and state.question is None:
                 action = ImportFrom(Path(found.note.text), found.after)
                 question = question_about(PartIsThere(found), action)
-                said = "" if state.message == _SHOWS_KEYS else state.message
+                said = state.message.removesuffix(_SHOWS_KEYS).rstrip()
                 state = replace(state, message=said, question=question)
                 continue
             sentences = [state.message]
@@ -350,7 +354,10 @@ class Desk:
         return self._asked_about(state, saved)
 
     def _asked_about(
-        self, state: State, saved: Draft, became: str = "was typed and not sent"
+        self,
+        state: State,
+        saved: Draft,
+        became: str = "was typed and isn't in the book",
     ) -> State:
         """Asks whether a text that waits is taken up, at its paragraph."""
         places = [n for n, each in enumerate(state.book) if each.id == saved.paragraph]
@@ -436,9 +443,25 @@ class Desk:
             found = self._sent(state, asked)
             said = f"Mark {asked.mark} is resolved." if found.message else ""
             return taking_back.saying_first(said, found)
+        if isinstance(asked, requests.Type):
+            return self._begun(self._sent(state, asked))
         if isinstance(asked, Command):
             return self._sent(state, asked)
         return state if asked is None else self._run(state, asked)
+
+    def _begun(self, state: State, text: str = "") -> State:
+        """The state in which another paragraph is typed after the one that was kept."""
+        state = self.save_draft(state)
+        return replace(state, typed=Field(Purpose.AFTER, text, len(text)))
+
+    def _gone_on(self, state: State, action: GoOn) -> State:
+        """Keeps the first part of a text that is too long, and goes on with the rest."""
+        typed = state.typed
+        assert typed is not None
+        asked = keys.entered(state, replace(typed, text=action.first)).asked
+        if isinstance(asked, Command):
+            state = self._sent(state, asked)
+        return self._begun(state, action.rest)
 
     def _drawn(self, state: State) -> State:
         try:
@@ -619,12 +642,14 @@ class Desk:
                 lines = shown(self._session, requests.History(number))
                 title = f"History of paragraph {number}."
                 return replace(state, pages=Pages(title, tuple(lines)))
-            case ShowPage():
-                return self._to_page(state)
+            case ShowPage() | ListMarks() | ListHeadings() | ToPage():
+                return self._by_pages(state, action)
             case GiveTable():
                 return self._with_table(state, action.name)
             case TypeAll():
                 return self._typed_all(state, action)
+            case GoOn():
+                return self._gone_on(state, action)
             case ExportTo() | ImportFrom():
                 return replace(state, away=action, message="Please wait.")
             case LeaveImport():
@@ -665,9 +690,9 @@ class Desk:
         fault = self._unsent.put_by(draft) if draft else ""
         if asked is not None and asked.lines:
             how = fault or "After Enter or Escape, U brings it back."
-            said = f"The pasted text was left out. Nothing was sent. {how}"
+            said = f"The pasted text isn't in the book. {how}"
             return replace(state, question=None).saying(said)
-        said = "Given up. Nothing was sent."
+        said = "Given up. The book is as it was."
         if draft is not None:
             said = f"{said} {fault or 'U brings it back.'}"
         given_up = replace(state, typed=None, preview=None, question=None, anchor=None)
@@ -702,21 +727,56 @@ class Desk:
         fault = self._unsent.put_by(draft_of_pasted(state, text))
         return state.saying(f"{_PASTED} {fault}".rstrip())
 
-    def _to_page(self, state: State) -> State:
-        """The page of the cursor's words; one of a long volume once that is laid out aside."""
+    def _by_pages(
+        self, state: State, action: ShowPage | ListMarks | ListHeadings | ToPage
+    ) -> State:
+        """What needs the pages of volumes, and is done aside where these are long."""
+        volumes = self._volumes_for(state, action)
+        if not volumes:
+            return state.saying(_no_volume(state, action))
+        if not self._layouts.are_soon(volumes):
+            return replace(state, away=action, message="Please wait.")
+        return self._with_pages(state, action, lambda *_: None)
+
+    def _volumes_for(
+        self, state: State, action: ShowPage | ListMarks | ListHeadings | ToPage
+    ) -> tuple[pagelook.Volume, ...]:
+        """The volumes whose pages are needed, which aren't laid out yet."""
+        if isinstance(action, ListMarks | ListHeadings):
+            return pagelook.volumes_of(state)
+        if isinstance(action, ToPage) and action.volume is not None:
+            volumes = pagelook.volumes_of(state)
+            return volumes[action.volume - 1 : action.volume] if action.volume else ()
+        assert state.paragraph is not None
+        found = pagelook.volume_of(state, state.paragraph)
+        return () if found is None else (found,)
+
+    def _with_pages(
+        self,
+        state: State,
+        action: ShowPage | ListMarks | ListHeadings | ToPage,
+        tell: Callable[[int, int], None],
+    ) -> State:
+        """What is shown by the pages of volumes, or gone to."""
+        match action:
+            case ListMarks():
+                return lists.marks_list(self._session, state, self._layouts, tell)
+            case ListHeadings():
+                return lists.headings_list(self._session, state, self._layouts, tell)
+        (volume,) = self._volumes_for(state, action)
+        laid = self._layouts.lay(self._session, volume, tell)
+        if isinstance(action, ToPage):
+            return lists.at_page(self._session, state, action, laid)
+        return self._to_page(state, laid)
+
+    def _to_page(self, state: State, laid: pagelook.Volume) -> State:
+        """The page of the cursor's words, of a volume that is laid out."""
         its, here = state.paragraph, state.highlighted
         assert its is not None and here is not None
-        volume = pagelook.volume_of(state, its)
-        if volume is None:
-            return state.saying(f"Paragraph {its.id} is struck, and stands on no page.")
-        if self._laid is None or not self._laid.is_of(volume):
-            if volume.is_long:
-                return replace(state, away=ShowPage(), message="Please wait.")
-            self._laid = pagelook.laid_out(self._session, volume, lambda *_: None)
         is_cell = state.pane is Pane.CELLS
         says = f"{'cell' if is_cell else 'character'} {state.place + 1}"
         sought = pagelook.Sought(its, here.cells.start, says)
-        found = pagelook.page_of(self._session, self._laid, sought)
+        found = pagelook.page_of(self._session, laid, sought)
         if found.line is None:
             return state.saying(found.title)
         lines = found.lines
@@ -725,19 +785,20 @@ class Desk:
         pages = pager.at_line(Pages(found.title, lines), state.size, found.line)
         return replace(state, pages=pages)
 
-    def _laid_out(self, state: State, report: Callable[[str], None]) -> State:
-        """Lays out the volume of the cursor's words, and shows their page."""
+    def _laid_out(
+        self,
+        state: State,
+        action: ShowPage | ListMarks | ListHeadings | ToPage,
+        report: Callable[[str], None],
+    ) -> State:
+        """Lays out the volumes that an action needs, and does it."""
 
         def tell(done: int, count: int) -> None:
             self._check()
             report(f"{done:,} of {count:,} paragraphs are laid out.")
 
-        assert state.paragraph is not None
-        volume = pagelook.volume_of(state, state.paragraph)
-        assert volume is not None
         try:
-            self._laid = pagelook.laid_out(self._session, volume, tell)
-            return self._to_page(state)
+            return self._drawn(self._with_pages(state, action, tell))
         except (Lost, Refused) as failed:
             return self._after_failure(state, failed)
         except Interrupted:
@@ -816,6 +877,19 @@ def preview_of(state: State, typed: Field) -> tuple[str, str, str]:
     if typed.purpose is Purpose.EDIT and state.paragraph:
         table = state.paragraph.table
     return table or "", typed.text, keys.print_of(state, typed)
+
+
+def _no_volume(
+    state: State, action: ShowPage | ListMarks | ListHeadings | ToPage
+) -> str:
+    """What is said where no volume is there whose pages are asked for."""
+    count = len(pagelook.volumes_of(state))
+    if isinstance(action, ToPage) and action.volume is not None and count:
+        return f"There is no volume {action.volume}: the book has {count}."
+    if not count or isinstance(action, ListMarks | ListHeadings):
+        return "All paragraphs are struck, so the book has no pages."
+    assert state.paragraph is not None
+    return f"Paragraph {state.paragraph.id} is struck, so it is on no page."
 
 
 def _amount(saved: Draft) -> str:

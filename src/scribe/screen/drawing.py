@@ -5,6 +5,7 @@ from dataclasses import dataclass, replace
 
 from braildesk import Mark, Style
 from braildesk.desk.readings import ParagraphReading
+from braildesk.text import limits
 from braildesk.text.cells import braille_ascii
 from braildesk.text.characters import code_and_name, visible
 from braildesk.text.excerpt import opening
@@ -26,7 +27,7 @@ HINT = (
 )
 PROMPTS = {
     Purpose.NOTE: "Note of the mark: ",
-    Purpose.NUMBER: "Go to paragraph: ",
+    Purpose.NUMBER: "Go to: ",
     Purpose.TABLE: "Table: ",
     Purpose.WORDS: "Find: ",
     Purpose.SIZE: "Cells and lines: ",
@@ -39,6 +40,10 @@ PROMPTS = {
 # and one of the braille; beside what is said that is long, the first and the third of these
 _LEAST_OF_BOOK = 4
 _LEAST_BESIDE_SAID = 2
+_TOO_LONG = (
+    f"A paragraph has at most {limits.PRINT_CHARACTERS:,} characters. Type on: Enter asks whether it"
+    " goes on in a new one."
+)
 # as many columns of what is typed are seen after a whole prompt
 _LEAST_TYPED = 16
 
@@ -235,22 +240,26 @@ def _hint(state: State) -> str:
         return "Enter opens the book again  q ends  Up, Down look further"
     if state.away:
         return "Please wait. Keys do nothing until this is done."
-    if state.typed:
-        return "Enter keeps it  Escape leaves the book as it was"
+    if state.typed and state.typed.purpose.is_new and not state.pages:
+        return "Enter keeps it  Escape ends  F1 keys"
+    if state.typed and not state.pages:
+        return "Enter keeps it  Escape doesn't  F1 keys"
     if state.anchor is not None and not state.pages:
         return "m marks these cells  Left, Right choose more  Space gives them up"
     if state.pages:
-        return "Escape goes back  Up, Down, Page Up, Page Down look further"
+        front = "Enter goes there  " if state.pages.targets else ""
+        return f"{front}Escape goes back  Up, Down, Page Up, Page Down look further"
     return HINT
 
 
 def _tail(prompt: str, typed: Field, width: int) -> tuple[str, int]:
-    """The line of a field, its front cut where it is too long, and the cursor in it."""
+    """The line of a field, from a word on where it is too long, and the cursor in it."""
     if columns(prompt) > max(width // 2, width - _LEAST_TYPED):
         prompt = opening(prompt, width // 2 - 1) + " "
     before = "".join(map(shown, typed.text[: typed.place]))
     while columns(prompt + before) >= width - 1 and before:
-        before = before[1:]
+        _, blank, rest = before.partition(" ")
+        before = rest if blank and rest else before[1:]
     line = prompt + before
     after = "".join(map(shown, typed.text[typed.place :]))
     while columns(line + after) > width - 1 and after:
@@ -286,8 +295,12 @@ def _said(state: State, most: int) -> list[str]:
 
 def _fault(state: State) -> str:
     """What the table lacks of what is typed."""
-    is_print = state.typed is not None and state.typed.purpose.is_print
-    return state.preview.fault if state.preview and is_print else ""
+    typed, preview = state.typed, state.preview
+    if typed is None or preview is None or not typed.purpose.is_print:
+        return ""
+    if preview.fault and len(typed.text) > limits.PRINT_CHARACTERS:
+        return _TOO_LONG
+    return preview.fault
 
 
 def _message(state: State, most: int) -> list[str]:
@@ -302,7 +315,8 @@ def _place_lines(state: State) -> list[str]:
     """In words: what the cursor stands on, or which paragraph is edited."""
     typed, reading = state.typed, state.reading
     if typed is not None and typed.purpose is Purpose.EDIT and reading is not None:
-        return [f"You are editing paragraph {reading.paragraph.id}."]
+        said = f"You are editing paragraph {reading.paragraph.id}."
+        return [opening(said, state.size.columns)]
     is_print = typed is not None and typed.purpose.is_print
     if is_print or reading is None or state.highlighted is None:
         return [""]

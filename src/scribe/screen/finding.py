@@ -4,15 +4,16 @@ from dataclasses import replace
 
 from braildesk import Session
 from braildesk.desk.find import alike, unlike
+from braildesk.desk.places import cells_of
 from braildesk.text.cells import NotCells, braille_patterns
 from braildesk.text.characters import code_and_name
 from braildesk.text.sequences import composed
-from braildesk.text.spans import find_spans
+from braildesk.text.spans import Span, find_spans
 
 from scribe.screen import search
 from scribe.screen.actions import ToFound, ToMark
 from scribe.screen.in_hand import at_mark
-from scribe.screen.state import Pane, State
+from scribe.screen.state import Pane, State, WordsFound
 from scribe.words.find import in_words
 from scribe.words.paragraph import quoted
 
@@ -28,7 +29,10 @@ def to_found(session: Session, state: State, action: ToFound) -> State:
     found = search.next_words(session, state, sought, form)
     if found is None:
         return _with_others_alike(session, state, sought)
-    return _at_found(state, found, sought)
+    text = session.print_of(state.book[found.spot.chosen].id)
+    places = find_spans(text, sought, form)
+    (words,) = (each for each in places if each.start == found.spot.place)
+    return _at_found(session, state, found, words.stop - words.start)
 
 
 def to_mark(session: Session, state: State, action: ToMark) -> State:
@@ -53,16 +57,16 @@ def _to_cells(session: Session, state: State, sought: str) -> State:
         )
     found = search.next_words(session, state, cells)
     if found is None:
-        said = f"{quoted(sought)} stands nowhere in the cells of the book."
+        said = f"{quoted(sought)} isn't in the cells of the book."
         return state.saying(said)
-    return _at_found(state, found, sought)
+    return _at_found(session, state, found, len(cells))
 
 
 def _with_others_alike(session: Session, state: State, sought: str) -> State:
     """What is said of words that stand nowhere: where there are others like them, to go to."""
     found = search.next_words(session, state, sought, alike)
     if found is None:
-        said = f"{quoted(sought)} stands nowhere in the print of the book."
+        said = f"{quoted(sought)} isn't in the print of the book."
         return state.saying(said)
     spot = found.spot
     number = state.book[spot.chosen].id
@@ -71,18 +75,21 @@ def _with_others_alike(session: Session, state: State, sought: str) -> State:
     place = next(each for each in places if each.start == spot.place)
     how = in_words(unlike(sought, text[place.start : place.stop]))
     said = (
-        f"{quoted(sought)} stands nowhere as typed; with {how} it is in paragraph {number}:"
-        " * goes there."
+        f"{quoted(sought)} isn't in the book as typed; with {how} it is in paragraph"
+        f" {number}: * goes there."
     )
     return replace(state, finds_alike=True).saying(said)
 
 
-def _at_found(state: State, found: search.Found, sought: str) -> State:
-    """The state with the cursor at what was looked for."""
-    spot = found.spot
+def _at_found(session: Session, state: State, found: search.Found, count: int) -> State:
+    """The state with the cursor at what was looked for, of so many characters or cells."""
+    spot, what = found.spot, quoted(state.sought)
     said = ""
     if found.is_same:
-        said = f"{quoted(sought)} stands nowhere else in the book."
+        said = f"{what} is nowhere else in the book."
     elif found.is_around:
-        said = f"{quoted(sought)} stands nowhere further on: this is the first in the book."
-    return state.at(spot.chosen, spot.place).saying(said)
+        said = f"{what} isn't further on; this is the first in the book."
+    number, span = state.book[spot.chosen].id, Span(spot.place, spot.place + count)
+    cells = span if state.pane is Pane.CELLS else cells_of(session, number, span)
+    words = WordsFound(number, state.pane, spot.place, cells)
+    return replace(state.at(spot.chosen, spot.place), found=words).saying(said)

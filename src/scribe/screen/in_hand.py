@@ -18,7 +18,7 @@ def at_mark(state: State, found: Found, is_back: bool) -> State:
     # a mark without words may stand after the last character
     place = max(0, min(spot.place, state.book[spot.chosen].length - 1))
     has_moved = (spot.chosen, place) != (state.chosen, state.place)
-    state = _holding(state.at(spot.chosen, place), spot.mark)
+    state = holding(state.at(spot.chosen, place), spot.mark)
     if found.is_same:
         return state.saying("The book has no other open mark.")
     if found.is_around:
@@ -44,11 +44,11 @@ def with_mark_in_hand(state: State, before: State) -> State:
     if before.typed is not None and before.typed.purpose is Purpose.EDIT:
         begun = next((m for m in before.marks_here if not m.resolved), None)
     if begun is not None:
-        state = _holding(state, begun.id)
+        state = holding(state, begun.id)
     elif put:
-        state = _holding(state, put[-1].id)
+        state = holding(state, put[-1].id)
     elif touched and not set(touched) & set(state.marks_here):
-        state = _holding(state, touched[0].id)
+        state = holding(state, touched[0].id)
     others = [mark for mark in touched if mark not in state.marks_here]
     return state.saying(_touched(others)) if others else state
 
@@ -63,7 +63,8 @@ def left_here(state: State) -> State:
     return state.saying(f"{left} left here; r resolves mark {first}.")
 
 
-def _holding(state: State, mark: int) -> State:
+def holding(state: State, mark: int) -> State:
+    """The state with a mark in hand where the cursor is."""
     assert state.paragraph is not None
     held = InHand(mark, state.paragraph.id, state.pane, state.place)
     return replace(state, in_hand=held)

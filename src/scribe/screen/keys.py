@@ -1,5 +1,6 @@
 """What each key asks for: a function from the state to the state after it, and what goes with it."""
 
+import re
 from collections.abc import Callable, Sequence
 from dataclasses import dataclass, replace
 from typing import Any
@@ -7,6 +8,7 @@ from typing import Any
 from braildesk import After, Paragraph, Style, requests
 from braildesk.desk.correction import replaced, smallest_correction
 from braildesk.protocol.requests import Command
+from braildesk.text import limits
 from braildesk.text.characters import control_refused
 from braildesk.text.sequences import composed, seams
 
@@ -17,7 +19,10 @@ from scribe.screen.actions import (
     ExportTo,
     GiveTable,
     GiveUp,
+    GoOn,
     ImportFrom,
+    ListHeadings,
+    ListMarks,
     OpenAgain,
     PutBy,
     PutOff,
@@ -27,10 +32,13 @@ from scribe.screen.actions import (
     TakeBack,
     ToFound,
     ToMark,
+    ToPage,
     TypeAll,
 )
 from scribe.screen.draft import draft_of
 from scribe.screen.field import Cut, Field, Purpose
+from scribe.screen.lists import at_target
+from scribe.screen.rows import beside
 from scribe.screen.state import Pages, Pane, Question, State
 from scribe.words.page_size import NoSize, described, typed_page_size
 from scribe.words.paragraph import quoted
@@ -42,16 +50,72 @@ _NOTHING_WHILE_TYPING = (
 _NO_ANSWER = "That key is no answer to the question."
 _NOT_ENTER = "The end of the pasted line was left out. Enter ends what is typed."
 _ASKED_LATER = "Nothing was typed. It is asked again when the book is opened."
-_STAYS_GIVEN_UP = "Nothing was sent. U asks about it again."
+_STAYS_GIVEN_UP = "It stays given up. U asks about it again."
 _DOTS = (
     "Dot 7 is under marked cells, dot 8 under those of the cursor. d takes both away."
 )
 _QUIET = "Now without the list, and without braille while you type. z brings them back."
 _NO_DOTS = "Braille ASCII has no dots 7 and 8: a shows the cells as Unicode characters."
+_OF_GOING = "A paragraph's number, or page 6 line 9, or words to find."
+# a page of a volume, and a line of it, as people say it
+_PAGE = re.compile(
+    r"(?:v(?:ol(?:ume)?)?\.? *(\d{1,9})[ ,]+)?p(?:age)?\.? *(\d{1,9})"
+    r"(?:[ ,]+l(?:ine)?\.? *(\d{1,9}))?",
+    re.IGNORECASE,
+)
 # what is said before it is done, since the book keeps it
 _OF_MARK = "The book keeps each mark: r resolves it, and nothing takes it out."
 _OF_TABLE = "A table that the book lacks is put into it, and stays there."
 _OF_IMPORT = "The book keeps what is imported. u strikes it, and nothing takes it out."
+
+
+_MOST = limits.PRINT_CHARACTERS
+_SENTENCE = re.compile(r"[.!?\u2026][\u201d\u2019\u00bb\"')\]]*\s+")
+_AS_IT_WAS = "Given up. The book is as it was."
+_NOT_ADDED = "This paragraph was empty, and wasn't added."
+_STAYS_TYPED = "It stays as it is typed. Enter asks again."
+_HELP = "Keys "
+# what shows keys also where ? is a letter
+_ASKS_FOR_KEYS = ("f1", "a-?")
+KEYS_OF_PRINT = (
+    "Enter: keeps it; after a new paragraph the next one is begun",
+    "Escape: leaves the book as it was; U brings the text back",
+    "Up, Down: to the line before, after",
+)
+KEYS_OF_LINE = (
+    "Left, Right: to the character before, after",
+    "Ctrl-Left, Ctrl-Right: to the word before, after",
+    "Alt-B, Alt-F: to the front, to the end of a word",
+    "Home, Ctrl-A: to the front",
+    "End, Ctrl-E: to the end",
+    "Backspace, Delete: take out the character before, the one here",
+    "Ctrl-W, Alt-Backspace: cut the word before",
+    "Alt-D: cuts the word after",
+    "Ctrl-U, Ctrl-K: cut to the front, to the end",
+    "Ctrl-Y: puts in what was cut",
+    "F1, Alt-?: shows these keys",
+)
+KEYS_OF_CHOICE = (
+    "Left, Right: to the cell before, after",
+    "Ctrl-Right: to the end of the word",
+    "Ctrl-Left: to the word before",
+    "Home, End: to the front, to the end of the paragraph",
+    "k, j: to the line before, after",
+    "m: puts a mark on these cells, with a note",
+    "Space: gives the choice up",
+    "Tab: gives it up, and goes to the print",
+)
+KEYS_OF_PAGES = (
+    "Up, Down: to the line before, after",
+    "Page Up, Page Down: a screen back, on",
+    "Home, End: to the first line, to the last",
+    "Escape, Enter, q: go back",
+)
+KEYS_OF_LIST = (
+    "Enter: goes there",
+    *KEYS_OF_PAGES[:-1],
+    "Escape, q: go back",
+)
 
 
 @dataclass(frozen=True)
@@ -73,13 +137,15 @@ def step(state: State, key: str) -> Step:
         return Step(state, OpenAgain())
     if state.question and not state.is_lost:
         return _answered(state, state.question, key)
+    if key in _ASKS_FOR_KEYS and not state.is_lost:
+        return Step(_with_help(state))
     if state.pages:
         return Step(_looking(state, state.pages, key))
     if state.typed:
         return _typing(state, state.typed, key)
     bound = KEYS.get(key)
     if bound is None:
-        return Step(state.saying("That key does nothing here. ? shows all keys."))
+        return Step(state.saying("That key does nothing here. ? shows the keys."))
     if bound.needs_paragraph and state.paragraph is None:
         return Step(state.saying("The book has no paragraphs yet."))
     return bound.does(state)
@@ -90,7 +156,7 @@ def pasted(state: State, text: str) -> Step:
     if _is_cut(text):
         return Step(state.saying("What came isn't UTF-8, and was left out."))
     typed = state.typed
-    if typed is None or state.question or state.is_lost:
+    if typed is None or state.question or state.pages or state.is_lost:
         return Step(state, PutBy(text) if text.strip() else None)
     lines = text.replace("\r", "\n").replace("\t", " ").split("\n")
     if len(lines) > 1:
@@ -136,6 +202,11 @@ def _answered(state: State, question: Question, key: str) -> Step:
     state = replace(state, question=None)
     if question.draft is not None:
         return _about_text(state, question, question.draft, key)
+    if question.parts is not None and state.typed is not None:
+        if key == "y":
+            return Step(state, GoOn(state.typed.purpose, *question.parts))
+        if key in ("n", "escape"):
+            return Step(state.saying(_STAYS_TYPED))
     if key not in ("y", "n", "escape"):
         return Step(replace(state, question=question).saying(_NO_ANSWER))
     if key == "escape":
@@ -206,8 +277,13 @@ def _looking(state: State, pages: Pages, key: str) -> State:
         return replace(state, pages=moved)
     if state.is_lost:
         return state
+    target = pager.target(pages, state.size) if key == "enter" else None
+    if target is not None:
+        return at_target(state, target)
     if key in ("escape", "q", "enter"):
-        return replace(state, pages=None)
+        return replace(state, pages=pages.under)
+    if key == "?":
+        return _with_help(state)
     return state.saying("That key does nothing here. Escape goes back.")
 
 
@@ -215,11 +291,18 @@ def _typing(state: State, typed: Field, key: str) -> Step:
     if key == "escape" and draft_of(state) is not None:
         return Step(state, GiveUp())
     if key == "escape":
-        said = "Given up. Nothing was sent."
+        said = _NOT_ADDED if typed.purpose.is_new else _AS_IT_WAS
         return Step(replace(state, typed=None, preview=None).saying(said))
+    if key in ("up", "down") and typed.purpose.is_print:
+        return Step(_on_other_line(state, typed, -1 if key == "up" else 1))
     if key == "enter":
         refused = control_refused(typed.text.encode())
-        return Step(state.saying(refused)) if refused else entered(state, typed)
+        if refused:
+            return Step(state.saying(refused))
+        question = about_length(state, typed)
+        if question is not None:
+            return Step(replace(state, question=question))
+        return entered(state, typed)
     if key == "c-y":
         return Step(_put_back(state, typed))
     cut = typed.cut(key)
@@ -231,6 +314,62 @@ def _typing(state: State, typed: Field, key: str) -> Step:
     if len(key) == 1 and (key >= " " and not "\x7f" <= key < "\xa0"):
         return Step(replace(state, typed=typed.inserted(key)))
     return Step(state.saying(_NOTHING_WHILE_TYPING))
+
+
+def _on_other_line(state: State, typed: Field, by: int) -> State:
+    place = beside(typed.text, state.size.columns, typed.place, by)
+    if place is None:
+        return state.saying(_no_line(by))
+    return replace(state, typed=replace(typed, place=place))
+
+
+def about_length(state: State, typed: Field) -> Question | None:
+    """Whether print that is too long for a paragraph goes on in a new one, where it is too long."""
+    if not typed.purpose.is_print or len(print_of(state, typed)) <= _MOST:
+        return None
+    first, rest = parted(typed.text, _MOST)
+    sentence = (
+        f"A paragraph has at most {_MOST:,} characters, and this one has"
+        f" {len(typed.text):,}. Shall it go on in a new paragraph from"
+        f" {quoted(rest)} on?"
+    )
+    return Question(sentence, parts=(first, rest))
+
+
+def parted(text: str, most: int) -> tuple[str, str]:
+    """A text in two, the first no longer than so many characters: at a sentence, or at a blank."""
+    front = text[:most]
+    ends = [found.end() for found in _SENTENCE.finditer(front)]
+    blank = front.rfind(" ") + 1
+    seam = max(each for each in seams(text) if each <= most)
+    # a sentence that ends far from there would leave a short paragraph
+    place = ends[-1] if ends and ends[-1] > most // 2 else blank or seam
+    return text[:place].rstrip(), text[place:].lstrip()
+
+
+def _with_help(state: State) -> State:
+    """The state in which the keys of what is being done are looked at, one a line."""
+    under = state.pages
+    if under is not None and under.title.startswith(_HELP):
+        return state
+    what, lines = keys_of(state)
+    return replace(state, pages=Pages(f"{_HELP}{what}.", lines, under=under))
+
+
+def keys_of(state: State) -> tuple[str, tuple[str, ...]]:
+    """What is being done, and its keys."""
+    if state.pages:
+        return "while looking", KEYS_OF_LIST if state.pages.targets else KEYS_OF_PAGES
+    if state.typed is not None:
+        is_print = state.typed.purpose.is_print
+        return "while typing", (*(KEYS_OF_PRINT if is_print else ()), *KEYS_OF_LINE)
+    if state.anchor is not None and state.pane is Pane.CELLS:
+        return "while choosing cells", KEYS_OF_CHOICE
+    seen: dict[str, list[str]] = {}
+    for key, bound in KEYS.items():
+        seen.setdefault(bound.says, []).append(NAMES.get(key, key))
+    lines = (f"{', '.join(keys)}: {says}" for says, keys in seen.items())
+    return "in the book", tuple(lines)
 
 
 def _cut_out(state: State, cut: Cut) -> State:
@@ -262,17 +401,19 @@ def entered(state: State, typed: Field) -> Step:
         case Purpose.NOTE:
             return _marked(state, typed.text)
     state = replace(state, typed=None, preview=None)
+    if typed.purpose.is_new:
+        return Step(state.saying(_NOT_ADDED))
     # blanks may be looked for
     is_looked_for = typed.purpose is Purpose.WORDS and typed.text
     if not (typed.text.strip() or is_looked_for):
-        return Step(state.saying("Nothing was typed, so nothing was done."))
+        return Step(state.saying("Nothing was typed, so nothing is done."))
     return _answering(state, typed)
 
 
 def _answering(state: State, typed: Field) -> Step:
     match typed.purpose:
         case Purpose.NUMBER:
-            return Step(_at_number(state, typed.text.strip()))
+            return _going(state, typed.text)
         case Purpose.TABLE:
             return Step(state, GiveTable(typed.text.strip()))
         case Purpose.WORDS:
@@ -309,7 +450,7 @@ def _corrected(state: State, typed: Field) -> Step:
     assert state.reading is not None
     least = smallest_correction(state.reading.text, print_of(state, typed))
     if least is None:
-        said = "The print reads as before, so nothing was sent."
+        said = "The print reads as before, so there is nothing to keep."
         return Step(replace(state, typed=None, preview=None).saying(said))
     number, by = state.reading.paragraph.id, state.by
     span = (number, least.start, least.count, least.text)
@@ -324,6 +465,21 @@ def _marked(state: State, note: str) -> Step:
     count = cells.stop - cells.start
     command = requests.Mark(state.paragraph.id, cells.start, count, note)
     return Step(state, replace(command, expect=state.version))
+
+
+def _going(state: State, words: str) -> Step:
+    """To a paragraph by its number, to a line of a page, or to words."""
+    asked = words.strip()
+    if asked.isascii() and asked.isdigit():
+        return Step(_at_number(state, asked.lstrip("0") or "0"))
+    found = _PAGE.fullmatch(asked)
+    if found is None:
+        return Step(replace(state, sought=words), ToFound(words))
+    volume, page, line = found.groups()
+    return Step(
+        state,
+        ToPage(int(page), int(line or 1), None if volume is None else int(volume)),
+    )
 
 
 def _at_number(state: State, word: str) -> State:
@@ -444,6 +600,23 @@ def _placed(state: State, place: int, is_back: bool) -> Step:
     where = "front" if is_back else "end"
     said = f"This is the {where} of the paragraph."
     return Step(state.saying(said if _text(state) else "The paragraph is empty."))
+
+
+def _by_row(by: int) -> Callable[[State], Step]:
+    """To the line of the paragraph before or after, as it stands on the screen."""
+
+    def moved(state: State) -> Step:
+        text = _text(state)
+        place = beside(text, state.size.columns, state.place, by)
+        if place is None:
+            return Step(state.saying(_no_line(by)))
+        return _placed(state, min(place, max(0, len(text) - 1)), by < 0)
+
+    return moved
+
+
+def _no_line(by: int) -> str:
+    return f"This is the {'first' if by < 0 else 'last'} line of the paragraph."
 
 
 def _along(state: State, is_back: bool) -> Step:
@@ -582,9 +755,17 @@ def _carried(by: int) -> Callable[[State], Step]:
     return moved
 
 
+def _marks(state: State) -> Step:
+    return Step(state, ListMarks())
+
+
+def _headings(state: State) -> Step:
+    return Step(state, ListHeadings())
+
+
 def _again(state: State) -> Step:
     if not state.sought:
-        return Step(state.saying("Nothing was looked for yet: / asks for it."))
+        return Step(state.saying("Nothing was looked for yet. / asks for words."))
     return Step(state, ToFound(state.sought, True))
 
 
@@ -607,16 +788,7 @@ def _quiet(state: State) -> Step:
 
 
 def _help(state: State) -> Step:
-    return Step(replace(state, pages=Pages("All keys.", help_lines())))
-
-
-def help_lines() -> tuple[str, ...]:
-    """A line for each key."""
-    seen: dict[str, list[str]] = {}
-    for key, bound in KEYS.items():
-        seen.setdefault(bound.says, []).append(NAMES.get(key, key))
-    lines = (f"{', '.join(keys)}: {says}" for says, keys in seen.items())
-    return (*lines, *WHILE_TYPING)
+    return Step(_with_help(state))
 
 
 @dataclass(frozen=True)
@@ -628,13 +800,6 @@ class Bound:
     needs_paragraph: bool = True
 
 
-WHILE_TYPING = (
-    "While typing, Home, Ctrl-A, End, Ctrl-E: to the front and the end of the line",
-    "While typing, Ctrl-Left, Alt-B, Ctrl-Right, Alt-F: by words",
-    "While typing, Ctrl-W, Alt-Backspace, Alt-D: cut a word before, a word after",
-    "While typing, Ctrl-U, Ctrl-K: cut to the front, to the end",
-    "While typing, Ctrl-Y: puts in what was cut",
-)
 NAMES = {
     "up": "Up",
     "down": "Down",
@@ -646,12 +811,15 @@ NAMES = {
     "end": "End",
     "c-home": "Ctrl-Home",
     "c-end": "Ctrl-End",
+    "c-up": "Ctrl-Up",
+    "c-down": "Ctrl-Down",
     "pageup": "Page Up",
     "pagedown": "Page Down",
     "a-up": "Alt-Up",
     "a-down": "Alt-Down",
     "enter": "Enter",
     "tab": "Tab",
+    "f1": "F1",
     " ": "Space",
 }
 KEYS = {
@@ -664,13 +832,23 @@ KEYS = {
         "to the word after; in a choice of cells, to the end of a word",
         lambda s: _by_word(s, False),
     ),
+    **dict.fromkeys(
+        ("k", "c-up"), Bound("to the line before in the paragraph", _by_row(-1))
+    ),
+    **dict.fromkeys(
+        ("j", "c-down"), Bound("to the line after in the paragraph", _by_row(1))
+    ),
     "home": Bound("to the front of the paragraph", lambda s: _to_end(s, True)),
     "end": Bound("to the end of the paragraph", lambda s: _to_end(s, False)),
     "pageup": Bound("a list of paragraphs back", _paged(-1)),
     "pagedown": Bound("a list of paragraphs on", _paged(1)),
     "c-home": Bound("to the first paragraph", lambda s: _to_end_of_book(s, True)),
     "c-end": Bound("to the last paragraph", lambda s: _to_end_of_book(s, False)),
-    "g": Bound("goes to a paragraph by its number", _typed_for(Purpose.NUMBER)),
+    "g": Bound(
+        "goes to a paragraph by its number, to a page and line, or to words",
+        _typed_for(Purpose.NUMBER, _OF_GOING),
+    ),
+    "H": Bound("the headings with their pages; Enter goes to one", _headings),
     "tab": Bound("from the print to the cells, and back", _other_pane),
     "a": Bound("cells in Braille ASCII, or as Unicode characters", _ascii, False),
     "d": Bound("dots 7 and 8 under marked cells and the cursor, or not", _dots, False),
@@ -682,9 +860,10 @@ KEYS = {
     "U": Bound("brings back a text that was given up", _bring_back, False),
     "h": Bound("the history of the paragraph", lambda s: Step(s, ShowHistory())),
     " ": Bound("begins or ends a choice of cells, for m", _choose_cells),
-    "m": Bound("puts a mark on the cells, with a note", _mark),
+    "m": Bound("puts a mark on the cells or the words found, with a note", _mark),
     "n": Bound("to the next open mark", lambda s: Step(s, ToMark(False))),
     "N": Bound("to the open mark before", lambda s: Step(s, ToMark(True))),
+    "M": Bound("the marks with their pages; Enter goes to one", _marks),
     "r": Bound("says that the mark shown first is dealt with", _resolve),
     "s": Bound("strikes the paragraph, or restores it", _strike),
     "b": Bound("makes it a heading, or body text", _style),
@@ -698,7 +877,8 @@ KEYS = {
     "w": Bound("the size of pages, for p and x", _size, False),
     "x": Bound("exports all volumes to a folder", _folder),
     "i": Bound("imports a text file", _new(Purpose.TEXT_FILE, _OF_IMPORT), False),
-    "?": Bound("shows all keys", _help, False),
+    "?": Bound("shows the keys of what is being done", _help, False),
+    "f1": Bound("shows the keys of what is being done", _help, False),
     "q": Bound(
         "ends; all that was kept is in the book", lambda s: Step(s, Quit()), False
     ),

@@ -1,4 +1,4 @@
-"""The page of a volume on which the cursor's words stand, as it will be embossed."""
+"""Volumes as they will be embossed: the page of the cursor's words, and the way to a page."""
 
 from collections.abc import Callable, Sequence
 from dataclasses import dataclass, replace
@@ -61,17 +61,47 @@ class Volume:
         )
 
     @property
-    def is_long(self) -> bool:
-        """Whether it takes a while to lay it out."""
-        return sum(each.length for each in self.paragraphs) > _MANY
+    def characters(self) -> int:
+        """How much has to be laid out."""
+        return sum(each.length for each in self.paragraphs)
+
+
+class Layouts:
+    """The volumes that were laid out, as long as the book and the size of its pages are the same."""
+
+    def __init__(self) -> None:
+        self._laid: dict[int, Volume] = {}
+
+    def of(self, volume: Volume) -> Volume | None:
+        """A volume as it was laid out, none where it wasn't yet."""
+        laid = self._laid.get(volume.number)
+        return laid if laid is not None and laid.is_of(volume) else None
+
+    def lay(
+        self, session: Session, volume: Volume, report: Callable[[int, int], None]
+    ) -> Volume:
+        """A volume that is laid out, if need be now."""
+        laid = self.of(volume) or laid_out(session, volume, report)
+        self._laid[volume.number] = laid
+        return laid
+
+    def are_soon(self, volumes: Sequence[Volume]) -> bool:
+        """Whether some volumes are laid out in a moment, those aside that are so already."""
+        lacking = [each for each in volumes if self.of(each) is None]
+        return sum(each.characters for each in lacking) <= _MANY
+
+
+def volumes_of(state: State) -> tuple[Volume, ...]:
+    """The volumes of the book, which aren't laid out yet."""
+    return tuple(
+        Volume(state.version, state.page_size, number, part)
+        for number, part in enumerate(parted(state.book), 1)
+    )
 
 
 def volume_of(state: State, its: Paragraph) -> Volume | None:
     """The volume of a paragraph, which isn't laid out yet; none for one that is struck."""
-    for number, part in enumerate(parted(state.book), 1):
-        if its in part:
-            return Volume(state.version, state.page_size, number, part)
-    return None
+    return next((each for each in volumes_of(state) if its in each.paragraphs), None)
 
 
 def laid_out(
@@ -99,16 +129,22 @@ def page_of(session: Session, volume: Volume, sought: Sought) -> Page:
     if not lines:
         return Page(f"Paragraph {its.id} has no words, and takes no line.")
     (section,) = sections(session, [its])
-    # an empty cell at which a line is broken stands on none: what is before it does
-    before = sum(
-        start <= sought.cell for start, _ in spans_of(section, page_size.width)
+    page, line = divmod(
+        line_of(volume, section, lines, sought.cell), page_size.text_lines
     )
-    page, line = divmod(lines[max(0, before - 1)], page_size.text_lines)
     title = (
         f"Paragraph {its.id}, {sought.says}: volume {volume.number}, page {page + 1}, line"
         f" {line + 1}, of {described(page_size)}."
     )
     return Page(title, tuple(_lines_of(session, volume, page)), line)
+
+
+def line_of(volume: Volume, section: Section, lines: range, cell: int) -> int:
+    """The line of a volume on which a cell of a paragraph stands that takes some lines."""
+    # an empty cell at which a line is broken stands on none: what is before it does
+    spans = spans_of(section, volume.page_size.width)
+    before = sum(start <= cell for start, _ in spans)
+    return lines[max(0, before - 1)]
 
 
 def _lines_of(session: Session, volume: Volume, page: int) -> list[str]:

@@ -6,7 +6,7 @@ from functools import lru_cache
 from braildesk.text.characters import visible
 from braildesk.text.wrapping import wrap
 
-from scribe.screen.state import HEAD_LINE, Pages, Size
+from scribe.screen.state import HEAD_LINE, Pages, Size, Target
 
 #: The row for what is said below the lines.
 SAID = 1
@@ -41,6 +41,18 @@ def at_line(pages: Pages, size: Size, number: int) -> Pages:
     """The lines with the cursor on one of them, counted from 0, which is seen."""
     before = replace(pages, lines=pages.lines[:number])
     return _at(pages, size, len(_wrapped(before, size)))
+
+
+def target(pages: Pages, size: Size) -> Target | None:
+    """Where the line of the cursor leads, in a list to go by; on its head none does."""
+    if not pages.targets or pages.place == HEAD_LINE:
+        return None
+    count = 0
+    for line, found in zip(pages.lines, pages.targets):
+        count += len(wrap(visible(line), size.columns))
+        if pages.place < count:
+            return found
+    return None
 
 
 def fitted(pages: Pages, size: Size) -> Pages:
@@ -83,7 +95,7 @@ def _wrapped(pages: Pages, size: Size) -> tuple[str, ...]:
 
 
 # each key looks at the same lines again, which may be thousands
-@lru_cache(maxsize=2)
+@lru_cache(maxsize=4)
 def _parted(lines: tuple[str, ...], width: int) -> tuple[str, ...]:
     return tuple(part for line in lines for part in wrap(visible(line), width))
 

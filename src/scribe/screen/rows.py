@@ -45,6 +45,25 @@ def _size(character: str) -> int:
     return columns(shown(character))
 
 
+def beside(text: str, width: int, place: int, by: int) -> int | None:
+    """The place under one of the line before, or over one of the line after; None where none is."""
+    lines = rows(text, width)
+    here = row_of(lines, place)
+    if not 0 <= here + by < len(lines):
+        return None
+    row, is_last = lines[here + by], here + by == len(lines) - 1
+    column = sum(map(_size, text[lines[here].start : place]))
+    within = [each for each in seams(text) if row.start <= each < row.stop]
+    within += [row.stop] if is_last or not within else []
+    taken, found = 0, row.start
+    for start, stop in zip(within, within[1:]):
+        taken += sum(map(_size, text[start:stop]))
+        if taken > column:
+            break
+        found = stop
+    return found
+
+
 def row_of(lines: list[Span], place: int) -> int:
     """The line on which a place stands; the last one for the place after the text."""
     for number, line in enumerate(lines):

@@ -9,7 +9,16 @@ from braildesk.desk.layout import PageSize
 from braildesk.desk.readings import ParagraphReading
 from braildesk.text.spans import Span
 
-from scribe.screen.actions import ExportTo, ImportFrom, LeaveImport, ShowPage, TakeBack
+from scribe.screen.actions import (
+    ExportTo,
+    ImportFrom,
+    LeaveImport,
+    ListHeadings,
+    ListMarks,
+    ShowPage,
+    TakeBack,
+    ToPage,
+)
 from scribe.screen.deeds import Deed
 from scribe.screen.field import Cut, Field
 
@@ -61,6 +70,8 @@ class Question:
     sentence: str
     lines: tuple[str, ...] = ()
     draft: Field | None = None
+    #: A text that is too long for one paragraph, and may go on in a new one, in its two parts.
+    parts: tuple[str, str] | None = None
     #: What is done if the answer is yes, or no, where the question is about a text in a file or
     #: about what is taken back.
     yes: ImportFrom | TakeBack | None = None
@@ -75,6 +86,15 @@ HEAD_LINE = -1
 
 
 @dataclass(frozen=True)
+class Target:
+    """A place in the print of a paragraph to which a line of a list leads, and a mark there."""
+
+    paragraph: int
+    place: int = 0
+    mark: int | None = None
+
+
+@dataclass(frozen=True)
 class Pages:
     """Lines that are looked at in place of the book.
 
@@ -86,6 +106,10 @@ class Pages:
     lines: tuple[str, ...]
     top: int = 0
     place: int = HEAD_LINE
+    #: Where Enter goes from each of the lines, if this is a list to go by.
+    targets: tuple[Target, ...] = ()
+    #: What was looked at before, to which Escape goes back.
+    under: "Pages | None" = None
 
 
 @dataclass(frozen=True)
@@ -100,6 +124,16 @@ class InHand:
     paragraph: int
     pane: Pane
     place: int
+
+
+@dataclass(frozen=True)
+class WordsFound:
+    """The cells of what was found, which a mark is put on while the cursor stays at its front."""
+
+    paragraph: int
+    pane: Pane
+    place: int
+    cells: Span
 
 
 @dataclass(frozen=True)
@@ -135,6 +169,7 @@ class State:
     marked_cells: tuple[Span, ...] = ()
     highlighted: Highlighted | None = None
     in_hand: InHand | None = None
+    found: WordsFound | None = None
     typed: Field | None = None
     #: What was last cut out of a text that is typed.
     cut: Cut | None = None
@@ -155,7 +190,16 @@ class State:
     #: The session with the book ended by itself.
     is_lost: bool = False
     #: What is going on beside the screen.
-    away: ExportTo | ImportFrom | ShowPage | TakeBack | None = None
+    away: (
+        ExportTo
+        | ImportFrom
+        | ShowPage
+        | ListMarks
+        | ListHeadings
+        | ToPage
+        | TakeBack
+        | None
+    ) = None
     is_over: bool = False
 
     @property
@@ -198,6 +242,10 @@ class State:
         if self.anchor is not None and self.pane is Pane.CELLS:
             first, last = sorted((self.anchor, self.place))
             return Span(first, last + 1)
+        found = self.found
+        here = (self.paragraph.id if self.paragraph else 0, self.pane, self.place)
+        if found is not None and (found.paragraph, found.pane, found.place) == here:
+            return found.cells
         return self.highlighted.cells if self.highlighted else None
 
     @property

@@ -22,12 +22,15 @@ def title(paragraph: Paragraph, with_table: bool) -> str:
     return ", ".join(flag for flag in flags if flag)
 
 
-def mark_line(mark: Mark, text: str, paragraph: int | None = None) -> str:
+def mark_line(
+    mark: Mark, text: str, paragraph: int | None = None, page: str = ""
+) -> str:
     """A mark with the words that it stands on in a print, and its note."""
     flags = [
         f"Mark {mark.id}",
         "resolved" if mark.resolved else "open",
         "touched" if mark.touched else "",
+        page,
         "" if paragraph is None else f"paragraph {paragraph}",
         marked_words(mark, text),
     ]

@@ -1,0 +1,181 @@
+"""Lists to go by: the marks and the headings of a book, each with its page and line."""
+
+from collections.abc import Callable, Iterator, Sequence
+from dataclasses import replace
+
+from braildesk import Paragraph, Session, Style
+from braildesk.desk.marks import MarkOfBook, all_marks
+from braildesk.desk.places import words_of
+from braildesk.desk.layout import spans_of
+from braildesk.desk.readings import answers, prints
+from braildesk.desk.volumes import sections
+from braildesk.protocol.requests import Where
+from braildesk.text.characters import visible
+from braildesk.text.excerpt import opening
+from braildesk.text.spans import Span
+
+from scribe.screen import pager
+from scribe.screen.actions import ToPage
+from scribe.screen.in_hand import holding
+from scribe.screen.pagelook import Layouts, Volume, line_of, volumes_of
+from scribe.screen.state import Pages, Pane, State, Target
+from scribe.words.page_size import described
+from scribe.words.paragraph import mark_line
+
+# a heading is named by so many columns of its words
+_WORDS = 60
+_STRUCK = "struck, on no page"
+
+#: Says how far a layout has come.
+Report = Callable[[int, int], None]
+
+
+class PageNumbers:
+    """The pages and lines of a book by its volumes, once they are laid out."""
+
+    def __init__(
+        self,
+        session: Session,
+        volumes: Sequence[Volume],
+        layouts: Layouts,
+        tell: Report,
+    ) -> None:
+        self._session = session
+        self._volumes = [layouts.lay(session, each, tell) for each in volumes]
+        self._lines: dict[int, tuple[Volume, range]] = {
+            its.id: (volume, lines)
+            for volume in self._volumes
+            for its, lines in zip(volume.paragraphs, volume.lines)
+        }
+
+    def of(self, places: Sequence[tuple[Paragraph, int]]) -> list[str]:
+        """In words: the page and line of a cell of each of some paragraphs."""
+        return list(self._of(places))
+
+    def _of(self, places: Sequence[tuple[Paragraph, int]]) -> Iterator[str]:
+        known = [its for its, _ in places if its.id in self._lines]
+        read = {its.id: its for its in known if self._lines[its.id][1]}
+        cells = list(sections(self._session, list(read.values())))
+        found = dict(zip(read, cells))
+        for its, cell in places:
+            if its.struck:
+                yield _STRUCK
+            elif its.id not in found:
+                yield "on no page"
+            else:
+                volume, lines = self._lines[its.id]
+                line = line_of(volume, found[its.id], lines, cell)
+                yield self._said(volume, line)
+
+    def _said(self, volume: Volume, number: int) -> str:
+        page, line = volume.page_size.place(number)
+        front = f"volume {volume.number}, " if len(self._volumes) > 1 else ""
+        return f"{front}page {page} line {line}"
+
+
+def marks_list(session: Session, state: State, layouts: Layouts, tell: Report) -> State:
+    """The state in which the marks are looked at, the open ones first, the cursor on the next."""
+    marks = all_marks(session)
+    if not marks:
+        return state.saying("The book has no marks.")
+    by_number = {each.id: each for each in state.book}
+    asked = [Where(each.paragraph, _start(each)) for each in marks if each.text]
+    cells = iter(list(answers(session, asked)))
+    places = [
+        (by_number[each.paragraph], next(cells) if each.text else 0) for each in marks
+    ]
+    where = PageNumbers(session, volumes_of(state), layouts, tell).of(places)
+    lines = tuple(
+        mark_line(each.mark, each.text, each.paragraph, page)
+        for each, page in zip(marks, where)
+    )
+    targets = tuple(
+        Target(each.paragraph, _start(each), each.mark.id) for each in marks
+    )
+    opened = sum(not each.mark.resolved for each in marks)
+    front = {0: "No open marks", 1: "1 open mark"}.get(opened, f"{opened:,} open marks")
+    rest = f", {len(marks) - opened:,} resolved" if len(marks) > opened else ""
+    title = f"{front}{rest}."
+    pages = Pages(title, lines, targets=targets)
+    return replace(state, pages=_at_nearest(state, pages, opened or len(marks)))
+
+
+def _start(its: MarkOfBook) -> int:
+    """The character at which a mark is gone to."""
+    return max(0, min(its.mark.start, len(its.text) - 1))
+
+
+def headings_list(
+    session: Session, state: State, layouts: Layouts, tell: Report
+) -> State:
+    """The state in which the headings are looked at, the cursor on that of the chosen paragraph."""
+    found = [each for each in state.book if each.style is Style.HEADING]
+    if not found:
+        return state.saying("The book has no headings. b makes one of a paragraph.")
+    numbers = PageNumbers(session, volumes_of(state), layouts, tell)
+    where = numbers.of([(each, 0) for each in found])
+    texts = list(prints(session, found))
+    lines = tuple(
+        f"{opening(visible(text), _WORDS)}, {page}, paragraph {its.id}"
+        for its, text, page in zip(found, texts, where)
+    )
+    targets = tuple(Target(each.id) for each in found)
+    count = "1 heading" if len(found) == 1 else f"{len(found):,} headings"
+    pages = Pages(f"{count}.", lines, targets=targets)
+    order = {each.id: place for place, each in enumerate(state.book)}
+    before = [n for n, each in enumerate(found) if order[each.id] <= state.chosen]
+    line = before[-1] if before else 0
+    return replace(state, pages=pager.at_line(pages, state.size, line))
+
+
+def _at_nearest(state: State, pages: Pages, count: int) -> Pages:
+    """The list with the cursor on the mark in hand, or on the next of its first ones."""
+    order = {each.id: place for place, each in enumerate(state.book)}
+    held = state.mark_in_hand
+    here = (state.chosen, state.place if state.pane is Pane.PRINT else 0)
+    line = 0
+    for number, each in reversed(list(enumerate(pages.targets[:count]))):
+        if (order[each.paragraph], each.place) >= here:
+            line = number
+    for number, each in enumerate(pages.targets):
+        if held is not None and each.mark == held.id:
+            line = number
+    return pager.at_line(pages, state.size, line)
+
+
+def at_target(state: State, target: Target) -> State:
+    """The state with the cursor where a line of a list leads, and with its mark in hand."""
+    places = [n for n, each in enumerate(state.book) if each.id == target.paragraph]
+    state = replace(state, pages=None, pane=Pane.PRINT, anchor=None)
+    if not places:
+        return state.saying(f"There is no paragraph {target.paragraph} any more.")
+    state = state.at(places[0], target.place)
+    return state if target.mark is None else holding(state, target.mark)
+
+
+def at_page(session: Session, state: State, action: ToPage, laid: Volume) -> State:
+    """The state with the cursor on the first word of a line of a page, or what is said of it."""
+    if laid.fault:
+        return state.saying(laid.fault)
+    size, number = laid.page_size, (action.page - 1) * laid.page_size.text_lines
+    last = max((lines.stop for lines in laid.lines), default=0)
+    pages = -(-last // size.text_lines)
+    if not 1 <= action.page <= pages:
+        count = "1 page" if pages == 1 else f"{pages:,} pages"
+        said = f"Volume {laid.number} has {count} of {described(size)}."
+        return state.saying(f"{said} The cursor stays where it is.")
+    wanted = number + action.line - 1
+    found = [
+        (its, lines)
+        for its, lines in zip(laid.paragraphs, laid.lines)
+        if wanted in lines
+    ]
+    if not found or not 1 <= action.line <= size.text_lines:
+        said = f"Page {action.page} has nothing on line {action.line}."
+        return state.saying(f"{said} The cursor stays where it is.")
+    ((its, lines),) = found
+    (section,) = sections(session, [its])
+    cells = Span(*spans_of(section, size.width)[wanted - lines.start])
+    text = session.print_of(its.id)
+    place = words_of(session, its.id, cells, text, section.braille).start
+    return at_target(state, Target(its.id, place))
