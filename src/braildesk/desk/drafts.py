@@ -9,6 +9,7 @@ import hashlib
 import json
 import os
 from collections.abc import Callable
+from dataclasses import asdict, dataclass
 from enum import Enum
 from pathlib import Path
 from typing import TypeVar
@@ -33,6 +34,18 @@ class Begun(Enum):
     WAITING = "unsent"
     GIVEN_UP = "given-up"
     IMPORTS = "imports"
+    LEFT_AT = "left-at"
+
+
+@dataclass(frozen=True)
+class LeftAt:
+    """Where a book was left: the character or the cell of the cursor, and how the screen was."""
+
+    paragraph: int
+    place: int
+    is_in_cells: bool = False
+    is_quiet: bool = False
+    has_dots: bool = False
 
 
 class NotKept(Problem):
@@ -124,6 +137,21 @@ class Drafts:
     def imports(self) -> tuple[ImportNote, ...]:
         """The imports that were begun and haven't come to their end, the newest first."""
         return self._read(Begun.IMPORTS, _notes_in) or ()
+
+    def left_at(self) -> LeftAt | None:
+        """Where the book was left, none where that isn't known; what can't be read is no fault."""
+        try:
+            data = self._folder.read(self._name(Begun.LEFT_AT))
+            return None if data is None else _left_at_in(Record.of(data))
+        except (NotSuch, OSError):
+            return None
+
+    def leave_at(self, place: LeftAt) -> None:
+        """Keeps where the book is left; nothing is lost where that can't be kept."""
+        try:
+            self._write(Begun.LEFT_AT, asdict(place))
+        except NotSaved:
+            pass
 
     def begin_import(self, note: ImportNote) -> None:
         """Notes an import before its first paragraph is typed, in place of others of its text."""
@@ -242,6 +270,16 @@ class Drafts:
             self._folder.remove(self._name(what))
         except OSError as cause:
             raise NotSaved(what, self._folder.path, cause, True) from cause
+
+
+def _left_at_in(kept: Record) -> LeftAt:
+    return LeftAt(
+        kept.number("paragraph", least=1),
+        kept.number("place"),
+        kept.truth("is_in_cells"),
+        kept.truth("is_quiet"),
+        kept.truth("has_dots"),
+    )
 
 
 def _drafts_in(kept: Record) -> tuple[Draft, ...]:

@@ -17,7 +17,7 @@ from braildesk import (
 )
 from braildesk.desk.aftermath import found_again
 from braildesk.desk.draft import Aim, Draft
-from braildesk.desk.drafts import Drafts, NotKept
+from braildesk.desk.drafts import Drafts, LeftAt, NotKept
 from braildesk.desk.earlier import PartIsThere, to_go_on
 from braildesk.desk.readings import ParagraphReading, answers
 from braildesk.desk.tables import table_request
@@ -72,6 +72,7 @@ from scribe.words.queries import shown
 from scribe.words.status import Interrupted, Stop
 
 _SHOWS_KEYS = "? shows the keys."
+_OPENED_THERE = "The book is open where it was left."
 _PASTED = (
     "Pasted text goes in after Enter or o. No key of it was obeyed. U brings it back, for a new"
     " paragraph."
@@ -132,6 +133,7 @@ class Desk:
             is_ascii=is_ascii,
             message=self._greeting(),
         )
+        state = self._where_left(state)
         state = self._reminded(self._offered(state, self._unsent.waiting))
         return self.refreshed(state)
 
@@ -223,6 +225,32 @@ class Desk:
         if lines:
             state = replace(state, pages=Pages(ending.title, lines))
         return self.refreshed(state)
+
+    def keep_place(self, state: State) -> None:
+        """Keeps where the book is left, so that it opens there again."""
+        if state.paragraph is not None:
+            self.drafts.leave_at(
+                LeftAt(
+                    state.paragraph.id,
+                    state.place,
+                    state.pane is Pane.CELLS,
+                    state.is_quiet,
+                    state.has_dots,
+                )
+            )
+
+    def _where_left(self, state: State) -> State:
+        """The state at the place where the book was left, if that is there still."""
+        left = self.drafts.left_at()
+        if left is None:
+            return state
+        state = replace(state, is_quiet=left.is_quiet, has_dots=left.has_dots)
+        places = [n for n, each in enumerate(state.book) if each.id == left.paragraph]
+        if not places or (places[0], left.place) == (0, 0):
+            return state
+        pane = Pane.CELLS if left.is_in_cells else Pane.PRINT
+        state = replace(state.at(places[0], left.place), pane=pane)
+        return state.saying(f"{_OPENED_THERE} {state.message}".rstrip())
 
     def stop(self, number: signal.Signals) -> None:
         """Has the work with the session closed end before its next step."""

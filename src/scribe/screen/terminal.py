@@ -187,6 +187,7 @@ class Screen:
 
     def _keep_last(self) -> None:
         """Keeps what is typed at the end, or has it said where it can't be kept."""
+        self._desk.keep_place(self.state)
         kept = self._desk.save_draft(self.state)
         if kept is not self.state and kept.typed is not None:
             typed = ("This was typed:", visible(kept.typed.text))

@@ -7,6 +7,7 @@ _BEGUN = {
     Begun.WAITING: "What is typed",
     Begun.GIVEN_UP: "What is given up",
     Begun.IMPORTS: "How far the import comes",
+    Begun.LEFT_AT: "Where the book is left",
 }
 
 
