@@ -134,13 +134,21 @@ lowercase d 145
 lowercase e 15
 lowercase t 2345
 base uppercase T t
-attribute latin abcdet
+attribute latin abcdetT
 attribute capital T
 noback context _%latin[]%capital @6
 noback context _%capital[]%latin ?
 noback context _%latin[]%latin ?
-noback context []%latin @56
 noback context []%capital @56-6
+noback context []%latin @56
+"""
+
+RUNS_OF_CAPITALS = """\
+base uppercase A a
+attribute latin A
+attribute capital AT
+noback context _%capital[]%capital ?
+noback context []%capital%capital @456
 """
 
 
@@ -164,6 +172,19 @@ def test_letters_of_another_script_have_their_sign_at_the_beginning_of_a_word(
     assert "word t 56-2345" in lines
     assert "letter T 6-2345" in lines
     assert "begword T 56-6-2345" in lines
+
+
+def test_capitals_of_another_script_have_the_sign_of_their_run(
+    tmp_path: Path, monkeypatch: pytest.MonkeyPatch
+) -> None:
+    text = LATIN_IN_GREEK.replace("attribute capital T\n", RUNS_OF_CAPITALS)
+    lines = made_for_greek(tmp_path, monkeypatch, GREEK + text)
+    assert "letter T 2345" in lines
+    assert "begword T 56-6-2345" in lines
+    assert "word TA 456-2345-1" in lines
+    assert "begword TA 456-2345-1" in lines
+    assert "midword aT 1-6-2345" in lines
+    assert "endword aT 1-6-2345" in lines
 
 
 def test_pairs_of_letters_of_which_a_later_pass_makes_one_have_their_rule(

@@ -1,9 +1,10 @@
 """Letters of other scripts than the table's own, as Latin words in Russian or Greek have them.
 
 Such a letter often has a sign at the beginning of a word and none within, and the capital another one
-than the small letter, so each is asked for in its places, the capital as a letter of its own. In some
-tables a word has no sign either if the word before it is of its script: what stands between two
-such words is asked for with the letters on both sides.
+than the small letter, so each is asked for in its places, the capital as a letter of its own. A run of
+capitals may have one sign, and that another one than a lone capital has. In some tables a word has no
+sign either if the word before it is of its script: what stands between two such words is asked for with
+the letters on both sides.
 """
 
 from __future__ import annotations
@@ -26,20 +27,20 @@ PASSAGES: Final = Origin("Between words of another script, by asking liblouis.")
 FEWEST_LETTERS: Final = 10
 """Of a script with fewer letters no words are written."""
 
-BETWEEN: Final = (" ", ", ", "-", ") ", " (", ".", "/", "_", "'", " a ")
-"""What stands between two words of small letters, where a word of one letter has one on both sides."""
+BETWEEN: Final = (" ", ", ", "-", ") ", " (", ".", "/", "_", "'")
+"""What stands between two words of small letters."""
 
-BEFORE_CAPITALS: Final = (" ", ". ")
+BEFORE_CAPITALS: Final = (" ", ". ", "-")
 """What stands between a small letter and a capital."""
 
 AFTER_CAPITALS: Final = (" ",)
 """What stands between a word of capitals and another word."""
 
-BETWEEN_CAPITALS: Final = (" ", "_")
+BETWEEN_CAPITALS: Final = (" ", "_", "-", ", ")
 """What stands between two words of capitals."""
 
 LONE_WORDS: Final = ("a", "A", "I")
-"""Words of one letter, with which a passage may begin."""
+"""Words of one letter, with which a passage may begin. It may end with any, as System V does."""
 
 
 @dataclass(frozen=True)
@@ -91,6 +92,8 @@ class Script:
         self._letters: Final = letters
         self._own: Final = subject.alphabet.carriers()[0] * 2
         self._places: Final[dict[str, _Places]] = {}
+        self._in_run: Final[dict[str, Cells]] = {}
+        """The cells of capitals after other ones, where these aren't those after a small letter."""
 
     def settle_letters(self) -> None:
         """Asks for the letters in their places, and adds what they need."""
@@ -104,9 +107,11 @@ class Script:
             if found is not None:
                 self._places[one] = found
         self._unpair()
+        self._ask_runs()
         for one, places in self._places.items():
             self._define(one, places)
         self._settle_digits()
+        self._settle_runs()
 
     def _texts(self, one: str) -> tuple[str, ...]:
         own, word = self._own, self._word
@@ -164,11 +169,59 @@ class Script:
         for upper in pairs:
             del self._draft.lower[upper]
 
+    def _of_case(self, *, upper: bool) -> list[str]:
+        """The capitals of the plain alphabet, or its small letters."""
+        return [one for one in self._places if one.isascii() and one.isupper() == upper]
+
+    def _ask_runs(self) -> None:
+        """Finds the cells of capitals after others, by two such before each."""
+        capitals = self._of_case(upper=True)
+        carrier = self._carrier.upper()
+        if carrier not in capitals:
+            return
+        before = f"{self._own} {carrier * 2}"
+        self._liblouis.ask([before, *(before + one for one in capitals)])
+        for one in capitals:
+            cells = self._between(before + one, self._liblouis.cells(before), ())
+            if cells and cells != self._places[one].within:
+                self._in_run[one] = cells
+
     def _define(self, one: str, places: _Places) -> None:
-        self._draft.define(one, "letter", places.within)
+        within = self._in_run.get(one, places.within)
+        self._draft.define(one, "letter", within)
         for kind, cells in (("begword", places.beginning), ("word", places.alone)):
-            if cells != places.within:
+            if cells != within:
                 self._draft.add_rule(kind, one, cells, OTHER_SCRIPTS)
+
+    def _settle_runs(self) -> None:
+        """Capitals after small letters, and the first two of a run, if runs have a sign of their own."""
+        if not self._in_run:
+            return
+        small = self._of_case(upper=False)
+        for kind in ("midword", "endword", "begword"):
+            for one, capital in product(small, self._in_run):
+                first = self._places[one]
+                cells = first.beginning if kind == "begword" else first.within
+                cells += self._places[capital].within
+                self._draft.add_rule(kind, one + capital, cells, OTHER_SCRIPTS)
+        self._settle_beginnings_of_runs()
+
+    def _settle_beginnings_of_runs(self) -> None:
+        front, carrier = self._front(), self._carrier.upper()
+        blank, own = self._draft.cells[" "], self._liblouis.cells(self._own) or ()
+        after = self._in_run.get(carrier, ())
+        for kind, right, end in (
+            ("begword", carrier, after),
+            ("word", f" {self._own}", blank + own),
+        ):
+            pairs = [one + other for one, other in product(self._in_run, repeat=2)]
+            texts = {pair: f"{self._own} {pair}{right}" for pair in pairs}
+            self._liblouis.ask(texts.values())
+            for pair, text in texts.items():
+                cells = self._between(text, front, end)
+                lone = self._places[pair[0]].beginning + self._in_run[pair[1]]
+                if cells and cells != lone:
+                    self._draft.add_rule(kind, pair, cells, OTHER_SCRIPTS)
 
     def _settle_digits(self) -> None:
         """Letters right after a digit, and one letter between a blank and a digit."""
@@ -204,8 +257,7 @@ class Script:
         """Adds what stands between two words, with the last letter of one and the first of the other."""
         if self._carrier not in self._places or not self._goes_on(" "):
             return
-        small = [one for one in self._places if one.isascii() and one.islower()]
-        capitals = [one for one in self._places if one.isascii() and one.isupper()]
+        small, capitals = self._of_case(upper=False), self._of_case(upper=True)
         for between, last, first in (
             *((one, small, small) for one in BETWEEN),
             *((one, small, capitals) for one in BEFORE_CAPITALS),
@@ -218,20 +270,33 @@ class Script:
                 self._join("midword", product(last, (between,), first))
         lone = [one for one in small + capitals if one in LONE_WORDS]
         self._join("begword", product(lone, (" ",), small + capitals))
+        self._join("endword", product(small, (" ",), small + capitals))
 
     def _join(self, kind: str, joints: Iterable[tuple[str, str, str]]) -> None:
         """Adds a rule for each last letter, what stands between, and first letter."""
-        carrier = self._places[self._carrier]
-        front = self._front() or ()
-        before, left = front, ""
-        if kind == "midword":
-            before, left = front + carrier.beginning, self._carrier
-        asked = {
-            "".join(joint): f"{self._own} {left}{''.join(joint)}{self._carrier}"
-            for joint in joints
-        }
-        self._liblouis.ask(asked.values())
-        for characters, text in asked.items():
-            cells = self._between(text, before, carrier.within)
+        asked = {"".join(joint): self._around(kind, *joint) for joint in joints}
+        self._liblouis.ask(text for texts in asked.values() for text in texts)
+        for characters, (before, whole, after) in asked.items():
+            front, end = self._liblouis.cells(before), self._after(after)
+            cells = None if end is None else self._between(whole, front, end)
             if cells:
                 self._draft.add_rule(kind, characters, cells, PASSAGES)
+
+    def _around(
+        self, kind: str, last: str, between: str, first: str
+    ) -> tuple[str, str, str]:
+        """What stands before a joint, with it, and after it: words of the case that its letters have."""
+        carriers = {
+            one: self._carrier.upper() if one in self._in_run else self._carrier
+            for one in (last, first)
+        }
+        before = f"{self._own} {'' if kind == 'begword' else carriers[last] * 2}"
+        after = f" {self._own}" if kind == "endword" else carriers[last]
+        return before, f"{before}{last}{between}{first}{after}", after
+
+    def _after(self, text: str) -> Cells | None:
+        """The cells of a letter within a word, or of a blank and a word of the table's own script."""
+        if text in self._places:
+            return self._in_run.get(text, self._places[text].within)
+        own = self._liblouis.cells(self._own)
+        return None if own is None else self._draft.cells[" "] + own
