@@ -98,7 +98,8 @@ def read(louis: Any, tables: list[str]) -> dict[str, str]:
     """The version of liblouis where it reads a table, or else what is wrong."""
     if louis is None:
         return {
-            "fault": "liblouis for Python is missing: install it, as by apt-get install python3-louis."
+            "fault": f"liblouis for Python is missing in {sys.executable}, by which scribe runs."
+            " Install it, as by apt-get install python3-louis, which is for Debian's own Python."
         }
     signal.setitimer(signal.ITIMER_PROF, 0)
     try:
