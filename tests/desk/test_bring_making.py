@@ -244,6 +244,18 @@ def test_a_letter_before_others_gets_rules_with_these(tmp_path: Path) -> None:
     ]
 
 
+def test_a_cell_that_is_left_for_a_later_pass_is_none_of_a_page(tmp_path: Path) -> None:
+    text = LETTERS + "punctuation ( 23678\nnoback pass2 @0-23678 @0-236\n"
+    lines = lines_of(tmp_path, text)
+    assert "punctuation ( 236" in lines
+    assert not [line for line in lines if "23678" in line]
+
+
+def test_a_mark_has_eight_dots_where_letters_have_them(tmp_path: Path) -> None:
+    text = "space \\s 0\nlowercase x 13467\nlowercase q 12345\npunctuation ( 23678\n"
+    assert "punctuation ( 23678" in lines_of(tmp_path, text)
+
+
 def test_a_mark_three_times_gets_a_rule(tmp_path: Path) -> None:
     text = "punctuation . 256\nalways ... 3-3-3\n"
     assert "always ... 3-3-3" in lines_of(tmp_path, LETTERS + text)

@@ -115,7 +115,7 @@ class Marks:
         return [
             probe
             for probe, want, have in zip(probes, theirs, ours, strict=True)
-            if want is not None and want != have
+            if self._probes.written_out(want) not in (None, have)
         ]
 
     def _usual(self, marks: Sequence[str]) -> dict[str, Cells | None]:
@@ -140,7 +140,7 @@ class Marks:
     def _usual_of(self, mark: str, places: Sequence[Place]) -> Cells | None:
         found = {place: self._probes.wanted(mark, place) for place in places}
         before_digit = found[Side.EDGE, Side.DIGIT] or found[Side.LETTER, Side.DIGIT]
-        alone = self.subject.liblouis.cells(mark)
+        alone = self._probes.written_out(self.subject.liblouis.cells(mark))
         return before_digit or most_common(found.values(), share=0.3) or alone
 
     def _add_rules(

@@ -17,6 +17,9 @@ CLOSING: Final = ".,;:?!)]}\"'%\u00b0\u2019\u201d\u00bb\u2026"
 OPENING: Final = "([{\u201e\u201c\u201a\u2018\u00ab"
 """Marks that come after other marks, and such as come before them."""
 
+SIX_DOTS: Final = 0x3F
+"""The cell of all dots that a six-dot page can have."""
+
 
 class Side(enum.Enum):
     """What stands beside a mark."""
@@ -62,6 +65,12 @@ class Probes:
     def __init__(self, subject: Subject, draft: TableDraft) -> None:
         self._liblouis: Final = subject.liblouis
         self._draft: Final = draft
+        self._is_of_six_dots: Final = all(
+            cell <= SIX_DOTS
+            for one, kind in draft.classes.items()
+            if kind in ("letter", "digit")
+            for cell in draft.cells[one]
+        )
         carriers = subject.alphabet.carriers() or ("",)
         digits = sample_digits(draft) or [""]
         many = 1 if draft.signs.get("numsign") else 2
@@ -142,8 +151,18 @@ class Probes:
         found = stripped(whole, before, after)
         if found is None and probe.right is Side.DIGIT:
             digits = [cell for one in probe.after for cell in self._draft.cells[one]]
-            return self._going_on(stripped(whole, before, tuple(digits)))
-        return found
+            found = self._going_on(stripped(whole, before, tuple(digits)))
+        return self.written_out(found)
+
+    def written_out(self, cells: Cells | None) -> Cells | None:
+        """The cells, unless they are those of a pass of liblouis that was to make others of them.
+
+        A table whose letters and digits have six dots marks places for its later passes by dots 7 and 8.
+        Where none of these foresees a place, the marked cell is left, which no page can have.
+        """
+        if cells is None or not self._is_of_six_dots:
+            return cells
+        return cells if all(cell <= SIX_DOTS for cell in cells) else None
 
     def _going_on(self, cells: Cells | None) -> Cells | None:
         """A mark's cells before a digit without a sign, unless the sign of the number is among them.
