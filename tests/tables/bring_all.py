@@ -2,6 +2,7 @@
 
     tests/tables/bring_all.py FOLDER [NAME ..]     a row of FOLDER for each table, or for those that are named
     tests/tables/bring_all.py --write FOLDER       docs/TABLES.md and measured.tsv from the rows
+    tests/tables/bring_all.py --real               what both have of running text, from real/figures.tsv
 
 A table that has its row already is left out, so that a stopped run goes on. A row is the figures of
 one table in JSON. Of tables that have the same lines one is measured, for all of them.
@@ -78,6 +79,9 @@ def main(words: Sequence[str]) -> int:
             json.loads(path.read_text()) for path in sorted(Path(words[1]).iterdir())
         ]
         write(rows)
+        return 0
+    if words[:1] == ["--real"]:
+        write_real()
         return 0
     if words[:1] == ["--one"]:
         print(json.dumps(measured(words[1])))
@@ -184,7 +188,27 @@ def write(rows: Iterable[Row]) -> None:
                 shares = [f"{share:.5f}" for share in one.shares]
                 known = real.get(one.table.name, {}).get("all_lines", "")
                 writer.writerow([one.table.name, *shares, one.row["differs"], known])
-    (ROOT / "docs" / "TABLES.md").write_text(document(found), encoding="utf-8")
+    DOCUMENT.write_text(document(found), encoding="utf-8")
+
+
+def write_real() -> None:
+    """Writes what is known of running text anew, and leaves what is known of made-up lines."""
+    real = on_running_text()
+    with MEASURED.open(encoding="utf-8", newline="") as file:
+        rows = list(csv.DictReader(file, delimiter="\t"))
+    with MEASURED.open("w", encoding="utf-8", newline="") as file:
+        names = ["table", "asked", "unseen", "others", "differs", "real"]
+        writer = csv.DictWriter(file, names, delimiter="\t", lineterminator="\n")
+        writer.writeheader()
+        for row in rows:
+            known = real.get(row["table"], {}).get("all_lines", "")
+            writer.writerow(row | {"real": known})
+    written = DOCUMENT.read_text(encoding="utf-8")
+    before, _, rest = written.partition(REAL)
+    _, _, after = rest.partition(MADE_UP)
+    tables = sorted(shipped_tables(), key=lambda one: (one.language, one.name))
+    part = part_on_running_text(tables) + "\n"
+    DOCUMENT.write_text(before + part + MADE_UP + after, encoding="utf-8")
 
 
 def on_running_text() -> dict[str, running.Row]:
@@ -322,6 +346,12 @@ def summary(
         ),
     }
 
+
+DOCUMENT: Final = ROOT / "docs" / "TABLES.md"
+
+REAL: Final = "## On running text\n"
+MADE_UP: Final = "## On lines that were made up\n"
+"""The headings of the two parts of the document."""
 
 FRONT: Final = """\
 # Tables of liblouis, brought over

@@ -9,6 +9,8 @@ FIGURES = Path(__file__).with_name("figures.tsv")
 WANTED = 0.995
 """The share of words, and of plain lines, that is wanted of an uncontracted table of Europe."""
 
+PASSAGES = "passages of Latin words over several marks or numbers, in which the first word alone has a sign"
+
 LACKS = {
     "da-dk-g16-lit_1993.ctb": "a sign before a capital that stands alone and no other",
     "de-g0.utb": "computer braille, which liblouis uses for what it takes for an address or a path",
@@ -16,11 +18,10 @@ LACKS = {
     "de-g1.ctb": "computer braille, which liblouis uses for what it takes for an address or a path",
     "fr-bfu-comp6.utb": "capitals that go on over a hyphen or an apostrophe, and numbers after a bracket",
     "no-no-g0.utb": "passages of capitals, and capitals that small letters follow in the word",
-    "ru-compbrl.ctb": "a sign of Latin capitals that isn't that of Cyrillic ones",
-    "ru-litbrl-detailed.utb": "passages of Latin words, of which the first alone has a sign",
-    "ru-litbrl.ctb": "passages of Latin words, of which the first alone has a sign",
+    "ru-litbrl-detailed.utb": PASSAGES,
+    "ru-litbrl.ctb": PASSAGES,
     "sv-g0.utb": "passages of capitals",
-    "uk.utb": "passages of Latin words, of which the first alone has a sign",
+    "uk.utb": PASSAGES,
 }
 """What the tables lack that stay below that, as their lines show it."""
 
@@ -32,13 +33,15 @@ more, of whose characters five sixths are letters, blanks aside. `tests/tables/b
 in the order of their digests. The first 800 of a language were looked at while `scribe bring` was written,
 and the next 800 were held back: nobody looked at them, and they were measured for these figures alone.
 For Greek, Norwegian and Portuguese, of which there are fewer, lines of the messages of programs follow.
+Of both those lines are left out of which less than half of the letters are of the language's script, as
+English lines that nobody translated, which are a fifth of the Russian ones.
 
 - **words**: the share of liblouis's words of cells that stand in the same order in the program's
   line.
 - **all lines**: the share of lines with the same cells.
 - **plain lines**: the same of those lines that have words, numbers and marks of a book alone: no
-  option and no path, no digit beside a letter, and no capital within a word. About three quarters
-  are such lines.
+  path, no digit beside a letter, and no capital within a word. An option such as `-a` or `--help` is
+  taken for a word with hyphens. About three quarters are such lines.
 - **held back**: the three shares on the lines that were held back.
 - **without cells**: how many of the 800 lines have a character for which liblouis's own table has
   no cells, and which of these characters are most frequent. These lines don't count in the shares.

@@ -25,6 +25,7 @@ sys.path.insert(0, str(Path(__file__).resolve().parents[1]))
 
 import bring_all  # noqa: E402
 
+from braildesk.tables.convert.alphabet import script_of_table  # noqa: E402
 from braildesk.tables.convert.conversion import Options, convert  # noqa: E402
 from braildesk.tables.convert.oracle import NoLiblouis  # noqa: E402
 from braildesk.tables.convert.source import NoTable, find_table  # noqa: E402
@@ -52,7 +53,7 @@ COLUMNS = (
 
 
 def text_of(language: str) -> tuple[list[str], list[str]]:
-    """The lines of a language that are looked at, and those that are held back."""
+    """The lines of a language that are looked at, and those that are held back, both in its script."""
     names = LANGUAGES[language]
     lines = running.in_order(
         line for name in names for line in running.of_manuals(name)
@@ -63,7 +64,12 @@ def text_of(language: str) -> tuple[list[str], list[str]]:
             line for name in names for line in running.of_messages(name)
         )
         lines += [line for line in more if line not in known]
-    return lines[:LINES], lines[LINES : 2 * LINES]
+    script = script_of_table(language)
+    looked_at, held_back = (
+        [line for line in part if running.is_of_script(line, script)]
+        for part in (lines[:LINES], lines[LINES : 2 * LINES])
+    )
+    return looked_at, held_back
 
 
 def measured(name: str, language: str) -> dict[str, Any]:

@@ -13,6 +13,7 @@ from pathlib import Path
 import measure
 import running
 
+from braildesk.tables.convert.alphabet import script_of_table
 from braildesk.tables.convert.conversion import Options, convert
 from braildesk.tables.convert.source import find_table
 
@@ -50,7 +51,12 @@ LEAST = (
 
 def judged(least: Least) -> tuple[str, bool | None]:
     """What is said of a table, and whether its shares are large enough; None where lines are too few."""
-    lines = running.in_order(running.of_messages(least.language))[:LINES]
+    script = script_of_table(least.language)
+    lines = [
+        line
+        for line in running.in_order(running.of_messages(least.language))
+        if running.is_of_script(line, script)
+    ][:LINES]
     if len(lines) < FEWEST_LINES:
         return (
             f"{least.table}: {len(lines)} lines of messages in {least.language}, too few",

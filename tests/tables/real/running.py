@@ -10,12 +10,19 @@ import gzip
 import hashlib
 import re
 import struct
+import sys
 from collections.abc import Iterable, Iterator
 from pathlib import Path
 
+sys.path.insert(0, str(Path(__file__).resolve().parents[3] / "src"))
+
+from braildesk.tables.convert.alphabet import script_of  # noqa: E402
+
 MANUALS = Path("/usr/share/man")
 MESSAGES = Path("/usr/share/locale")
-CATALOGS = "bash bfd binutils coreutils dpkg findutils gas git grep ld make sed tar".split()
+CATALOGS = (
+    "bash bfd binutils coreutils dpkg findutils gas git grep ld make sed tar".split()
+)
 """The programs whose messages are taken: any Debian has them, or the gate needs them."""
 
 FEWEST_WORDS = 8
@@ -40,6 +47,12 @@ def is_running(line: str) -> bool:
     written = [one for one in line if not one.isspace()]
     letters = sum(one.isalpha() for one in written)
     return len(line.split()) >= FEWEST_WORDS and letters >= LETTERS * len(written)
+
+
+def is_of_script(line: str, script: str) -> bool:
+    """Whether at least half of the letters of a line are of a script: others are of untranslated lines."""
+    letters = [one for one in line if one.isalpha()]
+    return 2 * sum(script_of(one) == script for one in letters) >= len(letters)
 
 
 def in_order(lines: Iterable[str]) -> list[str]:
