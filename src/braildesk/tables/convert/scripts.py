@@ -195,16 +195,17 @@ class Script:
 
     def _settle_runs(self) -> None:
         """Capitals after small letters, and the first two of a run, if runs have a sign of their own."""
-        if not self._in_run:
-            return
-        small = self._of_case(upper=False)
-        for kind in ("midword", "endword", "begword"):
-            for one, capital in product(small, self._in_run):
-                first = self._places[one]
-                cells = first.beginning if kind == "begword" else first.within
-                cells += self._places[capital].within
-                self._draft.add_rule(kind, one + capital, cells, OTHER_SCRIPTS)
-        self._settle_beginnings_of_runs()
+        if self._in_run:
+            self._after_small("midword")
+            self._settle_beginnings_of_runs()
+
+    def _after_small(self, kind: str) -> None:
+        """Adds a rule for each small letter with a capital after it."""
+        for one, capital in product(self._of_case(upper=False), self._in_run):
+            first = self._places[one]
+            cells = first.beginning if kind == "begword" else first.within
+            cells += self._places[capital].within
+            self._draft.add_rule(kind, one + capital, cells, OTHER_SCRIPTS)
 
     def _settle_beginnings_of_runs(self) -> None:
         front, carrier = self._front(), self._carrier.upper()
@@ -254,9 +255,15 @@ class Script:
         )
 
     def settle_passages(self) -> None:
+        """Adds what stands between two words, and then what is rarer, while the table has room."""
+        if self._carrier in self._places and self._goes_on(" "):
+            self._settle_joints()
+        if self._in_run:
+            self._after_small("endword")
+            self._after_small("begword")
+
+    def _settle_joints(self) -> None:
         """Adds what stands between two words, with the last letter of one and the first of the other."""
-        if self._carrier not in self._places or not self._goes_on(" "):
-            return
         small, capitals = self._of_case(upper=False), self._of_case(upper=True)
         for between, last, first in (
             *((one, small, small) for one in BETWEEN),
