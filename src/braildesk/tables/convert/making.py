@@ -135,6 +135,8 @@ def _settle(marks: Marks, alphabet: Alphabet, printed: list[str]) -> list[str]:
     """Asks for the marks alone, with blanks, beside letters and beside one another."""
     for strings, places, origin in _asked_in_places(marks.draft, alphabet, printed):
         marks.settle(strings, places, origin)
+    if " " in marks.draft.cells and not alphabet.is_large:
+        marks.settle_ends([mark for mark in USUAL if mark in marks.draft.cells])
     return marks.unsettled()
 
 

@@ -15,7 +15,7 @@ from braildesk.tables.convert.alphabet import is_pattern
 from braildesk.tables.convert.draft import Origin, TableDraft
 from braildesk.tables.convert.numbers import usual_digits
 from braildesk.tables.convert.operands import Cells
-from braildesk.tables.convert.places import most_common
+from braildesk.tables.convert.places import most_common, stripped
 from braildesk.tables.convert.probes import CLOSING, Place, Probe, Probes, Side, Wanted
 from braildesk.tables.convert.subject import Subject
 from braildesk.tables.convert.trial import ProgramTrial
@@ -103,6 +103,19 @@ class Marks:
             wanted = {place: self._probes.wanted(characters, place) for place in places}
             self._add_rules(characters, wanted, where, origin)
         return list(different)
+
+    def settle_ends(self, marks: Sequence[str]) -> None:
+        """Asks for marks after a blank that end a line, as in French, and adds rules where the draft differs."""
+        word = (self.subject.alphabet.carriers() or ("",))[0] * 2
+        lines = {mark: f"{word} {mark}" for mark in marks}
+        theirs = self.subject.liblouis.ask(lines.values())
+        ours = self.trial.cells(self.draft, list(lines.values()))
+        front = self.subject.liblouis.cells(word)
+        for mark, want, have in zip(lines, theirs, ours, strict=True):
+            if front and self._probes.written_out(want) not in (None, have):
+                cells = stripped(want or (), front, ())
+                if cells:
+                    self.draft.add_rule("endword", f" {mark}", cells, WITH_BLANKS)
 
     def unsettled(self) -> list[str]:
         """The lines for which rules were looked for, and that differ in the end."""
