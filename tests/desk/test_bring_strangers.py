@@ -11,6 +11,7 @@ from pathlib import Path
 
 import pytest
 
+from braildesk.confined import Limits, confined
 from braildesk.desk.own_folder import OwnFolder
 from braildesk.tables.convert import oracle, source
 from braildesk.tables.convert.draft import TableDraft
@@ -122,10 +123,17 @@ def test_what_asks_liblouis_ends_with_the_one_that_started_it(tmp_path: Path) ->
     assert not is_running(worker)
 
 
-def test_a_worker_whose_starter_has_ended_asks_nothing() -> None:
+def worker_words() -> list[str]:
+    """The words of the command that asks liblouis for this process."""
     worker = Path(oracle.__file__).with_name("worker.py")
+    return confined([sys.executable, "-I", str(worker)], Limits(oracle.MEMORY))
+
+
+def test_a_worker_whose_starter_has_ended_asks_nothing() -> None:
+    words = worker_words()
+    words[words.index(str(os.getpid()))] = "1"
     done = subprocess.run(
-        [sys.executable, "-I", str(worker), "1"],
+        words,
         input=b'{"table": "none.utb"}\n',
         capture_output=True,
         timeout=SECONDS,
@@ -138,9 +146,8 @@ def test_a_worker_that_may_have_less_already_answers() -> None:
         resource.setrlimit(resource.RLIMIT_AS, (600 << 20, 600 << 20))
         resource.setrlimit(resource.RLIMIT_CPU, (2, 2))
 
-    worker = Path(oracle.__file__).with_name("worker.py")
     done = subprocess.run(
-        [sys.executable, "-I", str(worker), str(os.getpid())],
+        worker_words(),
         input=b'{"table": "none.utb"}\n',
         capture_output=True,
         preexec_fn=limit_itself,

@@ -7,7 +7,6 @@ process reads all the tables that are asked about, since it takes longer to star
 from __future__ import annotations
 
 import json
-import os
 import select
 import subprocess
 import sys
@@ -17,6 +16,7 @@ from pathlib import Path
 from types import TracebackType
 from typing import Any, Final
 
+from braildesk.confined import Limits, confined
 from braildesk.tables.convert.operands import Cells
 
 FIRST_SECONDS: Final = 30.0
@@ -27,6 +27,9 @@ SECONDS: Final = 20.0
 
 PARCEL: Final = 1_000
 """How many questions are asked at once."""
+
+MEMORY: Final = 1 << 30
+"""The addresses that the process may have; after reading the largest table it has 22 million."""
 
 _WORKER: Final = Path(__file__).with_name("worker.py")
 
@@ -163,7 +166,7 @@ class _Process:
     def _send(self, question: dict[str, object]) -> None:
         if self._running is None:
             self._running = subprocess.Popen(
-                [sys.executable, "-I", str(_WORKER), str(os.getpid())],
+                confined([sys.executable, "-I", str(_WORKER)], Limits(MEMORY)),
                 stdin=subprocess.PIPE,
                 stdout=subprocess.PIPE,
                 stderr=subprocess.DEVNULL,

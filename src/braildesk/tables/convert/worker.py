@@ -4,13 +4,12 @@ Each line of standard input is a question in JSON: a table alone is read, and an
 of liblouis or by what is wrong; with texts, each text is answered by a line of its own. Where liblouis
 breaks off or loops, the answers that were written show at which text, if it was asked carefully.
 
-Tables may come from anybody. So this process has no more time and memory than any good table takes,
-and it ends with the one that started it, whose number is its word, however that ends.
+Tables may come from anybody. So this process has no more time than any good table takes; `oracle`
+limits its memory, and has it end with the one that started it.
 """
 
 from __future__ import annotations
 
-import ctypes
 import json
 import math
 import os
@@ -27,20 +26,11 @@ SECONDS: Final = 0.25
 READING_SECONDS: Final = 3
 """The time of the processor in which a table is read; the largest of liblouis takes a quarter of one."""
 
-MEMORY: Final = 1 << 30
-"""The addresses that this process may have; after reading the largest table it has 22 million."""
-
 PAUSE: Final = 0.1
 """How long answers may be kept back, in seconds, where they needn't be written one by one."""
 
-_PR_SET_PDEATHSIG: Final = 1
-
 
 def main() -> None:
-    if not ends_with(int(sys.argv[1])):
-        return
-    allow_no_more(resource.RLIMIT_AS, MEMORY)
-    allow_no_more(resource.RLIMIT_CORE, 0)
     answers = os.fdopen(os.dup(1), "w", encoding="utf-8")
     os.dup2(2, 1)
     try:
@@ -57,20 +47,6 @@ def main() -> None:
                 answers.flush()
                 written = time.monotonic()
         answers.flush()
-
-
-def ends_with(starter: int) -> bool:
-    """Has the system end this process with the one that started it, unless that has ended already."""
-    if sys.platform == "linux":
-        ctypes.CDLL(None).prctl(_PR_SET_PDEATHSIG, signal.SIGKILL, 0, 0, 0)
-    return os.getppid() == starter
-
-
-def allow_no_more(what: int, most: int) -> None:
-    """Has the system give this process no more of something, which may be limited to less already."""
-    _, limit = resource.getrlimit(what)
-    found = most if limit == resource.RLIM_INFINITY else min(most, limit)
-    resource.setrlimit(what, (found, found))
 
 
 def allow_time(question: dict[str, Any]) -> None:
