@@ -2,7 +2,7 @@
 
 from pathlib import Path
 
-from braildesk.desk.manuscripts import paragraphs_of
+from braildesk.desk.manuscripts import read_manuscript
 from braildesk.desk.own_folder import OwnFolder
 from braildesk.desk.state_folder import cache_folder
 from braildesk.tables.convert.addition import read_addition
@@ -16,8 +16,8 @@ FOLDER = "contractions"
 
 
 def manuscript_at(path: Path, wait: float = 0.0) -> Manuscript:
-    """The manuscript in a file, a text or a book."""
-    return Manuscript(path.name, paragraphs_of(path, wait))
+    """The manuscript in a file: a document, a text or a book."""
+    return Manuscript(path.name, read_manuscript(path, wait=wait).texts)
 
 
 def means_for(

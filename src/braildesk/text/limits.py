@@ -12,6 +12,8 @@ TABLE_LINE_CHARACTERS = 1_000
 TABLE_BYTES = 2**27
 #: The bytes of a text file that is imported, or of a table of liblouis.
 TEXT_BYTES = 2**25
+#: The bytes of a document that is imported, with its pictures.
+DOCUMENT_BYTES = 2**28
 #: The bytes of a book's file that the client opens: more than a book takes that is full of prints,
 #: braille, marks and tables of the longest kind.
 BOOK_BYTES = 2**32

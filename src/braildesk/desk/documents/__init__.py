@@ -1,0 +1,55 @@
+"""Manuscripts as publishers send them, read as the paragraphs of a book.
+
+Documents are read by pandoc (`pandoc`, `tree`, `notes`). What it leaves out without a sign is found by
+comparing the words of its paragraphs with those that the file itself has (`contents`).
+"""
+
+from braildesk.desk.documents import contents, pandoc
+from braildesk.desk.documents.kinds import Kind
+from braildesk.desk.documents.notes import with_notes
+from braildesk.desk.documents.reading import (
+    Loss,
+    Lost,
+    Manuscript,
+    Part,
+    Reading,
+    short_enough,
+)
+from braildesk.desk.documents.tree import FAULTS, NotRead, document
+from braildesk.text import limits
+
+#: The kinds that LibreOffice turns into DOCX first: pandoc loses print of the first without a word,
+#: reads none of the second, and of the third loses the heads of tables.
+_BY_OFFICE = (Kind.RTF, Kind.DOC, Kind.ODT)
+#: The kinds whose title, and what else is said about the whole, is a part of the print.
+_WITH_FRONT = (Kind.DOCX, Kind.ODT, Kind.MARKDOWN)
+
+
+def read_document(data: bytes, kind: Kind, reading: Reading = Reading()) -> Manuscript:
+    """The manuscript that the bytes of a document are; raises `UnreadableText`."""
+    own = contents.contents_of(data, kind)
+    readable, its = data, kind
+    if kind in _BY_OFFICE and (kind is not Kind.ODT or pandoc.office()):
+        readable, its = pandoc.as_docx(data, kind), Kind.DOCX
+    if kind in (Kind.RTF, Kind.DOC):
+        own = contents.contents_of(readable, its)
+    tree = pandoc.tree(readable, its)
+    try:
+        noted = with_notes(tree)
+    except FAULTS as fault:
+        raise NotRead from fault
+    found = document(noted, reading, with_front=its in _WITH_FRONT)
+    texts = [part.text for part in found.parts]
+    missing = contents.missing(own.passages, texts)
+    parts = tuple(each for part in found.parts for each in short_enough(part))
+    losses = (*found.losses, *_too_long(found.parts), *own.losses)
+    return Manuscript(kind, parts, losses, tuple(missing))
+
+
+def _too_long(parts: tuple[Part, ...]) -> list[Loss]:
+    """The paragraphs that are parted, each by its first words."""
+    return [
+        Loss(Lost.LENGTH, "", part.text[:60].rpartition(" ")[0])
+        for part in parts
+        if len(part.text) > limits.PRINT_CHARACTERS
+    ]

@@ -1,0 +1,324 @@
+"""The words that the file of a document has, whatever a program makes of it.
+
+They are read from the container itself, so that what a converter leaves out without a sign is seen.
+"""
+
+import re
+import unicodedata
+import zipfile
+from collections import Counter
+from collections.abc import Iterable, Iterator, Sequence
+from dataclasses import dataclass, field
+from html.parser import HTMLParser
+from pathlib import PurePosixPath
+from posixpath import normpath
+from urllib.parse import unquote
+from xml.etree import ElementTree
+from xml.etree.ElementTree import Element
+
+from braildesk.desk.documents.kinds import Kind, part_of, unpacked
+from braildesk.desk.documents.reading import Loss, Lost, Missing, plain
+
+_WORD = re.compile(r"\w+(?:[’'\u2010\u2011-]\w+)*")
+#: How many words before and after missing ones are shown.
+_NEIGHBOURS = 4
+
+_W = "{http://schemas.openxmlformats.org/wordprocessingml/2006/main}"
+_A = "{http://schemas.openxmlformats.org/drawingml/2006/main}"
+_FALLBACK = "{http://schemas.openxmlformats.org/markup-compatibility/2006}Fallback"
+_TEXT = "{urn:oasis:names:tc:opendocument:xmlns:text:1.0}"
+_OFFICE = "{urn:oasis:names:tc:opendocument:xmlns:office:1.0}"
+_STYLE = "{urn:oasis:names:tc:opendocument:xmlns:style:1.0}"
+_DOCX_TEXTS = re.compile(r"word/(document|footnotes|endnotes)\d*\.xml")
+_DOCX_EDGES = re.compile(r"word/(header|footer)\d*\.xml")
+_DOCX_DRAWINGS = re.compile(r"word/(charts/chart|diagrams/data)\d*\.xml")
+_DOCX_COMMENTS = "word/comments.xml"
+_EMBEDDED = re.compile(
+    r"word/(embeddings|afchunk)[^/]*(/.+|\..+)|word/.*\.(mht|altchunk)"
+)
+_DELETED = (f"{_W}del", f"{_W}moveFrom")
+_ODT_DELETED = f"{_TEXT}deletion"
+_ANNOTATION = f"{_OFFICE}annotation"
+_NUMBER = re.compile(r"[\W\d_]*")
+
+
+@dataclass
+class Contents:
+    """The paragraphs of a document as its file has them, and what no paragraph gets of it."""
+
+    passages: list[str] = field(default_factory=list)
+    losses: list[Loss] = field(default_factory=list)
+
+    def lose(self, what: Lost, words: str) -> None:
+        """Notes words, if there are any."""
+        if shown := plain(words.replace("\n", " ")):
+            self.losses.append(Loss(what, shown, shown))
+
+    def add_edge(self, passage: str) -> None:
+        """Adds what stands at the edge of pages, unless it is no more than their number."""
+        if not _NUMBER.fullmatch(passage):
+            self.passages.append(passage)
+
+
+def contents_of(data: bytes, kind: Kind) -> Contents:
+    """What the file of a document has; nothing for the kinds that are text."""
+    found = Contents()
+    if kind is Kind.HTML:
+        found.passages += _of_html(data)
+    if kind in _READERS:
+        with unpacked(data) as container:
+            _READERS[kind](container, found)
+    return found
+
+
+def missing(passages: Iterable[str], texts: Iterable[str]) -> list[Missing]:
+    """The words of the passages of a file that the texts that were made of it don't have.
+
+    A passage that stands whole in what is left of the texts is there, and that part is used up. The
+    others are compared word by word with what is left then.
+    """
+    left = Counter(tuple(_words(text)) for text in texts)
+    others = []
+    for passage in passages:
+        words = tuple(_words(passage))
+        if left[words] > 0:
+            left[words] -= 1
+        else:
+            others.append(words)
+    rest = _Rest(left)
+    unseen = [words for words in others if not rest.take(words)]
+    there = Counter(word for word in rest.words if word is not None)
+    return [found for words in unseen for found in _missing(words, there)]
+
+
+class _Rest:
+    """The words of some texts, one text after another, of which parts are used up."""
+
+    def __init__(self, texts: Counter[tuple[str, ...]]) -> None:
+        #: None parts the texts, and stands where a word is used up.
+        self.words: list[str | None] = []
+        for words in texts.elements():
+            self.words += (*words, None)
+        # two words together stand in far fewer places than one
+        self._places: dict[tuple[str | None, ...], list[int]] = {}
+        for place in range(len(self.words)):
+            for count in (1, 2):
+                pair = tuple(self.words[place : place + count])
+                self._places.setdefault(pair, []).append(place)
+
+    def take(self, words: Sequence[str]) -> bool:
+        """Uses up words that stand there one after another, if they do."""
+        for place in self._places.get(tuple(words[:2]), ()) if words else ():
+            if self.words[place : place + len(words)] == list(words):
+                self.words[place : place + len(words)] = [None] * len(words)
+                return True
+        return not words
+
+
+def _missing(words: Sequence[str], there: Counter[str]) -> Iterator[Missing]:
+    """The runs of words that aren't there any more, each of which is taken away once."""
+    start = 0
+    while start < len(words):
+        stop = start
+        while stop < len(words) and there[words[stop]] <= 0:
+            stop += 1
+        if stop > start:
+            yield Missing(
+                " ".join(words[start:stop]),
+                " ".join(words[max(start - _NEIGHBOURS, 0) : start]),
+                " ".join(words[stop : stop + _NEIGHBOURS]),
+            )
+        if stop < len(words):
+            there[words[stop]] -= 1
+        start = stop + 1
+
+
+def _words(text: str) -> list[str]:
+    return _WORD.findall(plain(unicodedata.normalize("NFC", text)))
+
+
+def _root(container: zipfile.ZipFile, name: str) -> Element:
+    return ElementTree.fromstring(part_of(container, name))
+
+
+def _of_docx(container: zipfile.ZipFile, found: Contents) -> None:
+    for name in container.namelist():
+        if _DOCX_TEXTS.fullmatch(name):
+            root = _root(container, name)
+            found.passages += _paragraphs(root)
+            _set_aside(root, found)
+        elif _DOCX_EDGES.fullmatch(name):
+            for passage in _paragraphs(_root(container, name)):
+                found.add_edge(passage)
+        elif _DOCX_DRAWINGS.fullmatch(name):
+            for each in _root(container, name).iter(f"{_A}p"):
+                found.passages.append(
+                    "".join(run.text or "" for run in each.iter(f"{_A}t"))
+                )
+        elif name == _DOCX_COMMENTS:
+            for comment in _root(container, name).iter(f"{_W}comment"):
+                found.lose(Lost.COMMENT, "\n".join(_paragraphs(comment)))
+        elif _EMBEDDED.fullmatch(name):
+            found.lose(Lost.EMBEDDED, PurePosixPath(name).name)
+
+
+def _set_aside(root: Element, found: Contents) -> None:
+    """Notes the print that a part of a document hides, and that which was deleted."""
+    for run in root.iter(f"{_W}r"):
+        if run.find(f"{_W}rPr/{_W}vanish") is not None:
+            found.lose(Lost.HIDDEN, "".join(_runs(run, [])))
+    for tag in _DELETED:
+        for each in root.iter(tag):
+            texts = (*each.iter(f"{_W}delText"), *each.iter(f"{_W}t"))
+            found.lose(Lost.DELETED, "".join(text.text or "" for text in texts))
+
+
+def _paragraphs(element: Element) -> Iterator[str]:
+    """The paragraphs below an element; those of a text box stand for themselves."""
+    if element.tag == _FALLBACK:
+        return
+    if element.tag == f"{_W}p":
+        inner: list[Element] = []
+        text = "".join(_runs(element, inner))
+        if text.strip():
+            yield text
+        for box in inner:
+            yield from _paragraphs(box)
+        return
+    for child in element:
+        yield from _paragraphs(child)
+
+
+def _runs(element: Element, inner: list[Element]) -> Iterator[str]:
+    """The print of a paragraph, without deleted text; what stands in text boxes is set aside."""
+    for child in element:
+        tag = child.tag.removeprefix(_W)
+        if child.tag == _FALLBACK or child.tag in _DELETED:
+            continue
+        if tag == "t":
+            yield child.text or ""
+        elif tag in ("tab", "br", "cr"):
+            yield " "
+        elif tag == "noBreakHyphen":
+            yield "\u2011"
+        elif tag == "sym":
+            font, number = child.get(f"{_W}font"), child.get(f"{_W}char")
+            yield f" {font}_{number} "
+        elif tag == "txbxContent":
+            inner.append(child)
+        elif tag != "pPr":
+            yield from _runs(child, inner)
+
+
+def _of_odt(container: zipfile.ZipFile, found: Contents) -> None:
+    names = frozenset(container.namelist())
+    root = _root(container, "content.xml")
+    for body in root.iter(f"{_OFFICE}body"):
+        found.passages += _odt_paragraphs(body)
+    for deletion in root.iter(_ODT_DELETED):
+        found.lose(Lost.DELETED, "\n".join(_odt_paragraphs(deletion)))
+    for annotation in root.iter(_ANNOTATION):
+        found.lose(Lost.COMMENT, "\n".join(_odt_paragraphs(annotation, is_whole=True)))
+    hidden = {
+        style.get(f"{_STYLE}name")
+        for style in root.iter(f"{_STYLE}style")
+        if any(each.get(f"{_TEXT}display") == "none" for each in style)
+    }
+    for span in root.iter(f"{_TEXT}span"):
+        if span.get(f"{_TEXT}style-name") in hidden:
+            found.lose(Lost.HIDDEN, "".join(_odt_runs(span, [])))
+    if "styles.xml" in names:
+        for edges in _root(container, "styles.xml").iter(f"{_OFFICE}master-styles"):
+            for passage in _odt_paragraphs(edges):
+                found.add_edge(passage)
+
+
+def _odt_paragraphs(element: Element, is_whole: bool = False) -> Iterator[str]:
+    if not is_whole and element.tag in (f"{_TEXT}tracked-changes", _ANNOTATION):
+        return
+    if element.tag in (f"{_TEXT}p", f"{_TEXT}h"):
+        inner: list[Element] = []
+        text = "".join(_odt_runs(element, inner))
+        if text.strip():
+            yield text
+        for each in inner:
+            yield from _odt_paragraphs(each)
+        return
+    for child in element:
+        yield from _odt_paragraphs(child)
+
+
+def _odt_runs(element: Element, inner: list[Element]) -> Iterator[str]:
+    yield element.text or ""
+    for child in element:
+        if child.tag in (f"{_TEXT}note-body", f"{_TEXT}p", f"{_TEXT}h"):
+            inner.append(child)
+        elif child.tag in (f"{_TEXT}s", f"{_TEXT}tab", f"{_TEXT}line-break"):
+            yield " "
+        elif child.tag not in (
+            _ANNOTATION,
+            f"{_TEXT}note-citation",
+            f"{_OFFICE}binary-data",
+        ):
+            yield from _odt_runs(child, inner)
+        yield child.tail or ""
+
+
+def _of_epub(container: zipfile.ZipFile, found: Contents) -> None:
+    """The pages of a book in the order in which it is read."""
+    rootfile = next(
+        _root(container, "META-INF/container.xml").iterfind(".//{*}rootfile")
+    )
+    package = rootfile.get("full-path", "")
+    root = _root(container, package)
+    items = {
+        item.get("id"): item.get("href", "") for item in root.iterfind(".//{*}item")
+    }
+    folder = PurePosixPath(package).parent
+    for reference in root.iterfind(".//{*}itemref"):
+        href = unquote(items[reference.get("idref")])
+        found.passages += _of_html(part_of(container, normpath(str(folder / href))))
+
+
+_READERS = {Kind.DOCX: _of_docx, Kind.ODT: _of_odt, Kind.EPUB: _of_epub}
+
+
+class _Html(HTMLParser):
+    """The text of a page, parted where a block begins or ends."""
+
+    _INLINE = frozenset(
+        "a abbr b bdi bdo cite code data dfn em i kbd mark q ruby s samp small span strong sub sup"
+        " time u var wbr font tt big del ins".split()
+    )
+    _SILENT = frozenset({"script", "style", "title", "template"})
+
+    def __init__(self) -> None:
+        super().__init__()
+        self.texts: list[str] = [""]
+        self._silent = 0
+
+    def handle_starttag(self, tag: str, attrs: list[tuple[str, str | None]]) -> None:
+        self._silent += tag in self._SILENT
+        if tag not in self._INLINE:
+            self.texts.append("")
+
+    def handle_startendtag(self, tag: str, attrs: list[tuple[str, str | None]]) -> None:
+        # an element that ends at once has nothing to be silent about
+        if tag not in self._INLINE:
+            self.texts.append("")
+
+    def handle_endtag(self, tag: str) -> None:
+        self._silent = max(self._silent - (tag in self._SILENT), 0)
+        if tag not in self._INLINE:
+            self.texts.append("")
+
+    def handle_data(self, data: str) -> None:
+        if not self._silent:
+            self.texts[-1] += data
+
+
+def _of_html(data: bytes) -> list[str]:
+    page = _Html()
+    page.feed(data.decode(errors="replace"))
+    page.close()
+    return [text for text in page.texts if text.strip()]

@@ -1,0 +1,192 @@
+"""Which kind of manuscript a file is, by what it begins with and what it contains."""
+
+import zipfile
+import zlib
+from collections.abc import Iterator
+from contextlib import contextmanager
+from enum import Enum, auto
+from io import BytesIO
+from pathlib import PurePath
+from xml.etree import ElementTree
+
+from braildesk.desk.manuscript import UnreadableText
+
+
+class Kind(Enum):
+    """A kind of manuscript, by the name that pandoc has for it where it reads that kind."""
+
+    TEXT = "text"
+    MARKDOWN = "markdown"
+    HTML = "html"
+    DOCX = "docx"
+    ODT = "odt"
+    EPUB = "epub"
+    RTF = "rtf"
+    DOC = "doc"
+    BOOK = "book"
+
+    @property
+    def is_document(self) -> bool:
+        """Whether another program reads it."""
+        return self not in (Kind.TEXT, Kind.BOOK)
+
+
+class WhyNot(Enum):
+    """Why a file isn't read as a document."""
+
+    OTHER = auto()
+    PDF = auto()
+    DAMAGED = auto()
+    TOO_LARGE = auto()
+    ENCRYPTED = auto()
+    COPY_PROTECTED = auto()
+    BOOK = auto()
+
+
+class NoDocument(UnreadableText):
+    """A file isn't read as a document, and why."""
+
+    def __init__(self, why: WhyNot) -> None:
+        super().__init__(why)
+        self.why = why
+
+
+#: How many bytes of the text of a container are read at most, unpacked.
+MOST_BYTES = 256 << 20
+#: Pictures, sounds and fonts, which aren't unpacked.
+_MEDIA = frozenset(
+    ".png .jpg .jpeg .gif .emf .wmf .tif .tiff .bmp .webp .mp3 .m4a .mp4 .ogg .ttf .otf .woff .woff2"
+    " .bin".split()
+)
+
+#: How many bytes of the front of a file are looked at.
+_FRONT = 1024
+_ZIP = b"PK\x03\x04"
+_OLE = b"\xd0\xcf\x11\xe0\xa1\xb1\x1a\xe1"
+_BOOK = b"SQLite format 3\0"
+_MARK = b"\xef\xbb\xbf"
+_HTML = (b"<!doctype html", b"<html", b"<?xml", b"<!--")
+_MIME = {
+    b"application/epub+zip": Kind.EPUB,
+    b"application/vnd.oasis.opendocument.text": Kind.ODT,
+    b"application/vnd.oasis.opendocument.text-template": Kind.ODT,
+}
+_BY_NAME = {
+    ".md": Kind.MARKDOWN,
+    ".markdown": Kind.MARKDOWN,
+    ".mkd": Kind.MARKDOWN,
+    ".html": Kind.HTML,
+    ".htm": Kind.HTML,
+    ".xhtml": Kind.HTML,
+}
+#: How the fonts of a book in EPUB are hidden, which keeps nobody from reading it.
+_HIDDEN_FONTS = frozenset(
+    {"http://www.idpf.org/2008/embedding", "http://ns.adobe.com/pdf/enc#RC"}
+)
+_ENCRYPTED_FLAG = 1
+
+#: What is raised for containers that are damaged, or made to do damage.
+_FAULTS = (
+    zipfile.BadZipFile,
+    zlib.error,
+    ElementTree.ParseError,
+    NotImplementedError,
+    RuntimeError,
+    EOFError,
+    LookupError,
+    ValueError,
+    OSError,
+)
+
+
+def kind_of(name: str, data: bytes) -> Kind:
+    """The kind of a file of some bytes, whose name tells Markdown and parts of HTML from text.
+
+    Raises `NoDocument`.
+    """
+    if data.startswith(_BOOK):
+        raise NoDocument(WhyNot.BOOK)
+    if data.startswith(_ZIP):
+        return _kind_of_zip(data)
+    if data.startswith(_OLE):
+        return _kind_of_ole(data)
+    if data.startswith(b"{\\rtf"):
+        return Kind.RTF
+    if data.startswith(b"%PDF-"):
+        raise NoDocument(WhyNot.PDF)
+    front = data.removeprefix(_MARK)[:_FRONT].lstrip().lower()
+    if front.startswith(_HTML) and b"<html" in front:
+        return Kind.HTML
+    return _BY_NAME.get(PurePath(name).suffix.lower(), Kind.TEXT)
+
+
+def is_container(front: bytes) -> bool:
+    """Whether a file that begins so may have more than text, as pictures."""
+    return front.startswith((_ZIP, _OLE, b"{\\rtf"))
+
+
+@contextmanager
+def unpacked(data: bytes) -> Iterator[zipfile.ZipFile]:
+    """The container that some bytes are; `NoDocument` where it can't be read, or has too much."""
+    try:
+        with zipfile.ZipFile(BytesIO(data)) as container:
+            sizes = [
+                entry.file_size
+                for entry in container.infolist()
+                if PurePath(entry.filename).suffix.lower() not in _MEDIA
+            ]
+            if sum(sizes) > MOST_BYTES:
+                raise NoDocument(WhyNot.TOO_LARGE)
+            yield container
+    except _FAULTS as fault:
+        raise NoDocument(WhyNot.DAMAGED) from fault
+
+
+def part_of(container: zipfile.ZipFile, name: str) -> bytes:
+    """The bytes of a part, of which no more is unpacked than any manuscript has."""
+    with container.open(name) as part:
+        return part.read(MOST_BYTES)
+
+
+def _kind_of_zip(data: bytes) -> Kind:
+    with unpacked(data) as container:
+        names = frozenset(container.namelist())
+        if any(each.flag_bits & _ENCRYPTED_FLAG for each in container.infolist()):
+            raise NoDocument(WhyNot.ENCRYPTED)
+        kind = None
+        if "mimetype" in names:
+            with container.open("mimetype") as part:
+                kind = _MIME.get(part.read(_FRONT).strip())
+        elif "[Content_Types].xml" in names:
+            if any(name.startswith("word/document") for name in names):
+                kind = Kind.DOCX
+        elif "META-INF/container.xml" in names:
+            kind = Kind.EPUB
+        if kind is None:
+            raise NoDocument(WhyNot.OTHER)
+        _judge_open(container, kind, names)
+    return kind
+
+
+def _judge_open(container: zipfile.ZipFile, kind: Kind, names: frozenset[str]) -> None:
+    """`NoDocument` where the parts of a container are encrypted each by itself."""
+    manifest, rights = "META-INF/manifest.xml", "META-INF/encryption.xml"
+    if kind is Kind.ODT and manifest in names:
+        root = ElementTree.fromstring(part_of(container, manifest))
+        if next(root.iterfind(".//{*}encryption-data"), None) is not None:
+            raise NoDocument(WhyNot.ENCRYPTED)
+    if kind is Kind.EPUB and rights in names:
+        root = ElementTree.fromstring(part_of(container, rights))
+        for data in root.iterfind("{*}EncryptedData"):
+            method = data.find("{*}EncryptionMethod")
+            if method is None or method.get("Algorithm") not in _HIDDEN_FONTS:
+                raise NoDocument(WhyNot.COPY_PROTECTED)
+
+
+def _kind_of_ole(data: bytes) -> Kind:
+    """The kind of a file of older programs, or of one that newer ones have encrypted."""
+    if "EncryptedPackage".encode("utf-16-le") in data:
+        raise NoDocument(WhyNot.ENCRYPTED)
+    if "WordDocument".encode("utf-16-le") in data:
+        return Kind.DOC
+    raise NoDocument(WhyNot.OTHER)

@@ -1,0 +1,139 @@
+"""Documents read by pandoc, and turned by LibreOffice into what pandoc reads without a loss.
+
+Both are processes of their own with limits on time and memory. pandoc opens no other file
+(``--sandbox``), and LibreOffice has a profile of its own, which is gone afterwards.
+"""
+
+import json
+import os
+import shutil
+import signal
+import subprocess
+import tempfile
+from collections.abc import Sequence
+from pathlib import Path
+from typing import IO, Any
+
+from braildesk.confined import Limits, confined
+from braildesk.desk.documents.kinds import Kind, NoDocument, WhyNot
+from braildesk.desk.manuscript import UnreadableText
+
+#: How long a document may take, in seconds of a processor and by the clock.
+_SECONDS = 120
+#: How much pandoc may answer; the tree of a book is some fifty times as long as its print.
+_TREE_BYTES = 512 << 20
+_LIMITS = Limits(memory=4 << 30, seconds=_SECONDS, written=_TREE_BYTES)
+#: What pandoc calls a kind where it isn't the name of it alone: its own reading of notes drops numbers.
+_FROM = {Kind.EPUB: "epub-epub_html_exts"}
+_OFFICE = ("soffice", "libreoffice")
+
+
+class NoConverter(UnreadableText):
+    """The program that reads a kind of document isn't installed."""
+
+    def __init__(self, kind: Kind, name: str, package: str) -> None:
+        super().__init__(kind, name, package)
+        self.kind = kind
+        #: The program, and Debian's package of it.
+        self.name = name
+        self.package = package
+
+
+class NotConverted(UnreadableText):
+    """A document that a program can't read, with what it said of that, if it did."""
+
+    def __init__(self, name: str, said: str) -> None:
+        super().__init__(name, said)
+        self.name = name
+        self.said = said
+
+
+class BrokenOff(UnreadableText):
+    """A program takes more time or memory for a document than for any book."""
+
+    def __init__(self, name: str) -> None:
+        super().__init__(name)
+        self.name = name
+
+
+def tree(data: bytes, kind: Kind) -> dict[str, Any]:
+    """The tree that pandoc makes of the bytes of a file."""
+    pandoc = shutil.which("pandoc")
+    if pandoc is None:
+        raise NoConverter(kind, "pandoc", "pandoc")
+    words = [pandoc, "--sandbox", "--from", _FROM.get(kind, kind.value), "--to", "json"]
+    with tempfile.TemporaryFile() as source:
+        source.write(data)
+        source.seek(0)
+        answered = _run("pandoc", words, source)
+    try:
+        found = json.loads(answered)
+    except (ValueError, RecursionError) as fault:
+        raise NotConverted("pandoc", "") from fault
+    if not isinstance(found, dict):
+        raise NotConverted("pandoc", "")
+    return found
+
+
+def office() -> str | None:
+    """The path of LibreOffice, if it is installed."""
+    return next(filter(None, map(shutil.which, _OFFICE)), None)
+
+
+def as_docx(data: bytes, kind: Kind) -> bytes:
+    """A document as LibreOffice writes it in DOCX."""
+    program = office()
+    if program is None:
+        raise NoConverter(kind, "LibreOffice", "libreoffice-writer-nogui")
+    with tempfile.TemporaryDirectory() as folder:
+        source = Path(folder, f"manuscript.{kind.value}")
+        source.write_bytes(data)
+        profile = Path(folder, "profile").as_uri()
+        words = [program, f"-env:UserInstallation={profile}", "--headless"]
+        words += ["--convert-to", "docx", "--outdir", f"{folder}/made", str(source)]
+        _run("LibreOffice", words, None)
+        try:
+            return Path(folder, "made", "manuscript.docx").read_bytes()
+        except FileNotFoundError as fault:
+            raise NotConverted("LibreOffice", "") from fault
+
+
+def _run(name: str, words: Sequence[str], source: IO[bytes] | None) -> bytes:
+    """What a program answers; ``UnreadableText`` where it fails, or is too slow or too large."""
+    try:
+        with tempfile.TemporaryFile() as output, tempfile.TemporaryFile() as errors:
+            with subprocess.Popen(
+                confined(words, _LIMITS),
+                stdin=subprocess.DEVNULL if source is None else source,
+                stdout=output,
+                stderr=errors,
+                start_new_session=True,
+            ) as process:
+                _wait(name, process)
+            output.seek(0)
+            errors.seek(0)
+            if process.returncode:
+                raise _failure(name, process.returncode, errors.read(2000))
+            return output.read()
+    except OSError as fault:
+        raise NotConverted(name, fault.strerror or str(fault)) from fault
+
+
+def _wait(name: str, process: subprocess.Popen[bytes]) -> None:
+    """Waits for a program to end. Where that takes too long, or this one is stopped, it is ended."""
+    try:
+        process.wait(_SECONDS)
+    except subprocess.TimeoutExpired as fault:
+        raise BrokenOff(name) from fault
+    finally:
+        if process.poll() is None:
+            os.killpg(process.pid, signal.SIGKILL)
+
+
+def _failure(name: str, status: int, errors: bytes) -> UnreadableText:
+    """Why a program failed: by a limit, or by what it said, in one line."""
+    if status in (-signal.SIGXCPU, -signal.SIGKILL):
+        return BrokenOff(name)
+    if status == -signal.SIGXFSZ:
+        return NoDocument(WhyNot.TOO_LARGE)
+    return NotConverted(name, " ".join(errors.decode(errors="replace").split()))

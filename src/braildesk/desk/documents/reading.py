@@ -1,0 +1,169 @@
+"""What is read of a manuscript: its paragraphs, and all of it that they don't have."""
+
+import re
+from collections.abc import Iterable, Iterator
+from dataclasses import dataclass
+from enum import Enum, auto
+
+from braildesk.desk.documents.kinds import Kind
+from braildesk.text import limits
+from braildesk.text.sequences import composed, sequences
+
+#: What stands before an item of a list that has no number, unless something else is said.
+BULLET = "\u2022"
+
+#: Blanks of all widths, also those at which no line may end.
+_BLANKS = re.compile(
+    r"[ \t\r\f\v\u00a0\u1680\u2000-\u200a\u202f\u205f\u3000]+", re.ASCII
+)
+#: What only says where a line may end or may not.
+_UNSEEN = re.compile("[\u00ad\u200b\u2060\ufeff]")
+#: Where a sentence ends: at its mark, with the quotation marks and brackets that close after it.
+_SENTENCE_END = re.compile("[.!?\u2026]['\"\u2019\u201d\u00bb)\\]]* ")
+
+
+class Lost(Enum):
+    """What of a document a book can't hold, or is left out of it."""
+
+    EMPHASIS = auto()
+    LINK = auto()
+    SUBSCRIPT = auto()
+    SUPERSCRIPT = auto()
+    MATHEMATICS = auto()
+    TABLE = auto()
+    PICTURE = auto()
+    LEVEL = auto()
+    LENGTH = auto()
+    RAW = auto()
+    HIDDEN = auto()
+    DELETED = auto()
+    COMMENT = auto()
+    EMBEDDED = auto()
+
+
+@dataclass(frozen=True, slots=True)
+class Loss:
+    """Something that a book can't hold, and where: the words of it, and those around them."""
+
+    what: Lost
+    words: str
+    around: str
+
+
+@dataclass(frozen=True, slots=True)
+class Missing:
+    """Words of a document that none of its paragraphs has, with their neighbours."""
+
+    words: str
+    before: str
+    after: str
+
+
+@dataclass(frozen=True, slots=True)
+class Part:
+    """A paragraph of a manuscript, in normal form C."""
+
+    text: str
+    #: Of a heading, from 1 on; 0 of the title of the whole; None of the body.
+    level: int | None = None
+    #: Whether it stands before the text, as the title and those who wrote it.
+    is_front: bool = False
+
+    @property
+    def is_heading(self) -> bool:
+        """Whether it is a heading."""
+        return self.level is not None
+
+
+@dataclass(frozen=True, slots=True)
+class Reading:
+    """How a manuscript is read, and what of it begins volumes."""
+
+    #: Which kind it is; else that is found.
+    kind: Kind | None = None
+    #: Whether notes stand at the end of their section, and not after their paragraph.
+    notes_at_end: bool = False
+    #: What stands before an item of a list that has no number.
+    bullet: str = BULLET
+    #: Characters, and those that stand in their place.
+    replacements: tuple[tuple[str, str], ...] = ()
+    #: The level of the headings at which volumes begin.
+    volumes: int | None = None
+
+
+@dataclass(frozen=True, slots=True)
+class Manuscript:
+    """The paragraphs of a manuscript, and what of it they don't have."""
+
+    kind: Kind
+    parts: tuple[Part, ...]
+    #: What a book can't hold, in the order in which it stands there.
+    losses: tuple[Loss, ...] = ()
+    #: The words of the file that aren't in any paragraph.
+    missing: tuple[Missing, ...] = ()
+    #: Characters, those that stand in their place, and how often.
+    replaced: tuple[tuple[str, str, int], ...] = ()
+
+    @property
+    def texts(self) -> list[str]:
+        """The prints of the paragraphs."""
+        return [part.text for part in self.parts]
+
+
+def plain(text: str) -> str:
+    """A text as a print has it: with one blank for several, and none around it."""
+    return _BLANKS.sub(" ", _UNSEEN.sub("", text)).strip(" \n")
+
+
+def replaced(
+    parts: Iterable[Part], pairs: Iterable[tuple[str, str]]
+) -> tuple[tuple[Part, ...], tuple[tuple[str, str, int], ...]]:
+    """Parts with other characters in place of some, and how often each was replaced.
+
+    Where two could stand at a place the longer is taken. What was put there isn't replaced again.
+    """
+    by = dict(pairs)
+    if not by:
+        return tuple(parts), ()
+    counts = dict.fromkeys(by, 0)
+    sought = re.compile("|".join(map(re.escape, sorted(by, key=len, reverse=True))))
+
+    def other(found: re.Match[str]) -> str:
+        counts[found[0]] += 1
+        return by[found[0]]
+
+    made = [(part, plain(sought.sub(other, part.text))) for part in parts]
+    kept = tuple(
+        Part(composed(text), part.level, part.is_front) for part, text in made if text
+    )
+    return kept, tuple((old, new, counts[old]) for old, new in by.items())
+
+
+def short_enough(part: Part) -> Iterator[Part]:
+    """A part, parted at its sentences where it is longer than a print may be."""
+    rest = part.text
+    while len(rest) > limits.PRINT_CHARACTERS:
+        stop = _stop(rest)
+        if not stop:
+            break
+        yield Part(rest[:stop].rstrip(" "), part.level, part.is_front)
+        rest = rest[stop:].lstrip(" ")
+    yield Part(rest, part.level, part.is_front)
+
+
+def _stop(text: str) -> int:
+    """Where the front of a text ends that a print can have: at a sentence, a blank or a character."""
+    most = limits.PRINT_CHARACTERS
+    front = text[: most + 1]
+    ends = [found.end() for found in _SENTENCE_END.finditer(front)]
+    if ends:
+        return ends[-1]
+    blank = front.rfind(" ")
+    if blank > 0:
+        return blank
+    stop = 0
+    for sequence in sequences(front):
+        if stop + len(sequence) > most:
+            break
+        stop += len(sequence)
+    return stop

@@ -1,0 +1,389 @@
+"""The paragraphs of a document, from the tree that pandoc makes of it.
+
+Each heading, paragraph, item of a list, line of a poem and row of a table is a paragraph. What the
+print of a book can't hold is noted, each time with the words around it.
+"""
+
+import re
+from collections.abc import Iterable, Iterator, Sequence
+from dataclasses import dataclass, field, replace
+from typing import Any
+
+from braildesk.desk.documents.reading import Loss, Lost, Part, Reading, plain
+from braildesk.desk.manuscript import UnreadableText
+from braildesk.text.sequences import composed
+
+#: A node of pandoc's tree: a dictionary with its kind as ``t`` and its contents as ``c``.
+Node = dict[str, Any]
+
+#: How many characters before and after what is lost are shown at most.
+_AROUND = 30
+#: Where a line ends.
+_LINE_END = re.compile("[\n\x85\u2028\u2029]")
+#: What pandoc takes out of the text of a document as something said about it.
+_FRONT = ("title", "subtitle", "author", "date", "abstract")
+
+
+@dataclass(frozen=True, slots=True)
+class Document:
+    """The paragraphs of a tree, and what of it they don't have."""
+
+    parts: tuple[Part, ...]
+    losses: tuple[Loss, ...]
+
+
+#: What comes of a tree of another form.
+FAULTS = (
+    AttributeError,
+    KeyError,
+    IndexError,
+    TypeError,
+    ValueError,
+    RecursionError,
+)
+
+
+class NotRead(UnreadableText):
+    """A tree isn't one of those that pandoc makes, or is too deep."""
+
+
+def document(
+    tree: Node, reading: Reading = Reading(), *, with_front: bool = False
+) -> Document:
+    """The paragraphs of a tree; with its title and those who wrote it where these are print too.
+
+    Raises ``NotRead``.
+    """
+    reader = _Reader(reading)
+    try:
+        if with_front:
+            reader.front(tree["meta"])
+        reader.blocks(tree["blocks"])
+        reader.put_notes()
+    except FAULTS as fault:
+        raise NotRead from fault
+    return Document(tuple(reader.parts), tuple(reader.losses))
+
+
+@dataclass
+class _Line:
+    """A text while it is written, with the places of what can't be in it, and its notes."""
+
+    pieces: list[str] = field(default_factory=list)
+    length: int = 0
+    spans: list[tuple[Lost, int, int]] = field(default_factory=list)
+    notes: list[tuple[int, list[Node]]] = field(default_factory=list)
+
+    def add(self, text: str) -> None:
+        self.pieces.append(text)
+        self.length += len(text)
+
+    def lose(self, what: Lost, since: int) -> None:
+        self.spans.append((what, since, self.length))
+
+    @property
+    def text(self) -> str:
+        return "".join(self.pieces)
+
+    def losses(self) -> Iterator[Loss]:
+        text = self.text
+        for what, start, stop in self.spans:
+            yield Loss(what, plain(text[start:stop]), _around(text, start, stop))
+
+
+class _Reader:
+    """What reads the blocks of a tree, one after another."""
+
+    def __init__(self, reading: Reading) -> None:
+        self._reading = reading
+        self._count = 0
+        self._waiting: list[tuple[int, list[Node]]] = []
+        self.parts: list[Part] = []
+        self.losses: list[Loss] = []
+
+    def front(self, meta: dict[str, Node]) -> None:
+        """Reads what is said about a document, whose title is a heading."""
+        for name in _FRONT:
+            if name in meta:
+                self._said(meta[name])
+        self.put_notes()
+        self.parts = [replace(part, is_front=True) for part in self.parts]
+        if "title" in meta and self.parts:
+            self.parts[0] = replace(self.parts[0], level=0)
+
+    def _said(self, node: Node) -> None:
+        content: Any = node["c"]
+        match node["t"]:
+            case "MetaInlines":
+                self._paragraph(content)
+            case "MetaBlocks":
+                self.blocks(content)
+            case "MetaList":
+                for each in content:
+                    self._said(each)
+            case "MetaString":
+                self._lines(content)
+
+    def blocks(self, nodes: Sequence[Node], before: str = "") -> None:
+        """Reads blocks; what comes before the first of them stands in its first paragraph."""
+        for node in nodes:
+            self._block(node, before)
+            before = ""
+
+    def put_notes(self) -> None:
+        """Puts the notes that wait as paragraphs, in the order of their numbers."""
+        waiting, self._waiting = self._waiting, []
+        for number, nodes in waiting:
+            text = " ".join(self._texts_of(nodes))
+            self._put(f"[{number}: {text}]" if text else f"[{number}]")
+
+    def _block(self, node: Node, before: str) -> None:
+        content: Any = node.get("c")
+        match node["t"]:
+            case "Para" | "Plain":
+                self._paragraph(content, before)
+            case "LineBlock":
+                for number, line in enumerate(content):
+                    self._paragraph(line, "" if number else before)
+            case "CodeBlock":
+                self._lines(content[1], before)
+            case "Header":
+                self._heading(content[0], content[2])
+            case "BlockQuote":
+                self.blocks(content, before)
+            case "Div":
+                self.blocks(content[1], before)
+            case "OrderedList" | "BulletList" | "DefinitionList" as kind:
+                self._list(kind, content, before)
+            case "Table":
+                self._table(content, before)
+            case "Figure":
+                self.blocks(content[2], before)
+                self.blocks(content[1][1])
+            case "RawBlock":
+                self._raw(content)
+            case "HorizontalRule" | "Null":
+                pass
+            case _:
+                raise NotRead
+
+    def _list(self, kind: str, content: Any, before: str) -> None:
+        match kind:
+            case "OrderedList":
+                for number, item in enumerate(content[1], start=content[0][0]):
+                    self._item(item, before + _numbered(number, content[0]))
+            case "BulletList":
+                for item in content:
+                    self._item(item, f"{before}{self._reading.bullet} ")
+            case _:
+                for term, definitions in content:
+                    self._paragraph(term, before)
+                    for definition in definitions:
+                        self.blocks(definition)
+
+    def _item(self, nodes: Sequence[Node], before: str) -> None:
+        if nodes:
+            self.blocks(nodes, before)
+        else:
+            self._put(before)
+
+    def _heading(self, level: int, nodes: Sequence[Node]) -> None:
+        self.put_notes()
+        line = self._line(nodes)
+        self._take(line, level)
+        words = plain(_LINE_END.sub(" ", line.text))
+        if level > 1 and words:
+            self.losses.append(Loss(Lost.LEVEL, words, words))
+
+    def _paragraph(self, nodes: Sequence[Node], before: str = "") -> None:
+        self._take(self._line(nodes, before))
+
+    def _take(self, line: _Line, level: int | None = None) -> None:
+        """Puts what was written: of a heading as one paragraph, else one for each of its lines."""
+        self.losses.extend(line.losses())
+        text = line.text if level is None else _LINE_END.sub(" ", line.text)
+        self._lines(text, level=level)
+        self._waiting.extend(line.notes)
+        if not self._reading.notes_at_end:
+            self.put_notes()
+
+    def _lines(self, text: str, before: str = "", level: int | None = None) -> None:
+        for line in _LINE_END.split(text):
+            self._put(before + line, level)
+            before = ""
+
+    def _put(self, text: str, level: int | None = None) -> None:
+        text = composed(plain(text))
+        if text:
+            self.parts.append(Part(text, level))
+
+    def _table(self, content: Sequence[Any], before: str) -> None:
+        """Puts a paragraph for each row, and its title before them."""
+        _, (_, title), _, (_, head), bodies, (_, foot) = content
+        self.blocks(title, before)
+        rows = [*head]
+        for _, _, heads, body in bodies:
+            rows += [*heads, *body]
+        texts = [self._row(row) for row in (*rows, *foot)]
+        for text in texts:
+            self._put(text)
+        if not self._reading.notes_at_end:
+            self.put_notes()
+        first = next((text for text in texts if text), "")
+        self.losses.append(Loss(Lost.TABLE, first, first))
+
+    def _row(self, row: Sequence[Any]) -> str:
+        cells = [" ".join(self._texts_of(cell[4])) for cell in row[1]]
+        return "; ".join(cells) if any(cells) else ""
+
+    def _texts_of(self, nodes: Sequence[Node]) -> list[str]:
+        """The paragraphs of some blocks, which aren't put; what they lose and their notes are kept."""
+        inner = _Reader(replace(self._reading, notes_at_end=True))
+        inner._count = self._count
+        inner.blocks(nodes)
+        self._count = inner._count
+        self.losses += inner.losses
+        self._waiting += inner._waiting
+        return [part.text for part in inner.parts]
+
+    def _raw(self, content: Sequence[str]) -> None:
+        """Notes text in the language of another program; a page break, as in DOCX, is nothing."""
+        words = plain(content[1].replace("\n", " "))
+        if content[0] != "openxml" and words and not words.startswith("<!--"):
+            self.losses.append(Loss(Lost.RAW, words, words))
+
+    def _line(self, nodes: Sequence[Node], before: str = "") -> _Line:
+        line = _Line()
+        line.add(before)
+        self._inlines(nodes, line)
+        return line
+
+    def _inlines(self, nodes: Iterable[Node], line: _Line) -> None:
+        for node in nodes:
+            self._inline(node, line)
+
+    def _inline(self, node: Node, line: _Line) -> None:
+        content: Any = node.get("c")
+        since = line.length
+        match node["t"]:
+            case "Str":
+                line.add(content)
+            case "Space" | "SoftBreak":
+                line.add(" ")
+            case "LineBreak":
+                line.add("\n")
+            case "Quoted":
+                front, end = _QUOTES[content[0]["t"]]
+                line.add(front)
+                self._inlines(content[1], line)
+                line.add(end)
+            case "Cite" | "Span":
+                self._inlines(content[1], line)
+            case "Code" | "Math":
+                line.add(content[1])
+            case "RawInline":
+                self._raw(content)
+            case "Link":
+                self._link(content, line)
+            case "Image":
+                self._picture(content, line)
+            case "Note":
+                self._count += 1
+                line.add(f"[{self._count}]")
+                line.notes.append((self._count, content))
+            case kind if kind in _LOST_AROUND:
+                self._inlines(content, line)
+            case _:
+                raise NotRead
+        if lost := _LOST_AROUND.get(node["t"]):
+            line.lose(lost, since)
+
+    def _link(self, content: Sequence[Any], line: _Line) -> None:
+        since = line.length
+        self._inlines(content[1], line)
+        target = content[2][0]
+        shown = line.text[since:]
+        if not target.startswith("#") and shown not in (
+            target,
+            _without_scheme(target),
+        ):
+            line.lose(Lost.LINK, since)
+
+    def _picture(self, content: Sequence[Any], line: _Line) -> None:
+        described = self._line(content[1])
+        words = plain(described.text.replace("\n", " "))
+        since = line.length
+        if words:
+            line.add(f"[{words}]")
+        else:
+            line.lose(Lost.PICTURE, since)
+
+
+#: What is lost of inline nodes whose text stays.
+_LOST_AROUND = {
+    "Emph": Lost.EMPHASIS,
+    "Strong": Lost.EMPHASIS,
+    "Underline": Lost.EMPHASIS,
+    "Strikeout": Lost.EMPHASIS,
+    "SmallCaps": Lost.EMPHASIS,
+    "Subscript": Lost.SUBSCRIPT,
+    "Superscript": Lost.SUPERSCRIPT,
+    "Math": Lost.MATHEMATICS,
+}
+_QUOTES = {"SingleQuote": ("\u2018", "\u2019"), "DoubleQuote": ("\u201c", "\u201d")}
+
+
+def _around(text: str, start: int, stop: int) -> str:
+    """The words around a place of a text, whole words of at most so many characters on each side."""
+    before, after = text[:start], text[stop:]
+    if len(before) > _AROUND:
+        before = before[-_AROUND:].partition(" ")[2]
+    if len(after) > _AROUND:
+        after = after[:_AROUND].rpartition(" ")[0]
+    return plain(f"{before}{text[start:stop]}{after}".replace("\n", " "))
+
+
+def _without_scheme(target: str) -> str:
+    return re.sub(r"^(mailto:|https?://)", "", target).rstrip("/")
+
+
+def _numbered(number: int, attributes: Sequence[Any]) -> str:
+    """The number of an item as it stands in print."""
+    _, style, delimiter = attributes
+    match style["t"]:
+        case "LowerAlpha" | "UpperAlpha":
+            shown = _letters(number)
+        case "LowerRoman" | "UpperRoman":
+            shown = _roman(number)
+        case _:
+            shown = str(number)
+    if style["t"].startswith("Lower"):
+        shown = shown.lower()
+    match delimiter["t"]:
+        case "OneParen":
+            return f"{shown}) "
+        case "TwoParens":
+            return f"({shown}) "
+    return f"{shown}. "
+
+
+def _letters(number: int) -> str:
+    shown = ""
+    while number > 0:
+        number, place = divmod(number - 1, 26)
+        shown = chr(ord("A") + place) + shown
+    return shown
+
+
+_ROMAN = (
+    (1000, "M"), (900, "CM"), (500, "D"), (400, "CD"), (100, "C"), (90, "XC"), (50, "L"),
+    (40, "XL"), (10, "X"), (9, "IX"), (5, "V"), (4, "IV"), (1, "I"),
+)  # fmt: skip
+
+
+def _roman(number: int) -> str:
+    shown = ""
+    for value, letters in _ROMAN:
+        count, number = divmod(number, value)
+        shown += letters * count
+    return shown

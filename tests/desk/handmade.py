@@ -1,0 +1,131 @@
+"""Documents in DOCX, made by hand, with what those who write texts put into them."""
+
+import zipfile
+from collections.abc import Iterable, Sequence
+from pathlib import Path
+
+_OOXML = "http://schemas.openxmlformats.org"
+_NAMES = " ".join(
+    f'xmlns:{name}="{uri}"'
+    for name, uri in (
+        ("w", f"{_OOXML}/wordprocessingml/2006/main"),
+        ("mc", f"{_OOXML}/markup-compatibility/2006"),
+        ("wps", "http://schemas.microsoft.com/office/word/2010/wordprocessingShape"),
+        ("wp", f"{_OOXML}/drawingml/2006/wordprocessingDrawing"),
+        ("a", f"{_OOXML}/drawingml/2006/main"),
+        ("v", "urn:schemas-microsoft-com:vml"),
+    )
+)
+_PARTS = ("styles", "footnotes", "header")
+_TYPES = f"""<Types xmlns="{_OOXML}/package/2006/content-types">
+<Default Extension="rels" ContentType="application/vnd.openxmlformats-package.relationships+xml"/>
+<Default Extension="xml" ContentType="application/xml"/>
+<Override PartName="/word/document.xml"
+ ContentType="application/vnd.openxmlformats-officedocument.wordprocessingml.document.main+xml"/>
+</Types>"""
+
+
+def _relations(*targets: tuple[str, str]) -> str:
+    inner = "".join(
+        f'<Relationship Id="r{number}" Target="{target}"'
+        f' Type="{_OOXML}/officeDocument/2006/relationships/{kind}"/>'
+        for number, (kind, target) in enumerate(targets)
+    )
+    names = f'xmlns="{_OOXML}/package/2006/relationships"'
+    return f"<Relationships {names}>{inner}</Relationships>"
+
+
+_STYLES = "".join(
+    f'<w:style w:type="paragraph" w:styleId="Heading{level}">'
+    f'<w:name w:val="heading {level}"/></w:style>'
+    for level in (1, 2, 3)
+)
+
+
+def run(text: str, properties: str = "") -> str:
+    """Print with some properties, as ``<w:b/>``."""
+    return (
+        f'<w:r><w:rPr>{properties}</w:rPr><w:t xml:space="preserve">{text}</w:t></w:r>'
+    )
+
+
+def deleted(text: str) -> str:
+    """Print that was deleted while changes were tracked."""
+    return (
+        f'<w:del w:id="7" w:author="A"><w:r><w:delText>{text}</w:delText></w:r></w:del>'
+    )
+
+
+def inserted(text: str) -> str:
+    """Print that was inserted while changes were tracked."""
+    return f'<w:ins w:id="8" w:author="A">{run(text)}</w:ins>'
+
+
+def symbol(font: str, number: str) -> str:
+    """A symbol of a font, which has no character."""
+    return f'<w:r><w:sym w:font="{font}" w:char="{number}"/></w:r>'
+
+
+def note(number: int) -> str:
+    """The number of a footnote."""
+    return f'<w:r><w:footnoteReference w:id="{number}"/></w:r>'
+
+
+def text_box(text: str) -> str:
+    """A text box, which a document has twice: for newer programs, and for older ones."""
+    box = f"<w:txbxContent>{paragraph(run(text))}</w:txbxContent>"
+    newer = (
+        "<w:drawing><wp:anchor><a:graphic><a:graphicData><wps:wsp>"
+        f"<wps:txbx>{box}</wps:txbx>"
+        "</wps:wsp></a:graphicData></a:graphic></wp:anchor></w:drawing>"
+    )
+    older = f"<w:pict><v:textbox>{box}</v:textbox></w:pict>"
+    return (
+        f'<w:r><mc:AlternateContent><mc:Choice Requires="wps">{newer}</mc:Choice>'
+        f"<mc:Fallback>{older}</mc:Fallback></mc:AlternateContent></w:r>"
+    )
+
+
+def paragraph(*inner: str, style: str = "") -> str:
+    """A paragraph of a style, as ``Heading1``."""
+    properties = f'<w:pPr><w:pStyle w:val="{style}"/></w:pPr>' if style else ""
+    return f"<w:p>{properties}{''.join(inner)}</w:p>"
+
+
+def table(*rows: Sequence[str]) -> str:
+    """A table, whose cells are paragraphs or tables."""
+    columns = '<w:gridCol w:w="2000"/>' * max(map(len, rows))
+    body = "".join(
+        "<w:tr>" + "".join(f"<w:tc>{cell}</w:tc>" for cell in row) + "</w:tr>"
+        for row in rows
+    )
+    return f"<w:tbl><w:tblGrid>{columns}</w:tblGrid>{body}</w:tbl>"
+
+
+def docx(
+    path: Path, body: str, notes: Iterable[tuple[int, str]] = (), header: str = ""
+) -> Path:
+    """A document with a body, footnotes and a running header."""
+    footnotes = "".join(
+        f'<w:footnote w:id="{number}">{paragraph(run(text))}</w:footnote>'
+        for number, text in notes
+    )
+    parts = {
+        "document": ("document", f"<w:body>{body}</w:body>"),
+        "styles": ("styles", _STYLES),
+        "footnotes": ("footnotes", footnotes),
+        "header": ("hdr", paragraph(run(header)) if header else ""),
+    }
+    with zipfile.ZipFile(path, "w", zipfile.ZIP_DEFLATED) as container:
+        container.writestr("[Content_Types].xml", _TYPES)
+        container.writestr(
+            "_rels/.rels", _relations(("officeDocument", "word/document.xml"))
+        )
+        container.writestr(
+            "word/_rels/document.xml.rels",
+            _relations(*((name, f"{name}.xml") for name in _PARTS)),
+        )
+        for name, (tag, inner) in parts.items():
+            text = f"<w:{tag} {_NAMES}>{inner}</w:{tag}>"
+            container.writestr(f"word/{name}.xml", text)
+    return path

@@ -1,0 +1,428 @@
+"""Documents as publishers send them: their paragraphs, and all that is lost of them."""
+
+import subprocess
+import zipfile
+from pathlib import Path
+
+import pytest
+
+from braildesk.desk.documents import kinds, read_document
+from braildesk.desk.documents.contents import missing
+from braildesk.desk.documents.kinds import Kind, NoDocument, WhyNot, kind_of
+from braildesk.desk.documents.pandoc import NoConverter, NotConverted, office, tree
+from braildesk.desk.documents.reading import (
+    Loss,
+    Lost,
+    Manuscript,
+    Missing,
+    Part,
+    Reading,
+    replaced,
+    short_enough,
+)
+from braildesk.desk.documents.tree import Node, NotRead, document
+from braildesk.desk.manuscripts import read_manuscript
+
+from handmade import (
+    deleted,
+    docx,
+    inserted,
+    note,
+    paragraph,
+    run,
+    symbol,
+    table,
+    text_box,
+)
+
+MARKDOWN = """\
+# The Moon
+
+First *paragraph* with a note.[^1] And a [link](http://example.org).
+
+## Part two
+
+3. three
+4. four
+
+- bullet
+- second
+
+> A quote here.
+
+| a | b |
+|---|---|
+| 1 | 2 |
+
+One line\\
+and another ![A picture of the moon](moon.png) here.
+
+H~2~O, x^2^ and soft\u00adhyphens.
+
+Term
+:   What it is
+
+    code  here
+
+| The poem
+| goes on
+
+[^1]: The note.
+"""
+PARTS = [
+    ("The Moon", 1),
+    ("First paragraph with a note.[1] And a link.", None),
+    ("[1: The note.]", None),
+    ("Part two", 2),
+    ("3. three", None),
+    ("4. four", None),
+    ("\u2022 bullet", None),
+    ("\u2022 second", None),
+    ("A quote here.", None),
+    ("a; b", None),
+    ("1; 2", None),
+    ("One line", None),
+    ("and another [A picture of the moon] here.", None),
+    ("H2O, x2 and softhyphens.", None),
+    ("Term", None),
+    ("What it is", None),
+    ("code here", None),
+    ("The poem", None),
+    ("goes on", None),
+]
+
+
+def made(folder: Path, kind: Kind) -> Path:
+    """A document of a kind, as pandoc writes it."""
+    path = folder / f"moon.{kind.value}"
+    words = ["pandoc", "--from", "markdown", "--to", kind.value, "--standalone"]
+    words += ["--metadata", "title= ", "--output", str(path)]
+    subprocess.run(words, input=MARKDOWN.encode(), check=True, capture_output=True)
+    return path
+
+
+def kind_at(path: Path) -> Kind:
+    return kind_of(path.name, path.read_bytes())
+
+
+def lost(found: Manuscript, what: Lost) -> list[str]:
+    return [loss.words for loss in found.losses if loss.what is what]
+
+
+@pytest.mark.parametrize("kind", [Kind.MARKDOWN, Kind.HTML, Kind.EPUB, Kind.DOCX])
+def test_each_kind_gives_the_same_paragraphs(tmp_path: Path, kind: Kind) -> None:
+    path = made(tmp_path, kind)
+    if kind is Kind.MARKDOWN:
+        path = path.with_suffix(".md")
+        path.write_text(MARKDOWN, encoding="utf-8")
+    assert kind_at(path) is kind
+    found = read_manuscript(path)
+    # DOCX as pandoc writes it has the description of a picture as print, and one blank in code
+    wanted = (
+        [
+            (text.replace("[A picture of the moon]", "A picture of the moon"), level)
+            for text, level in PARTS
+        ]
+        if kind is Kind.DOCX
+        else PARTS
+    )
+    shown = [(part.text, part.level) for part in found.parts]
+    assert [pair for pair in shown if pair not in wanted] == []
+    assert [pair for pair in wanted if pair not in shown] == []
+    assert found.missing == ()
+
+
+def test_what_a_book_cannot_hold_is_noted_with_the_words_around_it(
+    tmp_path: Path,
+) -> None:
+    found = read_manuscript(made(tmp_path, Kind.HTML))
+    assert lost(found, Lost.EMPHASIS) == ["paragraph"]
+    assert lost(found, Lost.LINK) == ["link"]
+    assert lost(found, Lost.SUBSCRIPT) == ["2"]
+    assert lost(found, Lost.SUPERSCRIPT) == ["2"]
+    assert lost(found, Lost.TABLE) == ["a; b"]
+    assert lost(found, Lost.LEVEL) == ["Part two"]
+    (emphasis,) = (loss for loss in found.losses if loss.what is Lost.EMPHASIS)
+    assert emphasis.around == "First paragraph with a note.[1] And a link."
+
+
+def test_notes_may_stand_at_the_end_of_their_section(tmp_path: Path) -> None:
+    path = tmp_path / "notes.md"
+    path.write_text("a[^1] b\n\nc\n\n# d\n\ne\n\n[^1]: note\n", encoding="utf-8")
+    assert read_manuscript(path).texts == ["a[1] b", "[1: note]", "c", "d", "e"]
+    at_end = read_manuscript(path, Reading(notes_at_end=True))
+    assert at_end.texts == ["a[1] b", "c", "[1: note]", "d", "e"]
+
+
+def test_a_document_made_by_hand(tmp_path: Path) -> None:
+    inner = table((paragraph(run("inner a")), paragraph(run("inner b"))))
+    body = (
+        paragraph(run("Chapter one"), style="Heading1")
+        + paragraph(
+            run("The moon "), run("rises", "<w:b/>"), run("."), text_box("In a box")
+        )
+        + paragraph(
+            run("Kept "), inserted("added "), deleted("deleted "), run("words.")
+        )
+        + paragraph(run("Seen "), run("hidden ", "<w:vanish/>"), run("words."))
+        + paragraph(run("A symbol "), symbol("Wingdings", "F04A"), run(" here."))
+        + table(
+            (paragraph(run("one"), note(1)), inner + paragraph()),
+            (paragraph(run("two")), paragraph(run("three"))),
+        )
+        + paragraph(run("Last."), note(2))
+    )
+    notes = [(1, "Note in the table."), (2, "Last note.")]
+    found = read_manuscript(
+        docx(tmp_path / "hand.docx", body, notes, "A running header")
+    )
+    assert found.texts == [
+        "Chapter one",
+        "The moon rises.",
+        "Kept added words.",
+        "Seen hidden words.",
+        "A symbol here.",
+        "one[1]; inner a; inner b",
+        "two; three",
+        "[1: Note in the table.]",
+        "Last.[2]",
+        "[2: Last note.]",
+    ]
+    assert found.missing == (
+        Missing("In a box", "", ""),
+        Missing("Wingdings_F04A", "A symbol", "here"),
+        Missing("A running header", "", ""),
+    )
+    assert lost(found, Lost.HIDDEN) == ["hidden"]
+    assert lost(found, Lost.DELETED) == ["deleted"]
+    assert len(lost(found, Lost.TABLE)) == 2
+
+
+def test_words_that_are_there_as_often_are_not_missing() -> None:
+    assert missing(["a b c", "c d"], ["1. a b c", "c d"]) == []
+    assert missing(["a b c", "a b c"], ["a b c"]) == [Missing("a b c", "", "")]
+    assert missing(["one two three four"], ["one two four"]) == [
+        Missing("three", "one two", "four")
+    ]
+    assert missing(["soft\u00adhyphen"], ["softhyphen"]) == []
+
+
+OLE = b"\xd0\xcf\x11\xe0\xa1\xb1\x1a\xe1"
+#: A page of which Word has encrypted the package, and one that it has saved for its older versions.
+ENCRYPTED = OLE + bytes(500) + "EncryptedPackage".encode("utf-16-le")
+WORD = OLE + bytes(500) + "WordDocument".encode("utf-16-le")
+
+
+@pytest.mark.parametrize(
+    "name, front, kind",
+    [
+        ("moon", b"{\\rtf1 moon}", Kind.RTF),
+        ("moon", WORD, Kind.DOC),
+        ("moon", b"\xef\xbb\xbf <!DOCTYPE html>\n<html>", Kind.HTML),
+        ("moon.txt", b"<!-- of the moon -->\n<html>", Kind.HTML),
+        ("moon.htm", b"<p>The moon", Kind.HTML),
+        ("moon.MD", b"Only text.", Kind.MARKDOWN),
+        ("moon", b"<?xml version='1.0'?><book/>", Kind.TEXT),
+        ("moon.docx", b"Only text.", Kind.TEXT),
+        ("moon", b"Only text.", Kind.TEXT),
+        ("moon", b"", Kind.TEXT),
+    ],
+)
+def test_a_kind_is_known_by_the_front_of_a_file(
+    name: str, front: bytes, kind: Kind
+) -> None:
+    assert kind_of(name, front) is kind
+
+
+def container_of(path: Path, **parts: str) -> bytes:
+    """A container with parts, of which the names have ``__`` in place of a stroke."""
+    with zipfile.ZipFile(path, "w", zipfile.ZIP_DEFLATED) as container:
+        for name, text in parts.items():
+            container.writestr(name.replace("__", "/"), text)
+    return path.read_bytes()
+
+
+RIGHTS = (
+    '<encryption xmlns="urn:oasis:names:tc:opendocument:xmlns:container"'
+    ' xmlns:e="http://www.w3.org/2001/04/xmlenc#"><e:EncryptedData>'
+    '<e:EncryptionMethod Algorithm="{}"/></e:EncryptedData></encryption>'
+)
+ADOBE = RIGHTS.format("http://www.w3.org/2001/04/xmlenc#aes128-cbc")
+FONTS = RIGHTS.format("http://www.idpf.org/2008/embedding")
+MANIFEST = (
+    '<m:manifest xmlns:m="urn:oasis:names:tc:opendocument:xmlns:manifest:1.0">'
+    "<m:file-entry><m:encryption-data/></m:file-entry></m:manifest>"
+)
+EPUB, ODT = "application/epub+zip", "application/vnd.oasis.opendocument.text"
+
+
+@pytest.mark.parametrize(
+    "parts, why",
+    [
+        ({"a": "no document"}, WhyNot.OTHER),
+        ({"mimetype": "application/vnd.oasis.opendocument.spreadsheet"}, WhyNot.OTHER),
+        ({"mimetype": EPUB, "META-INF/encryption.xml": ADOBE}, WhyNot.COPY_PROTECTED),
+        ({"mimetype": ODT, "META-INF/manifest.xml": MANIFEST}, WhyNot.ENCRYPTED),
+        ({"mimetype": ODT, "META-INF/manifest.xml": "no XML"}, WhyNot.DAMAGED),
+    ],
+)
+def test_containers_that_no_program_can_read_are_refused(
+    tmp_path: Path, parts: dict[str, str], why: WhyNot
+) -> None:
+    with pytest.raises(NoDocument) as found:
+        kind_of("moon.epub", container_of(tmp_path / "moon", **parts))
+    assert found.value.why is why
+
+
+@pytest.mark.parametrize(
+    "data, why",
+    [
+        (ENCRYPTED, WhyNot.ENCRYPTED),
+        (OLE, WhyNot.OTHER),
+        (b"%PDF-1.7", WhyNot.PDF),
+        (b"PK\x03\x04 no zip at all", WhyNot.DAMAGED),
+    ],
+)
+def test_files_that_no_program_can_read_are_refused(data: bytes, why: WhyNot) -> None:
+    with pytest.raises(NoDocument) as found:
+        kind_of("moon.docx", data)
+    assert found.value.why is why
+
+
+def test_hidden_fonts_keep_nobody_from_reading_a_book(tmp_path: Path) -> None:
+    parts = {"mimetype": EPUB, "META-INF/encryption.xml": FONTS}
+    assert kind_of("moon", container_of(tmp_path / "moon", **parts)) is Kind.EPUB
+
+
+def test_a_file_that_is_no_document_is_not_converted(tmp_path: Path) -> None:
+    data = container_of(
+        tmp_path / "moon", **{"[Content_Types].xml": "", "word/document.xml": "no XML"}
+    )
+    with pytest.raises(NoDocument) as found:
+        read_document(data, Kind.DOCX)
+    assert found.value.why is WhyNot.DAMAGED
+    with pytest.raises(NotConverted, match="couldn't parse docx|parse"):
+        tree(data, Kind.DOCX)
+
+
+def test_a_container_that_unpacks_to_too_much_is_not_read(
+    tmp_path: Path, monkeypatch: pytest.MonkeyPatch
+) -> None:
+    path = docx(tmp_path / "moon.docx", paragraph(run("a" * 200_000)))
+    monkeypatch.setattr(kinds, "MOST_BYTES", 100_000)
+    with pytest.raises(NoDocument) as found:
+        read_manuscript(path)
+    assert found.value.why is WhyNot.TOO_LARGE
+
+
+def test_kinds_that_need_a_program_name_it(
+    tmp_path: Path, monkeypatch: pytest.MonkeyPatch
+) -> None:
+    monkeypatch.setenv("PATH", str(tmp_path))
+    path = docx(tmp_path / "moon.docx", paragraph(run("a")))
+    with pytest.raises(NoConverter) as found:
+        read_manuscript(path)
+    assert (found.value.name, found.value.package) == ("pandoc", "pandoc")
+    assert office() is None
+    with pytest.raises(NoConverter) as found:
+        read_document(b"{\\rtf1 moon}", Kind.RTF)
+    assert found.value.package == "libreoffice-writer-nogui"
+
+
+def test_a_tree_of_another_program_is_not_read() -> None:
+    trees: list[Node] = [
+        {},
+        {"blocks": [{"t": "New"}]},
+        {"blocks": [{"t": "Para", "c": [1]}]},
+    ]
+    for each in trees:
+        with pytest.raises(NotRead):
+            document(each)
+
+
+def test_items_are_numbered_as_they_are_in_print(tmp_path: Path) -> None:
+    path = tmp_path / "lists.md"
+    path.write_text("iv) a\nv) b\n\n\nz\n\n(B) c\n\n#. d\n", encoding="utf-8")
+    assert read_manuscript(path).texts == ["iv) a", "v) b", "z", "(B) c", "1. d"]
+
+
+def test_a_long_document_is_read_whole(tmp_path: Path) -> None:
+    body = "".join(
+        paragraph(run(" ".join(f"word{number} of" for number in range(50))))
+        for _ in range(100)
+    )
+    found = read_manuscript(docx(tmp_path / "long.docx", body))
+    assert len(found.parts) == 100 and found.missing == ()
+
+
+def test_the_title_of_a_document_is_a_heading_before_its_text(tmp_path: Path) -> None:
+    path = tmp_path / "moon.md"
+    path.write_text(
+        "---\ntitle: The *Moon*\nauthor: [Anna, Ben]\nlang: en\n---\n\n# One\n\nText\n"
+    )
+    found = read_manuscript(path)
+    assert found.parts == (
+        Part("The Moon", 0, True),
+        Part("Anna", None, True),
+        Part("Ben", None, True),
+        Part("One", 1),
+        Part("Text"),
+    )
+    assert lost(found, Lost.EMPHASIS) == ["Moon"]
+
+
+@pytest.mark.parametrize(
+    "text, lengths",
+    [
+        ("x" * 4_000, [4_000]),
+        # the last sentence that ends within the first 4,000 characters is the last of its part
+        (("Twenty characters x! " * 200).strip(), [3_989, 209]),
+        ((("x" * 99 + " ") * 41).strip(), [3_999, 99]),
+        ("x" * 4_005, [4_000, 5]),
+        ("x" * 3_999 + "q\u0323" + "y", [3_999, 3]),
+    ],
+)
+def test_a_long_paragraph_is_parted_at_a_sentence(
+    text: str, lengths: list[int]
+) -> None:
+    parts = list(short_enough(Part(text, 2)))
+    assert [len(part.text) for part in parts] == lengths
+    assert "".join(part.text for part in parts).replace(" ", "") == text.replace(
+        " ", ""
+    )
+    assert {part.level for part in parts} == {2}
+
+
+def test_long_paragraphs_are_noted_by_their_first_words(tmp_path: Path) -> None:
+    path = tmp_path / "long.md"
+    path.write_text("Twice a day the sea comes up. " * 150)
+    found = read_manuscript(path)
+    assert [len(text) for text in found.texts] == [3_989, 509]
+    assert [loss for loss in found.losses if loss.what is Lost.LENGTH] == [
+        Loss(
+            Lost.LENGTH,
+            "",
+            "Twice a day the sea comes up. Twice a day the sea comes up.",
+        )
+    ]
+
+
+def test_characters_are_replaced_once_each_and_counted() -> None:
+    parts = [Part("a\u2026 b\u2026c", 1), Part("\u2026"), Part("...")]
+    pairs = [("\u2026", "..."), ("...", "x"), ("b...", "y"), ("\u2192", "to")]
+    assert replaced(parts, pairs) == (
+        (Part("a... b...c", 1), Part("..."), Part("x")),
+        (("\u2026", "...", 3), ("...", "x", 1), ("b...", "y", 0), ("\u2192", "to", 0)),
+    )
+    assert replaced([Part("\u2022"), Part("\u2022 a")], [("\u2022", "")]) == (
+        (Part("a"),),
+        (("\u2022", "", 2),),
+    )
+
+
+def test_blanks_of_all_widths_are_one_blank(tmp_path: Path) -> None:
+    path = tmp_path / "blanks.html"
+    path.write_text(
+        "<html><p>384&nbsp;400&thinsp;km\u200b\u2060 so\u00adft&#8232;a</html>"
+    )
+    assert read_manuscript(path).texts == ["384 400 km soft", "a"]
