@@ -16,7 +16,13 @@ from typing import TypeVar
 
 from braildesk.desk import Problem
 from braildesk.desk.draft import Draft, draft_in
-from braildesk.desk.import_note import ImportNote, note_in
+from braildesk.desk.import_note import (
+    ImportNote,
+    Pairs,
+    note_in,
+    pairs_in,
+    values_of,
+)
 from braildesk.desk.own_folder import MOST_BYTES, OwnFolder, Unfit, bytes_of, opened
 from braildesk.desk.record import NotSuch, Record
 from braildesk.desk.state_folder import state_folder
@@ -34,6 +40,7 @@ class Begun(Enum):
     WAITING = "unsent"
     GIVEN_UP = "given-up"
     IMPORTS = "imports"
+    REPLACEMENTS = "replacements"
     LEFT_AT = "left-at"
 
 
@@ -91,7 +98,7 @@ class NotSaved(NotKept):
 
 
 class Drafts:
-    """The text of one book that waits, those that were given up, and imports that aren't done."""
+    """What is kept for one book: texts that wait or were given up, and what is noted of imports."""
 
     def __init__(self, book: Path) -> None:
         self.book = Path(os.path.realpath(book))
@@ -162,6 +169,17 @@ class Drafts:
         others = self._others(note)
         if len(others) < len(self.imports()):
             self._note(others)
+
+    def replacements(self) -> Pairs:
+        """The characters that stand in the place of others where a manuscript is imported."""
+        return self._read(Begun.REPLACEMENTS, pairs_in) or ()
+
+    def keep_replacements(self, pairs: Pairs) -> None:
+        """Keeps such characters, in place of those that were."""
+        if pairs:
+            self._write(Begun.REPLACEMENTS, {"replacements": values_of(pairs)})
+        else:
+            self._remove(Begun.REPLACEMENTS)
 
     def take_in(self) -> None:
         """Moves in what an older scribe left beside the book.

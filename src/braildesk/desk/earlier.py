@@ -9,9 +9,8 @@ from braildesk import Paragraph, Session
 from braildesk.desk.drafts import Drafts, NotKept
 from braildesk.desk.import_note import ImportNote
 from braildesk.desk.intake import NotImported
+from braildesk.desk.manuscripts import read_bytes
 from braildesk.desk.unfinished import NotSeen, Unfinished, digest_of, unfinished
-from braildesk.named_files import read_file
-from braildesk.text import limits
 
 
 class Way(Enum):
@@ -73,7 +72,7 @@ class PartIsThere(Undecided):
 def leave(book: Path, path: Path) -> None:
     """Forgets an import of a text that was cut short; raises `NoneCutShort`."""
     try:
-        data = read_file(path, limits.TEXT_BYTES)
+        data = read_bytes(path)
     except OSError:
         data = b""
     drafts = Drafts(book)

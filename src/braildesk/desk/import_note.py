@@ -5,11 +5,30 @@ from dataclasses import dataclass
 from pathlib import PurePath
 
 from braildesk import After
+from braildesk.desk.documents.kinds import Kind
+from braildesk.desk.documents.reading import Reading
 from braildesk.desk.record import NotSuch, Record
 from braildesk.text import limits
 
 _DIGEST = re.compile("[0-9a-f]{64}")
 _NAME = re.compile(f"[^ \n\r\0]{{1,{limits.NAME_CHARACTERS}}}")
+_CONTROL = re.compile("[\0-\x1f\x7f-\x9f]")
+
+#: How many characters each side of a pair may have.
+MOST_CHARACTERS = 100
+#: Characters, and those that stand in their place.
+Pairs = tuple[tuple[str, str], ...]
+
+
+@dataclass(frozen=True)
+class How:
+    """How a manuscript becomes paragraphs of a book."""
+
+    reading: Reading
+    #: Characters, and those that stand in their place.
+    replacements: Pairs = ()
+    #: The level of the headings at which volumes begin.
+    volumes: int | None = None
 
 
 @dataclass(frozen=True)
@@ -28,6 +47,7 @@ class ImportNote:
     #: The version of the book, and how many paragraphs it had.
     version: int
     there: int
+    how: How = How(Reading(Kind.TEXT))
 
     @property
     def name(self) -> str:
@@ -50,6 +70,11 @@ class ImportNote:
             "after": self.after,
             "version": self.version,
             "there": self.there,
+            "kind": (self.how.reading.kind or Kind.TEXT).value,
+            "notes_at_end": self.how.reading.notes_at_end,
+            "bullet": self.how.reading.bullet,
+            "replacements": values_of(self.how.replacements),
+            "volumes": self.how.volumes,
         }
 
 
@@ -70,7 +95,21 @@ def note_in(kept: Record) -> ImportNote:
         _after(kept),
         kept.number("version"),
         kept.number("there"),
+        _how(kept),
     )
+
+
+def _how(kept: Record) -> How:
+    # an older scribe kept no more, since it imported texts alone
+    if not kept.has("kind"):
+        return How(Reading(Kind.TEXT))
+    try:
+        kind = Kind(kept.text("kind"))
+    except ValueError as cause:
+        raise NotSuch("kind") from cause
+    reading = Reading(kind, kept.truth("notes_at_end"), kept.text("bullet"))
+    volumes = kept.number_or_none("volumes", least=1)
+    return How(reading, pairs_in(kept), volumes)
 
 
 def _after(kept: Record) -> After:
@@ -82,3 +121,24 @@ def _after(kept: Record) -> After:
         case "end":
             return "end"
     raise NotSuch("after")
+
+
+def is_pair(old: str, new: str) -> bool:
+    """Whether characters may stand in the place of others, or nothing may."""
+    is_short = max(len(old), len(new)) <= MOST_CHARACTERS
+    return bool(old) and is_short and not _CONTROL.search(old + new)
+
+
+def values_of(pairs: Pairs) -> list[dict[str, str]]:
+    """What is kept of pairs as JSON."""
+    return [{"old": old, "new": new} for old, new in pairs]
+
+
+def pairs_in(kept: Record) -> Pairs:
+    """The pairs of which these values were kept; `NotSuch` where they are none."""
+    found = tuple(
+        (each.text("old"), each.text("new")) for each in kept.records("replacements")
+    )
+    if not all(is_pair(old, new) for old, new in found):
+        raise NotSuch("replacements")
+    return found

@@ -1,11 +1,13 @@
-"""An import: the paragraphs of a text file, judged and typed into a book, and noted until it is done."""
+"""An import: the paragraphs of a manuscript, judged and typed into a book, and noted until it is done."""
 
 import os
 from collections.abc import Callable, Sequence
 from dataclasses import dataclass, replace
 from pathlib import Path
 
-from braildesk import After, Session, read_tables
+from braildesk import After, Refused, Session, read_tables, translate
+from braildesk.desk.documents.kinds import Kind, kind_of
+from braildesk.desk.documents.reading import BULLET, Reading
 from braildesk.desk.drafts import Drafts, NotKept
 from braildesk.desk.earlier import (
     AllThere,
@@ -15,21 +17,24 @@ from braildesk.desk.earlier import (
     Way,
     note_of_text,
 )
-from braildesk.desk.import_note import ImportNote
+from braildesk.desk.import_note import How, ImportNote, Pairs
 from braildesk.desk.intake import (
     Intake,
     NotImported,
     check_goes_on,
     paragraph_before,
     parted_at,
+    settings,
     table_for,
 )
-from braildesk.desk.manuscript import Passage, UnreadableText, passages
+from braildesk.desk.manuscript import Passage, UnreadableText
+from braildesk.desk.manuscripts import Taken, read_bytes, taken
 from braildesk.desk.origin import standing
-from braildesk.desk.typist import CutShort, kept_of, type_all
+from braildesk.desk.replacements import read_replacements
+from braildesk.desk.typist import CutShort, look_for, type_all
 from braildesk.desk.unfinished import digest_of, unfinished
 from braildesk.desk.validation import TextFault, faults
-from braildesk.named_files import is_handed_over, read_file
+from braildesk.named_files import is_handed_over
 from braildesk.text import limits
 
 
@@ -50,6 +55,15 @@ class Import:
     way: Way = Way.ASK
     #: How many seconds a book is waited for that another program has open.
     wait: float = 0.0
+    #: How it is read. If a document isn't said to be one, its kind is found.
+    how: How = How(Reading())
+    #: The file of characters that stand in place of others; else those that were kept for the book.
+    replacements: Path | None = None
+
+    @property
+    def kind(self) -> Kind:
+        """Which kind the manuscript is, once that is known."""
+        return self.how.reading.kind or Kind.TEXT
 
 
 @dataclass(frozen=True)
@@ -77,6 +91,23 @@ class NoText(NotImported):
         super().__init__(path, cause)
         self.path = path
         self.cause = cause
+
+
+class OfTexts(NotImported):
+    """A document has paragraphs of its own, and its lines are none."""
+
+    def __init__(self, path: Path, kind: Kind) -> None:
+        super().__init__(path, kind)
+        self.path = path
+        self.kind = kind
+
+
+class OfDocuments(NotImported):
+    """A text has neither notes nor headings of which something could be said."""
+
+    def __init__(self, path: Path) -> None:
+        super().__init__(path)
+        self.path = path
 
 
 class Faulty(NotImported):
@@ -110,18 +141,25 @@ class Importer:
         self._reported: set[str] = set()
         self._digest = ""
         self._is_noted = False
+        #: What was read of the manuscript, once it was.
+        self.taken: Taken | None = None
 
     def prepare(self) -> Intake:
         """What is to be typed, once nothing stands in its way; raises `NotImported`."""
         data = bytes_of(self.job.text)
         self._digest = digest_of(data)
         self.job = self._decided(self._noted())
-        return _intake(self.job, data)
+        if self.job.way is not Way.GO_ON:
+            self.job = self._chosen(data)
+        self.taken = _taken(self.job, data)
+        return _intake(self.job, self.taken.passages)
 
     def type(self, intake: Intake, progress: Callable[[int, int], None]) -> TypedText:
         """Types all paragraphs; raises `CutShort`, and `NotImported` if the book isn't as it was."""
         job, count = self.job, len(intake.passages)
-        note = intake.noted(os.path.abspath(job.text), self._digest, job.by_lines)
+        whole = os.path.abspath(job.text)
+        note = intake.noted(whole, self._digest, job.by_lines, job.how)
+        self._keep_replacements()
         try:
             type_all(
                 job.book,
@@ -131,13 +169,48 @@ class Importer:
                 wait=job.wait,
             )
         except CutShort as cut:
-            cut.kept = kept_of(job.book, intake, job.wait)
+            look_for(job.book, intake, job.wait, cut)
             if cut.kept == 0 and not job.line:
                 self._end(note)
             cut.is_noted = self._is_noted and not is_handed_over(job.text)
             raise
         self._end(note)
         return TypedText(intake.there + 1, count, intake.table.name)
+
+    def _chosen(self, data: bytes) -> Import:
+        """The import with the kind of its manuscript, and with what else is chosen for it."""
+        job = self.job
+        try:
+            kind = job.how.reading.kind or kind_of(job.text.name, data)
+        except UnreadableText as cause:
+            raise NoText(job.text, cause) from cause
+        reading = replace(job.how.reading, kind=kind)
+        if kind.is_document:
+            if job.by_lines:
+                raise OfTexts(job.text, kind)
+            reading = replace(reading, bullet=_bullet_for(job))
+        elif job.how.volumes is not None or reading.notes_at_end:
+            raise OfDocuments(job.text)
+        how = replace(job.how, reading=reading, replacements=self._replacements())
+        return replace(job, how=how)
+
+    def _replacements(self) -> Pairs:
+        """The characters of the file that stand in place of others, or those that were kept."""
+        if self.job.replacements is not None:
+            return read_replacements(self.job.replacements)
+        try:
+            return self._drafts.replacements()
+        except NotKept as fault:
+            self._report(fault)
+            return ()
+
+    def _keep_replacements(self) -> None:
+        if self.job.replacements is None:
+            return
+        try:
+            self._drafts.keep_replacements(self.job.how.replacements)
+        except NotKept as fault:
+            self._report(fault)
 
     def _noted(self) -> ImportNote | None:
         """What is noted of an import of the text that hasn't come to its end."""
@@ -155,18 +228,22 @@ class Importer:
             self._reported.add(repr(fault))
             self._report_it(fault)
 
-    def _begin(self, note: ImportNote) -> None:
+    def _begin(self, note: ImportNote | None) -> None:
         """Notes the import before its first paragraph is typed."""
+        if note is None:
+            self._is_noted = True
+            return
         try:
             self._drafts.begin_import(note)
             self._is_noted = True
         except NotKept as fault:
             self._report(fault)
 
-    def _end(self, note: ImportNote) -> None:
+    def _end(self, note: ImportNote | None) -> None:
         """Takes away what was noted of the import."""
         try:
-            self._drafts.end_import(note)
+            if note := note or self._noted():
+                self._drafts.end_import(note)
             self._is_noted = False
         except NotKept as fault:
             self._report(fault)
@@ -183,9 +260,9 @@ class Importer:
         with Session(job.book, timeout=job.wait) as session:
             its = unfinished(session, session.paragraphs(), note)
         if job.way is Way.GO_ON:
-            if its.kept == len(its.rest):
+            if its.is_all_there:
                 raise AllThere(note)
-            how = replace(job, by_lines=note.by_lines, table=note.table)
+            how = replace(job, by_lines=note.by_lines, table=note.table, how=note.how)
             return replace(how, after=its.after, line=its.line)
         if its.is_to_go_on:
             raise PartIsThere(its)
@@ -193,24 +270,24 @@ class Importer:
 
 
 def bytes_of(path: Path) -> bytes:
-    """The bytes of a text file; raises `CantRead`."""
+    """The bytes of a manuscript; raises `CantRead`."""
     try:
-        return read_file(path, limits.TEXT_BYTES)
+        return read_bytes(path)
     except OSError as cause:
         raise CantRead(path, cause) from cause
 
 
-def _intake(job: Import, data: bytes) -> Intake:
+def _intake(job: Import, whole: Sequence[Passage]) -> Intake:
     """What is to be typed of a text, all of it judged."""
-    whole = _passages(job, data)
-    before, rest = parted_at(whole, job.line or 1)
+    before, rest = _parted(job, whole)
     with Session(job.book, timeout=job.wait) as session:
         book = session.paragraphs()
         anchor = paragraph_before(book, job.after)
         stored = session.print_of(anchor.id) if anchor and before else None
         version = session.last_version
-        check_goes_on(stored, before, rest)
-        if job.way is not Way.AGAIN:
+        if rest:
+            check_goes_on(stored, before, rest)
+        if rest and job.way is not Way.AGAIN:
             if numbers := standing(session, book, job.after, rest):
                 raise StandsThere(job.text, numbers)
     # only once the program has judged the file
@@ -219,15 +296,38 @@ def _intake(job: Import, data: bytes) -> Intake:
     faulty = Faulty(job.text, faults(rest, table), len(book), len(rest))
     if faulty.faults or faulty.over:
         raise faulty
-    return Intake(version, len(book), rest, job.after, table)
+    lacking = settings(before[-1], anchor.id, anchor) if before and anchor else ()
+    return Intake(version, len(book), rest, job.after, table, tuple(lacking))
 
 
-def _passages(job: Import, data: bytes) -> tuple[Passage, ...]:
-    """The paragraphs of a text."""
+def _parted(
+    job: Import, whole: Sequence[Passage]
+) -> tuple[tuple[Passage, ...], tuple[Passage, ...]]:
+    """The paragraphs of a text before those that are typed, and these.
+
+    There are none of these where the import was cut short after the last one.
+    """
+    line = job.line or 1
+    if job.way is Way.GO_ON and line > whole[-1].last_line:
+        return tuple(whole), ()
+    return parted_at(whole, line)
+
+
+def _bullet_for(job: Import) -> str:
+    """What stands before an item of a list: a bullet, or a hyphen where the table lacks that."""
+    with Session(job.book, timeout=job.wait) as session:
+        anchor = paragraph_before(session.paragraphs(), job.after)
+    table = table_for(read_tables(job.book, timeout=job.wait), anchor, job.table)
+    (answer,) = translate(table, [BULLET])
+    return "-" if isinstance(answer, Refused) else BULLET
+
+
+def _taken(job: Import, data: bytes) -> Taken:
+    """What is read of a manuscript."""
     try:
-        found = passages(data, job.by_lines)
+        found = taken(data, job.by_lines, job.how)
     except UnreadableText as cause:
         raise NoText(job.text, cause) from cause
-    if not found:
+    if not found.passages:
         raise NoText(job.text, None)
     return found

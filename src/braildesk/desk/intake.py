@@ -1,13 +1,15 @@
 """Paragraphs of a text file on their way into a book: which, where to, and by which table."""
 
 from collections.abc import Iterator, Sequence
-from dataclasses import dataclass
+from dataclasses import dataclass, replace
+from typing import Any
 
-from braildesk import After, Paragraph, Table
+from braildesk import After, Paragraph, Style, Table
 from braildesk.desk import Problem
-from braildesk.desk.import_note import ImportNote
+from braildesk.desk.import_note import How, ImportNote
 from braildesk.desk.manuscript import Passage
-from braildesk.protocol.requests import Type
+from braildesk.protocol import requests
+from braildesk.protocol.requests import Command, Type
 
 
 class NotImported(Problem):
@@ -81,22 +83,36 @@ class Intake:
     passages: tuple[Passage, ...]
     after: After
     table: Table
+    #: What the paragraph before the first of these lacks, where the import was cut short after it.
+    lacking: tuple[Command[Any], ...] = ()
 
-    def requests(self) -> Iterator[Type]:
-        """A request for each paragraph.
+    def requests(self) -> Iterator[Command[Any]]:
+        """A request for each paragraph, and one for each setting of it, which comes after it.
 
-        A new paragraph has the next number and makes the next version, so that each goes after the
-        one before it, and none is typed after one that was refused.
+        A new paragraph has the next number. Each request makes the next version, so that each
+        paragraph goes after the one before it, and none is typed after one that was refused.
         """
-        after = self.after
-        for count, passage in enumerate(self.passages):
-            expected = self.version + count
-            yield Type(after, self.table.name, passage.text, expect=expected)
-            if after != "end":
-                after = self.there + count + 1
+        for count, each in enumerate(self._in_order()):
+            yield replace(each, expect=self.version + count)
 
-    def noted(self, text: str, digest: str, by_lines: bool) -> ImportNote:
-        """What is noted of this import: the path of the text, its digest, and how it is read."""
+    def _in_order(self) -> Iterator[Command[Any]]:
+        yield from self.lacking
+        after = self.after
+        for number, passage in enumerate(self.passages, start=self.there + 1):
+            yield Type(after, self.table.name, passage.text)
+            yield from settings(passage, number)
+            if after != "end":
+                after = number
+
+    def noted(
+        self, text: str, digest: str, by_lines: bool, how: How
+    ) -> ImportNote | None:
+        """What is noted of this import: the path of the text, its digest, and how it is read.
+
+        Nothing is noted of one that types nothing.
+        """
+        if not self.passages:
+            return None
         return ImportNote(
             text,
             digest,
@@ -107,7 +123,19 @@ class Intake:
             self.after,
             self.version,
             self.there,
+            how,
         )
+
+
+def settings(
+    passage: Passage, number: int, paragraph: Paragraph | None = None
+) -> Iterator[Command[Any]]:
+    """What makes a new paragraph of a number be as a passage is, or one that has a part of it already."""
+    if passage.style is Style.HEADING:
+        if paragraph is None or paragraph.style is not Style.HEADING:
+            yield requests.Style(number, Style.HEADING)
+    if passage.begins_volume and (paragraph is None or not paragraph.begins_volume):
+        yield requests.Volume(number, True)
 
 
 def parted_at(

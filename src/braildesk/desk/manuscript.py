@@ -12,6 +12,7 @@ from functools import cached_property
 from io import StringIO
 from itertools import groupby, islice
 
+from braildesk import Style
 from braildesk.desk import Problem
 from braildesk.text import limits
 from braildesk.text.sequences import chunks, composed, sequences
@@ -61,6 +62,9 @@ class Line:
 
     text: str
     position: Position
+    #: How far from the front of the line in the file each character and the end are, if they aren't
+    #: as far as here, since some were put in place of others.
+    columns: tuple[int, ...] = ()
 
 
 @dataclass(frozen=True)
@@ -68,6 +72,8 @@ class Passage:
     """A paragraph of a text file: lines that are joined by one blank each."""
 
     lines: tuple[Line, ...]
+    style: Style = Style.BODY
+    begins_volume: bool = False
 
     @property
     def first_line(self) -> int:
@@ -122,8 +128,16 @@ class Passage:
 
     def _position(self, place: int, fronts: Sequence[int]) -> Position:
         number = bisect_right(fronts, place) - 1
-        front = self.lines[number].position
-        return Position(front.line, front.column + place - fronts[number])
+        line, offset = self.lines[number], place - fronts[number]
+        front = line.position
+        if line.columns:
+            offset = line.columns[min(offset, len(line.columns) - 1)]
+        return Position(front.line, front.column + offset)
+
+
+@dataclass(frozen=True)
+class DocumentPassage(Passage):
+    """A paragraph of a document, whose line is its number among all of them."""
 
 
 def passages(data: bytes, by_lines: bool) -> tuple[Passage, ...]:
@@ -131,7 +145,7 @@ def passages(data: bytes, by_lines: bool) -> tuple[Passage, ...]:
 
     Raises `UnreadableText`.
     """
-    lines = _lines(_decoded(data.removeprefix(_MARK)))
+    lines = _lines(data)
     found = tuple(islice(_parted(lines, by_lines), _MOST + 1))
     if len(found) > _MOST:
         raise TooManyPassages(_MOST)
@@ -145,11 +159,16 @@ def _parted(lines: Iterator[Line], by_lines: bool) -> Iterator[Passage]:
     return (Passage(tuple(group)) for has_text, group in groups if has_text)
 
 
-def _lines(text: str) -> Iterator[Line]:
+def text_lines(data: bytes) -> Iterator[str]:
+    """The lines of a text, as they are between their ends; raises `UnreadableText`."""
     # lines are taken one by one, since a text may have millions that are blank
-    for number, whole in enumerate(StringIO(text, newline="\n"), start=1):
-        shown = whole.removesuffix("\n").removesuffix("\r")
-        shown = shown.replace("\t", " ").replace("\f", " ")
+    for whole in StringIO(_decoded(data.removeprefix(_MARK)), newline="\n"):
+        yield whole.removesuffix("\n").removesuffix("\r")
+
+
+def _lines(data: bytes) -> Iterator[Line]:
+    for number, whole in enumerate(text_lines(data), start=1):
+        shown = whole.replace("\t", " ").replace("\f", " ")
         front = len(shown) - len(shown.lstrip(" "))
         yield Line(shown.strip(" "), Position(number, front + 1))
 

@@ -1,15 +1,18 @@
 """Manuscripts of any kind, read as the paragraphs of a book: documents, texts, and books."""
 
 from collections.abc import Iterator
-from dataclasses import replace
+from dataclasses import dataclass, replace
+from itertools import takewhile
 from pathlib import Path
 
 from braildesk import Session, Style
 from braildesk.desk.documents import read_document
 from braildesk.desk.documents.kinds import Kind, is_container, kind_of
-from braildesk.desk.documents.reading import Manuscript, Part, Reading, replaced
-from braildesk.desk.manuscript import Passage, passages
+from braildesk.desk.documents.reading import Manuscript, Part, Reading
+from braildesk.desk.manuscript import DocumentPassage, Line, Passage, Position, passages
+from braildesk.desk.import_note import How
 from braildesk.desk.readings import prints
+from braildesk.desk.replacements import Replaced, Replacer
 from braildesk.named_files import TooLarge, is_handed_over, open_file, read_file
 from braildesk.text import limits
 
@@ -36,14 +39,57 @@ def read_manuscript(
 def manuscript_of(data: bytes, kind: Kind, reading: Reading) -> Manuscript:
     """The paragraphs of the bytes of a document or of a text; raises `UnreadableText`."""
     if kind.is_document:
-        found = read_document(data, kind, reading)
-    else:
-        texts = (
-            text for each in passages(data, by_lines=False) for text in _texts(each)
+        return read_document(data, kind, reading)
+    texts = (text for each in passages(data, by_lines=False) for text in _texts(each))
+    return Manuscript(kind, tuple(Part(text) for text in texts if text))
+
+
+@dataclass(frozen=True)
+class Taken:
+    """A manuscript on its way into a book."""
+
+    passages: tuple[Passage, ...]
+    replaced: tuple[Replaced, ...]
+    #: The document that it is, if it is no text.
+    document: Manuscript | None = None
+
+
+def taken(data: bytes, by_lines: bool, how: How) -> Taken:
+    """The paragraphs of the bytes of a document or of a text, as they are typed.
+
+    Raises `UnreadableText`.
+    """
+    kind = how.reading.kind or Kind.TEXT
+    replacer = Replacer(how.replacements)
+    if not kind.is_document:
+        found = replacer.passages(passages(data, by_lines))
+        return Taken(found, replacer.counts)
+    document = read_document(data, kind, how.reading)
+    document = replace(document, parts=replacer.parts(document.parts))
+    return Taken(_passages_of(document, how.volumes), replacer.counts, document)
+
+
+def _passages_of(
+    manuscript: Manuscript, volumes: int | None
+) -> tuple[DocumentPassage, ...]:
+    """The paragraphs of a document as they are typed; volumes begin at headings of a level.
+
+    What stands before the text, as its title, is in one volume with the first of these.
+    """
+    parts = manuscript.parts
+    fronts = len(list(takewhile(lambda part: part.is_front, parts)))
+    levels = [part.level for part in parts]
+    begin = {n for n, level in enumerate(levels) if volumes and level == volumes}
+    if fronts in begin:
+        begin = begin - {fronts} | {0}
+    return tuple(
+        DocumentPassage(
+            (Line(part.text, Position(number + 1, 1)),),
+            Style.HEADING if part.is_heading else Style.BODY,
+            number in begin,
         )
-        found = Manuscript(kind, tuple(Part(text) for text in texts if text))
-    parts, counts = replaced(found.parts, reading.replacements)
-    return replace(found, parts=parts, replaced=counts)
+        for number, part in enumerate(parts)
+    )
 
 
 def read_bytes(path: Path) -> bytes:

@@ -3,9 +3,9 @@
 from collections.abc import Callable
 from pathlib import Path
 
-from braildesk import DeskError, Session
+from braildesk import DeskError, Session, Typed
 from braildesk.desk import Problem
-from braildesk.desk.intake import Intake, NotImported
+from braildesk.desk.intake import Intake, NotImported, settings
 from braildesk.desk.readings import answers
 
 
@@ -26,6 +26,8 @@ class CutShort(Problem):
         self.cause = cause
         #: How many of them are in the book, if that was looked for and could be seen there.
         self.kept: int | None = None
+        #: Whether the last of them isn't as it was to be, as a heading.
+        self.is_lacking = False
         #: Whether the import is noted, so that the text is known again by its path.
         self.is_noted = False
 
@@ -49,22 +51,31 @@ def type_all(
             if session.last_version != intake.version:
                 raise ChangedMeanwhile(session.last_version)
             begin()
-            for _ in answers(session, intake.requests(), report):
-                done += 1
+            for answer in answers(session, intake.requests(), lambda _: report(done)):
+                done += isinstance(answer, Typed)
+            report(done)
     except (DeskError, KeyboardInterrupt) as cause:
         raise CutShort(done, cause) from cause
 
 
-def kept_of(path: Path, intake: Intake, wait: float) -> int | None:
-    """How many of the paragraphs are in the book, if that can be seen there."""
+def look_for(path: Path, intake: Intake, wait: float, cut: CutShort) -> None:
+    """Looks how many of the paragraphs are in the book, and whether the last one is as it was to be."""
     try:
         with Session(path, timeout=wait) as session:
-            kept = len(session.paragraphs()) - intake.there
+            book = session.paragraphs()
+            kept = len(book) - intake.there
             if kept == 0:
-                return 0
-            if not 0 < kept <= len(intake.passages):
-                return None
-            stored = session.print_of(intake.there + kept)
-            return kept if stored == intake.passages[kept - 1].text else None
+                cut.kept = 0
+                cut.is_lacking = session.last_version < intake.version + len(
+                    intake.lacking
+                )
+            elif 0 < kept <= len(intake.passages):
+                last, number = intake.passages[kept - 1], intake.there + kept
+                if session.print_of(number) == last.text:
+                    cut.kept = kept
+                    (paragraph,) = (each for each in book if each.id == number)
+                    cut.is_lacking = (
+                        next(settings(last, number, paragraph), None) is not None
+                    )
     except DeskError:
-        return None
+        return

@@ -9,8 +9,9 @@ from dataclasses import dataclass
 
 from braildesk import After, Paragraph, Session
 from braildesk.desk.import_note import ImportNote
-from braildesk.desk.intake import NotImported, parted_at
-from braildesk.desk.manuscript import Passage, UnreadableText, passages
+from braildesk.desk.intake import NotImported, parted_at, settings
+from braildesk.desk.manuscript import Passage, UnreadableText
+from braildesk.desk.manuscripts import taken
 from braildesk.desk.origin import came_from
 from braildesk.named_files import open_file
 from braildesk.text import limits
@@ -19,7 +20,9 @@ from braildesk.text import limits
 class NotSeen(NotImported):
     """The text of an import was changed or can't be read, so what became of it can't be seen."""
 
-    def __init__(self, note: ImportNote, cause: OSError | None = None) -> None:
+    def __init__(
+        self, note: ImportNote, cause: OSError | UnreadableText | None = None
+    ) -> None:
         super().__init__(note, cause)
         self.note = note
         self.cause = cause
@@ -37,6 +40,8 @@ class Unfinished:
     rest: tuple[Passage, ...]
     #: Whether all that the book got by it is struck.
     is_taken_back: bool
+    #: Whether the last of these isn't as it was to be, as a heading.
+    is_lacking: bool = False
 
     @property
     def done(self) -> int:
@@ -46,8 +51,13 @@ class Unfinished:
     @property
     def is_to_go_on(self) -> bool:
         """Whether a part of the text is in the book, and not all of it."""
-        has_part = self.done > 0 and self.kept < len(self.rest)
+        has_part = self.done > 0 and not self.is_all_there
         return has_part and not self.is_taken_back
+
+    @property
+    def is_all_there(self) -> bool:
+        """Whether all of the text is in the book, as it was to be."""
+        return self.kept == len(self.rest) and not self.is_lacking
 
     @property
     def after(self) -> After:
@@ -56,7 +66,9 @@ class Unfinished:
 
     @property
     def line(self) -> int:
-        """The line of the text at which it goes on."""
+        """The line of the text at which it goes on, which is beyond it if only settings are lacking."""
+        if self.kept == len(self.rest):
+            return self.rest[-1].last_line + 1
         return self.rest[self.kept].first_line
 
     @property
@@ -75,7 +87,13 @@ def unfinished(
     kept = 0 if is_untouched else came_from(session, new, rest)
     struck = {each.id for each in book if each.struck}
     is_taken_back = kept > 0 and struck.issuperset(new[:kept])
-    return Unfinished(note, kept, before, rest, is_taken_back)
+    last = note.there + kept
+    is_lacking = kept > 0 and any(
+        next(settings(rest[kept - 1], last, each), None) is not None
+        for each in book
+        if each.id == last
+    )
+    return Unfinished(note, kept, before, rest, is_taken_back, is_lacking)
 
 
 def digest_of(data: bytes) -> str:
@@ -88,14 +106,17 @@ def _parts(note: ImportNote) -> tuple[tuple[Passage, ...], tuple[Passage, ...]]:
     try:
         # never what the shell hands over now
         with open_file(note.text) as file:
-            data = file.read(limits.TEXT_BYTES + 1)
+            data = file.read(limits.DOCUMENT_BYTES + 1)
     except OSError as cause:
         raise NotSeen(note, cause) from cause
     if digest_of(data) != note.digest:
         raise NotSeen(note)
     try:
-        before, rest = parted_at(passages(data, note.by_lines), note.line)
-    except (NotImported, UnreadableText) as cause:
+        whole = taken(data, note.by_lines, note.how).passages
+        before, rest = parted_at(whole, note.line)
+    except UnreadableText as cause:
+        raise NotSeen(note, cause) from cause
+    except NotImported as cause:
         raise NotSeen(note) from cause
     if len(rest) != note.count:
         raise NotSeen(note)

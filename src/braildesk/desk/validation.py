@@ -40,6 +40,8 @@ class TextFault:
 
     position: Position
     what: Barred | Lacking | TooLongPassage | Refused
+    #: The paragraph that has it.
+    passage: Passage
 
 
 def faults(passages: Sequence[Passage], table: Table) -> list[TextFault]:
@@ -91,7 +93,7 @@ def _of_characters(
             continue
         places = _first_places(passage.text, left)
         for character, position in zip(places, passage.positions(places.values())):
-            yield TextFault(position, what(character))
+            yield TextFault(position, what(character), passage)
         left.difference_update(places)
 
 
@@ -105,7 +107,8 @@ def _first_places(text: str, sought: Collection[str]) -> dict[str, int]:
 
 
 def _too_long(passage: Passage) -> TextFault:
-    return TextFault(passage.position(limits.PRINT_CHARACTERS), TooLongPassage(passage))
+    position = passage.position(limits.PRINT_CHARACTERS)
+    return TextFault(position, TooLongPassage(passage), passage)
 
 
 def _of_lines(
@@ -114,4 +117,4 @@ def _of_lines(
     """What the table refuses of whole paragraphs, which is none but what was found above."""
     for passage, answer in zip(passages, answers):
         if isinstance(answer, Refused):
-            yield TextFault(passage.position(answer.place or 0), answer)
+            yield TextFault(passage.position(answer.place or 0), answer, passage)

@@ -7,6 +7,7 @@ _BEGUN = {
     Begun.WAITING: "What is typed",
     Begun.GIVEN_UP: "What is given up",
     Begun.IMPORTS: "How far the import comes",
+    Begun.REPLACEMENTS: "What stands in the place of other characters",
     Begun.LEFT_AT: "Where the book is left",
 }
 

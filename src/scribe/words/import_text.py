@@ -1,10 +1,13 @@
 """An import in words: what keeps a text from being typed, and what became of one that was begun."""
 
 import shlex
-from collections.abc import Iterable, Iterator
+from collections.abc import Callable, Iterable, Iterator, Sequence
 from pathlib import Path
 
 from braildesk import Displaced, Lost, Refused
+from braildesk.desk.documents.kinds import NoDocument, WhyNot
+from braildesk.desk.documents.pandoc import BrokenOff, NoConverter, NotConverted
+from braildesk.desk.documents.tree import NotRead
 from braildesk.desk.drafts import NotKept
 from braildesk.desk.earlier import (
     AllThere,
@@ -12,8 +15,17 @@ from braildesk.desk.earlier import (
     PartIsThere,
     StandsThere,
     Undecided,
+    Way,
 )
-from braildesk.desk.import_text import CantRead, Faulty, Import, Importer, NoText
+from braildesk.desk.import_text import (
+    CantRead,
+    Faulty,
+    Import,
+    Importer,
+    NoText,
+    OfDocuments,
+    OfTexts,
+)
 from braildesk.desk.intake import (
     BookHasNoTable,
     Intake,
@@ -24,25 +36,42 @@ from braildesk.desk.intake import (
     NotImported,
     WhichTable,
 )
-from braildesk.desk.manuscript import NotUtf8, Passage, TooManyPassages, UnreadableText
+from braildesk.desk.manuscript import (
+    DocumentPassage,
+    NotUtf8,
+    Passage,
+    TooManyPassages,
+    UnreadableText,
+)
+from braildesk.desk.replacements import BadReplacements
 from braildesk.desk.typist import ChangedMeanwhile, CutShort
 from braildesk.desk.unfinished import NotSeen, Unfinished
 from braildesk.desk.validation import Barred, Lacking, TextFault, TooLongPassage
+from braildesk.desk.whole_file import write_whole
 from braildesk.text import characters, limits
+from braildesk.text.characters import visible
+from braildesk.text.excerpt import excerpt
 
 from scribe.words.console import Console
 from scribe.words.drafts import not_kept
+from scribe.words.losses import FEW, kind_name, report_lines
 from scribe.words.paragraph import no_paragraph, quoted
 from scribe.words.status import Interrupted, Status, Stop, stopped_by
 
+#: How long the words around a place of a document are.
+_AROUND = 50
 
-def import_in_words(job: Import, console: Console) -> tuple[Status, str]:
+
+def import_in_words(
+    job: Import, console: Console, report: Path | None = None
+) -> tuple[Status, str]:
     """Imports a text, and says what became of it: a command's status, and what was kept, if it is.
 
-    Raises `NotImported`.
+    What a book can't hold of it is said before that, and all of it is written to a file, if one is
+    named. Raises `NotImported`.
     """
     importer = Importer(job, lambda fault: console.say(not_kept(fault)))
-    intake = prepared(importer, console)
+    intake = prepared(importer, console, console.say, report)
     try:
         typed = importer.type(intake, console.progress("paragraphs typed"))
     except CutShort as cut:
@@ -51,6 +80,9 @@ def import_in_words(job: Import, console: Console) -> tuple[Status, str]:
         if isinstance(cut.cause, KeyboardInterrupt):
             raise Interrupted.after(cut.cause) from cut
         return status, ""
+    if not typed.count:
+        console.show(f"All of {job.text} is in the book now.")
+        return Status.DONE, f"the rest of {job.text.name}"
     last = typed.first + typed.count - 1
     numbers = (
         f"number {last}" if typed.count == 1 else f"numbers {typed.first} to {last}"
@@ -60,22 +92,68 @@ def import_in_words(job: Import, console: Console) -> tuple[Status, str]:
     return Status.DONE, kept
 
 
-def trial_in_words(job: Import, console: Console) -> Status:
+def trial_in_words(job: Import, console: Console, report: Path | None = None) -> Status:
     """Judges a text and types nothing, and says how much would be typed."""
     importer = Importer(job, lambda fault: console.say(not_kept(fault)))
-    intake = prepared(importer, console)
+    intake = prepared(importer, console, console.show, report)
     count, table = _paragraphs(len(intake.passages)), intake.table.name
     console.show(f"{count} would be typed, by the table {table}.")
     return Status.DONE
 
 
-def prepared(importer: Importer, console: Console) -> Intake:
-    """What is to be typed, unless that is stopped."""
+def prepared(
+    importer: Importer,
+    console: Console,
+    show: Callable[..., None],
+    report: Path | None,
+) -> Intake:
+    """What is to be typed, unless that is stopped. What was read is reported in any case."""
     try:
-        return importer.prepare()
+        intake = importer.prepare()
     except KeyboardInterrupt as cause:
         console.say(f"{stopped_by(cause)} Nothing was typed.")
         raise Interrupted.after(cause) from cause
+    except NotImported:
+        _report(importer, show, report)
+        raise
+    _report(importer, show, report)
+    return intake
+
+
+def _report(importer: Importer, show: Callable[..., None], report: Path | None) -> None:
+    """Shows what of a document a book can't hold, and writes all of it to a file."""
+    if importer.taken is None:
+        return
+    job = importer.job
+    if report is not None:
+        lines = report_lines(job.text, importer.taken)
+        _write_report(job, report, lines or [f"{job.text} is a text."])
+    if job.way is not Way.GO_ON:
+        lines = report_lines(job.text, importer.taken, FEW)
+        show(*lines)
+        if report is not None:
+            show(f"All places are in {report}.")
+        elif any(line.startswith("- and ") for line in lines):
+            show("--report FILE writes all places to a file.")
+
+
+def _write_report(job: Import, report: Path, lines: Sequence[str]) -> None:
+    own = (job.book, job.text, job.replacements)
+    if any(each is not None and _is_same(report, each) for each in own):
+        raise Stop(f"The report would take the place of {report}. Nothing was typed.")
+    try:
+        write_whole(report, "".join(f"{line}\n" for line in lines).encode())
+    except OSError as cause:
+        raise Stop(
+            f"The report can't be written to {report}: {cause.strerror}. Nothing was typed."
+        ) from cause
+
+
+def _is_same(path: Path, other: Path) -> bool:
+    try:
+        return path.samefile(other)
+    except OSError:
+        return False
 
 
 def _left(job: Import, intake: Intake, cut: CutShort) -> Iterator[str]:
@@ -83,16 +161,16 @@ def _left(job: Import, intake: Intake, cut: CutShort) -> Iterator[str]:
     kept = cut.done if cut.kept is None else cut.kept
     least = "at least " if cut.kept is None else ""
     if kept:
-        last = intake.passages[kept - 1].last_line
-        yield (
-            f"{job.text} is in the book {least}up to line {last}, which is the end of"
-            f" paragraph {intake.there + kept} of the book."
-        )
-    else:
+        last, number = intake.passages[kept - 1], intake.there + kept
+        where = f"up to line {last.last_line}, which is the end of paragraph {number}"
+        if isinstance(last, DocumentPassage):
+            where = f"up to its paragraph {last.last_line}, which is paragraph {number}"
+        yield f"{job.text} is in the book {least}{where} of the book."
+    elif not cut.is_lacking:
         yield f"Nothing of {job.text} was reported as kept." if cut.kept is None else (
             f"Nothing of {job.text} is in the book."
         )
-    if kept < len(intake.passages):
+    if kept < len(intake.passages) or cut.is_lacking:
         words = shlex.join(_command_from(job, intake, kept, cut.is_noted))
         yield f"When nothing stands in the way any more, go on by: {words}"
 
@@ -102,6 +180,7 @@ def _command_from(job: Import, intake: Intake, kept: int, is_noted: bool) -> lis
     words = ["scribe", "import", str(job.book), str(job.text)]
     if is_noted:
         return [*words, "--continue"]
+    words += _choices(job)
     if job.by_lines:
         words.append("--lines")
     if job.table:
@@ -109,8 +188,20 @@ def _command_from(job: Import, intake: Intake, kept: int, is_noted: bool) -> lis
     if intake.after != "end":
         words += ["--after", str(intake.there + kept if kept else intake.after)]
     if kept or job.line:
-        words += ["--from", str(intake.passages[kept].first_line)]
+        # beyond the last one nothing but its settings is lacking, and these come with it
+        first = intake.passages[min(kept, len(intake.passages) - 1)]
+        words += ["--from", str(first.first_line)]
     return words
+
+
+def _choices(job: Import) -> Iterator[str]:
+    """The words that say again how a document is read."""
+    if job.kind.is_document:
+        yield from ("--format", job.kind.value)
+        if job.how.reading.notes_at_end:
+            yield from ("--notes", "end")
+        if job.how.volumes is not None:
+            yield from ("--volumes", str(job.how.volumes))
 
 
 def _paragraphs(count: int) -> str:
@@ -141,10 +232,16 @@ def not_imported(problem: NotImported) -> Stop:
             again = "--again types it once more."
             return Stop(_stands_there(problem), more=[f"{again} Nothing was typed."])
         case PartIsThere(its=its):
+            unit = "paragraph" if is_of_document(its) else "line"
             options = (
-                f"--continue goes on with line {its.line}, --again types all of it once more, and"
+                f"--continue goes on with {unit} {its.line}, --again types all of it once more, and"
                 " --leave leaves the rest out."
             )
+            if its.kept == len(its.rest):
+                options = (
+                    "--continue makes it one, --again types all of it once more, and --leave leaves"
+                    " it as it is."
+                )
             return Stop(came_to(its), more=[f"{options} Nothing was typed."])
         case Faulty():
             first, *others = _faulty(problem)
@@ -212,6 +309,15 @@ def _why_not(problem: NotImported) -> str:
             )
         case NoLine(line=line):
             return f"The text has no paragraph from line {line} on."
+        case OfTexts(path=path, kind=kind):
+            return f"{path} is {kind_name(kind)}, which has paragraphs of its own: --lines is for texts."
+        case OfDocuments(path=path):
+            return (
+                f"{path} is a text, without headings and notes: --volumes and --notes are for"
+                " documents. --format markdown reads it as Markdown."
+            )
+        case BadReplacements():
+            return _bad_replacements(problem)
         case NoParagraphBefore(number=number, count=count):
             return no_paragraph(number, count)
         case WhichTable(names=names, wanted=None):
@@ -223,8 +329,28 @@ def _why_not(problem: NotImported) -> str:
     raise TypeError(f"no sentence for {problem!r}")
 
 
+def _bad_replacements(problem: BadReplacements) -> str:
+    path = problem.path
+    match problem.cause:
+        case OSError() as cause:
+            return f"{path} can't be read: {cause.strerror}."
+        case UnreadableText() as fault:
+            return f"{path} {unreadable(fault)}."
+    return (
+        f"{path}, line {problem.line}: a line has the characters that are replaced, a tab, and those"
+        " that stand in their place. The same characters are replaced once."
+    )
+
+
+def is_of_document(its: Unfinished) -> bool:
+    """Whether an import is of a document, whose paragraphs are counted, and not of a text."""
+    return isinstance(its.whole[0], DocumentPassage)
+
+
 def lines_of(passage: Passage) -> str:
-    """The lines of a text file on which a paragraph of it stands."""
+    """The lines of a text file on which a paragraph of it stands, or its number in a document."""
+    if isinstance(passage, DocumentPassage):
+        return f"number {passage.first_line}"
     if passage.first_line == passage.last_line:
         return f"line {passage.first_line}"
     return f"lines {passage.first_line} to {passage.last_line}"
@@ -235,8 +361,9 @@ def _not_continuing(problem: NotContinuing) -> str:
     found = "The text would go to the front of the book."
     if problem.stored is not None:
         found = f"The paragraph before in the book is {quoted(problem.stored)}."
+    unit = "paragraph" if isinstance(last, DocumentPassage) else "line"
     return (
-        f"The text can't go on from line {line}: before it comes the paragraph of"
+        f"The text can't go on from {unit} {line}: before it comes the paragraph of"
         f" {lines_of(last)}, {quoted(last.text)}. {found}{_hint(problem)}"
     )
 
@@ -255,6 +382,20 @@ def _hint(problem: NotContinuing) -> str:
 def unreadable(fault: UnreadableText) -> str:
     """Why the bytes of a text can't be read, after the name of its file."""
     match fault:
+        case NoDocument(why=why):
+            return _NO_DOCUMENT[why]
+        case NoConverter(kind=kind, name=name, package=package):
+            return (
+                f"is {kind_name(kind)}, which {name} reads, and {name} is not installed. Debian has it"
+                f" as {package}"
+            )
+        case BrokenOff(name=name):
+            return f"takes {name} more time or memory than any book, and was given up"
+        case NotConverted(name=name, said=said):
+            why_not = f": {visible(said)}" if said else ""
+            return f"can't be read by {name}{why_not.removesuffix('.')}"
+        case NotRead():
+            return "can't be read: pandoc says of it what scribe doesn't know"
         case TooManyPassages(most=most):
             return f"has over {most:,} paragraphs, and a book has at most {limits.PARAGRAPHS:,}"
         case NotUtf8(position=position, byte=byte):
@@ -265,13 +406,34 @@ def unreadable(fault: UnreadableText) -> str:
     return "is UTF-16. Save it as UTF-8, and import it again"
 
 
+_NO_DOCUMENT = {
+    WhyNot.OTHER: "is no text and no document that scribe reads: these are DOCX, ODT, EPUB, HTML,"
+    " Markdown, RTF and DOC",
+    WhyNot.PDF: "is PDF, which has places on pages and no paragraphs. Ask for the document of which it"
+    " was made",
+    WhyNot.DAMAGED: "is damaged: it begins as a document does, and can't be unpacked",
+    WhyNot.TOO_LARGE: "unpacks to more than any book has",
+    WhyNot.ENCRYPTED: "is encrypted. Save it without a password, and import it again",
+    WhyNot.COPY_PROTECTED: "is protected against copying. Ask the publisher for a file that isn't",
+    WhyNot.BOOK: "is a book of braildesk, and no manuscript",
+}
+
+
 def fault_lines(name: str, faults: Iterable[TextFault]) -> list[str]:
     """A line for each fault of a text, in the order of their places."""
-    placed = sorted((fault.position, _fault(fault.what)) for fault in faults)
-    return [
-        f"{name}, line {position.line}, column {position.column}: {sentence}"
-        for position, sentence in placed
-    ]
+    placed = sorted(
+        (fault.position, _fault(fault.what), _place(fault)) for fault in faults
+    )
+    return [f"{name}, {place}: {sentence}" for _, sentence, place in placed]
+
+
+def _place(fault: TextFault) -> str:
+    """Where a fault is: by line and column, and in a document by the words around it."""
+    line, column = fault.position.line, fault.position.column
+    if isinstance(fault.passage, DocumentPassage):
+        around = excerpt(fault.passage.text, column - 1, column, _AROUND)
+        return f"paragraph {line}, {around}"
+    return f"line {line}, column {column}"
 
 
 def _fault(what: Barred | Lacking | TooLongPassage | Refused) -> str:
@@ -311,7 +473,9 @@ def not_seen(fault: NotSeen) -> str:
     """What is said of an import whose text isn't what it was."""
     note = fault.note
     why = "was changed since"
-    if fault.cause is not None:
+    if isinstance(fault.cause, UnreadableText):
+        why = unreadable(fault.cause)
+    elif fault.cause is not None:
         why = f"can't be read: {fault.cause.strerror}"
     return (
         f"The import of {note.name} was cut short, and {note.text} {why}. So how much of it is in"
@@ -325,7 +489,12 @@ def came_to(its: Unfinished) -> str:
     head = f"The import of {its.note.name} was cut short:"
     if not its.done:
         return f"{head} nothing of it is in the book."
-    return (
-        f"{head} {its.done:,} of its {len(its.whole):,} paragraphs are in the book, up to line"
-        f" {its.whole[its.done - 1].last_line} of the text."
-    )
+    if its.kept == len(its.rest):
+        return (
+            f"{head} all of it is in the book, but its last paragraph isn't a heading, or begins no"
+            " volume, as it was to be."
+        )
+    where = ""
+    if not is_of_document(its):
+        where = f", up to line {its.whole[its.done - 1].last_line} of the text"
+    return f"{head} {its.done:,} of its {len(its.whole):,} paragraphs are in the book{where}."

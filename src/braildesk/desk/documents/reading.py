@@ -1,13 +1,13 @@
 """What is read of a manuscript: its paragraphs, and all of it that they don't have."""
 
 import re
-from collections.abc import Iterable, Iterator
+from collections.abc import Iterator
 from dataclasses import dataclass
 from enum import Enum, auto
 
 from braildesk.desk.documents.kinds import Kind
 from braildesk.text import limits
-from braildesk.text.sequences import composed, sequences
+from braildesk.text.sequences import sequences
 
 #: What stands before an item of a list that has no number, unless something else is said.
 BULLET = "\u2022"
@@ -77,7 +77,7 @@ class Part:
 
 @dataclass(frozen=True, slots=True)
 class Reading:
-    """How a manuscript is read, and what of it begins volumes."""
+    """How a manuscript is read."""
 
     #: Which kind it is; else that is found.
     kind: Kind | None = None
@@ -85,10 +85,6 @@ class Reading:
     notes_at_end: bool = False
     #: What stands before an item of a list that has no number.
     bullet: str = BULLET
-    #: Characters, and those that stand in their place.
-    replacements: tuple[tuple[str, str], ...] = ()
-    #: The level of the headings at which volumes begin.
-    volumes: int | None = None
 
 
 @dataclass(frozen=True, slots=True)
@@ -101,8 +97,6 @@ class Manuscript:
     losses: tuple[Loss, ...] = ()
     #: The words of the file that aren't in any paragraph.
     missing: tuple[Missing, ...] = ()
-    #: Characters, those that stand in their place, and how often.
-    replaced: tuple[tuple[str, str, int], ...] = ()
 
     @property
     def texts(self) -> list[str]:
@@ -113,30 +107,6 @@ class Manuscript:
 def plain(text: str) -> str:
     """A text as a print has it: with one blank for several, and none around it."""
     return _BLANKS.sub(" ", _UNSEEN.sub("", text)).strip(" \n")
-
-
-def replaced(
-    parts: Iterable[Part], pairs: Iterable[tuple[str, str]]
-) -> tuple[tuple[Part, ...], tuple[tuple[str, str, int], ...]]:
-    """Parts with other characters in place of some, and how often each was replaced.
-
-    Where two could stand at a place the longer is taken. What was put there isn't replaced again.
-    """
-    by = dict(pairs)
-    if not by:
-        return tuple(parts), ()
-    counts = dict.fromkeys(by, 0)
-    sought = re.compile("|".join(map(re.escape, sorted(by, key=len, reverse=True))))
-
-    def other(found: re.Match[str]) -> str:
-        counts[found[0]] += 1
-        return by[found[0]]
-
-    made = [(part, plain(sought.sub(other, part.text))) for part in parts]
-    kept = tuple(
-        Part(composed(text), part.level, part.is_front) for part, text in made if text
-    )
-    return kept, tuple((old, new, counts[old]) for old, new in by.items())
 
 
 def short_enough(part: Part) -> Iterator[Part]:

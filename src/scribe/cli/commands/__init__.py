@@ -25,7 +25,7 @@ COMMANDS: Mapping[str, tuple[str, str]] = {
     "table": ("table", "Puts a table into the book."),
     "check-table": ("check_table", "Shows all that is wrong with a table."),
     "try": ("try_table", "Tries a table on print that is typed."),
-    "import": ("import_text", "Types the paragraphs of a text file."),
+    "import": ("import_text", "Types the paragraphs of a text file or a document."),
     "show": ("show", "Shows print, braille and marks."),
     "find": ("find", "Finds words or cells in the book."),
     "change": ("change", "Puts words in place of others."),

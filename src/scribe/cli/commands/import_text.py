@@ -1,12 +1,22 @@
-"""`scribe import`: the paragraphs of a text file, typed into the book."""
+"""`scribe import`: the paragraphs of a text file or of a document, typed into the book."""
 
 from argparse import ArgumentParser, Namespace
 from pathlib import Path
 
+from braildesk.desk.documents.kinds import Kind
+from braildesk.desk.documents.reading import Reading
 from braildesk.desk.earlier import NoneCutShort, Way, leave
+from braildesk.desk.import_note import How
 from braildesk.desk.import_text import Import
 
-from scribe.cli.parser import Subparsers, add_file, after, command_parser, number
+from scribe.cli.parser import (
+    Subparsers,
+    add_file,
+    after,
+    command_parser,
+    number,
+    readable,
+)
 from scribe.words.console import Console
 from scribe.words.import_text import import_in_words, trial_in_words
 from scribe.words.status import Status, Stop
@@ -17,15 +27,23 @@ line is a paragraph. The text is UTF-8. Before anything is typed all of it is ju
 character that the table lacks and each paragraph that is too long is shown with its line
 and column. If the typing is cut short, also by a terminal that is closed, --continue types
 the rest; --from goes on at a line of the text. A text that stands there already, or of
-which a part does, isn't typed once more without --again."""
+which a part does, isn't typed once more without --again.
+DOCX, ODT, EPUB, HTML and Markdown are read by pandoc, and RTF and DOC by LibreOffice, where
+these are installed; which of them it is, is found. Headings become headings. What a book
+can't hold, as emphasis and the form of tables, is said before anything is typed, and so is
+each word of the file that no paragraph has."""
 EXAMPLE = """\
-echo 'The sun is farther away.' > sun.txt && scribe import moon.braildesk sun.txt"""
+echo 'The sun is farther away.' > sun.txt && scribe import moon.braildesk sun.txt
+scribe import moon.braildesk tides.md --volumes 1 --dry-run"""
+FORMATS = tuple(kind.value for kind in Kind if kind is not Kind.BOOK)
 
 
 def add_parser(subparsers: Subparsers) -> ArgumentParser:
     parser = command_parser(subparsers, "import", EXAMPLE, MORE)
     add_file(parser)
-    parser.add_argument("text", metavar="TEXT", type=Path, help="the text file")
+    parser.add_argument(
+        "text", metavar="TEXT", type=Path, help="the text file, or a document"
+    )
     parser.add_argument("--lines", action="store_true", help="each line is a paragraph")
     parser.add_argument(
         "--table",
@@ -43,10 +61,50 @@ def add_parser(subparsers: Subparsers) -> ArgumentParser:
         "--dry-run", action="store_true", help="judge the text, and type nothing"
     )
     parser.add_argument(
-        "--from", dest="line", metavar="LINE", type=number, help="begin at this line"
+        "--from",
+        dest="line",
+        metavar="LINE",
+        type=number,
+        help="begin at this line, or this paragraph of a document",
     )
+    _add_choices(parser)
     _add_ways(parser)
     return parser
+
+
+def _add_choices(parser: ArgumentParser) -> None:
+    """Adds the words about documents, and about what is said of them."""
+    parser.add_argument(
+        "--format",
+        choices=FORMATS,
+        help="what the file is, if that isn't found: " + ", ".join(FORMATS),
+        metavar="NAME",
+    )
+    parser.add_argument(
+        "--volumes",
+        metavar="LEVEL",
+        type=number,
+        help="begin a volume at each heading of this level, which is usually 1",
+    )
+    parser.add_argument(
+        "--notes",
+        choices=("after", "end"),
+        default="after",
+        help="where notes go: after their paragraph, or to the end of the section",
+    )
+    parser.add_argument(
+        "--replace",
+        metavar="PAIRS",
+        type=readable,
+        help="a file of lines, each with characters, a tab, and what stands in their place; they"
+        " are kept for the book",
+    )
+    parser.add_argument(
+        "--report",
+        metavar="REPORT",
+        type=Path,
+        help="write all that is lost of a document to this file",
+    )
 
 
 def _add_ways(parser: ArgumentParser) -> None:
@@ -81,11 +139,19 @@ def run(arguments: Namespace, console: Console) -> Status:
         arguments.line,
         arguments.way,
         arguments.wait,
+        _how(arguments),
+        arguments.replace,
     )
     if arguments.dry_run:
-        return trial_in_words(job, console)
-    status, _ = import_in_words(job, console)
+        return trial_in_words(job, console, arguments.report)
+    status, _ = import_in_words(job, console, arguments.report)
     return status
+
+
+def _how(arguments: Namespace) -> How:
+    kind = Kind(arguments.format) if arguments.format else None
+    reading = Reading(kind, notes_at_end=arguments.notes == "end")
+    return How(reading, volumes=arguments.volumes)
 
 
 def _left_out(book: Path, path: Path, console: Console) -> Status:

@@ -1,0 +1,124 @@
+"""Characters that stand in the place of others while a manuscript is imported.
+
+A person writes them into a file, whose lines are ``CHARACTERS<tab>CHARACTERS``. They are kept for the
+book, and stand for its next manuscripts too.
+"""
+
+import re
+from collections.abc import Iterable
+from dataclasses import dataclass, replace
+from pathlib import Path
+
+from braildesk.desk.documents.reading import Part, plain
+from braildesk.desk.import_note import Pairs, is_pair
+from braildesk.desk.intake import NotImported
+from braildesk.desk.manuscript import Line, Passage, UnreadableText, text_lines
+from braildesk.named_files import read_file
+from braildesk.text import limits
+from braildesk.text.sequences import composed
+
+#: How many pairs a file may have.
+MOST_PAIRS = 1_000
+
+
+class BadReplacements(NotImported):
+    """A file has no such lines: the number of the first that is none, if there is one."""
+
+    def __init__(self, path: Path, line: int | None, cause: Exception | None) -> None:
+        super().__init__(path, line, cause)
+        self.path = path
+        self.line = line
+        self.cause = cause
+
+
+@dataclass(frozen=True)
+class Replaced:
+    """Characters, those that stand in their place, and how often they were replaced."""
+
+    old: str
+    new: str
+    count: int
+
+
+class Replacer:
+    """Puts characters in the place of others, and counts how often.
+
+    Where two could stand at a place the longer is taken. What was put there isn't replaced again.
+    """
+
+    def __init__(self, pairs: Pairs) -> None:
+        self._by = dict(pairs)
+        self._counts = dict.fromkeys(self._by, 0)
+        longest_first = sorted(self._by, key=len, reverse=True)
+        self._sought = re.compile("|".join(map(re.escape, longest_first)))
+
+    @property
+    def counts(self) -> tuple[Replaced, ...]:
+        """How often each was replaced so far."""
+        pairs = self._by.items()
+        return tuple(Replaced(old, new, self._counts[old]) for old, new in pairs)
+
+    def parts(self, parts: Iterable[Part]) -> tuple[Part, ...]:
+        """Parts with the new characters, without those of which nothing is left."""
+        if not self._by:
+            return tuple(parts)
+        made = [
+            replace(part, text=composed(plain(self._sought.sub(self._new, part.text))))
+            for part in parts
+        ]
+        return tuple(part for part in made if part.text)
+
+    def passages(self, passages: Iterable[Passage]) -> tuple[Passage, ...]:
+        """The same of the passages of a text, whose lines know their columns still."""
+        if not self._by:
+            return tuple(passages)
+        made = [
+            replace(passage, lines=tuple(filter(None, map(self._line, passage.lines))))
+            for passage in passages
+        ]
+        return tuple(passage for passage in made if passage.lines)
+
+    def _line(self, line: Line) -> Line | None:
+        """A line with the new characters, none where nothing is left of it."""
+        pieces: list[str] = []
+        columns: list[int] = []
+        place = 0
+        for found in self._sought.finditer(line.text):
+            pieces += (line.text[place : found.start()], self._new(found))
+            columns += range(place, found.start())
+            columns += [found.start()] * len(pieces[-1])
+            place = found.end()
+        if not place:
+            return line
+        pieces.append(line.text[place:])
+        columns += range(place, len(line.text) + 1)
+        text = "".join(pieces)
+        front = len(text) - len(text.lstrip(" "))
+        shown = text.strip(" ")
+        if not shown:
+            return None
+        return replace(line, text=shown, columns=tuple(columns[front:]))
+
+    def _new(self, found: re.Match[str]) -> str:
+        self._counts[found[0]] += 1
+        return self._by[found[0]]
+
+
+def read_replacements(path: Path) -> Pairs:
+    """The pairs that a file has; raises `BadReplacements`. Blank lines are passed over."""
+    try:
+        lines = list(text_lines(read_file(path, limits.TEXT_BYTES)))
+    except (OSError, UnreadableText) as cause:
+        raise BadReplacements(path, None, cause) from cause
+    pairs: dict[str, str] = {}
+    for number, line in enumerate(lines, start=1):
+        if not line:
+            continue
+        old, tab, new = line.partition("\t")
+        old, new = composed(old), composed(new)
+        if not tab or not is_pair(old, new) or pairs.get(old, new) != new:
+            raise BadReplacements(path, number, None)
+        pairs[old] = new
+        if len(pairs) > MOST_PAIRS:
+            raise BadReplacements(path, number, None)
+    return tuple(pairs.items())

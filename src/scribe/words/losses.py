@@ -1,0 +1,162 @@
+"""What of a document a book can't hold, in words: by kind, with how often and where."""
+
+from collections import Counter
+from collections.abc import Iterator, Sequence
+from pathlib import Path
+
+from braildesk.desk.documents.kinds import Kind
+from braildesk.desk.documents.reading import Loss, Lost, Manuscript, Missing
+from braildesk.desk.manuscripts import Taken
+from braildesk.desk.replacements import Replaced
+from braildesk.text.characters import visible
+
+#: How many places of a kind are shown where not all of them are.
+FEW = 5
+_NAMES = {
+    Kind.TEXT: "text",
+    Kind.MARKDOWN: "Markdown",
+    Kind.HTML: "HTML",
+    Kind.DOCX: "DOCX",
+    Kind.ODT: "ODT",
+    Kind.EPUB: "EPUB",
+    Kind.RTF: "RTF",
+    Kind.DOC: "DOC",
+    Kind.BOOK: "a book",
+}
+#: What is said of each kind, where it stands once, and where more often; the gravest first.
+_SAID = {
+    Lost.EMBEDDED: (
+        "1 embedded document is left out",
+        "{} embedded documents are left out",
+    ),
+    Lost.PICTURE: (
+        "1 picture without a description is left out",
+        "{} pictures without a description are left out",
+    ),
+    Lost.RAW: (
+        "1 piece in the language of another program is left out",
+        "{} pieces in the language of another program are left out",
+    ),
+    Lost.HIDDEN: (
+        "1 piece of text that is hidden in the document is typed too",
+        "{} pieces of text that are hidden in the document are typed too",
+    ),
+    Lost.DELETED: (
+        "1 deletion that was tracked is left out",
+        "{} deletions that were tracked are left out",
+    ),
+    Lost.COMMENT: ("1 comment is left out", "{} comments are left out"),
+    Lost.MATHEMATICS: (
+        "1 formula is typed as it is written in TeX",
+        "{} formulas are typed as they are written in TeX",
+    ),
+    Lost.SUPERSCRIPT: (
+        "1 superscript stands on the line",
+        "{} superscripts stand on the line",
+    ),
+    Lost.SUBSCRIPT: (
+        "1 subscript stands on the line",
+        "{} subscripts stand on the line",
+    ),
+    Lost.TABLE: (
+        "1 table is typed row by row, with semicolons between the cells",
+        "{} tables are typed row by row, with semicolons between the cells",
+    ),
+    Lost.LINK: ("1 link has lost its address", "{} links have lost their addresses"),
+    Lost.EMPHASIS: (
+        "1 emphasis, as by italics, is lost",
+        "{} emphases, as by italics, are lost",
+    ),
+    Lost.LEVEL: (
+        "1 heading is below the first level, and a book has only one",
+        "{} headings are below the first level, and a book has only one",
+    ),
+    Lost.LENGTH: (
+        "1 paragraph is too long for a book, and is parted at its sentences",
+        "{} paragraphs are too long for a book, and are parted at their sentences",
+    ),
+}
+
+
+def kind_name(kind: Kind) -> str:
+    """What people call a kind of manuscript."""
+    return _NAMES[kind]
+
+
+def report_lines(path: Path, taken: Taken, most: int | None = None) -> list[str]:
+    """All that is said of what was read of a manuscript; of each kind so many places at most."""
+    lines: list[str] = []
+    if (document := taken.document) is not None:
+        lines.append(_head(path, document))
+        lines += _missing(document.missing, most)
+        lines += _losses(document.losses, most)
+        if not document.missing and not document.losses:
+            lines.append("Nothing of it is lost.")
+    lines += map(_replaced, taken.replaced)
+    return lines
+
+
+def _head(path: Path, document: Manuscript) -> str:
+    headings = sum(part.is_heading for part in document.parts)
+    count = len(document.parts)
+    paragraphs = "1 paragraph" if count == 1 else f"{count:,} paragraphs"
+    of_these = f", {headings:,} of them headings" if headings else ", no headings"
+    return f"{path} is read as {kind_name(document.kind)}: {paragraphs}{of_these}."
+
+
+def _missing(found: Sequence[Missing], most: int | None) -> Iterator[str]:
+    """The words that no paragraph has."""
+    if not found:
+        return
+    count = sum(len(each.words.split()) for each in found)
+    words = "1 word" if count == 1 else f"{count:,} words"
+    yield f"{words} of the file will be in no paragraph:"
+    yield from _places([_where(each) for each in found], most)
+
+
+def _where(found: Missing) -> str:
+    neighbours = [
+        f"{word} “{visible(words)}”"
+        for word, words in (("after", found.before), ("before", found.after))
+        if words
+    ]
+    shown = f"“{visible(found.words)}”"
+    return f"{shown}, {' and '.join(neighbours)}" if neighbours else shown
+
+
+def _losses(losses: Sequence[Loss], most: int | None) -> Iterator[str]:
+    """What a book can't hold, by kind."""
+    for what, (once, often) in _SAID.items():
+        found = [loss for loss in losses if loss.what is what]
+        if found:
+            count = len(found)
+            said = once if count == 1 else often.format(f"{count:,}")
+            yield f"{said}:"
+            yield from _places([_around(loss) for loss in found], most)
+
+
+def _around(loss: Loss) -> str:
+    if not loss.words or loss.words == loss.around:
+        return f"“{visible(loss.around)}”" if loss.around else "where no words are"
+    return f"“{visible(loss.words)}” in “{visible(loss.around)}”"
+
+
+def _places(lines: Sequence[str], most: int | None) -> Iterator[str]:
+    """Lines of places, each once with how often; so many at most, and how many more there are."""
+    counted = Counter(lines)
+    shown = list(counted)[:most]
+    for line in shown:
+        count = counted[line]
+        yield f"- {line}" if count == 1 else f"- {line}, {count:,} times"
+    left = len(lines) - sum(counted[line] for line in shown)
+    if left:
+        yield f"- and {left:,} more"
+
+
+def _replaced(found: Replaced) -> str:
+    times = "once" if found.count == 1 else f"{found.count:,} times"
+    if not found.count:
+        return f"“{visible(found.old)}” stands nowhere, and isn't replaced."
+    if not found.new:
+        return f"“{visible(found.old)}” is left out {times}."
+    return f"“{visible(found.old)}” is replaced by “{visible(found.new)}” {times}."
