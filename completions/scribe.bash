@@ -15,7 +15,8 @@ _scribe() {
             talk) words='--by --short --ascii --ascii-small --unicode --width' ;;
             table | try) words='--width' ;;
             check-table) words='--display --width' ;;
-            import) words='--lines --table --after --dry-run --from --continue --again --leave' ;;
+            import) words='--lines --table --after --dry-run --from --format --volumes --notes --replace --report
+                --continue --again --leave' ;;
             show) words='--paragraphs --print --braille --ascii --ascii-small --unicode --width' ;;
             marks) words='--open --width' ;;
             find) words='--braille --alike --width' ;;

@@ -37,6 +37,7 @@ module    setuptools      python3-setuptools
 module    wheel           python3-wheel
 module    pip             python3-pip
 louis     lou_translate   liblouis-bin liblouis-data
+command   pandoc          pandoc
 '
 needed=$gate
 [ ! -d src ] || needed=$gate$tools

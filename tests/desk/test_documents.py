@@ -17,11 +17,11 @@ from braildesk.desk.documents.reading import (
     Missing,
     Part,
     Reading,
-    replaced,
     short_enough,
 )
 from braildesk.desk.documents.tree import Node, NotRead, document
 from braildesk.desk.manuscripts import read_manuscript
+from braildesk.desk.replacements import Replacer
 
 from handmade import (
     deleted,
@@ -408,16 +408,17 @@ def test_long_paragraphs_are_noted_by_their_first_words(tmp_path: Path) -> None:
 
 
 def test_characters_are_replaced_once_each_and_counted() -> None:
-    parts = [Part("a\u2026 b\u2026c", 1), Part("\u2026"), Part("...")]
-    pairs = [("\u2026", "..."), ("...", "x"), ("b...", "y"), ("\u2192", "to")]
-    assert replaced(parts, pairs) == (
-        (Part("a... b...c", 1), Part("..."), Part("x")),
-        (("\u2026", "...", 3), ("...", "x", 1), ("b...", "y", 0), ("\u2192", "to", 0)),
+    replacer = Replacer(
+        (("…", "..."), ("...", "x"), ("b...", "y"), ("→", "to"), ("z", ""))
     )
-    assert replaced([Part("\u2022"), Part("\u2022 a")], [("\u2022", "")]) == (
-        (Part("a"),),
-        (("\u2022", "", 2),),
+    parts = [Part("a… b…c", 1), Part("…"), Part("..."), Part("z"), Part("z a")]
+    assert replacer.parts(parts) == (
+        Part("a... b...c", 1),
+        Part("..."),
+        Part("x"),
+        Part("a"),
     )
+    assert [each.count for each in replacer.counts] == [3, 1, 0, 0, 2]
 
 
 def test_blanks_of_all_widths_are_one_blank(tmp_path: Path) -> None:
@@ -426,3 +427,21 @@ def test_blanks_of_all_widths_are_one_blank(tmp_path: Path) -> None:
         "<html><p>384&nbsp;400&thinsp;km\u200b\u2060 so\u00adft&#8232;a</html>"
     )
     assert read_manuscript(path).texts == ["384 400 km soft", "a"]
+
+
+@pytest.mark.parametrize(
+    "said, encoding",
+    [
+        ("<meta charset='windows-1252'>", "cp1252"),
+        (
+            "<meta http-equiv=Content-Type content='text/html; charset=ISO-8859-2'>",
+            "latin2",
+        ),
+        ("<meta charset=none>", "utf-8"),
+        ("", "cp1252"),
+        ("", "utf-8-sig"),
+    ],
+)
+def test_pages_are_read_in_what_they_are_encoded(said: str, encoding: str) -> None:
+    page = f"<html><head>{said}</head><p>Größe</p></html>".encode(encoding)
+    assert read_document(page, Kind.HTML).texts == ["Größe"]

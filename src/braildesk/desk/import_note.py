@@ -6,7 +6,7 @@ from pathlib import PurePath
 
 from braildesk import After
 from braildesk.desk.documents.kinds import Kind
-from braildesk.desk.documents.reading import Reading
+from braildesk.desk.documents.reading import BRACKETS, Reading
 from braildesk.desk.record import NotSuch, Record
 from braildesk.text import limits
 
@@ -73,6 +73,7 @@ class ImportNote:
             "kind": (self.how.reading.kind or Kind.TEXT).value,
             "notes_at_end": self.how.reading.notes_at_end,
             "bullet": self.how.reading.bullet,
+            "brackets": self.how.reading.brackets,
             "replacements": values_of(self.how.replacements),
             "volumes": self.how.volumes,
         }
@@ -107,7 +108,11 @@ def _how(kept: Record) -> How:
         kind = Kind(kept.text("kind"))
     except ValueError as cause:
         raise NotSuch("kind") from cause
-    reading = Reading(kind, kept.truth("notes_at_end"), kept.text("bullet"))
+    brackets = kept.text("brackets")
+    if len(brackets) != len(BRACKETS):
+        raise NotSuch("brackets")
+    is_at_end = kept.truth("notes_at_end")
+    reading = Reading(kind, is_at_end, kept.text("bullet"), brackets)
     volumes = kept.number_or_none("volumes", least=1)
     return How(reading, pairs_in(kept), volumes)
 

@@ -7,7 +7,7 @@ from pathlib import Path
 
 from braildesk import After, Refused, Session, read_tables, translate
 from braildesk.desk.documents.kinds import Kind, kind_of
-from braildesk.desk.documents.reading import BULLET, Reading
+from braildesk.desk.documents.reading import BRACKETS, BULLET, Reading
 from braildesk.desk.drafts import Drafts, NotKept
 from braildesk.desk.earlier import (
     AllThere,
@@ -188,7 +188,7 @@ class Importer:
         if kind.is_document:
             if job.by_lines:
                 raise OfTexts(job.text, kind)
-            reading = replace(reading, bullet=_bullet_for(job))
+            reading = _signs_for(job, reading)
         elif job.how.volumes is not None or reading.notes_at_end:
             raise OfDocuments(job.text)
         how = replace(job.how, reading=reading, replacements=self._replacements())
@@ -313,13 +313,17 @@ def _parted(
     return parted_at(whole, line)
 
 
-def _bullet_for(job: Import) -> str:
-    """What stands before an item of a list: a bullet, or a hyphen where the table lacks that."""
+def _signs_for(job: Import, reading: Reading) -> Reading:
+    """The reading with signs that the table has: another bullet and brackets where it lacks the usual."""
     with Session(job.book, timeout=job.wait) as session:
         anchor = paragraph_before(session.paragraphs(), job.after)
     table = table_for(read_tables(job.book, timeout=job.wait), anchor, job.table)
-    (answer,) = translate(table, [BULLET])
-    return "-" if isinstance(answer, Refused) else BULLET
+    bullet, *brackets = translate(table, [BULLET, *BRACKETS])
+    if isinstance(bullet, Refused):
+        reading = replace(reading, bullet="-")
+    if any(isinstance(each, Refused) for each in brackets):
+        reading = replace(reading, brackets="()")
+    return reading
 
 
 def _taken(job: Import, data: bytes) -> Taken:

@@ -162,7 +162,7 @@ def _parted(lines: Iterator[Line], by_lines: bool) -> Iterator[Passage]:
 def text_lines(data: bytes) -> Iterator[str]:
     """The lines of a text, as they are between their ends; raises `UnreadableText`."""
     # lines are taken one by one, since a text may have millions that are blank
-    for whole in StringIO(_decoded(data.removeprefix(_MARK)), newline="\n"):
+    for whole in StringIO(decoded(data), newline="\n"):
         yield whole.removesuffix("\n").removesuffix("\r")
 
 
@@ -173,7 +173,9 @@ def _lines(data: bytes) -> Iterator[Line]:
         yield Line(shown.strip(" "), Position(number, front + 1))
 
 
-def _decoded(data: bytes) -> str:
+def decoded(data: bytes) -> str:
+    """The characters of a text in UTF-8, without the mark at its front; raises `UnreadableText`."""
+    data = data.removeprefix(_MARK)
     try:
         return data.decode("utf-8")
     except UnicodeDecodeError as fault:

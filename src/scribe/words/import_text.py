@@ -107,13 +107,13 @@ def prepared(
     show: Callable[..., None],
     report: Path | None,
 ) -> Intake:
-    """What is to be typed, unless that is stopped. What was read is reported in any case."""
+    """What is to be typed, unless that is stopped. What is lost is reported with what is at fault."""
     try:
         intake = importer.prepare()
     except KeyboardInterrupt as cause:
         console.say(f"{stopped_by(cause)} Nothing was typed.")
         raise Interrupted.after(cause) from cause
-    except NotImported:
+    except Faulty:
         _report(importer, show, report)
         raise
     _report(importer, show, report)
@@ -270,6 +270,11 @@ def _stands_there(problem: StandsThere) -> str:
 def _faulty(problem: Faulty) -> list[str]:
     """All that would be refused of a text."""
     sentences = fault_lines(str(problem.path), problem.faults)
+    if any(
+        isinstance(each.passage, DocumentPassage) and isinstance(each.what, Lacking)
+        for each in problem.faults
+    ):
+        sentences.append("--replace PAIRS puts other characters in their place.")
     if problem.over:
         sentences.append(
             f"The book has {problem.there:,} paragraphs and the text {problem.count:,}. That is"

@@ -136,8 +136,10 @@ def _losses(losses: Sequence[Loss], most: int | None) -> Iterator[str]:
 
 
 def _around(loss: Loss) -> str:
+    if loss.what is Lost.PICTURE:
+        return f"at “{visible(loss.around)}”" if loss.around else "at the front"
     if not loss.words or loss.words == loss.around:
-        return f"“{visible(loss.around)}”" if loss.around else "where no words are"
+        return f"“{visible(loss.around)}”"
     return f"“{visible(loss.words)}” in “{visible(loss.around)}”"
 
 

@@ -4,6 +4,8 @@ Documents are read by pandoc (`pandoc`, `tree`, `notes`). What it leaves out wit
 comparing the words of its paragraphs with those that the file itself has (`contents`).
 """
 
+import re
+
 from braildesk.desk.documents import contents, pandoc
 from braildesk.desk.documents.kinds import Kind
 from braildesk.desk.documents.notes import with_notes
@@ -16,17 +18,24 @@ from braildesk.desk.documents.reading import (
     short_enough,
 )
 from braildesk.desk.documents.tree import FAULTS, NotRead, document
+from braildesk.desk.manuscript import decoded
 from braildesk.text import limits
 
 #: The kinds that LibreOffice turns into DOCX first: pandoc loses print of the first without a word,
 #: reads none of the second, and of the third loses the heads of tables.
 _BY_OFFICE = (Kind.RTF, Kind.DOC, Kind.ODT)
+#: Where a page of HTML says in what it is encoded; else its front does, or it is of an older system.
+_CHARSET = re.compile(rb"(?:charset|encoding)\s*=\s*[\"']?([A-Za-z0-9_.-]+)")
+_FRONT = 1024
+_MARKS = ((b"\xff\xfe", "utf-16"), (b"\xfe\xff", "utf-16"), (b"", "utf-8-sig"))
 #: The kinds whose title, and what else is said about the whole, is a part of the print.
 _WITH_FRONT = (Kind.DOCX, Kind.ODT, Kind.MARKDOWN)
 
 
 def read_document(data: bytes, kind: Kind, reading: Reading = Reading()) -> Manuscript:
     """The manuscript that the bytes of a document are; raises `UnreadableText`."""
+    if kind in (Kind.MARKDOWN, Kind.HTML):
+        data = _characters(data, kind).encode()
     own = contents.contents_of(data, kind)
     readable, its = data, kind
     if kind in _BY_OFFICE and (kind is not Kind.ODT or pandoc.office()):
@@ -44,6 +53,23 @@ def read_document(data: bytes, kind: Kind, reading: Reading = Reading()) -> Manu
     parts = tuple(each for part in found.parts for each in short_enough(part))
     losses = (*found.losses, *_too_long(found.parts), *own.losses)
     return Manuscript(kind, parts, losses, tuple(missing))
+
+
+def _characters(data: bytes, kind: Kind) -> str:
+    """The characters of a document without a container: in UTF-8, or as a page says or is read.
+
+    pandoc takes what isn't UTF-8 for Latin 1, with a warning.
+    """
+    names = [next(name for mark, name in _MARKS if data.startswith(mark))]
+    if kind is Kind.HTML:
+        said = _CHARSET.search(data[:_FRONT])
+        names = [*([said[1].decode()] if said else []), *names, "cp1252"]
+    for name in names:
+        try:
+            return data.decode(name)
+        except (UnicodeDecodeError, LookupError):
+            continue
+    return decoded(data)
 
 
 def _too_long(parts: tuple[Part, ...]) -> list[Loss]:

@@ -9,8 +9,9 @@ from braildesk.desk.documents.kinds import Kind
 from braildesk.text import limits
 from braildesk.text.sequences import sequences
 
-#: What stands before an item of a list that has no number, unless something else is said.
-BULLET = "\u2022"
+#: What stands before an item of a list that has no number, and around notes and the descriptions of
+#: pictures, unless something else is said.
+BULLET, BRACKETS = "\u2022", "[]"
 
 #: Blanks of all widths, also those at which no line may end.
 _BLANKS = re.compile(
@@ -85,6 +86,8 @@ class Reading:
     notes_at_end: bool = False
     #: What stands before an item of a list that has no number.
     bullet: str = BULLET
+    #: The two characters that stand around notes and the descriptions of pictures.
+    brackets: str = BRACKETS
 
 
 @dataclass(frozen=True, slots=True)

@@ -135,7 +135,11 @@ class _Reader:
         waiting, self._waiting = self._waiting, []
         for number, nodes in waiting:
             text = " ".join(self._texts_of(nodes))
-            self._put(f"[{number}: {text}]" if text else f"[{number}]")
+            self._put(self._bracketed(f"{number}: {text}" if text else f"{number}"))
+
+    def _bracketed(self, text: str) -> str:
+        front, end = self._reading.brackets
+        return f"{front}{text}{end}"
 
     def _block(self, node: Node, before: str) -> None:
         content: Any = node.get("c")
@@ -200,7 +204,11 @@ class _Reader:
 
     def _take(self, line: _Line, level: int | None = None) -> None:
         """Puts what was written: of a heading as one paragraph, else one for each of its lines."""
-        self.losses.extend(line.losses())
+        before = self.parts[-1].text if self.parts else ""
+        for loss in line.losses():
+            # a picture that stands alone is found by the words before it
+            around = loss.around or _around(before, len(before), len(before))
+            self.losses.append(replace(loss, around=around))
         text = line.text if level is None else _LINE_END.sub(" ", line.text)
         self._lines(text, level=level)
         self._waiting.extend(line.notes)
@@ -289,7 +297,7 @@ class _Reader:
                 self._picture(content, line)
             case "Note":
                 self._count += 1
-                line.add(f"[{self._count}]")
+                line.add(self._bracketed(f"{self._count}"))
                 line.notes.append((self._count, content))
             case kind if kind in _LOST_AROUND:
                 self._inlines(content, line)
@@ -314,7 +322,7 @@ class _Reader:
         words = plain(described.text.replace("\n", " "))
         since = line.length
         if words:
-            line.add(f"[{words}]")
+            line.add(self._bracketed(words))
         else:
             line.lose(Lost.PICTURE, since)
 

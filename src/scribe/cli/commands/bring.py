@@ -106,7 +106,7 @@ def _add_files(parser: ArgumentParser) -> None:
         dest="manuscript",
         metavar="MANUSCRIPT",
         type=readable,
-        help="a text or a book: learn rules for its words, as of contracted braille",
+        help="a text, a document or a book: learn rules for its words, as of contracted braille",
     )
     parser.add_argument(
         "--add",

@@ -1,0 +1,456 @@
+"""Documents of publishers imported: what is said of them, and what is in the book."""
+
+import hashlib
+import signal
+from io import BytesIO, StringIO
+from pathlib import Path
+
+import pytest
+
+from braildesk import Session, Style
+from braildesk.desk.documents.kinds import Kind
+from braildesk.desk.documents.reading import Reading
+from braildesk.desk.drafts import Drafts
+from braildesk.desk.import_note import How, ImportNote, note_in
+from braildesk.desk.manuscript import Line, Passage, Position
+from braildesk.desk.record import Record
+from braildesk.desk.replacements import Replacer
+
+from handmade import deleted, docx, note, paragraph, run, symbol, table, text_box
+from scribe.cli import run_words
+from scribe.words.console import Console
+from sitting import Sit
+from stand_in import ANSWERED, KEPT, KILL_BOTH, READ
+from terminal import standing_in
+from test_import import prints, version
+from tool import Ran, scribe
+
+MARKDOWN = """\
+---
+title: The Moon
+---
+
+# The Tides
+
+Twice a day the *sea* comes up.[^1]
+
+- one
+
+## The sea
+
+It is salt.
+
+# The end
+
+[^1]: And goes.
+"""
+#: The paragraphs that come of it by a table without bullets and square brackets: their print, and h for a heading, v where a volume begins.
+PARTS = [
+    ("The Moon", "hv"),
+    ("The Tides", "h"),
+    ("Twice a day the sea comes up.(1)", ""),
+    ("(1: And goes.)", ""),
+    ("- one", ""),
+    ("The sea", "h"),
+    ("It is salt.", ""),
+    ("The end", "hv"),
+]
+REPORT = [
+    "moon.md is read as Markdown: 8 paragraphs, 4 of them headings.",
+    "1 emphasis, as by italics, is lost:",
+    "- “sea” in “Twice a day the sea comes up.(1)”",
+    "1 heading is below the first level, and a book has only one:",
+    "- “The sea”",
+]
+
+
+@pytest.fixture(autouse=True)
+def folder(tmp_path: Path, monkeypatch: pytest.MonkeyPatch) -> None:
+    """Has the tests work where the manuscript is, which is there."""
+    monkeypatch.chdir(tmp_path)
+    Path("moon.md").write_text(MARKDOWN)
+
+
+def ran(*words: str | Path) -> Ran:
+    """What comes of a command."""
+    console = Console(BytesIO(), shown := StringIO(), said := StringIO())
+    status = run_words(list(map(str, words)), console)
+    return Ran(status, shown.getvalue(), said.getvalue())
+
+
+def put(book: Path, *words: str) -> Ran:
+    return ran("import", book, "moon.md", *words)
+
+
+def parts(book: Path) -> list[tuple[str, str]]:
+    with Session(book) as session:
+        return [
+            (
+                session.print_of(each.id),
+                "h" * (each.style is Style.HEADING) + "v" * each.begins_volume,
+            )
+            for each in session.paragraphs()
+        ]
+
+
+def lines(*sentences: str) -> str:
+    return "".join(f"{sentence}\n" for sentence in sentences)
+
+
+def test_headings_and_volumes_come_with_the_paragraphs(book: Path) -> None:
+    typed = "8 paragraphs typed, numbers 1 to 8, by the table en.\n"
+    assert put(book, "--volumes", "1") == Ran(0, typed, lines(*REPORT))
+    assert parts(book) == PARTS
+    assert Drafts(book).imports() == ()
+    again = put(book, "--volumes", "1")
+    assert (again.status, again.said) == (
+        2,
+        "moon.md stands there in the book already, from paragraph 1 to paragraph 8.\n"
+        "--again types it once more. Nothing was typed.\n",
+    )
+
+
+def test_volumes_begin_at_the_level_that_is_said(book: Path) -> None:
+    assert put(book, "--volumes", "2", "--notes", "end").status == 0
+    assert [flags for _, flags in parts(book)] == ["h", "h", "", "", "", "hv", "", "h"]
+    assert prints(book)[2:5] == [
+        "Twice a day the sea comes up.(1)",
+        "- one",
+        "(1: And goes.)",
+    ]
+
+
+def test_a_dry_run_shows_what_is_lost_and_types_nothing(book: Path) -> None:
+    would = "8 paragraphs would be typed, by the table en."
+    assert put(book, "--dry-run") == Ran(0, lines(*REPORT, would), "")
+    assert version(book) == 1
+
+
+def test_a_report_has_all_places_and_the_terminal_a_few(book: Path) -> None:
+    words = "one two three four five six seven"
+    starred = "\n\n".join(f"*{word}*" for word in words.split())
+    Path("moon.md").write_text(f"{starred}\n\n*seven*\n")
+    found = put(book, "--report", "lost.txt", "--dry-run").shown
+    head = [
+        "moon.md is read as Markdown: 8 paragraphs, no headings.",
+        "8 emphases, as by italics, are lost:",
+    ]
+    listed = [f"- “{word}”" for word in words.split()]
+    assert found == lines(
+        *head,
+        *listed[:5],
+        "- and 3 more",
+        "All places are in lost.txt.",
+        "8 paragraphs would be typed, by the table en.",
+    )
+    assert Path("lost.txt").read_text() == lines(
+        *head, *listed[:6], "- “seven”, 2 times"
+    )
+    assert "--report FILE writes all places to a file.\n" in put(book).said
+    assert put(book, "--report", "moon.md", "--again") == Ran(
+        2, "", "The report would take the place of moon.md. Nothing was typed.\n"
+    )
+    assert Path("moon.md").read_text().startswith("*one*")
+    assert put(book, "--report", "none/lost.txt", "--again").said == (
+        "The report can't be written to none/lost.txt: No such file or directory. Nothing was"
+        " typed.\n"
+    )
+
+
+def test_each_word_of_a_file_is_in_the_book_or_in_the_report(book: Path) -> None:
+    body = (
+        paragraph(run("One"), style="Heading1")
+        + paragraph(run("The moon "), run("rises", "<w:b/>"), run("."), text_box("Box"))
+        + paragraph(run("Kept "), deleted("gone "), run("veiled", "<w:vanish/>"))
+        + paragraph(run("Here "), symbol("Wingdings", "F04A"), run("it is."))
+        + table((paragraph(run("a"), note(1)), paragraph(run("b"))))
+    )
+    docx(tmp := Path("moon.docx"), body, [(1, "A note.")], "Running header")
+    found = ran("import", book, tmp)
+    assert found == Ran(
+        0,
+        "6 paragraphs typed, numbers 1 to 6, by the table en.\n",
+        lines(
+            "moon.docx is read as DOCX: 6 paragraphs, 1 of them headings.",
+            "4 words of the file will be in no paragraph:",
+            "- “Box”",
+            "- “Wingdings_F04A”, after “Here” and before “it is”",
+            "- “Running header”",
+            "1 piece of text that is hidden in the document is typed too:",
+            "- “veiled”",
+            "1 deletion that was tracked is left out:",
+            "- “gone”",
+            "1 table is typed row by row, with semicolons between the cells:",
+            "- “a(1); b”",
+            "1 emphasis, as by italics, is lost:",
+            "- “rises” in “The moon rises.”",
+        ),
+    )
+    assert prints(book) == [
+        "One",
+        "The moon rises.",
+        "Kept veiled",
+        "Here it is.",
+        "a(1); b",
+        "(1: A note.)",
+    ]
+
+
+def test_characters_that_the_table_lacks_are_shown_once_each_with_what_is_lost(
+    book: Path,
+) -> None:
+    Path("moon.md").write_text("# Moon → sea\n\nTo → *and* → back…\n")
+    arrow = "“→” (U+2192 RIGHTWARDS ARROW) has no cells by the table en."
+    dots = "“…” (U+2026 HORIZONTAL ELLIPSIS) has no cells by the table en."
+    found = put(book)
+    assert found == Ran(
+        2,
+        "",
+        lines(
+            "moon.md is read as Markdown: 2 paragraphs, 1 of them headings.",
+            "1 emphasis, as by italics, is lost:",
+            "- “and” in “To → and → back…”",
+            f"moon.md, paragraph 1, Moon [→] sea: {arrow} It stands in the text 3 times.",
+            f"moon.md, paragraph 2, To → and → back[…]: {dots} It stands in the text once.",
+            "--replace PAIRS puts other characters in their place.",
+            "Nothing was typed.",
+        ),
+    )
+    assert version(book) == 1
+
+
+def test_characters_are_replaced_and_counted_and_kept_for_the_next_manuscript(
+    book: Path,
+) -> None:
+    Path("moon.md").write_text("# Moon → sea\n\nTo → and → back…\n")
+    Path("pairs").write_text("→\tto\n\n…\t...\n€\tEUR\n")
+    found = put(book, "--replace", "pairs", "--dry-run")
+    counted = (
+        "“→” is replaced by “to” 3 times.",
+        "“…” is replaced by “...” once.",
+        "“€” stands nowhere, and isn't replaced.",
+    )
+    assert [*counted] == found.shown.splitlines()[-4:-1]
+    assert put(book).status == 2, "a dry run keeps nothing"
+    assert put(book, "--replace", "pairs").status == 0
+    assert prints(book) == ["Moon to sea", "To to and to back..."]
+    Path("text.txt").write_text("Once → more.\n")
+    found = ran("import", book, "text.txt")
+    assert found.said.splitlines()[0] == "“→” is replaced by “to” once."
+    assert prints(book)[-1] == "Once to more."
+    Path("pairs").write_text("")
+    assert ran("import", book, "text.txt", "--replace", "pairs", "--again").status == 2
+
+
+@pytest.mark.parametrize(
+    "data, why",
+    [
+        (
+            b"a\tb\nab\n",
+            "line 2: a line has the characters that are replaced, a tab, and",
+        ),
+        (
+            b"a\tb\na\tc\n",
+            "line 2: a line has the characters that are replaced, a tab,",
+        ),
+        (b"\tb\n", "line 1: a line has the characters that are replaced, a tab, and"),
+        (
+            b"a\tb\tc\n",
+            "line 1: a line has the characters that are replaced, a tab, and",
+        ),
+        (b"a\t\xff\n", "isn't UTF-8: line 1, column 3 has the byte 0xff."),
+    ],
+)
+def test_a_file_of_other_lines_replaces_nothing(
+    book: Path, data: bytes, why: str
+) -> None:
+    Path("pairs").write_bytes(data)
+    found = put(book, "--replace", "pairs")
+    assert found.status == 2 and why in found.said
+    assert found.said.endswith(" Nothing was typed.\n")
+    assert version(book) == 1
+
+
+def test_places_of_a_text_are_those_of_its_file_after_characters_were_replaced() -> (
+    None
+):
+    text = Passage((Line("a→b → c", Position(3, 5)), Line("→", Position(4, 1))))
+    replacer = Replacer((("→", "to"), ("b ", "")))
+    (made,) = replacer.passages([text])
+    assert made.text == "atoto c to"
+    places = [made.position(place) for place in range(len(made.text))]
+    assert places == [
+        *(Position(3, column) for column in (5, 6, 6, 9, 9, 10, 11, 12)),
+        *(Position(4, column) for column in (1, 1)),
+    ]
+    assert [each.count for each in replacer.counts] == [3, 1]
+
+
+@pytest.mark.parametrize(
+    "name, data, words, said",
+    [
+        (
+            "a.docx",
+            b"PK\x03\x04 none",
+            "",
+            "a.docx is damaged: it begins as a document",
+        ),
+        ("a.pdf", b"%PDF-1.7", "", "a.pdf is PDF, which has places on pages"),
+        ("a.md", b"\n", "", "a.md has no paragraph, so nothing was typed."),
+        ("a.md", b"a", "--lines", "a.md is Markdown, which has paragraphs of its own:"),
+        ("a.txt", b"a", "--volumes 1", "a.txt is a text, without headings and notes:"),
+        ("a.txt", b"a", "--notes end", "a.txt is a text, without headings and notes:"),
+        ("a.txt", b"a", "--format docx", "a.txt is damaged: it begins as a document"),
+        ("a.md", b"a\xff", "", "a.md isn't UTF-8: line 1, column 2 has the byte 0xff."),
+    ],
+)
+def test_what_is_no_manuscript_is_refused_in_words(
+    book: Path, name: str, data: bytes, words: str, said: str
+) -> None:
+    Path(name).write_bytes(data)
+    found = ran("import", book, name, *words.split())
+    assert (found.status, found.shown) == (2, "")
+    assert found.said.startswith(said)
+    assert version(book) == 1
+
+
+def test_programs_that_are_missing_are_named_with_their_packages(
+    book: Path, monkeypatch: pytest.MonkeyPatch
+) -> None:
+    monkeypatch.setenv("PATH", "/none")
+    assert put(book) == Ran(
+        2,
+        "",
+        "moon.md is Markdown, which pandoc reads, and pandoc is not installed. Debian has it as"
+        " pandoc. Nothing was typed.\n",
+    )
+    Path("moon.rtf").write_bytes(b"{\\rtf1 moon}")
+    assert ran("import", book, "moon.rtf").said == (
+        "moon.rtf is RTF, which LibreOffice reads, and LibreOffice is not installed. Debian has it"
+        " as libreoffice-writer-nogui. Nothing was typed.\n"
+    )
+    Path("moon.md").write_text("The moon")
+    assert put(book, "--format", "text").status == 0, "a text needs neither"
+
+
+#: Moments of that import, which is 14 commands: each heading has one more than its paragraph, and where
+#: a volume begins there is another. With each the paragraphs that are in the book then.
+MOMENTS = [
+    (1, KEPT, 1),
+    (2, READ, 1),
+    (3, READ, 1),
+    (3, KEPT, 1),
+    (4, KEPT, 2),
+    (5, READ, 2),
+    (6, ANSWERED, 3),
+    (9, KEPT, 6),
+    (13, READ, 8),
+    (14, READ, 8),
+]
+
+
+@pytest.mark.parametrize("number, far, kept", MOMENTS)
+def test_an_import_that_is_killed_goes_on_with_headings_and_volumes(
+    book: Path,
+    monkeypatch: pytest.MonkeyPatch,
+    number: int,
+    far: str,
+    kept: int,
+) -> None:
+    with monkeypatch.context() as patched:
+        for name, value in standing_in(number, far, KILL_BOTH).items():
+            patched.setenv(name, value)
+        words = ("import", book, "moon.md", "--volumes", "1")
+        done = scribe(*words, folder=book.parent)
+    assert done.status == -signal.SIGKILL
+    assert len(prints(book)) == kept
+    found = put(book)
+    assert found.status == 2 and "was cut short" in found.said
+    assert put(book, "--continue").status == 0
+    assert parts(book) == PARTS
+    assert Drafts(book).imports() == ()
+
+
+def begun(book: Path) -> ImportNote:
+    """What is noted of that import before its first paragraph is typed."""
+    path = Path("moon.md").absolute()
+    digest = hashlib.sha256(path.read_bytes()).hexdigest()
+    how = How(Reading(Kind.MARKDOWN, False, "-", "()"), (("&", "and"),), 1)
+    return ImportNote(str(path), digest, False, 1, 8, "en", "end", 1, 0, how)
+
+
+def test_what_is_said_of_an_import_of_a_document_that_was_cut_short(
+    book: Path, monkeypatch: pytest.MonkeyPatch
+) -> None:
+    note = begun(book)
+    Drafts(book).begin_import(note)
+    assert Drafts(book).imports() == (note,)
+    with Session(book) as session:
+        for text, _ in PARTS[:2]:
+            session.add_paragraph("end", "en", text)
+    cut = "The import of moon.md was cut short:"
+    assert put(book).said == lines(
+        f"{cut} 2 of its 8 paragraphs are in the book.",
+        "--continue goes on with paragraph 3, --again types all of it once more, and --leave leaves"
+        " the rest out. Nothing was typed.",
+    )
+    with monkeypatch.context() as patched:
+        patched.setenv("PATH", "/none")
+        assert ran("show", book).said.startswith(
+            f"The import of moon.md was cut short, and {note.text} is Markdown, which pandoc reads,"
+            " and pandoc is not installed. Debian has it as pandoc. So how much of it is in the"
+            " book can't be seen: the book had 0 paragraphs before, and the text 8.\n"
+        )
+    with Session(book) as session:
+        for text, _ in PARTS[2:]:
+            session.add_paragraph("end", "en", text)
+        session.set_style(8, Style.HEADING)
+    assert put(book).said == lines(
+        f"{cut} all of it is in the book, but its last paragraph isn't a heading, or begins no"
+        " volume, as it was to be.",
+        "--continue makes it one, --again types all of it once more, and --leave leaves it as it is."
+        " Nothing was typed.",
+    )
+    assert put(book, "--continue") == Ran(0, "All of moon.md is in the book now.\n", "")
+    assert parts(book)[-1] == PARTS[-1]
+    assert put(book, "--continue").said == (
+        "No import of moon.md is known that was cut short. Nothing was typed.\n"
+    )
+
+
+def test_what_an_older_scribe_noted_of_a_text_is_read(book: Path) -> None:
+    kept = begun(book).values()
+    for name in (
+        "kind",
+        "notes_at_end",
+        "bullet",
+        "brackets",
+        "replacements",
+        "volumes",
+    ):
+        del kept[name]
+    assert note_in(Record(kept)).how == How(Reading(Kind.TEXT))
+
+
+def test_a_document_is_imported_on_the_screen_with_what_is_lost(
+    moon: Path, sit: Sit
+) -> None:
+    sat = sit(moon)
+    sat.press("c-end", "i")
+    sat.write(str(Path("moon.md").absolute()))
+    sat.press("enter")
+    said: list[str] = []
+    sat.state = sat.desk.away(sat.state, said.append)
+    assert "1 emphasis, as by italics, is lost:" in said
+    assert said[-1].startswith("8 paragraphs typed, numbers 4 to 11, by the table ")
+    sat.desk.close()
+    assert [flags for _, flags in parts(moon)][3:] == [
+        "h",
+        "h",
+        "",
+        "",
+        "",
+        "h",
+        "",
+        "h",
+    ]
