@@ -445,3 +445,18 @@ def test_blanks_of_all_widths_are_one_blank(tmp_path: Path) -> None:
 def test_pages_are_read_in_what_they_are_encoded(said: str, encoding: str) -> None:
     page = f"<html><head>{said}</head><p>Größe</p></html>".encode(encoding)
     assert read_document(page, Kind.HTML).texts == ["Größe"]
+
+
+def test_a_large_first_letter_belongs_to_its_paragraph(tmp_path: Path) -> None:
+    drop = '<w:p><w:pPr><w:framePr w:dropCap="drop" w:lines="3"/></w:pPr>{}</w:p>'
+    body = drop.format(run("T")) + paragraph(run("wice a day.")) + paragraph(run("End"))
+    found = read_manuscript(docx(tmp_path / "drop.docx", body))
+    assert (found.texts, found.missing) == (["Twice a day.", "End"], ())
+
+
+def test_tags_of_a_page_are_no_print_that_is_lost(tmp_path: Path) -> None:
+    path = tmp_path / "tags.md"
+    path.write_text("<nav>\n\nThe moon\n\n</nav>\n\n\\newpage\n")
+    found = read_manuscript(path)
+    assert found.texts == ["The moon"]
+    assert lost(found, Lost.RAW) == ["\\newpage"]

@@ -177,16 +177,24 @@ def _paragraphs(element: Element) -> Iterator[str]:
     """The paragraphs below an element; those of a text box stand for themselves."""
     if element.tag == _FALLBACK:
         return
-    if element.tag == f"{_W}p":
+    initial = ""
+    for child in (element,) if element.tag == f"{_W}p" else element:
+        if child.tag != f"{_W}p":
+            yield from _paragraphs(child)
+            continue
         inner: list[Element] = []
-        text = "".join(_runs(element, inner))
-        if text.strip():
+        text = initial + "".join(_runs(child, inner))
+        initial = text if _is_drop_cap(child) else ""
+        if text.strip() and not initial:
             yield text
         for box in inner:
             yield from _paragraphs(box)
-        return
-    for child in element:
-        yield from _paragraphs(child)
+
+
+def _is_drop_cap(paragraph: Element) -> bool:
+    """Whether a paragraph is the large first letter of the next one."""
+    frame = paragraph.find(f"{_W}pPr/{_W}framePr")
+    return frame is not None and frame.get(f"{_W}dropCap") in ("drop", "margin")
 
 
 def _runs(element: Element, inner: list[Element]) -> Iterator[str]:
@@ -202,8 +210,9 @@ def _runs(element: Element, inner: list[Element]) -> Iterator[str]:
         elif tag == "noBreakHyphen":
             yield "\u2011"
         elif tag == "sym":
-            font, number = child.get(f"{_W}font"), child.get(f"{_W}char")
-            yield f" {font}_{number} "
+            font, number = child.get(f"{_W}font", ""), child.get(f"{_W}char")
+            # this font has characters for its symbols, which pandoc knows
+            yield " " if font == "Symbol" else f" {font.replace(' ', '')}_{number} "
         elif tag == "txbxContent":
             inner.append(child)
         elif tag != "pPr":

@@ -23,8 +23,9 @@ _SECONDS = 120
 #: How much pandoc may answer; the tree of a book is some fifty times as long as its print.
 _TREE_BYTES = 512 << 20
 _LIMITS = Limits(memory=4 << 30, seconds=_SECONDS, written=_TREE_BYTES)
-#: What pandoc calls a kind where it isn't the name of it alone: its own reading of notes drops numbers.
-_FROM = {Kind.EPUB: "epub-epub_html_exts"}
+#: What pandoc calls a kind where it isn't the name of it alone: its own reading of notes drops numbers,
+#: and elements that it doesn't know would be no more than their tags.
+_FROM = {Kind.EPUB: "epub-epub_html_exts-raw_html"}
 _OFFICE = ("soffice", "libreoffice")
 
 

@@ -20,6 +20,8 @@ Node = dict[str, Any]
 _AROUND = 30
 #: Where a line ends.
 _LINE_END = re.compile("[\n\x85\u2028\u2029]")
+#: What of HTML is no print.
+_TAGS = re.compile("<!--.*?-->|<[^>]*>")
 #: What pandoc takes out of the text of a document as something said about it.
 _FRONT = ("title", "subtitle", "author", "date", "abstract")
 
@@ -257,7 +259,8 @@ class _Reader:
     def _raw(self, content: Sequence[str]) -> None:
         """Notes text in the language of another program; a page break, as in DOCX, is nothing."""
         words = plain(content[1].replace("\n", " "))
-        if content[0] != "openxml" and words and not words.startswith("<!--"):
+        is_print = content[0] != "html" or _TAGS.sub("", words).strip()
+        if content[0] != "openxml" and words and is_print:
             self.losses.append(Loss(Lost.RAW, words, words))
 
     def _line(self, nodes: Sequence[Node], before: str = "") -> _Line:

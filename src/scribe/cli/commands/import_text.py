@@ -34,7 +34,7 @@ can't hold, as emphasis and the form of tables, is said before anything is typed
 each word of the file that no paragraph has."""
 EXAMPLE = """\
 echo 'The sun is farther away.' > sun.txt && scribe import moon.braildesk sun.txt
-scribe import moon.braildesk tides.md --volumes 1 --dry-run"""
+echo '# The Sun' > sun.md && scribe import moon.braildesk sun.md --volumes 1 --dry-run"""
 FORMATS = tuple(kind.value for kind in Kind if kind is not Kind.BOOK)
 
 
