@@ -460,3 +460,78 @@ def test_tags_of_a_page_are_no_print_that_is_lost(tmp_path: Path) -> None:
     found = read_manuscript(path)
     assert found.texts == ["The moon"]
     assert lost(found, Lost.RAW) == ["\\newpage"]
+
+
+PACKAGE = (
+    '<package xmlns="http://www.idpf.org/2007/opf" version="3.0"><metadata/><manifest>'
+    '<item id="a" href="a%20b.xhtml" media-type="application/xhtml+xml"/>'
+    '<item id="n" href="nav.xhtml" media-type="application/xhtml+xml"/>'
+    '<item id="z" href="z.xhtml" media-type="application/xhtml+xml"/></manifest>'
+    '<spine><itemref idref="n" linear="no"/><itemref idref="a"/><itemref idref="z" linear="no"/></spine>'
+    "</package>"
+)
+PAGE = (
+    '<html xmlns="http://www.w3.org/1999/xhtml" xmlns:epub="http://www.idpf.org/2007/ops"><body>'
+    "{}</body></html>"
+)
+ROOT = (
+    '<container xmlns="urn:oasis:names:tc:opendocument:xmlns:container" version="1.0"><rootfiles>'
+    '<rootfile full-path="in/book.opf" media-type="application/oebps-package+xml"/></rootfiles>'
+    "</container>"
+)
+
+
+def test_a_book_in_epub_has_its_title_page_and_its_notes(tmp_path: Path) -> None:
+    first = (
+        '<section epub:type="frontmatter titlepage"><h1>The Moon</h1><p>Anna</p></section>'
+        '<p>Far.<a epub:type="noteref" href="#n1">1</a> Old.<a href="#x" role="doc-noteref">2</a>'
+        '</p><aside epub:type="footnote" id="n1"><p>Very far.</p></aside>'
+    )
+    parts = {
+        "mimetype": EPUB,
+        "META-INF/container.xml": ROOT,
+        "in/book.opf": PACKAGE,
+        "in/a b.xhtml": PAGE.format(first),
+        "in/nav.xhtml": PAGE.format('<nav epub:type="toc"><ol><li>One</li></ol></nav>'),
+        "in/z.xhtml": PAGE.format("<p>Aside</p>"),
+    }
+    container_of(tmp_path / "moon.epub", **parts)
+    found = read_manuscript(tmp_path / "moon.epub")
+    assert found.texts[:2] == ["The Moon", "Anna"]
+    assert "Very far." in " ".join(found.texts)
+    assert found.missing == (Missing("Aside", "", ""),)
+    assert lost(found, Lost.CONTENTS) == ["One"]
+
+
+def test_a_text_in_odt_that_is_hidden_or_deleted_or_at_the_edge_is_noted(
+    tmp_path: Path,
+) -> None:
+    names = " ".join(
+        f'xmlns:{name}="urn:oasis:names:tc:opendocument:xmlns:{name}:1.0"'
+        for name in ("office", "style", "text")
+    )
+    content = (
+        f"<office:document-content {names}><office:automatic-styles>"
+        '<style:style style:name="H" style:family="text"><style:text-properties'
+        ' text:display="none"/></style:style></office:automatic-styles><office:body><office:text>'
+        '<text:tracked-changes><text:changed-region text:id="d"><text:deletion><text:p>Gone</text:p>'
+        "</text:deletion></text:changed-region></text:tracked-changes>"
+        '<text:p>Seen <text:span text:style-name="H">veiled</text:span> words'
+        "<office:annotation><text:p>Check</text:p></office:annotation></text:p>"
+        "</office:text></office:body></office:document-content>"
+    )
+    styles = (
+        f"<office:document-styles {names}><office:master-styles><style:master-page><style:footer>"
+        "<text:p>Foot</text:p><text:p>12</text:p></style:footer></style:master-page>"
+        "</office:master-styles></office:document-styles>"
+    )
+    container_of(
+        path := tmp_path / "moon.odt",
+        **{"mimetype": ODT, "content.xml": content, "styles.xml": styles},
+    )
+    found = read_manuscript(path)
+    assert found.texts[0].startswith("Seen veiled words")
+    assert Missing("Foot", "", "") in found.missing
+    assert lost(found, Lost.HIDDEN) == ["veiled"]
+    assert lost(found, Lost.DELETED) == ["Gone"]
+    assert lost(found, Lost.COMMENT) == ["Check"]

@@ -17,7 +17,7 @@ mkdir "$scratch/found"
 unset COLUMNS BRAILDESK MAKEFLAGS MAKELEVEL
 export LC_ALL=C.UTF-8 XDG_STATE_HOME="$scratch/state"
 if [ "$program" != --installed ]; then
-    tests/needs.sh python louis
+    tests/needs.sh python louis pandoc
     PYTHON=${PYTHON:-$(tests/python.sh)}
     make --silent --old-file="$program" install PROGRAM="$program" DESTDIR= PREFIX="$scratch/usr" PYTHON="$PYTHON"
     export PATH="$scratch/usr/bin:$PATH"

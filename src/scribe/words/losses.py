@@ -46,6 +46,10 @@ _SAID = {
         "{} deletions that were tracked are left out",
     ),
     Lost.COMMENT: ("1 comment is left out", "{} comments are left out"),
+    Lost.CONTENTS: (
+        "1 table of contents of the file is left out",
+        "{} tables of contents of the file are left out",
+    ),
     Lost.MATHEMATICS: (
         "1 formula is typed as it is written in TeX",
         "{} formulas are typed as they are written in TeX",

@@ -42,14 +42,15 @@ def read_document(data: bytes, kind: Kind, reading: Reading = Reading()) -> Manu
         readable, its = pandoc.as_docx(data, kind), Kind.DOCX
     if kind in (Kind.RTF, Kind.DOC):
         own = contents.contents_of(readable, its)
+    if kind is Kind.EPUB:
+        readable = pandoc.with_title_pages(data)
     tree = pandoc.tree(readable, its)
     try:
         noted = with_notes(tree)
     except FAULTS as fault:
         raise NotRead from fault
     found = document(noted, reading, with_front=its in _WITH_FRONT)
-    texts = [part.text for part in found.parts]
-    missing = contents.missing(own.passages, texts)
+    missing = contents.missing(own.passages, [part.text for part in found.parts])
     parts = tuple(each for part in found.parts for each in short_enough(part))
     losses = (*found.losses, *_too_long(found.parts), *own.losses)
     return Manuscript(kind, parts, losses, tuple(missing))

@@ -19,6 +19,8 @@ from xml.etree.ElementTree import Element
 from braildesk.desk.documents.kinds import Kind, part_of, unpacked
 from braildesk.desk.documents.reading import Loss, Lost, Missing, plain
 
+#: How many characters of a table of contents are shown.
+_CONTENTS = 60
 _WORD = re.compile(r"\w+(?:[’'\u2010\u2011-]\w+)*")
 #: How many words before and after missing ones are shown.
 _NEIGHBOURS = 4
@@ -64,7 +66,7 @@ def contents_of(data: bytes, kind: Kind) -> Contents:
     """What the file of a document has; nothing for the kinds that are text."""
     found = Contents()
     if kind is Kind.HTML:
-        found.passages += _of_html(data)
+        found.passages += _page_of(data).passages
     if kind in _READERS:
         with unpacked(data) as container:
             _READERS[kind](container, found)
@@ -233,9 +235,10 @@ def _of_odt(container: zipfile.ZipFile, found: Contents) -> None:
         for style in root.iter(f"{_STYLE}style")
         if any(each.get(f"{_TEXT}display") == "none" for each in style)
     }
-    for span in root.iter(f"{_TEXT}span"):
-        if span.get(f"{_TEXT}style-name") in hidden:
-            found.lose(Lost.HIDDEN, "".join(_odt_runs(span, [])))
+    for tag in ("span", "p", "h"):
+        for each in root.iter(f"{_TEXT}{tag}"):
+            if each.get(f"{_TEXT}style-name") in hidden:
+                found.lose(Lost.HIDDEN, "".join(_odt_runs(each, [])))
     if "styles.xml" in names:
         for edges in _root(container, "styles.xml").iter(f"{_OFFICE}master-styles"):
             for passage in _odt_paragraphs(edges):
@@ -286,7 +289,13 @@ def _of_epub(container: zipfile.ZipFile, found: Contents) -> None:
     folder = PurePosixPath(package).parent
     for reference in root.iterfind(".//{*}itemref"):
         href = unquote(items[reference.get("idref")])
-        found.passages += _of_html(part_of(container, normpath(str(folder / href))))
+        page = _page_of(part_of(container, normpath(str(folder / href))))
+        found.passages += page.passages
+        # a page by itself is left out by pandoc, and most such are lists of the pages for programs
+        if reference.get("linear") == "no":
+            found.lose(Lost.CONTENTS, " ".join("".join(page.lists).split())[:_CONTENTS])
+        else:
+            found.passages += page.lists
 
 
 _READERS = {Kind.DOCX: _of_docx, Kind.ODT: _of_odt, Kind.EPUB: _of_epub}
@@ -299,35 +308,52 @@ class _Html(HTMLParser):
         "a abbr b bdi bdo cite code data dfn em i kbd mark q ruby s samp small span strong sub sup"
         " time u var wbr font tt big del ins".split()
     )
-    _SILENT = frozenset({"script", "style", "title", "template"})
+    # a formula is typed in another language, which is said of each
+    _SILENT = frozenset({"script", "style", "title", "template", "math"})
+    _LISTS = frozenset({"toc", "landmarks", "page-list"})
 
     def __init__(self) -> None:
         super().__init__()
         self.texts: list[str] = [""]
+        #: The texts of the lists by which a program finds the pages.
+        self.lists: list[str] = [""]
         self._silent = 0
+        self._in_list = False
+
+    @property
+    def passages(self) -> list[str]:
+        """The texts that have print."""
+        return [text for text in self.texts if text.strip()]
 
     def handle_starttag(self, tag: str, attrs: list[tuple[str, str | None]]) -> None:
         self._silent += tag in self._SILENT
-        if tag not in self._INLINE:
-            self.texts.append("")
+        types = (dict(attrs).get("epub:type") or "").split()
+        if tag == "nav" and not self._LISTS.isdisjoint(types):
+            self._in_list = True
+        self._part(tag)
 
     def handle_startendtag(self, tag: str, attrs: list[tuple[str, str | None]]) -> None:
         # an element that ends at once has nothing to be silent about
-        if tag not in self._INLINE:
-            self.texts.append("")
+        self._part(tag)
 
     def handle_endtag(self, tag: str) -> None:
         self._silent = max(self._silent - (tag in self._SILENT), 0)
-        if tag not in self._INLINE:
-            self.texts.append("")
+        self._in_list = self._in_list and tag != "nav"
+        self._part(tag)
 
     def handle_data(self, data: str) -> None:
         if not self._silent:
-            self.texts[-1] += data
+            texts = self.lists if self._in_list else self.texts
+            texts[-1] += data
+
+    def _part(self, tag: str) -> None:
+        if tag not in self._INLINE:
+            self.texts.append("")
+            self.lists.append("\n")
 
 
-def _of_html(data: bytes) -> list[str]:
+def _page_of(data: bytes) -> _Html:
     page = _Html()
     page.feed(data.decode(errors="replace"))
     page.close()
-    return [text for text in page.texts if text.strip()]
+    return page

@@ -133,13 +133,18 @@ def unpacked(data: bytes) -> Iterator[zipfile.ZipFile]:
             sizes = [
                 entry.file_size
                 for entry in container.infolist()
-                if PurePath(entry.filename).suffix.lower() not in _MEDIA
+                if not is_media(entry.filename)
             ]
             if sum(sizes) > MOST_BYTES:
                 raise NoDocument(WhyNot.TOO_LARGE)
             yield container
     except _FAULTS as fault:
         raise NoDocument(WhyNot.DAMAGED) from fault
+
+
+def is_media(name: str) -> bool:
+    """Whether a part of a container is a picture, a sound or a font."""
+    return PurePath(name).suffix.lower() in _MEDIA
 
 
 def part_of(container: zipfile.ZipFile, name: str) -> bytes:

@@ -39,6 +39,7 @@ class Lost(Enum):
     HIDDEN = auto()
     DELETED = auto()
     COMMENT = auto()
+    CONTENTS = auto()
     EMBEDDED = auto()
 
 
