@@ -416,7 +416,7 @@ _NO_DOCUMENT = {
     " Markdown, RTF and DOC",
     WhyNot.PDF: "is PDF, which has places on pages and no paragraphs. Ask for the document of which it"
     " was made",
-    WhyNot.DAMAGED: "is damaged: it begins as a document does, and can't be unpacked",
+    WhyNot.DAMAGED: "is damaged: it begins as a document does, and its parts can't be read",
     WhyNot.TOO_LARGE: "unpacks to more than any book has",
     WhyNot.ENCRYPTED: "is encrypted. Save it without a password, and import it again",
     WhyNot.COPY_PROTECTED: "is protected against copying. Ask the publisher for a file that isn't",

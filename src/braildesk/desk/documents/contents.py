@@ -180,7 +180,8 @@ def _paragraphs(element: Element) -> Iterator[str]:
     if element.tag == _FALLBACK:
         return
     initial = ""
-    for child in (element,) if element.tag == f"{_W}p" else element:
+    children = [element] if element.tag == f"{_W}p" else list(element)
+    for child in children:
         if child.tag != f"{_W}p":
             yield from _paragraphs(child)
             continue

@@ -140,8 +140,8 @@ class _Reader:
             self._put(self._bracketed(f"{number}: {text}" if text else f"{number}"))
 
     def _bracketed(self, text: str) -> str:
-        front, end = self._reading.brackets
-        return f"{front}{text}{end}"
+        brackets = self._reading.brackets
+        return f"{brackets[0]}{text}{brackets[1]}"
 
     def _block(self, node: Node, before: str) -> None:
         content: Any = node.get("c")
