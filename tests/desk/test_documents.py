@@ -1,15 +1,25 @@
 """Documents as publishers send them: their paragraphs, and all that is lost of them."""
 
+import os
 import subprocess
+import sys
+import time
 import zipfile
 from pathlib import Path
 
 import pytest
 
-from braildesk.desk.documents import kinds, read_document
+from braildesk.desk.contracted import manuscript_at
+from braildesk.desk.documents import kinds, pandoc, read_document
 from braildesk.desk.documents.contents import missing
 from braildesk.desk.documents.kinds import Kind, NoDocument, WhyNot, kind_of
-from braildesk.desk.documents.pandoc import NoConverter, NotConverted, office, tree
+from braildesk.desk.documents.pandoc import (
+    BrokenOff,
+    NoConverter,
+    NotConverted,
+    office,
+    tree,
+)
 from braildesk.desk.documents.reading import (
     Loss,
     Lost,
@@ -34,6 +44,7 @@ from handmade import (
     table,
     text_box,
 )
+from tool import environment
 
 MARKDOWN = """\
 # The Moon
@@ -535,3 +546,105 @@ def test_a_text_in_odt_that_is_hidden_or_deleted_or_at_the_edge_is_noted(
     assert lost(found, Lost.HIDDEN) == ["veiled"]
     assert lost(found, Lost.DELETED) == ["Gone"]
     assert lost(found, Lost.COMMENT) == ["Check"]
+
+
+def program(folder: Path, name: str, *script: str) -> None:
+    """Puts a program into a folder, of the lines of a script of the shell."""
+    path = folder / name
+    path.write_text("\n".join(("#!/bin/sh", *script, "")))
+    path.chmod(0o755)
+
+
+@pytest.fixture
+def programs(tmp_path: Path, monkeypatch: pytest.MonkeyPatch) -> Path:
+    """A folder of programs that are found before all others."""
+    folder = tmp_path / "programs"
+    folder.mkdir()
+    monkeypatch.setenv("PATH", f"{folder}:{os.environ['PATH']}")
+    return folder
+
+
+def test_rtf_and_doc_are_what_libreoffice_makes_of_them(
+    tmp_path: Path, programs: Path
+) -> None:
+    made = docx(
+        tmp_path / "made.docx", paragraph(run("Made "), symbol("Wingdings", "1"))
+    )
+    program(programs, "soffice", 'mkdir -p "$6"', f'cp {made} "$6/manuscript.docx"')
+    for data, kind in ((b"{\\rtf1 moon}", Kind.RTF), (WORD, Kind.DOC)):
+        found = read_document(data, kind)
+        assert (found.kind, found.texts) == (kind, ["Made"])
+        assert found.missing == (Missing("Wingdings_1", "Made", ""),)
+    program(programs, "soffice", "echo It has no form. >&2", "exit 1")
+    with pytest.raises(NotConverted, match="It has no form."):
+        read_document(WORD, Kind.DOC)
+    program(programs, "soffice", "exit 0")
+    with pytest.raises(NotConverted):
+        read_document(WORD, Kind.DOC)
+
+
+def test_odt_is_taken_as_it_loses_fewer_words(tmp_path: Path, programs: Path) -> None:
+    made = docx(tmp_path / "made.docx", paragraph(run("One two")))
+    program(programs, "soffice", 'mkdir -p "$6"', f'cp {made} "$6/manuscript.docx"')
+    path = tmp_path / "moon.odt"
+    words = ["pandoc", "--from", "markdown", "--to", "odt", "--output", str(path)]
+    subprocess.run(words, input=b"One", check=True)
+    with zipfile.ZipFile(path) as whole:
+        names = [each for each in whole.namelist() if not each.endswith(".png")]
+        parts = {name: whole.read(name).decode() for name in names}
+    content = parts["content.xml"]
+    # pandoc leaves out what a document computes
+    for lost_by_pandoc, wanted in ((" two", "One two"), ("", "One")):
+        computed = f"One<text:expression>{lost_by_pandoc}</text:expression>"
+        parts["content.xml"] = content.replace("One", computed)
+        found = read_document(container_of(path, **parts), Kind.ODT)
+        assert (found.kind, found.texts) == (Kind.ODT, [wanted])
+
+
+def test_a_program_that_takes_too_long_is_given_up(
+    programs: Path, monkeypatch: pytest.MonkeyPatch
+) -> None:
+    program(programs, "pandoc", "exec sleep 60")
+    monkeypatch.setattr(pandoc, "_SECONDS", 0.3)
+    with pytest.raises(BrokenOff):
+        read_document(b"a", Kind.MARKDOWN)
+    program(programs, "pandoc", "kill -KILL $$")
+    with pytest.raises(BrokenOff):
+        read_document(b"a", Kind.MARKDOWN)
+    program(programs, "pandoc", "echo none")
+    with pytest.raises(NotConverted):
+        read_document(b"a", Kind.MARKDOWN)
+
+
+READS = """
+from braildesk.desk.documents import read_document
+from braildesk.desk.documents.kinds import Kind
+read_document(b"a", Kind.MARKDOWN)
+"""
+
+
+def test_what_reads_a_document_ends_with_the_one_that_started_it(
+    tmp_path: Path, programs: Path
+) -> None:
+    number = tmp_path / "number"
+    program(programs, "pandoc", f"echo $$ > {number}.new", f"mv {number}.new {number}")
+    with (programs / "pandoc").open("a") as script:
+        script.write("exec sleep 60\n")
+    starter = subprocess.Popen([sys.executable, "-c", READS], env=environment())
+    end = time.monotonic() + 40
+    while not number.exists() and time.monotonic() < end:
+        time.sleep(0.02)
+    running = Path("/proc", number.read_text().strip())
+    assert running.exists()
+    starter.kill()
+    starter.wait()
+    while running.exists() and time.monotonic() < end:
+        time.sleep(0.02)
+    assert not running.exists()
+
+
+def test_a_table_is_made_for_the_words_of_a_document(tmp_path: Path) -> None:
+    path = docx(
+        tmp_path / "moon.docx", paragraph(run("The moon")) + paragraph(run("far"))
+    )
+    assert manuscript_at(path).paragraphs == ["The moon", "far"]
