@@ -236,7 +236,7 @@ def test_characters_are_replaced_and_counted_and_kept_for_the_next_manuscript(
     assert prints(book) == ["Moon to sea", "To to and to back..."]
     Path("text.txt").write_text("Once → more.\n")
     found = ran("import", book, "text.txt")
-    assert found.said.splitlines()[0] == "“→” is replaced by “to” once."
+    assert found.said == "“→” is replaced by “to” once.\n"
     assert prints(book)[-1] == "Once to more."
     Path("pairs").write_text("")
     assert ran("import", book, "text.txt", "--replace", "pairs", "--again").status == 2

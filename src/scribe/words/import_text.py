@@ -2,6 +2,7 @@
 
 import shlex
 from collections.abc import Callable, Iterable, Iterator, Sequence
+from dataclasses import replace
 from pathlib import Path
 
 from braildesk import Displaced, Lost, Refused
@@ -124,17 +125,22 @@ def _report(importer: Importer, show: Callable[..., None], report: Path | None) 
     """Shows what of a document a book can't hold, and writes all of it to a file."""
     if importer.taken is None:
         return
-    job = importer.job
+    job, taken = importer.job, importer.taken
+    if job.replacements is None:
+        # of what was kept for the book, what stands in this manuscript is of interest
+        used = tuple(each for each in taken.replaced if each.count)
+        taken = replace(taken, replaced=used)
     if report is not None:
-        lines = report_lines(job.text, importer.taken)
+        lines = report_lines(job.text, taken)
         _write_report(job, report, lines or [f"{job.text} is a text."])
-    if job.way is not Way.GO_ON:
-        lines = report_lines(job.text, importer.taken, FEW)
-        show(*lines)
-        if report is not None:
-            show(f"All places are in {report}.")
-        elif any(line.startswith("- and ") for line in lines):
-            show("--report FILE writes all places to a file.")
+    if job.way is Way.GO_ON:
+        return
+    lines = report_lines(job.text, taken, FEW)
+    show(*lines)
+    if report is not None:
+        show(f"All places are in {report}.")
+    elif any(line.startswith("- and ") for line in lines):
+        show("--report FILE writes all places to a file.")
 
 
 def _write_report(job: Import, report: Path, lines: Sequence[str]) -> None:
