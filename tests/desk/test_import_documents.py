@@ -20,7 +20,7 @@ from handmade import deleted, docx, note, paragraph, run, symbol, table, text_bo
 from scribe.cli import run_words
 from scribe.words.console import Console
 from sitting import Sit
-from stand_in import ANSWERED, KEPT, KILL_BOTH, READ
+from stand_in import ANSWERED, KEPT, KILL_BOTH, KILL_PROGRAM, READ
 from terminal import standing_in
 from test_import import prints, version
 from tool import Ran, scribe
@@ -369,6 +369,27 @@ def test_an_import_that_is_killed_goes_on_with_headings_and_volumes(
     assert put(book, "--continue").status == 0
     assert parts(book) == PARTS
     assert Drafts(book).imports() == ()
+
+
+def test_a_document_of_which_nothing_is_noted_goes_on_by_its_paragraphs(
+    book: Path,
+) -> None:
+    words = ("import", book, "moon.md", "--volumes", "1")
+    nowhere = {"XDG_STATE_HOME": "/dev/null"}
+    settings = {**standing_in(5, READ, KILL_PROGRAM), **nowhere}
+    done = scribe(*words, folder=book.parent, **settings)
+    goes_on = f"import {book} moon.md --format markdown --volumes 1 --from 3"
+    assert done.status == 3 and done.said.endswith(
+        "moon.md is in the book up to its paragraph 2, which is paragraph 2 of the book.\n"
+        f"When nothing stands in the way any more, go on by: scribe {goes_on}\n"
+    )
+    settings = {**standing_in(10, READ, KILL_PROGRAM), **nowhere}
+    done = scribe(*goes_on.split(), folder=book.parent, **settings)
+    assert done.status == 3 and done.said.endswith(
+        "Paragraph 8 isn't a heading yet, or begins no volume, as it was to: scribe heading and scribe"
+        " volume do that.\n"
+    )
+    assert parts(book) == [*PARTS[:7], ("The end", "h")]
 
 
 def begun(book: Path) -> ImportNote:

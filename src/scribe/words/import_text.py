@@ -176,7 +176,13 @@ def _left(job: Import, intake: Intake, cut: CutShort) -> Iterator[str]:
         yield f"Nothing of {job.text} was reported as kept." if cut.kept is None else (
             f"Nothing of {job.text} is in the book."
         )
-    if kept < len(intake.passages) or cut.is_lacking:
+    is_all_typed = kept == len(intake.passages)
+    if cut.is_lacking and is_all_typed and not cut.is_noted:
+        yield (
+            f"Paragraph {intake.there + kept} isn't a heading yet, or begins no volume, as it was to:"
+            " scribe heading and scribe volume do that."
+        )
+    elif cut.is_lacking or not is_all_typed:
         words = shlex.join(_command_from(job, intake, kept, cut.is_noted))
         yield f"When nothing stands in the way any more, go on by: {words}"
 
@@ -194,9 +200,7 @@ def _command_from(job: Import, intake: Intake, kept: int, is_noted: bool) -> lis
     if intake.after != "end":
         words += ["--after", str(intake.there + kept if kept else intake.after)]
     if kept or job.line:
-        # beyond the last one nothing but its settings is lacking, and these come with it
-        first = intake.passages[min(kept, len(intake.passages) - 1)]
-        words += ["--from", str(first.first_line)]
+        words += ["--from", str(intake.passages[kept].first_line)]
     return words
 
 
