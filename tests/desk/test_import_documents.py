@@ -464,6 +464,8 @@ def test_a_document_is_imported_on_the_screen_with_what_is_lost(
     sat.state = sat.desk.away(sat.state, said.append)
     assert "1 emphasis, as by italics, is lost:" in said
     assert said[-1].startswith("8 paragraphs typed, numbers 4 to 11, by the table ")
+    assert "Another program" not in " ".join(sat.lines)
+    assert sat.state.deeds[-1].what == "8 paragraphs were imported, 4 to 11"
     sat.desk.close()
     assert [flags for _, flags in parts(moon)][3:] == [
         "h",

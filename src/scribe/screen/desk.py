@@ -934,9 +934,9 @@ def _of(number: int) -> list[Request[Any]]:
 
 
 def _changed_between(before: State, after: State) -> tuple[str, ...]:
-    """What is said where the book has been changed by more than the paragraphs of an import."""
-    typed = len(after.book) - len(before.book)
-    if after.version - before.version == typed:
+    """What is said where the book has been changed by more than an import."""
+    commands = taking_back.commands_between(before, after)
+    if after.version - before.version == commands:
         return ()
     return (
         f"Another program changed the book meanwhile. It is at version {after.version:,} now,"

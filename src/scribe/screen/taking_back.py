@@ -2,6 +2,8 @@
 
 from dataclasses import replace
 
+from braildesk import Style
+
 from scribe.screen.deeds import together, typed
 from scribe.screen.state import State
 
@@ -18,9 +20,21 @@ def with_imported(before: State, after: State) -> State:
     """The state with an import as a deed, if nothing else changed the book."""
     there = {each.id for each in before.book}
     new = sorted(each.id for each in after.book if each.id not in there)
-    if not new or after.version - before.version != len(new):
+    if not new or after.version - before.version != commands_between(before, after):
         return after
     return replace(after, deeds=(*before.deeds, typed(new, "imported")))
+
+
+def commands_between(before: State, after: State) -> int:
+    """How many commands an import was: one for each paragraph, heading and begin of a volume."""
+    earlier = {each.id: each for each in before.book}
+    count = 0
+    for each in after.book:
+        was = earlier.get(each.id)
+        count += was is None
+        count += each.style is not (was.style if was else Style.BODY)
+        count += each.begins_volume is not (was.begins_volume if was else False)
+    return count
 
 
 def so_far(state: State, done: int) -> State:
