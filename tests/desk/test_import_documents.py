@@ -377,14 +377,15 @@ def test_a_document_of_which_nothing_is_noted_goes_on_by_its_paragraphs(
     words = ("import", book, "moon.md", "--volumes", "1")
     nowhere = {"XDG_STATE_HOME": "/dev/null"}
     settings = {**standing_in(5, READ, KILL_PROGRAM), **nowhere}
-    done = scribe(*words, folder=book.parent, **settings)
+    done = scribe(*words, folder=book.parent, given="", before=None, **settings)
     goes_on = f"import {book} moon.md --format markdown --volumes 1 --from 3"
     assert done.status == 3 and done.said.endswith(
         "moon.md is in the book up to its paragraph 2, which is paragraph 2 of the book.\n"
         f"When nothing stands in the way any more, go on by: scribe {goes_on}\n"
     )
     settings = {**standing_in(10, READ, KILL_PROGRAM), **nowhere}
-    done = scribe(*goes_on.split(), folder=book.parent, **settings)
+    again = goes_on.split()
+    done = scribe(*again, folder=book.parent, given="", before=None, **settings)
     assert done.status == 3 and done.said.endswith(
         "Paragraph 8 isn't a heading yet, or begins no volume, as it was to: scribe heading and scribe"
         " volume do that.\n"
