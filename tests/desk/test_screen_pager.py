@@ -37,6 +37,19 @@ def test_the_cursor_stands_on_the_head_and_then_on_each_line() -> None:
     assert pressed(pages, SMALL, "up") == LINES
 
 
+def test_the_lines_stay_where_they_are_while_they_are_read() -> None:
+    pages, tops = LINES, []
+    for _ in range(25):
+        pages = pressed(pages, SMALL, "down")
+        tops.append(pages.top)
+    assert tops == [0] * 8 + [8] * 8 + [16] * 8 + [17]
+    tops = []
+    for _ in range(25):
+        pages = pressed(pages, SMALL, "up")
+        tops.append(pages.top)
+    assert tops == [17] * 7 + [9] * 8 + [1] * 8 + [0] * 2
+
+
 def test_a_page_on_shows_the_lines_after_those_that_were_seen() -> None:
     first = seen(LINES, SMALL).lines
     second = seen(pressed(LINES, SMALL, "pagedown"), SMALL).lines

@@ -57,7 +57,10 @@ def target(pages: Pages, size: Size) -> Target | None:
 
 def fitted(pages: Pages, size: Size) -> Pages:
     """The lines with that of the cursor still seen on a screen of another size."""
-    return _at(pages, size, pages.place) if pages.place != HEAD_LINE else pages
+    if pages.place == HEAD_LINE:
+        return pages
+    top = max(pages.top, pages.place - _most(pages, size) + 1)
+    return replace(pages, top=min(top, pages.place))
 
 
 def moved(pages: Pages, size: Size, key: str) -> Pages | None:
@@ -82,10 +85,18 @@ def moved(pages: Pages, size: Size, key: str) -> Pages | None:
 
 
 def _at(pages: Pages, size: Size, place: int) -> Pages:
-    """The lines with the cursor on one of those that stand on the screen, which is seen."""
+    """The lines with the cursor on one of those that stand on the screen, which is seen.
+
+    Where it isn't seen yet the lines go on by as many as are seen, and not by one after the other,
+    so that they stay where they are while they are read.
+    """
     last, most = len(_wrapped(pages, size)) - 1, _most(pages, size)
     place = max(HEAD_LINE, min(place, last))
-    top = max(min(pages.top, max(0, place)), place - most + 1)
+    top = pages.top
+    if place >= top + most:
+        top = place
+    elif place < top:
+        top = place - most + 1
     return replace(pages, top=max(0, min(top, last + 1 - most)), place=place)
 
 
