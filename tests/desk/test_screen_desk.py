@@ -147,10 +147,11 @@ def test_paragraphs_are_typed_and_pasted_up_to_one_that_is_refused(
     assert sat.state.typed and sat.state.typed.text == "Těo."
     assert sat.state.message.startswith("1 typed. The table en has no cells for “ě”")
     assert sat.state.message.endswith(
-        " After Enter or Escape, U brings back the line after this one."
+        " Once nothing is typed any more, U brings back the line after this one."
     )
     assert "kept: paragraph 8" in sat.lines[0]
-    sat.press("left", "left", "backspace", "w", "enter", "U", "y", "enter")
+    sat.press("left", "left", "backspace", "w", "enter", "escape")
+    sat.press("U", "y", "enter")
     with Session(closed(sat)) as session:
         found = [(each.id, session.print_of(each.id)) for each in session.paragraphs()]
     assert found == [

@@ -195,7 +195,7 @@ def test_pasted_lines_that_are_left_out_come_back(moon: Path, sit: Sit) -> None:
     paste(sat, ", it rose.\nIt set.")
     sat.press("escape")
     assert sat.state.message == (
-        "The pasted text isn't in the book. After Enter or Escape, U brings it back."
+        "The pasted text isn't in the book. Once nothing is typed any more, U brings it back."
     )
     assert sat.state.typed and sat.state.typed.text == "Oh"
     sat.press("escape", "U", "U", "y")
@@ -325,7 +325,7 @@ def test_text_that_came_before_the_end_and_was_not_taken_in_is_kept(
     moon: Path, at: Open, typing: bool
 ) -> None:
     terminal = at(moon)
-    terminal.wait("? shows all keys.")
+    terminal.wait("? shows the keys.")
     if typing:
         terminal.keys("o")
         terminal.wait("New paragraph after paragraph 1")
@@ -346,7 +346,7 @@ def test_letters_that_came_as_scribe_was_told_to_end_are_kept(
     moon: Path, at: Open
 ) -> None:
     terminal = at(moon)
-    terminal.wait("? shows all keys.")
+    terminal.wait("? shows the keys.")
     terminal.keys("o", "It")
     terminal.wait("It")
     terminal.send_signal(signal.SIGSTOP)
@@ -362,7 +362,7 @@ def test_text_that_is_pasted_after_the_key_that_ends_is_kept(
     moon: Path, at: Open
 ) -> None:
     terminal = at(moon)
-    terminal.wait("? shows all keys.")
+    terminal.wait("? shows the keys.")
     terminal.send("q\x1b[200~It rose.\x1b[201~")
     assert terminal.ended() == 0
     assert [each.text for each in Drafts(moon).given_up()] == ["It rose."]

@@ -235,6 +235,8 @@ def test_an_import_of_the_screen_ends_at_a_signal_and_says_what_is_in_the_book(
     # a slow machine says before it how far the import has come
     said = re.sub("(?m)^[0-9,]+ of [0-9,]+ .*\n", "", terminal.said)
     assert said.startswith(f"Stopped{by}.\n")
+    # in lines of the terminal's width
+    said = " ".join(said.split())
     found = re.search("is in the book up to line ([0-9]+), which", said)
     assert found is not None
     with once_free(book) as session:

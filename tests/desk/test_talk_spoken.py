@@ -13,7 +13,7 @@ import pytest
 
 from scribe.cli.commands import AT_PROMPT
 from scribe.cli.prompt_words import names
-from tool import environment, scribe_in_copy
+from tool import environment
 
 SPOKEN = Path(__file__).with_name("spoken")
 #: The prompts: for a line, for an answer, and for an answer where questions are short.
@@ -29,13 +29,13 @@ def texts(width: int) -> list[str]:
 @pytest.mark.parametrize("width", [80, 40])
 def test_each_command_says_what_is_written_here(moon: Path, width: int) -> None:
     words = ["talk", "moon.braildesk", "--width", str(width)]
-    settings = environment(TERM="dumb", INPUTRC="/dev/null")
     child = pexpect.spawn(
         sys.executable,
         ["-m", "scribe", *words],
         cwd=moon.parent,
-        env=settings,
-        preexec_fn=scribe_in_copy(words, settings),
+        # a process of its own: in a copy of this one an earlier test may have readline know another
+        # terminal
+        env=environment(TERM="dumb", INPUTRC="/dev/null"),
         encoding="utf-8",
         timeout=60,
         dimensions=(24, 200),

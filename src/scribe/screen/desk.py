@@ -717,7 +717,7 @@ class Desk:
         draft = draft_of(state)
         fault = self._unsent.put_by(draft) if draft else ""
         if asked is not None and asked.lines:
-            how = fault or "After Enter or Escape, U brings it back."
+            how = fault or "Once nothing is typed any more, U brings it back."
             said = f"The pasted text isn't in the book. {how}"
             return replace(state, question=None).saying(said)
         said = "Given up. The book is as it was."
@@ -893,10 +893,10 @@ class Desk:
             Draft(Aim.AFTER, None, state.table, "", text, None, state.version)
         )
         what = "line" if len(others) == 1 else f"{len(others)} lines"
-        how = (
-            fault or f"After Enter or Escape, U brings back the {what} after this one."
+        back = (
+            f"Once nothing is typed any more, U brings back the {what} after this one."
         )
-        return self.save_draft(state.saying_too(how))
+        return self.save_draft(state.saying_too(fault or back))
 
 
 def preview_of(state: State, typed: Field) -> tuple[str, str, str]:
