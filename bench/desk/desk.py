@@ -48,7 +48,7 @@ def make_book(path: Path, count: int) -> None:
     """A book of so many paragraphs with five marks each, by the supplied table."""
     new_book(path)
     with Session(path) as session:
-        session.supply("en")
+        session.supply_table("en")
         for _ in session.each(Type("end", "en", text) for text in texts(count)):
             pass
         for _ in session.each(
@@ -115,10 +115,11 @@ def measure_commands(folder: Path, made: Path, count: int, runs: int) -> None:
     text = folder / "text.txt"
     text.write_text("\n".join(lines), encoding="utf-8")
     requests = "".join(f"type end en {line}\n" for line in lines).encode()
-    for name, words, given in (
+    ways: tuple[tuple[str, Sequence[str | Path], bytes], ...] = (
         ("a piped session of 5,000", [find(), "session", book], requests),
         ("import of 5,000", [*SCRIBE, "import", book, text, "--lines"], b""),
-    ):
+    )
+    for name, words, given in ways:
         if count + IMPORTED <= 20_000:
             found = best(
                 runs,

@@ -1,6 +1,6 @@
 #!/bin/bash
-# Looks at the layout and the types of the Python of src/ and tests/desk, for names that nothing uses, and runs the tests of tests/desk by
-# the program: in processes side by side, each of which takes the next file that none has taken.
+# Looks at the layout and the types of the Python of src/, tests/desk, sample/ and bench/desk, for names that nothing uses, and runs the
+# tests of tests/desk by the program: in processes side by side, each of which takes the next file that none has taken.
 #   tests/desk/desk.sh     PROGRAM: the program (build/braildesk); PYTHON: the interpreter (that of tests/python.sh); SEED (1): of the
 #                          random cases; PROCESSES (2): how many run the tests; the words of the command go to pytest
 set -eu
@@ -10,7 +10,7 @@ program=$(realpath "${PROGRAM:-build/braildesk}")
 tests/needs.sh python black mypy pyflakes pytest hypothesis pexpect prompt_toolkit pyte setuptools wheel pip louis pandoc
 python=${PYTHON:-$(tests/python.sh)}
 export BRAILDESK=$program PYTHONPATH=$PWD/src
-files=(src tests/desk sample/client.py)
+files=(src tests/desk sample/client.py bench/desk/desk.py)
 "$python" -m black --check --quiet "${files[@]}" || {
     "$python" -m black --check "${files[@]}" || true
     echo 'tests/desk/desk.sh: black lays out these files in another way' >&2
