@@ -20,7 +20,7 @@ from braildesk.text import limits
 from braildesk.waiting import waited
 from braildesk.workshop import made_for_a_while
 
-#: What SQLite is kept to where it reads a file of a stranger, as its page "Defense Against The Dark
+#: What SQLite is kept to when it reads a file of a stranger, as its page "Defense Against The Dark
 #: Arts" has it; no table is longer.
 _LIMITS = (
     (sqlite3.SQLITE_LIMIT_LENGTH, limits.TABLE_BYTES + 65_536),

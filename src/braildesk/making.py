@@ -55,7 +55,7 @@ def new_book(
 ) -> None:
     """Makes a book in a file: an empty one, or one in which some commands are carried out.
 
-    A new file gets its name when all of that is in it, so that where anything fails there is none.
+    A new file gets its name when all of that is in it, so that if anything fails there is none.
     A file with an empty book is taken as it is; one with another book is refused (99). While another
     program has it open, this is tried again for ``timeout`` seconds.
     """
@@ -136,7 +136,7 @@ def copy(
     """Copies a closed book, with what stands in the log beside it, and gives its version.
 
     The copy is written in a folder beside ``to``, opened there by the program, and gets its name
-    only then. A file that is at ``to`` already is replaced only where ``overwrite`` says so, and no
+    only then. A file that is at ``to`` already is replaced only if ``overwrite`` says so, and no
     session can open it meanwhile. While a session has one of them open, this is tried again for
     ``timeout`` seconds.
     """

@@ -53,7 +53,7 @@ def is_handed_over(path: StrPath) -> bool:
 
 
 def open_file(path: StrPath) -> BinaryIO:
-    """A file, open for reading; ``NoFile`` where it is none."""
+    """A file, open for reading; ``NoFile`` if it is none."""
     if "\0" in fspath(path):
         raise NoFile("no path has the character U+0000")
     _judge(os.stat(path).st_mode, path)
@@ -68,7 +68,7 @@ def open_file(path: StrPath) -> BinaryIO:
 
 
 def read_file(path: StrPath, most: int) -> bytes:
-    """The bytes of a file, or of what the shell hands over; ``TooLarge`` where they are too many."""
+    """The bytes of a file, or of what the shell hands over; ``TooLarge`` if they are too many."""
     with open(path, "rb") if is_handed_over(path) else open_file(path) as file:
         if file.isatty():
             # its keys may be those of a screen, on which nothing ends a text

@@ -34,7 +34,7 @@ class OpenFile:
 
     @property
     def is_at_its_path(self) -> bool:
-        """Whether the file has its name still; True where there was none to be held."""
+        """Whether the file has its name still; True if there was none to be held."""
         if self._descriptor is None:
             return True
         try:

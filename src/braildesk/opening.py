@@ -19,7 +19,7 @@ _LITTLE = 2**20
 
 
 def word(path: str | PathLike[str]) -> str | None:
-    """The path as a word of the command line, or None where the program can't take it."""
+    """The path as a word of the command line, or None if the program can't take it."""
     text = fspath(path)
     try:
         encoded = fsencode(text)
@@ -47,7 +47,7 @@ def why(asked: AskedOfFile) -> Why:
 
 
 def _why_by_disk(path: str) -> Why | None:
-    """What of the disk keeps a book from being written, where that is seen."""
+    """What of the disk keeps a book from being written, if that is seen."""
     try:
         disk = os.statvfs(os.path.dirname(os.path.realpath(path)))
     except (OSError, ValueError):
@@ -58,7 +58,7 @@ def _why_by_disk(path: str) -> Why | None:
 
 
 def little_room(path: str) -> int | None:
-    """How many bytes there is room for on the disk of a path, where they are few."""
+    """How many bytes there is room for on the disk of a path, if they are few."""
     try:
         disk = os.statvfs(os.path.dirname(os.path.realpath(path)))
     except (OSError, ValueError):
@@ -128,7 +128,7 @@ def why_contents(file: BinaryIO) -> Why:
 
 
 def may_be_book(path: str | PathLike[str]) -> bool:
-    """Whether what stands at a path may be a book; True where nothing does, or it can't be read."""
+    """Whether what stands at a path may be a book; True if nothing does, or it can't be read."""
     try:
         with open_file(path) as file:
             return file.read(len(MAGIC)) in (b"", MAGIC)

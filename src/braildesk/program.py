@@ -77,7 +77,7 @@ def find(program: StrPath | None = None) -> str:
 def make_book(
     path: StrPath, program: StrPath | None = None, named: StrPath | None = None
 ) -> None:
-    """Makes an empty book in a file, which is called by another name where it is refused."""
+    """Makes an empty book in a file, which is called by another name if it is refused."""
     asked = NewBook(fspath(path if named is None else named))
     _run(program, ["new", "--", _word(NewBook(fspath(path)))], asked)
 
@@ -193,7 +193,7 @@ def _fault_of(path: str, program: str) -> Why | None:
 
 
 def _fault_with_log(path: str, log: str, program: str) -> Why | None:
-    """The same where a log has work, which may be that of another book: copies of both are tried."""
+    """The same if a log has work, which may be that of another book: copies of both are tried."""
     with made_for_a_while() as both, made_for_a_while() as alone:
         with held(BookFile(path)) as file:
             copy_held(file, log, both)
@@ -333,7 +333,7 @@ def _judged(line: Line) -> Line | Refused:
 
 
 def _answered(line: Line | Refused, answers: Iterator[str]) -> str | Refused:
-    """The answer to a line, which is the next one where the line was sent."""
+    """The answer to a line, which is the next one if the line was sent."""
     if isinstance(line, Refused):
         return line
     answer = next(answers)

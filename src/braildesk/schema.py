@@ -30,7 +30,7 @@ def reader(path: str | PathLike[str], is_alone: bool) -> sqlite3.Connection:
 
 
 def fault_in(path: str | PathLike[str], is_alone: bool) -> Why | None:
-    """What in a schema keeps its file from being opened; None where the program has to say it."""
+    """What in a schema keeps its file from being opened; None if the program has to say it."""
     try:
         with closing(reader(path, is_alone)) as database:
             return None if _keeps_its_rows(database) else Why.COMPUTED

@@ -82,7 +82,7 @@ def _state(file: BinaryIO, log: str) -> tuple[int, int, int, bytes]:
 
 
 def _header(log: str) -> bytes:
-    """The header of a log; nothing where there is none yet."""
+    """The header of a log; nothing if there is none yet."""
     try:
         flags = os.O_RDONLY | os.O_NOFOLLOW | os.O_NONBLOCK | os.O_CLOEXEC
         with open(os.open(log, flags), "rb", buffering=0) as file:

@@ -10,7 +10,7 @@ from braildesk.refusals import CannotOpen
 Result = TypeVar("Result")
 #: The first and the longest time between two attempts, in seconds.
 _FIRST, _LONGEST = 0.02, 0.25
-#: How often it is tried again, where time is left, if the cause isn't seen.
+#: How often it is tried again while time is left, if the cause isn't seen.
 _UNSEEN = 4
 
 

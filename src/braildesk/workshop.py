@@ -15,13 +15,13 @@ from pathlib import Path
 from typing import BinaryIO, Self
 
 _PREFIX = ".braildesk-"
-#: The file that is made, and what is put beside it by the program and by SQLite where it reads what
+#: The file that is made, and what is put beside it by the program and by SQLite when it reads what
 #: stands in a log. Nothing else is cleared away.
 _MADE = "book"
 _NAMES = frozenset({_MADE, f"{_MADE}-wal", f"{_MADE}-shm"})
 #: The numbers of `renameat2`: paths are those of this process, and nothing is replaced.
 _HERE, _NO_REPLACE = -100, 1
-#: What a system says of that where it, or the file system, doesn't have it.
+#: What a system says of that if it, or the file system, doesn't have it.
 _NOT_KNOWN = (errno.EINVAL, errno.ENOSYS, errno.EOPNOTSUPP)
 _CHUNK = 1 << 20
 
@@ -72,7 +72,7 @@ def create(path: Path) -> BinaryIO:
 
 
 def open_made(made: Path, like: os.stat_result) -> BinaryIO:
-    """A file that was made, open once more; ``Swapped`` where another one is at its path.
+    """A file that was made, open once more; ``Swapped`` if another one is at its path.
 
     Who may write in the folder beside which it is made may put a folder with a link in its place.
     """
@@ -119,7 +119,7 @@ def put_over(made: Path, target: str) -> None:
 
 
 def give_access(file: int, like: os.stat_result) -> None:
-    """Gives a file the mode of another, and its group and owner where this process may.
+    """Gives a file the mode of another, and its group and owner if this process may.
 
     A group that isn't that of the other file gets no more than anybody.
     """
@@ -215,7 +215,7 @@ def _remove(descriptor: int, folder: str) -> None:
 
 
 def _rename(made: Path, target: str) -> None:
-    """Renames a file where nothing has the new name."""
+    """Renames a file if nothing has the new name."""
     import ctypes  # which few sessions need
 
     library = ctypes.CDLL(None, use_errno=True)

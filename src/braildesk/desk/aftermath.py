@@ -13,7 +13,7 @@ _PATIENCE = 2.0
 
 
 def after_loss(path: Path, lost: Lost) -> list[str]:
-    """What is said where a session was lost: what happened, and what is in the book."""
+    """What is said if a session was lost: what happened, and what is in the book."""
     session, said = opened_again(path, lost)
     if session is not None:
         try:
@@ -41,7 +41,7 @@ def opened_again(path: Path, lost: Lost) -> tuple[Session | None, list[str]]:
 
 
 def _found_unshown(session: Session, lost: Lost) -> str:
-    """What a book has where nobody may have read yet what the last command did."""
+    """What a book has if nobody may have read yet what the last command did."""
     is_as_answered = session.last_version == lost.version and not lost.unanswered
     if is_as_answered and lost.acknowledged is not None:
         return (

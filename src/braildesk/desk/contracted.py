@@ -25,7 +25,7 @@ def means_for(
 ) -> Means:
     """A list of words, or else the installed one of the table's language, and the user's cache.
 
-    Raises `BadAddition` where the lines of a file can't be added.
+    Raises `BadAddition` if the lines of a file can't be added.
     """
     path = words or installed_words(shipped_table(table).language)
     found = None if path is None else WordList.of(path)

@@ -29,7 +29,7 @@ class Correction:
 
 
 def smallest_correction(old: str, new: str) -> Correction | None:
-    """The smallest correction that makes the new print of the old one, none where they are the same.
+    """The smallest correction that makes the new print of the old one, none if they are the same.
 
     The longest common beginning stays, then the longest common ending of what is left, both counted
     in combining sequences.
@@ -49,7 +49,7 @@ def smallest_correction(old: str, new: str) -> Correction | None:
 def replaced(text: str, start: int, stop: int, by: str) -> str:
     """A text with another in place of what stands from one place to another, in normal form C there.
 
-    What stands elsewhere stays as it is, even where it isn't in normal form C.
+    What stands elsewhere stays as it is, even if it isn't in normal form C.
     """
     joined = text[:start] + by + text[stop:]
     places = seams(joined)

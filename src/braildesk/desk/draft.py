@@ -31,7 +31,7 @@ class Draft:
     """A text that was typed: what for, at which paragraph, and how its print read then.
 
     Lines that were pasted, and may become paragraphs, are parted by LF. The cells are those of the
-    mark whose note was typed. The version is that of the book at that time, where it is known.
+    mark whose note was typed. The version is that of the book at that time, if it is known.
     """
 
     aim: Aim
@@ -53,7 +53,7 @@ class Draft:
         return self.text.partition("\n")[0]
 
     def after_first_line(self, paragraph: int) -> "Draft | None":
-        """The lines after the first one, which is in a paragraph; none where there are none."""
+        """The lines after the first one, which is in a paragraph; none if there are none."""
         _, _, rest = self.text.partition("\n")
         if not rest:
             return None
@@ -74,7 +74,7 @@ class Draft:
 
 
 def draft_in(kept: Record) -> Draft:
-    """The draft of which these values were kept; `NotSuch` where they are none."""
+    """The draft of which these values were kept; `NotSuch` if they are none."""
     aim = kept.text("purpose")
     if aim not in Aim.__members__:
         raise NotSuch("purpose")

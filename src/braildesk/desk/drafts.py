@@ -111,7 +111,7 @@ class Drafts:
         return self._folder.path / self._name(Begun.WAITING)
 
     def waiting(self) -> Draft | None:
-        """The text that waits, none where there is none."""
+        """The text that waits, none if there is none."""
         return self._read(Begun.WAITING, draft_in)
 
     def save(self, draft: Draft) -> None:
@@ -253,7 +253,7 @@ class Drafts:
         return f"{self._key}.{what.value}"
 
     def _read(self, what: Begun, taken: Callable[[Record], _Kept]) -> _Kept | None:
-        """What was kept, none where nothing was.
+        """What was kept, none if nothing was.
 
         What isn't such a thing is set aside, so that nothing is written over it.
         """
@@ -309,7 +309,7 @@ def _notes_in(kept: Record) -> tuple[ImportNote, ...]:
 
 
 def _identity(book: Path) -> list[int] | None:
-    """The device and the inode of a book's file, none where it isn't there."""
+    """The device and the inode of a book's file, none if it isn't there."""
     try:
         found = book.stat()
     except OSError:

@@ -41,7 +41,7 @@ class AllThere(NotImported):
 class Undecided(NotImported):
     """A person has to say what is done about an earlier import.
 
-    The way is what a yes means where one question is asked. The note is of what may be left out.
+    The way is what a yes means if one question is asked. The note is of what may be left out.
     """
 
     way: Way

@@ -68,7 +68,7 @@ class LeftOut:
 
 @dataclass(frozen=True)
 class Files:
-    """What the files of the volumes have where an export ended before its end."""
+    """What the files of the volumes have if an export ended before its end."""
 
     new: tuple[int, ...]
     as_before: tuple[int, ...]
@@ -146,7 +146,7 @@ class Export:
             yield Written(volume, file, *_size(pages))
 
     def so_far(self) -> Files | None:
-        """What the files have where this was ended; none where no volume was to be written yet."""
+        """What the files have if this was ended; none if no volume was to be written yet."""
         if not self._volumes:
             return None
         rest = [n for n in self._wanted if n not in self._written]

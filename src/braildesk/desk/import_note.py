@@ -80,7 +80,7 @@ class ImportNote:
 
 
 def note_in(kept: Record) -> ImportNote:
-    """The note of which these values were kept; `NotSuch` where they are none."""
+    """The note of which these values were kept; `NotSuch` if they are none."""
     digest, table = kept.text("digest"), kept.text("table")
     if not _DIGEST.fullmatch(digest):
         raise NotSuch("digest")

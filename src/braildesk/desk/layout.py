@@ -64,7 +64,7 @@ class Row:
 
 @dataclass(frozen=True)
 class Placed:
-    """A paragraph on its lines, with the cells on each; it has none where it has no words.
+    """A paragraph on its lines, with the cells on each; it has none if it has no words.
 
     Lines are counted from 0 through all pages of the volume, without those of the numbers of pages.
     """

@@ -13,7 +13,7 @@ def came_from(
 ) -> int:
     """How many paragraphs of a text, from its first one on, these paragraphs of a book are.
 
-    They are that also where they were corrected since.
+    They are that also if they were corrected since.
     """
     pairs = list(zip(numbers, texts))
     prints = answers(session, (Print(number) for number, _ in pairs))
@@ -36,7 +36,7 @@ def standing(
     after: After,
     texts: Sequence[Passage],
 ) -> tuple[int, ...]:
-    """The paragraphs that are a text already, just before or after a place; none where none are.
+    """The paragraphs that are a text already, just before or after a place; none if none are.
 
     Struck ones are passed over.
     """

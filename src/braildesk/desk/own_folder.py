@@ -42,7 +42,7 @@ class OwnFolder:
         self.path = path
 
     def read(self, name: str) -> bytes | None:
-        """The bytes of a file, none where there is none."""
+        """The bytes of a file, none if there is none."""
         try:
             with self._opened() as folder:
                 return bytes_of(folder, name)
@@ -66,7 +66,7 @@ class OwnFolder:
             sync_names(folder)
 
     def remove(self, name: str) -> None:
-        """Takes a file away, where there is one."""
+        """Takes a file away, if there is one."""
         try:
             with self._opened() as folder:
                 remove_from(folder, name)

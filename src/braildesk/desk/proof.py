@@ -24,7 +24,7 @@ class ProofWord:
     #: The column of the first cell, counted from 0.
     column: int
     cells: str
-    #: Empty where the print stands under the cells before, as where a word is cut at a line's end.
+    #: Empty if the print stands under the cells before, as when a word is cut at a line's end.
     text: str
     is_marked: bool
 

@@ -33,7 +33,7 @@ def _named(variable: str, usual: Path) -> Path:
 
 
 def _home() -> Path:
-    """The home folder of this user; a path that isn't absolute where none is known."""
+    """The home folder of this user; a path that isn't absolute if none is known."""
     named = os.environ.get("HOME", "")
     if named:
         return Path(named)

@@ -1,4 +1,4 @@
-"""Types the paragraphs of a text file into a book, and sees what is there where that is cut short."""
+"""Types the paragraphs of a text file into a book, and sees what is there if that is cut short."""
 
 from collections.abc import Callable
 from pathlib import Path

@@ -80,7 +80,7 @@ class Unfinished:
 def unfinished(
     session: Session, book: Sequence[Paragraph], note: ImportNote
 ) -> Unfinished:
-    """What became of an import, by the book as it is now; `NotSeen` where nothing shows it."""
+    """What became of an import, by the book as it is now; `NotSeen` if nothing shows it."""
     before, rest = _parts(note)
     new = range(note.there + 1, len(book) + 1)
     is_untouched = session.last_version == note.version

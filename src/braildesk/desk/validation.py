@@ -52,7 +52,7 @@ def faults(passages: Sequence[Passage], table: Table) -> list[TextFault]:
     others = sorted(characters - barred)
     lacking = _refused(others, translate(table, others))
     unfit = barred | lacking
-    # where nothing is unfit, as in most texts, none is looked at a second time
+    # if nothing is unfit, as in most texts, none is looked at a second time
     counts = Counter(whole) if unfit else Counter[str]()
     sound = [each for each in passages if not _is_faulty(each, unfit)]
     answers = translate(table, [each.text for each in sound])

@@ -41,7 +41,7 @@ class Access:
     """Who may read and write a new file, as far as the umask allows."""
 
     mode: int = ANYONE
-    #: The group that the mode means, where that isn't any.
+    #: The group that the mode means, if that isn't any.
     group: int | None = None
 
     @classmethod
@@ -99,7 +99,7 @@ def remove_left(folder: int, name: str) -> None:
 
 
 def sync_names(folder: int) -> None:
-    """Has the names of an open folder on the disk, where its file system has a way to do so."""
+    """Has the names of an open folder on the disk, if its file system has a way to do so."""
     try:
         os.fsync(folder)
     except OSError as error:
@@ -133,7 +133,7 @@ def _kept_permissions(name: str, folder: int) -> int | None:
 
 
 def _is_book(name: str, folder: int) -> bool:
-    """Whether a name is that of a book, which nobody means where pages or a table are written."""
+    """Whether a name is that of a book, which nobody means when pages or a table are written."""
     flags = os.O_RDONLY | os.O_NOFOLLOW | os.O_NONBLOCK | os.O_CLOEXEC
     try:
         with open(os.open(name, flags, dir_fd=folder), "rb") as file:

@@ -74,5 +74,5 @@ class Refusal:
     shown: str | None = None
     #: How many paragraphs the book has, if that was looked up for the sentence.
     count: int | None = None
-    #: For how many bytes there is room on the disk, where that was looked up and is little.
+    #: For how many bytes there is room on the disk, if that was looked up and is little.
     room: int | None = None

@@ -277,7 +277,7 @@ class _Fields:
 
     @property
     def room(self) -> str:
-        """How little room there is on the disk, where that is so."""
+        """How little room there is on the disk, if that is so."""
         return said_of_room(self._refusal.room)
 
     @property

@@ -1,4 +1,4 @@
-"""What is found here beside what the program answers: where the two differ, nothing is answered."""
+"""What is found here beside what the program answers: if the two differ, nothing is answered."""
 
 from dataclasses import dataclass
 from os import fspath
@@ -23,7 +23,7 @@ class Disagreement(Failed):
 
 @dataclass(frozen=True, slots=True)
 class _Refusal:
-    """A line is refused by a code, where it names one at a place."""
+    """A line is refused by a code, if it names one at a place."""
 
     code: int
     place: int | None = None
@@ -48,7 +48,7 @@ class TableText:
     def pieces(self, line: str) -> tuple[str, list[Piece]]:
         """The program's braille of a line, and the pieces that it is made of.
 
-        It is an error, Refused, where the line has no braille, and Disagreement where the two
+        It is an error, Refused, if the line has no braille, and Disagreement if the two
         differ. The table has to be one that is accepted.
         """
         found = _found(self.reading, line)

@@ -26,7 +26,7 @@ class BadOperand(Exception):
 
 
 def characters(operand: str) -> str:
-    """The characters that an operand spells; BadOperand where an escape is none."""
+    """The characters that an operand spells; BadOperand if an escape is none."""
     found = []
     place = 0
     while place < len(operand):
@@ -43,7 +43,7 @@ def characters(operand: str) -> str:
 
 
 def cells(operand: str) -> Cells:
-    """The cells of a dots operand, however many; BadOperand where it is none."""
+    """The cells of a dots operand, however many; BadOperand if it is none."""
     return tuple(_cell(part, operand) for part in operand.split("-"))
 
 

@@ -237,7 +237,7 @@ class _Reader:
                 self.faults.append(faults.undefined(number, lacking))
 
     def is_sound(self, line: "_Line") -> bool:
-        """Whether a line has no fault; where it has one, what it was meant to define is kept."""
+        """Whether a line has no fault; if it has one, what it was meant to define is kept."""
         self.faults += line.faults
         if line.faults and line.is_definition:
             self.meant |= set(line.spelled)
@@ -269,7 +269,7 @@ class _Line:
             return ""
 
     def characters(self, count: int | None = None, wanted: str = "") -> str | None:
-        """The characters of the first operand, or None where it has a fault."""
+        """The characters of the first operand, or None if it has a fault."""
         try:
             text = characters(self.operands[0])
         except BadOperand as bad:
@@ -283,7 +283,7 @@ class _Line:
         return text
 
     def cells(self, operand: str) -> Cells | None:
-        """The cells of a dots operand, or None where it has a fault."""
+        """The cells of a dots operand, or None if it has a fault."""
         try:
             found = cells(operand)
         except BadOperand as bad:

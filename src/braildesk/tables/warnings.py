@@ -193,7 +193,7 @@ def _variants(table: Table, character: str) -> str:
 def _is_numeric(
     table: Table, variants: str, is_before: bool | None = None
 ) -> bool | None:
-    """Whether a place is in numeric mode, by the place before it; None where that isn't known."""
+    """Whether a place is in numeric mode, by the place before it; None if that isn't known."""
     if _all_of(table, variants, Class.DIGIT):
         return True
     go_on = {table.has(SetName.GO_ON, each) for each in variants}

@@ -68,7 +68,7 @@ def code_and_name(character: str) -> str:
 
 
 def named(character: str) -> str:
-    """A character with its code point and its name, itself only where it can be seen alone."""
+    """A character with its code point and its name, itself only if it can be seen alone."""
     known = f"{code_point(character)} {name(character)}"
     if unicodedata.category(character)[0] in "CZM":
         return known

@@ -16,7 +16,7 @@ _BESIDE = 10
 def excerpt(text: str, start: int, stop: int, width: int) -> str:
     """A line of a text: the words from one place to another in brackets, and words around them.
 
-    Where words are left out stands an ellipsis, also within the brackets where they are too long.
+    Where words are left out stands an ellipsis, also within the brackets if they are too long.
     """
     words = f"[{_both_ends(visible(text[start:stop]), width - 2)}]"
     room = width - columns(words)

@@ -26,7 +26,7 @@ After Ctrl-C (SIGINT), SIGTERM and SIGHUP scribe says what is so, and ends by th
 
 
 def make_parser(names: Collection[str] = COMMANDS.keys()) -> Parser:
-    """The parser of the words of some commands; where these are none, all are listed."""
+    """The parser of the words of some commands; if these are none, all are listed."""
     parser = Parser(prog="scribe", description=DESCRIPTION, epilog=STATUSES)
     parser.add_version()
     subparsers = parser.add_subparsers(

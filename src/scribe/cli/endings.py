@@ -47,7 +47,7 @@ def _status(run: Callable[[], int]) -> int:
 
 
 def open_closed() -> None:
-    """Opens standard input, output and errors on nothing where they are closed.
+    """Opens standard input, output and errors on nothing if they are closed.
 
     Else the next file that is opened would be taken for one of them.
     """
@@ -80,7 +80,7 @@ def of_fault(fault: Exception) -> str:
 
 
 def say_last(sentence: str) -> None:
-    """Says a sentence where standard error is there, and nothing else may be."""
+    """Says a sentence if standard error is there, and nothing else may be."""
     with suppress(OSError):
         os.write(2, f"{visible(sentence)}\n".encode(errors="backslashreplace"))
 

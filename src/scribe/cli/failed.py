@@ -1,4 +1,4 @@
-"""What is said where a command fails, and the status with which it ends then."""
+"""What is said if a command fails, and the status with which it ends then."""
 
 from argparse import Namespace
 
@@ -7,7 +7,7 @@ from braildesk.desk.aftermath import after_loss
 
 from scribe.words.status import Status
 
-# where a disk is why a file can't be opened, and not what was asked
+# if a disk is why a file can't be opened, and not what was asked
 _OF_DISK = (Why.READ_ONLY, Why.NO_ROOM)
 
 

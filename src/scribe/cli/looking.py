@@ -36,7 +36,7 @@ def looked_at(arguments: Namespace, console: Console) -> Iterator[tuple[Session,
 
 
 def _opened(arguments: Namespace, copied: Path) -> Session:
-    """A session with a copy, which is called as the book where it is refused."""
+    """A session with a copy, which is called as the book if it is refused."""
     try:
         return Session(copied)
     except Refused as refusal:

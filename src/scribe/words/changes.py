@@ -79,7 +79,7 @@ def place_after(after: After) -> str:
 
 
 def _before(session: Session, query: Request[Answer]) -> Answer | None:
-    """What stands there before a command; nothing where the command will be refused as well."""
+    """What stands there before a command; nothing if the command will be refused as well."""
     try:
         return session.ask(query)
     except Refused:

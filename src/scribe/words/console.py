@@ -39,7 +39,7 @@ class NoInput(InputFailed):
 
 
 class EndlessLine(InputFailed):
-    """A line of standard input has no end, as where it is a device."""
+    """A line of standard input has no end, as when it is a device."""
 
     def __init__(self) -> None:
         super().__init__(
@@ -80,7 +80,7 @@ class Console:
     input: BinaryIO
     output: TextIO
     errors: TextIO
-    #: Raises Interrupted where the work is to end: at the process's own streams a signal does that.
+    #: Raises Interrupted if the work is to end: at the process's own streams a signal does that.
     check: Callable[[], None] = lambda: None
     #: The columns of a line; None where a line is as long as it comes, as for another program.
     width: int | None = None
@@ -94,7 +94,7 @@ class Console:
 
     @classmethod
     def of_process(cls) -> "Console":
-        """The streams of this process; OutputFailed where its output is closed.
+        """The streams of this process; OutputFailed if its output is closed.
 
         What can't be said, since the errors are closed, isn't missed by anybody.
         """

@@ -11,7 +11,7 @@ from scribe.words.status import Status, Stop
 
 @contextmanager
 def in_sentences() -> Iterator[None]:
-    """Stops by a sentence at a problem, and where the system refuses something.
+    """Stops by a sentence at a problem, and if the system refuses something.
 
     A person may go on after it.
     """

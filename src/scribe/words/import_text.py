@@ -260,7 +260,7 @@ def not_imported(problem: NotImported) -> Stop:
 
 
 def question(undecided: Undecided) -> str:
-    """What is asked where a text was imported before, in part or whole."""
+    """What is asked if a text was imported before, in part or whole."""
     match undecided:
         case StandsThere():
             return f"{_stands_there(undecided)} Shall it be typed once more?"

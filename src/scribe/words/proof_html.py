@@ -77,7 +77,7 @@ class Proof:
 
 
 def _size(characters: int, cells: int) -> int:
-    """Which of the sizes of letters print has below cells, the smallest where none is small enough."""
+    """Which of the sizes of letters print has below cells, the smallest if none is small enough."""
     for number, size in enumerate(_SIZES):
         if characters <= (cells + 0.6) * 1.55 * size:
             return number

@@ -1,6 +1,6 @@
 """Lines that need what no rule of the profile can do, though no opcode of its own does it in liblouis.
 
-In each case liblouis shows that it does such a thing, and a line needs it where the two agree once it
+In each case liblouis shows that it does such a thing, and a line needs it if the two agree once it
 is taken out of the line.
 """
 
@@ -78,7 +78,7 @@ class _Looking:
         ]
 
     def _without_first_marks(self) -> _Without:
-        """The sign of a number stands before a mark, where the profile has it before the first digit."""
+        """The sign of a number stands before a mark, while the profile has it before the first digit."""
         marks = [mark for mark in self._marks() if self._begins_number(mark)]
         return _replacing(r"(?<!\d){}+(?=\d)", marks, "")
 

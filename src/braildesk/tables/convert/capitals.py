@@ -66,7 +66,7 @@ def _sign(subject: Subject, upper: str, lower: str) -> Cells | None:
 def _define(
     subject: Subject, draft: TableDraft, upper: str, lower: str, sign: Cells
 ) -> bool:
-    """Defines a capital with its sign, or as a letter of its own where it has no sign."""
+    """Defines a capital with its sign, or as a letter of its own if it has no sign."""
     first, *others = _tails(subject, upper)
     for tail in (first, *others):
         cells = _cells_before(subject, upper, sign, tail)
@@ -98,7 +98,7 @@ def _cells_before(subject: Subject, upper: str, sign: Cells, tail: str) -> Cells
 def _run_sign(
     subject: Subject, draft: TableDraft, sample: Sequence[str]
 ) -> Cells | None:
-    """What stands before three capitals alone, where their own signs are left out."""
+    """What stands before three capitals alone, if their own signs are left out."""
     if len(sample) < 3:
         return None
     found = []

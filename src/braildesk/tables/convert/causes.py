@@ -103,7 +103,7 @@ class Judge:
         return ours == theirs
 
     def _begins_with_mark(self, word: Word) -> bool:
-        """Whether liblouis has the sign of a number before a mark, where a table has it after."""
+        """Whether liblouis has the sign of a number before a mark, while a table has it after."""
         if not self._number or word.ours is None:
             return False
         for mark, digit in zip(word.text, word.text[1:]):
@@ -141,7 +141,7 @@ class Judge:
         return False
 
     def _lacks_sign_of_letters(self, word: Word) -> bool:
-        """Whether liblouis has a sign of letters right before one of capitals, where no rule can have it."""
+        """Whether liblouis has a sign of letters right before one of capitals, while no rule can have it."""
         if not self._capital or not self._letters or word.ours is None:
             return False
         both = self._letters + self._capital

@@ -52,9 +52,9 @@ class Print:
     sides: str
     """What each character is to its neighbours, with an edge before the first and after the last."""
     signs: tuple[Cells, ...] | None
-    """The sign before each character, or None where no character has one."""
+    """The sign before each character, or None if no character has one."""
     reach: tuple[int, ...] | None
-    """How many characters there are from each place to the next sign, where there are signs."""
+    """How many characters there are from each place to the next sign, if there are signs."""
 
     def kind(self, start: int, end: int) -> str | None:
         """The kind of rule that is bound to a place, or None beside a digit."""
@@ -114,14 +114,14 @@ class Chooser:
             del self._rules[characters]
 
     def put_back(self, kind: str, characters: str, cells: Cells | None) -> None:
-        """Gives a rule the cells that it had, or takes it away where there was none."""
+        """Gives a rule the cells that it had, or takes it away if there was none."""
         if cells is None:
             self.remove(kind, characters)
         else:
             self.add((kind, characters, cells))
 
     def cells_of(self, kind: str, characters: str) -> Cells | None:
-        """The cells of a rule, or None where there is none."""
+        """The cells of a rule, or None if there is none."""
         return self._rules.get(characters, {}).get(kind)
 
     def lacking(self, text: str) -> set[str]:

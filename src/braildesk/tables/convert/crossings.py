@@ -1,7 +1,7 @@
 """Rules that hold within a syllable alone, as German `ie` does in `viel` and not in `speziell`.
 
 liblouis finds the syllables by patterns of letters, which are files of their own. Each pattern that may part
-the characters of such a rule is asked for as it stands, and becomes a rule where it does.
+the characters of such a rule is asked for as it stands, and becomes a rule if it does.
 """
 
 from __future__ import annotations

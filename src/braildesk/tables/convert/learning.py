@@ -24,7 +24,7 @@ PENALTY: Final = 1.5
 """How much more an example counts that a rule sets wrong."""
 
 IN_PART: Final = 0.5
-"""The share of an example's weight that counts where another mistake is left in it."""
+"""The share of an example's weight that counts if another mistake is left in it."""
 
 LIST_ROUNDS: Final = (100, 50, 20, 10, 5, 3, 2, 1, 1)
 BOOK_ROUNDS: Final = (20, 5, 2, 1, 1, 0.6, 0.6)
@@ -143,7 +143,7 @@ class Learner:
 
 
 class _Order:
-    """Rules in the order of what they gain, where what one deals with is no gain of another."""
+    """Rules in the order of what they gain, so that what one deals with is no gain of another."""
 
     def __init__(
         self,

@@ -110,7 +110,7 @@ def _has_pairs_of_letters(subject: Subject) -> bool:
 
 
 def _settle_letters(marks: Marks, alphabet: Alphabet) -> None:
-    """Asks for each letter right after each other one, and where they differ, at the edges of words too."""
+    """Asks for each letter right after each other one, and if they differ, at the edges of words too."""
     letters = _own_letters(alphabet, marks.draft)
     pairs = [first + second for first, second in product(letters, letters)]
     within = (Side.LETTER, Side.LETTER)

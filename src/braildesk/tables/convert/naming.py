@@ -54,7 +54,7 @@ def _installed() -> list[Shipped]:
 
 
 def _called(name: str, tables: Sequence[Shipped]) -> list[Shipped]:
-    """The tables of a name, and those of a language where no table has that name."""
+    """The tables of a name, and those of a language if no table has that name."""
     folded = name.casefold()
     by_name = [table for table in tables if folded in _names(table)]
     return by_name or of_language(name, tables)

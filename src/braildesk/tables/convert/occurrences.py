@@ -25,7 +25,7 @@ class Occurrences:
                 self._having[run].append(example)
 
     def of(self, strings: Iterable[str]) -> Sequence[Example]:
-        """The examples that may have one of some strings: all of them where the strings are many."""
+        """The examples that may have one of some strings: all of them if the strings are many."""
         found: dict[Example, None] = {}
         left = _MANY * len(self._all)
         for string in strings:

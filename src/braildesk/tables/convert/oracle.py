@@ -80,7 +80,7 @@ class Liblouis:
         return Liblouis(table, self._process)
 
     def cells(self, text: str) -> Cells | None:
-        """The cells of a text, or None where liblouis gives none."""
+        """The cells of a text, or None if liblouis gives none."""
         if text not in self._known:
             self.ask([text])
         return self._known[text]

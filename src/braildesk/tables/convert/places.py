@@ -30,7 +30,7 @@ def ask_frames(liblouis: Liblouis, frames: Iterable[Frame]) -> None:
 
 
 def between(liblouis: Liblouis, frame: Frame) -> Cells | None:
-    """The cells of the middle, or None where those of the left or the right change beside it."""
+    """The cells of the middle, or None if those of the left or the right change beside it."""
     whole, before, after = liblouis.ask(frame.texts)
     if whole is None or before is None or after is None:
         return None
@@ -38,7 +38,7 @@ def between(liblouis: Liblouis, frame: Frame) -> Cells | None:
 
 
 def stripped(whole: Cells, before: Cells, after: Cells) -> Cells | None:
-    """The whole without what it begins with and ends with, or None where it doesn't."""
+    """The whole without what it begins with and ends with, or None if it doesn't."""
     end = len(whole) - len(after)
     if end < len(before) or whole[: len(before)] != before or whole[end:] != after:
         return None

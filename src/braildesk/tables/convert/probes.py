@@ -84,7 +84,7 @@ class Probes:
         ]
 
     def of(self, characters: str, place: Place) -> list[Probe]:
-        """The characters in a place, beside two letters and digits. None where the table has none."""
+        """The characters in a place, beside two letters and digits. None if the table has none."""
         left, right = place
         if left is Side.EDGE and characters.startswith(" "):
             return []
@@ -115,7 +115,7 @@ class Probes:
         return letter * 2 if side is Side.LETTER else digit
 
     def _beside_mark(self, probe: Probe) -> Probe:
-        """A mark between edges, with another mark as one of them where it mostly stands so.
+        """A mark between edges, with another mark as one of them if it mostly stands so.
 
         A closing mark comes after another one, an opening one before it, and any other mark stands
         between blanks.

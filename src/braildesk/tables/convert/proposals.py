@@ -115,7 +115,7 @@ def _is_sure(characters: str, kind: str | None) -> bool:
     """Whether examples show what a rule with a blank does.
 
     Words stand there without blanks, unless marks are at their ends, and with a neighbour only
-    where it matters.
+    if it matters.
     """
     inner = characters.strip(" ")
     if not inner or characters[0] == " " and inner[0].isalpha():

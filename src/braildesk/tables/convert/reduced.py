@@ -1,6 +1,6 @@
 """Tables of liblouis without the opcodes that the profile leaves out for good.
 
-A line needs such an opcode where liblouis gives it other cells without the opcode's lines.
+A line needs such an opcode if liblouis gives it other cells without the opcode's lines.
 """
 
 from __future__ import annotations
@@ -56,7 +56,7 @@ def _present(source: Source) -> Iterator[tuple[str, tuple[str, ...]]]:
 def _beside(
     liblouis: Liblouis, source: Source, without: tuple[str, ...], path: Path
 ) -> Liblouis | None:
-    """The table in one file without these opcodes, or None where liblouis refuses that."""
+    """The table in one file without these opcodes, or None if liblouis refuses that."""
     path.write_text(text_without(source, without), encoding="utf-8", newline="\n")
     try:
         return liblouis.beside(path)

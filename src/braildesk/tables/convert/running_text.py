@@ -27,7 +27,7 @@ class Word:
     start: int
     text: str
     ours: Cells | None
-    """The cells, or None where they can't be told from those of its neighbours."""
+    """The cells, or None if they can't be told from those of its neighbours."""
     theirs: Cells
 
     @property
@@ -88,7 +88,7 @@ def _differences(
     lines: Sequence[str],
     unlike: Sequence[tuple[int, Cells, Cells]],
 ) -> Iterator[Word]:
-    """The words of lines with other cells, and the whole line where none can be told apart."""
+    """The words of lines with other cells, and the whole line if none can be told apart."""
     unclear = [
         lines[place]
         for place, have, want in unlike

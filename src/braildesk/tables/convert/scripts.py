@@ -126,7 +126,7 @@ class Script:
         return self._between(front + one, self._liblouis.cells(front), ())
 
     def _asked(self, one: str, carrier: Cells) -> _Places | None:
-        """A letter in its places, or None where one of them can't be told from what stands beside it."""
+        """A letter in its places, or None if one of them can't be told from what stands beside it."""
         before = self._front()
         blank, own = self._draft.cells[" "], self._liblouis.cells(self._own)
         _, beginning, alone = self._texts(one)
@@ -152,7 +152,7 @@ class Script:
         )
 
     def _unpair(self) -> None:
-        """Makes capitals letters of their own where they aren't their small letters with the sign."""
+        """Makes capitals letters of their own if they aren't their small letters with the sign."""
         sign = self._draft.signs["capsletter"]
         pairs = {
             upper: lower

@@ -104,11 +104,11 @@ class Material:
     upper: Mapping[str, str]
 
     def capitalized(self, word: str) -> str:
-        """The word with a capital, where its first letter has one."""
+        """The word with a capital, if its first letter has one."""
         return self.upper.get(word[0], word[0]) + word[1:]
 
     def in_capitals(self, word: str) -> str:
-        """The word in capitals, where its letters have them."""
+        """The word in capitals, if its letters have them."""
         return "".join(self.upper.get(one, one) for one in word)
 
 

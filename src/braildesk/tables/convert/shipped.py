@@ -29,7 +29,7 @@ class Shipped:
     language: str
     title: str
     contraction: str
-    """`no`, `full`, `partial`, or empty where the head doesn't say."""
+    """`no`, `full`, `partial`, or empty if the head doesn't say."""
     index: str
     """What an index calls it, the language first, as `German, uncontracted`."""
 
@@ -64,7 +64,7 @@ def head_of(path: Path) -> dict[str, str]:
 
 
 def _text_of(path: Path) -> str:
-    """The text of a table, or nothing where it can't be read."""
+    """The text of a table, or nothing if it can't be read."""
     try:
         return read_file(path, limits.TEXT_BYTES).decode(errors="replace")
     except OSError:

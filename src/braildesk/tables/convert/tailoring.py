@@ -64,7 +64,7 @@ class Manuscript:
 
 @dataclass(frozen=True)
 class Means:
-    """What a table is made with: a list of words, where there is one, and where rules are kept.
+    """What a table is made with: a list of words, if there is one, and where rules are kept.
 
     What is added comes after the lines of the table, and is compared with nothing.
     """

@@ -19,13 +19,13 @@ class ProgramTrial:
         self._file = folder / "draft.utb"
 
     def cells(self, draft: TableDraft, lines: Sequence[str]) -> list[Cells | None]:
-        """The cells of each line, or None where the draft lacks a character."""
+        """The cells of each line, or None if the draft lacks a character."""
         self._file.write_text(draft.text(), encoding="utf-8", newline="\n")
         return cells_by(self._file, lines)
 
 
 def cells_by(table: Path | Table, lines: Sequence[str]) -> list[Cells | None]:
-    """The cells of each line by a table, in a file or as a book has it, or None where it lacks a character."""
+    """The cells of each line by a table, in a file or as a book has it, or None if it lacks a character."""
     return [_cells(answer) for answer in translate(table, lines)]
 
 

@@ -36,7 +36,7 @@ class Shelf(Protocol):
     """Where files are kept by their names. What can't be read or written is an OSError."""
 
     def read(self, name: str) -> bytes | None:
-        """The bytes of a file, or None where there is none."""
+        """The bytes of a file, or None if there is none."""
 
     def write(self, name: str, data: bytes) -> None:
         """Gives a file these bytes."""
@@ -101,7 +101,7 @@ def keep(shelf: Shelf, name: str, rules: Learned) -> None:
 
 
 def kept(shelf: Shelf, name: str, draft: TableDraft) -> Learned | None:
-    """The rules that were kept, or None where there are none that could be of this draft."""
+    """The rules that were kept, or None if there are none that could be of this draft."""
     try:
         data = shelf.read(name)
     except OSError:

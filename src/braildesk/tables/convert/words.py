@@ -76,7 +76,7 @@ def installed_words(language: str) -> Path | None:
 
 
 def usable(words: Sequence[str], draft: TableDraft) -> list[str]:
-    """The words that a draft can write, in small letters, evenly taken where there are many."""
+    """The words that a draft can write, in small letters, evenly taken if there are many."""
     folded = [draft.fold(word) for word in words if len(word) <= _LONGEST]
     good = [
         word
@@ -113,7 +113,7 @@ def own_words(subject: Subject, draft: TableDraft, seed: int) -> list[str]:
 def _letters(subject: Subject, draft: TableDraft) -> tuple[list[str], list[str]]:
     """The letters of made-up words: plain ones, and such as few words have.
 
-    A letter without a capital is left out where the script has capitals, since nobody writes a
+    A letter without a capital is left out if the script has capitals, since nobody writes a
     word in capitals with it.
     """
     alphabet = subject.alphabet

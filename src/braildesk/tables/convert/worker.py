@@ -27,7 +27,7 @@ READING_SECONDS: Final = 3
 """The time of the processor in which a table is read; the largest of liblouis takes a quarter of one."""
 
 PAUSE: Final = 0.1
-"""How long answers may be kept back, in seconds, where they needn't be written one by one."""
+"""How long answers may be kept back, in seconds, if they needn't be written one by one."""
 
 
 def main() -> None:
@@ -50,7 +50,7 @@ def main() -> None:
 
 
 def allow_time(question: dict[str, Any]) -> None:
-    """Has the system end this process where it takes longer for a question than it may."""
+    """Has the system end this process if it takes longer for a question than it may."""
     texts = len(question.get("cells", question.get("pieces", ())))
     used = resource.getrusage(resource.RUSAGE_SELF)
     seconds = used.ru_utime + used.ru_stime + READING_SECONDS + SECONDS * texts
@@ -71,7 +71,7 @@ def answered(louis: Any, question: dict[str, Any]) -> Iterator[object]:
 
 
 def read(louis: Any, tables: list[str]) -> dict[str, str]:
-    """The version of liblouis where it reads a table, or else what is wrong."""
+    """The version of liblouis if it reads a table, or else what is wrong."""
     if louis is None:
         return {
             "fault": f"liblouis for Python is missing in {sys.executable}, by which scribe runs."
@@ -99,7 +99,7 @@ def cells(louis: Any, tables: list[str], text: str) -> str | None:
 def pieces(louis: Any, tables: list[str], text: str) -> list[tuple[str, str]]:
     """The runs of print that share their first cell, each with the braille up to the next run.
 
-    There are none where the runs of braille don't follow one another.
+    There are none if the runs of braille don't follow one another.
     """
     signal.setitimer(signal.ITIMER_PROF, SECONDS)
     try:
