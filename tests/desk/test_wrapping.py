@@ -1,9 +1,13 @@
 """Lines of a width, as a terminal shows them."""
 
+import unicodedata
+
 import pytest
 from hypothesis import given
 from hypothesis import strategies as st
+from prompt_toolkit.utils import get_cwidth
 
+from braildesk.text.characters import is_shown
 from braildesk.text.sequences import seams, sequences
 from braildesk.text.wrapping import columns, wrap
 
@@ -21,12 +25,31 @@ WIDTHS = [
     ("கா", 2),
     ("각", 2),
     ("😀", 2),
+    ("\u0378", 1),
+    ("\U0003ffff", 1),
+    ("\U0002fffd", 2),
 ]
 
 
 @pytest.mark.parametrize("text, width", WIDTHS)
 def test_a_text_takes_the_columns_of_its_characters(text: str, width: int) -> None:
     assert columns(text) == width
+
+
+#: Vowels and final consonants that join the one before them, which a terminal shows in its columns.
+JOINING_JAMO = {chr(code) for code in range(0x1160, 0x1200)}
+
+
+def test_the_screen_takes_all_characters_of_unicode_to_be_as_wide() -> None:
+    differ = {
+        character
+        for character in map(chr, range(0x110000))
+        if is_shown(character) and character != "\t"
+        # what is new in Unicode is known to one of the two before the other
+        and unicodedata.category(character) != "Cn"
+        and columns(character) != get_cwidth(character)
+    }
+    assert differ <= JOINING_JAMO
 
 
 LINES = [

@@ -16,6 +16,8 @@ _WORD = re.compile(f"([{_BLANKS}]*)([^{_BLANKS}]+)")
 # characters of one column each: Latin letters, the signs that stand among them, and braille
 _NARROW = re.compile("[ -~\u00a0-\u02ff\u2010-\u2027\u2800-\u28ff]*")
 _UNSEEN = ("Mn", "Me")
+# where characters that are no part of Unicode yet will be ideographs
+_IDEOGRAPHS = (range(0xFA6E, 0xFB00), range(0x20000, 0x2FFFE), range(0x30000, 0x3FFFE))
 
 
 def columns(text: str) -> int:
@@ -79,6 +81,10 @@ def _cut(line: str, width: int, indent: str) -> list[str]:
 def _columns_of(character: str) -> int:
     if character == "\t":
         return TAB_COLUMNS
-    if unicodedata.category(character) in _UNSEEN or ord(character) in JOINING_JAMO:
+    category = unicodedata.category(character)
+    if category in _UNSEEN or ord(character) in JOINING_JAMO:
         return 0
+    if category == "Cn":
+        # Python takes all of these for wide, but those among ideographs alone are
+        return 2 if any(ord(character) in each for each in _IDEOGRAPHS) else 1
     return 2 if unicodedata.east_asian_width(character) in "WF" else 1
