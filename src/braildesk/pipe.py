@@ -106,7 +106,7 @@ class Pipe:
 
     def reply(self) -> Reply:
         """Takes the next reply, which is there. The caller notes it among the same steps."""
-        reply = self._reader.next()
+        reply = self._reader.pop()
         assert reply is not None
         return reply
 

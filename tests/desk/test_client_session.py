@@ -64,7 +64,7 @@ def test_replies_are_read_however_their_bytes_are_cut() -> None:
         found = []
         for start in range(0, len(written), size):
             reader.feed(written[start : start + size])
-            while (reply := reader.next()) is not None:
+            while (reply := reader.pop()) is not None:
                 found.append(reply)
         assert found == wanted, size
 
@@ -72,9 +72,9 @@ def test_replies_are_read_however_their_bytes_are_cut() -> None:
 def test_a_reply_without_its_line_feed_is_none_yet() -> None:
     reader = Reader()
     reader.feed(b"ok 12")
-    assert reader.next() is None
+    assert reader.pop() is None
     reader.feed(b"3 4\n")
-    assert reader.next() == Reply((), "ok", (123, 4))
+    assert reader.pop() == Reply((), "ok", (123, 4))
 
 
 @pytest.mark.parametrize(

@@ -1,6 +1,7 @@
 """The folders of src/: each is one layer, whose modules import from those below it alone."""
 
 import ast
+import builtins
 from collections.abc import Iterator
 from pathlib import Path
 
@@ -134,3 +135,15 @@ def test_an_import_of_what_is_not_below_is_found(
     module: str, source: str, found: set[str]
 ) -> None:
     assert reaching(module, source) == found
+
+
+def test_no_method_has_the_name_of_a_function_that_python_has() -> None:
+    found = [
+        f"{module}.{each.name}.{method.name}"
+        for module, path in sorted(modules().items())
+        for each in ast.walk(ast.parse(path.read_text(encoding="utf-8")))
+        if isinstance(each, ast.ClassDef)
+        for method in each.body
+        if isinstance(method, ast.FunctionDef) and method.name in vars(builtins)
+    ]
+    assert found == []

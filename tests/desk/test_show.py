@@ -111,7 +111,7 @@ def test_cells_are_shown_in_braille_ascii(moon: Path) -> None:
     "asked, numbers",
     [("1-2", "12"), ("4-1", "41"), ("2-", "23"), ("-1", "41"), ("3,4-1", "341")],
 )
-def test_a_stretch_is_in_the_order_of_the_book(
+def test_a_range_is_in_the_order_of_the_book(
     moon: Path, asked: str, numbers: str
 ) -> None:
     lines = show(moon, "--paragraphs", asked, "--print").shown.split("\n")
@@ -119,7 +119,7 @@ def test_a_stretch_is_in_the_order_of_the_book(
     assert "".join(title.split(" ")[1][0] for title in titles) == numbers
 
 
-def test_a_stretch_that_goes_back_is_refused(moon: Path) -> None:
+def test_a_range_that_goes_back_is_refused(moon: Path) -> None:
     assert show(moon, "--paragraphs", "1-4") == Ran(
         2, "", "Paragraph 4 stands before paragraph 1 in the book: ask for 4-1.\n"
     )
@@ -139,10 +139,10 @@ def test_a_book_without_paragraphs_is_said_to_be_so(book: Path) -> None:
 
 
 @pytest.mark.parametrize("word", ["x", "3-9-12", "", "-", "3,", "٣"])
-def test_what_is_no_stretch_is_refused(book: Path, word: str) -> None:
+def test_what_is_no_range_is_refused(book: Path, word: str) -> None:
     ran = show(book, "--paragraphs=" + word)
     assert ran.status == 1 and ran.shown == ""
-    assert "is no paragraph and no stretch such as 3-9." in ran.said
+    assert "is no paragraph and no range such as 3-9." in ran.said
 
 
 def test_the_table_is_named_where_paragraphs_have_several(moon: Path) -> None:

@@ -129,7 +129,7 @@ class Faulty(NotImported):
 
 
 class Importer:
-    """Imports a text step by step: `prepare` judges all of it, and then `type` types it.
+    """Imports a text step by step: `prepare` judges all of it, and then `type_text` types it.
 
     It is noted until it is done. Where that can't be, this is reported, and the import goes on.
     """
@@ -154,7 +154,9 @@ class Importer:
         self.taken = _taken(self.job, data)
         return _intake(self.job, self.taken.passages)
 
-    def type(self, intake: Intake, progress: Callable[[int, int], None]) -> TypedText:
+    def type_text(
+        self, intake: Intake, progress: Callable[[int, int], None]
+    ) -> TypedText:
         """Types all paragraphs; raises `CutShort`, and `NotImported` if the book isn't as it was."""
         job, count = self.job, len(intake.passages)
         whole = os.path.abspath(job.text)

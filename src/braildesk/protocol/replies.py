@@ -43,7 +43,7 @@ class Reader:
         """Whether a reply is there whole."""
         return bool(self._replies)
 
-    def next(self) -> Reply | None:
+    def pop(self) -> Reply | None:
         """The next reply that is there whole."""
         return self._replies.popleft() if self._replies else None
 

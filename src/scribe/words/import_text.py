@@ -74,7 +74,7 @@ def import_in_words(
     importer = Importer(job, lambda fault: console.say(not_kept(fault)))
     intake = prepared(importer, console, console.say, report)
     try:
-        typed = importer.type(intake, console.progress("paragraphs typed"))
+        typed = importer.type_text(intake, console.progress("paragraphs typed"))
     except CutShort as cut:
         sentence, status = _cut_short(cut)
         console.say(sentence, *_left(importer.job, intake, cut))

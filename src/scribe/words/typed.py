@@ -72,7 +72,7 @@ def paragraph_ranges(word: str) -> tuple[ParagraphRange, ...]:
     for part in word.split(","):
         match = _RANGE.fullmatch(part)
         if match is None or not (match[1] or match[3]):
-            raise InvalidInput(f"{part!r} is no paragraph and no stretch such as 3-9")
+            raise InvalidInput(f"{part!r} is no paragraph and no range such as 3-9")
         first = int(match[1]) if match[1] else None
         last = int(match[3]) if match[3] else None
         found.append(ParagraphRange(first, last if match[2] else first))

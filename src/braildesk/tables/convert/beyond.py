@@ -38,7 +38,7 @@ def needs_beyond(
     """Of these lines, those that need what no rule can do, each with the last thing that was taken out."""
     found: dict[str, str] = {}
     now = {line: line for line in lines}
-    for beyond in _Looking(subject, draft, lines).all():
+    for beyond in _Looking(subject, draft, lines).found():
         changed = {}
         for line, before in now.items():
             if line not in found and (after := beyond.without(before)) != before:
@@ -65,7 +65,7 @@ class _Looking:
         self._word: Final = carriers[0] * 2
         self._digit: Final = next(iter(sample_digits(draft)), "")
 
-    def all(self) -> list[_Beyond]:
+    def found(self) -> list[_Beyond]:
         return [
             _Beyond("numbers that begin with a mark", self._without_first_marks()),
             _Beyond(

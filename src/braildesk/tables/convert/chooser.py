@@ -133,7 +133,7 @@ class Chooser:
         sides = self._sides
         return sides.get(text[:1]) is LETTER and sides.get(text[-1:]) is LETTER
 
-    def print(self, text: str) -> Print:
+    def printed(self, text: str) -> Print:
         """A text that the table defines, as rules see it."""
         sides = EDGE + "".join([self._sides[each] for each in text]) + EDGE
         if self._signed.isdisjoint(text):

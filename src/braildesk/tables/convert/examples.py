@@ -94,4 +94,4 @@ def _example(
     # the blank of the frame beside the token is within reach of its rules
     first = max(margin - 1, 0)
     last = len(text) - first
-    return Example(chooser.print(text), wanted, starts, first, last, weight)
+    return Example(chooser.printed(text), wanted, starts, first, last, weight)

@@ -100,7 +100,7 @@ def _differences(
         ours: Sequence[Cells | None] = _parted(have)
         theirs: Sequence[Cells] = _parted(want)
         if line in pieces:
-            choices = chooser.choices(chooser.print(line))
+            choices = chooser.choices(chooser.printed(line))
             ours = _cut(line, [(start, cells) for start, _, cells, _ in choices])
             theirs = _cut(line, _with_places(pieces[line]))
         start = 0

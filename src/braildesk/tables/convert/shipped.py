@@ -6,6 +6,7 @@ import csv
 import re
 from collections.abc import Iterator, Mapping
 from dataclasses import dataclass
+from importlib.resources import files
 from pathlib import Path
 from typing import Final
 
@@ -13,7 +14,7 @@ from braildesk.named_files import read_file
 from braildesk.tables.convert.source import INSTALLED
 from braildesk.text import limits
 
-MEASURED: Final = Path(__file__).with_name("measured.tsv")
+MEASURED: Final = Path(str(files("braildesk.tables.convert") / "measured.tsv"))
 """What `tests/tables/bring_all.sh` found, a row a table."""
 
 _ENDINGS: Final = (".tbl", ".utb", ".ctb")

@@ -28,7 +28,7 @@ from braildesk.tables.convert.source import read_source
 from braildesk.tables.convert.subject import Subject, read_subject
 from braildesk.tables.convert.trial import ProgramTrial
 from braildesk.tables.convert.word_list import (
-    Shelf,
+    Folder,
     WordList,
     borne_out,
     keep,
@@ -70,7 +70,7 @@ class Means:
     """
 
     words: WordList | None
-    shelf: Shelf | None
+    folder: Folder | None
     report: Report
     addition: Addition | None = None
 
@@ -187,17 +187,17 @@ class _Tailoring:
 
     def _from_list(self, found: Sequence[Example]) -> Learned:
         """The rules of the word list: those that were kept, or else learned now."""
-        words, shelf = self._means.words, self._means.shelf
+        words, folder = self._means.words, self._means.folder
         if words is None:
             return {}
         name = name_of(words, self._made.draft, self._liblouis.version)
-        known = kept(shelf, name, self._made.draft) if shelf else None
+        known = kept(folder, name, self._made.draft) if folder else None
         if known is not None:
             return borne_out(self._chooser, found, known)
         report = self._means.report("rounds of learning from the list")
         learned = learned_from_list(self._chooser, found, self._most, report)
-        if shelf:
-            keep(shelf, name, learned)
+        if folder:
+            keep(folder, name, learned)
         return learned
 
     def _from_manuscript(
@@ -274,7 +274,7 @@ def uses_of_rules(
     uses: Counter[tuple[str, str]] = Counter()
     for token, count in counted.items():
         if not chooser.lacking(token):
-            seen = chooser.print(token)
+            seen = chooser.printed(token)
             chosen = {
                 (kind, seen.folded[start:end])
                 for start, end, _, kind in chooser.choices(seen)

@@ -32,7 +32,7 @@ LESS: Final = 0.3
 """What a form with an apostrophe counts, so that those of a word don't outweigh the word."""
 
 
-class Shelf(Protocol):
+class Folder(Protocol):
     """Where files are kept by their names. What can't be read or written is an OSError."""
 
     def read(self, name: str) -> bytes | None:
@@ -88,22 +88,22 @@ def learned_from_list(
     return Learner(chooser, found, most).learn(LIST_ROUNDS, progress)
 
 
-def keep(shelf: Shelf, name: str, rules: Learned) -> None:
+def keep(folder: Folder, name: str, rules: Learned) -> None:
     """Keeps rules, unless there is no place for them, which costs time and nothing else."""
     lines = [
         f"{kind} {write_characters(characters)} {write_dots(cells)}\n"
         for (kind, characters), cells in rules.items()
     ]
     try:
-        shelf.write(name, "".join([_head(name), *lines]).encode())
+        folder.write(name, "".join([_head(name), *lines]).encode())
     except OSError:
         pass
 
 
-def kept(shelf: Shelf, name: str, draft: TableDraft) -> Learned | None:
+def kept(folder: Folder, name: str, draft: TableDraft) -> Learned | None:
     """The rules that were kept, or None if there are none that could be of this draft."""
     try:
-        data = shelf.read(name)
+        data = folder.read(name)
     except OSError:
         return None
     if data is None or not data.startswith(_head(name).encode()):
