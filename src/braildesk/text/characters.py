@@ -34,7 +34,7 @@ _CONTROL = re.compile(rb"[\x00-\x08\x0a-\x1f\x7f]|\xc2[\x80-\x9f]")
 
 
 def is_visible(character: str) -> bool:
-    """Whether it can be seen where it stands alone: not a control, a blank or a combining one."""
+    """Whether it is seen within a text: no control, and no blank but the space of every text."""
     return character == " " or unicodedata.category(character)[0] not in "CZ"
 
 
