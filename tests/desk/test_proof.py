@@ -1,5 +1,6 @@
 """Proofs of a book for those who read print: what stands on which page, and the page of HTML."""
 
+import re
 from html.parser import HTMLParser
 from pathlib import Path
 from xml.etree import ElementTree
@@ -8,7 +9,7 @@ import pytest
 
 from braildesk import Session, Style
 from braildesk.desk.layout import PageSize
-from braildesk.desk.proof import ProofPage, ProofWord, proof_pages
+from braildesk.desk.proof import ProofLine, ProofPage, ProofWord, proof_pages
 
 from scribe.words.proof_html import Proof
 from tool import ROOT, scribe
@@ -136,6 +137,35 @@ def test_the_page_needs_nothing_else_and_is_well_formed(moon: Path) -> None:
         text.removeprefix("<!DOCTYPE html>").replace('<meta charset="utf-8">', "")
     )
     assert "<b>" in " ".join(read(text).said)
+
+
+def print_of_line(*words: tuple[int, str]) -> list[tuple[str, float]]:
+    """The size of each word of a line of one-cell words, and how far it is shifted."""
+    shown = tuple(ProofWord(column, "\u2811", text, False) for column, text in words)
+    page = ProofPage(1, 1, (ProofLine(1, 1, False, shown, ()),))
+    text = "".join(Proof("x", PageSize(20, 5)).html([page]))
+    found = re.findall(r'class="print (s[0-9])"(?: style="left:([0-9.]+)em")?', text)
+    return [(size, float(shift or 0)) for size, shift in found]
+
+
+def test_print_that_is_wider_than_its_cells_moves_what_comes_after_it() -> None:
+    # a character is 0.62 of its size wide, and that is 0.62 of a cell: 9 of them take 3.46 cells
+    assert print_of_line((0, "knowledge"), (4, "of"), (6, "it")) == [("s0", 0)] * 3
+    (first, one), (_, two), (_, three) = print_of_line(
+        (0, "knowledge"), (3, "of"), (10, "it")
+    )
+    assert (first, one, three) == ("s0", 0, 0)
+    assert two * 0.62 == pytest.approx(3.46 + 0.25 - 3, abs=0.01)
+
+
+def test_print_that_would_be_far_from_its_cells_is_smaller() -> None:
+    line = [(column, "knowledge") for column in range(0, 12, 2)]
+    sizes = {size for size, _ in print_of_line(*line)}
+    # of the size 0.36 a word takes 2.26 cells, so that the sixth is 1.3 cells from its own
+    assert sizes == {"s4"}
+    # one word alone has the room of the line after it, here 3 cells, but no more
+    assert print_of_line((0, "knowledge")) == [("s0", 0)]
+    assert print_of_line((18, "knowledge")) == [("s2", 0)]
 
 
 @pytest.mark.parametrize(

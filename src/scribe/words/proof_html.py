@@ -9,9 +9,16 @@ from braildesk.desk.layout import PageSize
 from braildesk.desk.proof import ProofLine, ProofPage, ProofWord
 from braildesk.text.cells import braille_ascii
 from braildesk.text.characters import visible
+from braildesk.text.wrapping import columns
 
-#: How many characters of print have room below so many cells, in the letters of each size.
-_SIZES = (1.0, 1.4, 1.9, 2.6, 3.6)
+#: The sizes of the print of a line, the largest first, in cells.
+_SIZES = (0.62, 0.54, 0.47, 0.41, 0.36, 0.31)
+#: The width of a character of print in its own size, and of one of a heading, which is bold.
+_CHARACTER, _BOLD_CHARACTER = 0.62, 0.7
+#: What is left free between two words of print, in cells.
+_GAP = 0.25
+#: How many cells at most the print of a word stands to the right of its cells.
+_SHIFT = 1.5
 
 
 @dataclass(frozen=True, slots=True)
@@ -46,22 +53,24 @@ class Proof:
 
     def _line(self, line: ProofLine) -> Iterator[str]:
         kind = "line heading" if line.is_heading else "line"
+        size, shifts = _shifted(line, self.page_size.width)
         yield f'<div class="{kind}" style="grid-row:{line.number}">'
         if line.begins is not None:
             yield f'<span class="paragraph">{line.begins}<span class="aside">. </span></span>'
-        yield "".join(map(self._word, line.words))
+        for word, shift in zip(line.words, shifts):
+            yield self._word(word, size, shift)
         if line.marks:
             notes = "<br/>".join(escape(_note(mark)) for mark in line.marks)
             yield f'<span class="notes">{notes}</span>'
         yield "</div>\n"
 
-    def _word(self, word: ProofWord) -> str:
+    def _word(self, word: ProofWord, size: int, shift: float) -> str:
         shown = braille_ascii(word.cells) if self.is_ascii else word.cells
         hidden = "" if self.has_spoken_cells else ' aria-hidden="true"'
         cells = f'<span class="cells"{hidden}>{escape(shown)}</span>'
         text = visible(word.text)
-        size = _size(len(text), len(word.cells))
-        print_ = f'<span class="print s{size}">{escape(text)} </span>'
+        aside = f' style="left:{shift / _SIZES[size]:.2f}em"' if shift else ""
+        print_ = f'<span class="print s{size}"{aside}>{escape(text)} </span>'
         marked = " marked" if word.is_marked else ""
         both = print_ + cells if self.has_print_first else cells + print_
         column = f"{word.column + 1}/span {len(word.cells) + 1}"
@@ -69,19 +78,31 @@ class Proof:
 
     def _style(self) -> str:
         sizes = "".join(
-            f".s{number}{{font-size:{0.62 / size:.2f}em}}\n"
+            f".s{number}{{font-size:{size:.2f}em}}\n"
             for number, size in enumerate(_SIZES)
         )
         style = _STYLE.replace("WIDTH", str(self.page_size.width + 1))
         return style.replace("LINES", str(self.page_size.text_lines)) + sizes
 
 
-def _size(characters: int, cells: int) -> int:
-    """Which of the sizes of letters print has below cells, the smallest if none is small enough."""
+def _shifted(line: ProofLine, width: int) -> tuple[int, list[float]]:
+    """The size of the print of a line, and how far each of its words is shifted to the right.
+
+    Print that has more room than its cells moves what comes after it. It is as large as it can be so
+    that none is far from its cells and all is on the line, or else of the smallest size.
+    """
+    character = _BOLD_CHARACTER if line.is_heading else _CHARACTER
+    shifts: list[float] = []
     for number, size in enumerate(_SIZES):
-        if characters <= (cells + 0.6) * 1.55 * size:
-            return number
-    return len(_SIZES) - 1
+        shifts, end = [], 0.0
+        for word in line.words:
+            start = max(float(word.column), end)
+            shifts.append(start - word.column)
+            if word.text:
+                end = start + columns(visible(word.text)) * character * size + _GAP
+        if max(shifts, default=0.0) <= _SHIFT and end <= width + 1:
+            return number, shifts
+    return len(_SIZES) - 1, shifts
 
 
 def _note(mark: Mark) -> str:
@@ -98,10 +119,10 @@ h2{font-size:.8em;margin:0 0 .5em}
 .line{display:grid;grid-template-columns:repeat(WIDTH,1em);position:relative}
 .word{display:flex;flex-direction:column;white-space:nowrap;align-items:flex-start}
 .cells{font-family:"DejaVu Serif","DejaVu Sans",monospace;font-size:1.3em;line-height:1}
-.print{line-height:1}
+.print{line-height:1;position:relative}
 .heading .print{font-weight:bold}
 .marked{outline:2px solid;outline-offset:-1px}
-.paragraph{position:absolute;left:-4.6em;width:3.5em;text-align:right;font-size:.7em}
+.paragraph{position:absolute;left:-5.6em;width:3.5em;text-align:right;font-size:.7em}
 .aside{position:absolute;clip-path:inset(50%)}
 .notes{position:absolute;left:calc(100% + 2em);width:14em;font-size:.7em}
 .number{text-align:right;margin:0}
