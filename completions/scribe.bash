@@ -3,9 +3,9 @@
 
 _scribe() {
     local word=${COMP_WORDS[COMP_CWORD]} words=''
-    local commands='new edit run talk table check-table try import show find change mark marks next undo
-        resolve strike restore heading body volume move retable pages export proof copy
-        bring tune'
+    local commands='new edit run talk table check-table try import show list history compare
+        find change change-all mark marks next undo resolve strike restore heading body volume volumes
+        move retable pages export proof copy bring tune'
     if ((COMP_CWORD == 1)); then
         words="$commands --help --version"
     elif [[ $word == -* ]]; then
@@ -18,12 +18,17 @@ _scribe() {
             import) words='--lines --table --after --dry-run --from --format --volumes --notes --replace --report
                 --continue --again --leave' ;;
             show) words='--paragraphs --print --braille --ascii --ascii-small --unicode --width' ;;
-            marks) words='--open --width' ;;
-            find) words='--braille --alike --width' ;;
+            list) words='--paragraphs --width' ;;
+            history) words='--by --width' ;;
+            compare) words='--width' ;;
+            marks) words='--open --pages --page-width --page-lines --width' ;;
+            find) words='--braille --alike --pages --page-width --page-lines --width' ;;
             change) words='--nth --by --width' ;;
+            change-all) words='--in --words --case --ask --dry-run --by --width' ;;
             mark) words='--nth --width' ;;
             next | undo | resolve | strike | restore | heading | body | volume | move | retable) words='--width' ;;
-            pages) words='--width --lines --page --paragraph' ;;
+            volumes) words='--pages --set --width --lines' ;;
+            pages) words='--width --lines --page --line --paragraph' ;;
             bring) words='--list --words --for --add --anyway' ;;
             tune) words='--table --words --apply --width' ;;
             export) words='--width --lines' ;;

@@ -47,7 +47,8 @@ PATHS = [
 ]
 OPTIONS = (
     "--by --width --lines --nth --table --after --from --dry-run --paragraphs --print --braille"
-    " --ascii --page --paragraph --display --keep-going --list --help -h --version --"
+    " --ascii --page --line --pages --set --words --case --in --ask"
+    " --paragraph --display --keep-going --list --help -h --version --"
 ).split()
 TEXTS = [
     "moon",

@@ -131,7 +131,10 @@ def on_read_only(
 
 
 #: Commands that write nothing.
-READING = (*("check-table", "try", "show", "find", "marks", "next", "pages", "bring"),)
+READING = (
+    *("check-table", "try", "show", "list", "history", "compare", "find", "marks"),
+    *("next", "pages", "volumes", "bring"),
+)
 #: How that which could not be kept is named by the commands that change the book.
 CHANGING = {
     "run": "The striking of paragraph 2",
@@ -139,6 +142,7 @@ CHANGING = {
     "table": "The table own",
     "import": "The new paragraph “The sun”",
     "change": "The correction of paragraph 1",
+    "change-all": "The correction of paragraph 1",
     "mark": "The mark “how far?” in paragraph 1",
     "undo": "The undo in paragraph 1",
     "resolve": "The resolving of mark 1",

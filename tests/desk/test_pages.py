@@ -71,6 +71,68 @@ def test_a_page_is_shown_line_by_line_with_its_print(moon: Path) -> None:
     )
 
 
+def test_one_line_of_a_page_is_shown_with_its_words(moon: Path) -> None:
+    assert pages(moon, "--page", "1", "--line", "3", *SIZE).shown == (
+        "Volume 1: 1 page of 8 lines of 24 cells.\n"
+        "Page 1, line 3, paragraph 1, character 17: two men stood on the\n"
+        "Volume 2: 1 page of 8 lines of 24 cells.\n"
+        "Page 1, line 3, paragraph 5, character 21: comes up, and twice it\n"
+    )
+    assert pages(moon, "1", "--page", "1", "--line", "7", *SIZE) == Ran(
+        2, "", "Line 7 of page 1 has no words in volume 1.\n"
+    )
+    assert pages(moon, "1", "--page", "2", "--line", "7", *SIZE).said == (
+        "Volume 1 has no page 2.\n"
+    )
+    ran = pages(moon, "--line", "7")
+    assert (ran.status, ran.said.splitlines()[0]) == (
+        1,
+        "Argument --line: say the page by --page.",
+    )
+
+
+def test_words_and_marks_are_found_with_their_pages(moon: Path) -> None:
+    size = ("--pages", "--page-width", "24", "--page-lines", "8", "--width", "200")
+    first, last = (
+        "Paragraph 1, volume 1, page 1, line 3",
+        "Paragraph 5, volume 2, page 1",
+    )
+    struck = "Paragraph 3, struck, on no page"
+    assert scribe("find", moon, "t", *size, folder=moon.parent).shown.splitlines() == [
+        f"{first}, character 17: On 20 July 1969 [t]wo men stood on the moon.",
+        f"{first}, character 26: On 20 July 1969 two men s[t]ood on the moon.",
+        f"{first}, character 34: On 20 July 1969 two men stood on [t]he moon.",
+        f"{struck}, character 3: No[t] for the embosser.",
+        f"{struck}, character 9: Not for [t]he embosser.",
+        f"{last}, line 2, character 13: Twice a day [t]he sea comes up, and twice it goes.",
+        f"{last}, line 3, character 35: Twice a day the sea comes up, and [t]wice it goes.",
+        f"{last}, line 3, character 42: Twice a day the sea comes up, and twice i[t] goes.",
+    ]
+    ran = scribe("find", moon, "--braille", "MOON4", *size[:5], folder=moon.parent)
+    assert ran.shown.startswith("Paragraph 1, volume 1, page 1, line 4, cell 42: ")
+    with Session(moon) as session:
+        session.add_mark(1, 41, 4, "spelled so?")
+        session.add_mark(6, 0, 1, "")
+    ran = scribe("marks", moon, *size[:5], folder=moon.parent)
+    assert ran.shown == (
+        "Mark 1, open, volume 1, page 1, line 4, paragraph 1, on “moon”: spelled so?\n"
+        "Mark 2, open, on no page, paragraph 6, on “ ”.\n"
+    )
+
+
+def test_a_talk_says_what_stands_on_a_page(moon: Path) -> None:
+    given = "pages --page 1 --line 2\npages --page 9\npages --line 2\n"
+    ran = scribe("talk", moon, "--width", "80", folder=moon.parent, given=given)
+    assert ran.shown.splitlines()[1:3] == [
+        "Volume 1: 1 page of 25 lines of 40 cells.",
+        "Page 1, line 2, paragraph 1, character 1: On 20 July 1969 two men stood on",
+    ]
+    assert ran.said.startswith(
+        "No volume has page 9.\nArgument --line: say the page by --page.\nIt is typed as: pages "
+    )
+    assert ran.status == 0
+
+
 def test_a_paragraph_is_shown_line_by_line_over_its_pages(moon: Path) -> None:
     ran = pages(moon, "--paragraph", "5", "--width", "12", "--lines", "5")
     # ,THE / ,TIDES and then ,TWICE A / DAY THE SEA / COMES UP1 / AND TWICE IT / GOES4

@@ -88,7 +88,13 @@ def test_a_snapshot_of_a_book_that_is_closed_is_that_book(moon: Path) -> None:
         assert check(copied) == check(moon)
 
 
-@pytest.mark.parametrize("words", ["show", "marks", "next", "find {} moon", "pages"])
+@pytest.mark.parametrize(
+    "words",
+    [
+        *("show", "list", "history", "volumes", "marks", "next", "pages"),
+        *("compare {} print.txt", "find {} moon"),
+    ],
+)
 def test_a_book_is_looked_at_while_it_is_open(moon: Path, words: str) -> None:
     words = words if "{}" in words else f"{words} {{}}"
     asked = words.format(moon.name).split()

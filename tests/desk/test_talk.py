@@ -126,16 +126,21 @@ def test_queries_are_answered_in_words(talk: Talk) -> None:
     ]
     assert talk.type("request marks 1") == ["Mark 1, open, on “moon”: spelled so?"]
     assert talk.type("request marks 2") == ["Paragraph 2 has no marks."]
-    assert talk.type("history 1") == ["1: “moon” for characters 5 to 7"]
+    assert talk.type("request history 1") == ["1: “moon” for characters 5 to 7"]
+    assert talk.type("history 1") == [
+        "Paragraph 1, correction 1, for 3",
+        "  characters:",
+        "The [moon] is far away.",
+    ]
     assert talk.type("history 2") == ["Nothing was corrected yet."]
     assert talk.type("version") == ["The book is at version 7."]
     assert talk.type("list") == [
-        "Paragraph 1, body, table en, 21",
-        "  characters",
-        "Paragraph 2, body, table en, 9",
-        "  characters",
-        "Paragraph 3, body, table en, 29",
-        "  characters",
+        "Paragraph 1, body, 21 characters:",
+        "The moon is far away.",
+        "Paragraph 2, body, 9 characters:",
+        "The Tides",
+        "Paragraph 3, body, 29 characters:",
+        "Twice a day the sea comes up.",
     ]
 
 
@@ -168,9 +173,15 @@ def test_words_count_from_1_and_say_that_requests_do_not(talk: Talk) -> None:
     talk.type("correct 1 0 0 Oh, ")
     talk.type("correct 1 7 1 ")
     assert talk.type("history 1") == [
-        "1: “moon” for characters 5 to 7",
-        "2: “Oh, ” put in at the front",
-        "3: nothing for character 8",
+        "Paragraph 1, correction 3, for",
+        "  “The…moon”:",
+        "Oh, [Themoon] is far away.",
+        "Paragraph 1, correction 2, for",
+        "  “The…moon”:",
+        "[Oh, The…moon] is far away.",
+        "Paragraph 1, correction 1, for 7",
+        "  characters:",
+        "[The…moon] is far away.",
     ]
 
 
@@ -234,7 +245,7 @@ def test_a_blank_at_the_end_or_the_front_of_a_line_is_taken(talk: Talk) -> None:
     talk.type("")
     # the text of a request is taken with its blanks
     talk.type("correct 1 8 0  ")
-    assert talk.type("history 1")[-1] == "2: “ ” put in after character 8"
+    assert talk.type("request history 1")[-1] == "2: “ ” put in after character 8"
 
 
 @pytest.mark.parametrize(
@@ -243,7 +254,8 @@ def test_a_blank_at_the_end_or_the_front_of_a_line_is_taken(talk: Talk) -> None:
         (
             "find far away",
             "The line has too many words: “away”. Put words with blanks between them in quotation"
-            " marks, as in 'far away'. It is typed as: find TEXT [--braille | --alike] [--width N]",
+            " marks, as in 'far away'. It is typed as: find TEXT [--braille | --alike] [--pages]"
+            " [--page-width N] [--page-lines N] [--width N]",
         ),
         (
             "find 'far",
@@ -255,6 +267,12 @@ def test_a_blank_at_the_end_or_the_front_of_a_line_is_taken(talk: Talk) -> None:
             " [--by WHO] [--width N]",
         ),
         ("find don't", "“don't” isn't in the book."),
+        (
+            "find --braille é",
+            "Argument TEXT: U+00E9 LATIN SMALL LETTER E WITH ACUTE is no cell in Braille ASCII or"
+            " Unicode. It is typed as: find TEXT [--braille | --alike] [--pages] [--page-width N]"
+            " [--page-lines N] [--width N]",
+        ),
     ],
 )
 def test_words_that_are_refused_say_how_the_line_is_typed(
@@ -320,7 +338,9 @@ def test_words_are_changed_without_counting(moon: Path) -> None:
     assert now.startswith("Paragraph 3: ") and "th[at] sea" in now
     assert before.startswith("Before: ") and "th[e] sea" in before
     assert talk.type("history 3") == [
-        "1: “at” for character 15, by anna",
+        "Paragraph 3, correction 1, by anna, for",
+        "  “th…”:",
+        "Twice a day [that] sea comes up.",
     ]
     talk.close()
 

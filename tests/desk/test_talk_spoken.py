@@ -28,6 +28,8 @@ def texts(width: int) -> list[str]:
 
 @pytest.mark.parametrize("width", [80, 40])
 def test_each_command_says_what_is_written_here(moon: Path, width: int) -> None:
+    manuscript = "The Tides\n\nThe moon is far away.\n\nTwice a day the sea comes up.\n"
+    (moon.parent / "manuscript.txt").write_text(manuscript)
     words = ["talk", "moon.braildesk", "--width", str(width)]
     child = pexpect.spawn(
         sys.executable,

@@ -23,8 +23,9 @@ from words import WORDS
 NAMES = list(COMMANDS)
 #: The commands of the desk.
 ALL = (
-    "new edit run talk import table check-table try show find change undo resolve strike restore heading body"
-    " volume move retable mark marks next pages export proof copy bring tune"
+    "new edit run talk import table check-table try show list history compare find change change-all"
+    " undo resolve strike restore heading body volume volumes move retable mark marks next pages"
+    " export proof copy bring tune"
 ).split()
 
 
@@ -120,11 +121,10 @@ def test_a_word_that_is_nearly_a_command_is_guessed(tmp_path: Path) -> None:
     "word, sentence",
     [
         ("zebra", "There is no command zebra. The commands are new, edit,"),
-        # two of its letters stand in "try"
         (
-            "history",
-            "There is no command history. The key h of scribe edit shows the history of a"
-            " paragraph, and so does history at scribe talk. The commands are",
+            "where",
+            "There is no command where. where is a request of scribe talk. scribe edit shows the"
+            " cells of each character. The commands are",
         ),
         (
             "type",

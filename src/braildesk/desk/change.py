@@ -33,10 +33,24 @@ def change_words(
 
     Raises `NoPlace`, `ManyPlaces` and `SameWords`.
     """
-    number = words.paragraph
-    before = session.print_of(number)
-    version = session.last_version
+    before = session.print_of(words.paragraph)
     went = words.place(before)
+    return change_place(session, words.paragraph, before, went, new, by)
+
+
+def change_place(
+    session: Session,
+    number: int,
+    before: str,
+    went: Span,
+    new: str,
+    by: str | None = None,
+) -> Change:
+    """Makes the smallest correction that puts new words at a place of a print, as it stands now.
+
+    Raises `SameWords`.
+    """
+    version = session.last_version
     least = smallest_correction(before, replaced(before, went.start, went.stop, new))
     if least is None:
         raise SameWords

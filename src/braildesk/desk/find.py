@@ -49,6 +49,11 @@ def alike(text: str) -> str:
     return _folded(text, None)
 
 
+def any_case(text: str) -> str:
+    """The same text for all texts that differ by their capitals alone."""
+    return composed(text).casefold()
+
+
 def unlike(words: str, others: str) -> tuple[Kind, ...]:
     """By what two texts differ that are alike."""
     return tuple(kind for kind in Kind if _folded(words, kind) != _folded(others, kind))

@@ -43,3 +43,10 @@ class ParagraphRange:
         if start >= stop and book:
             raise BackwardRange(self.first, self.last)
         return book[start:stop]
+
+
+def chosen(
+    book: Sequence[Paragraph], ranges: Sequence[ParagraphRange]
+) -> list[Paragraph]:
+    """The paragraphs of some ranges, in their order; raises what `ParagraphRange.of` does."""
+    return [paragraph for each in ranges for paragraph in each.of(book)]

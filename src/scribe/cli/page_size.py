@@ -1,20 +1,24 @@
-"""The words `--width` and `--lines`: the size of a page for an embosser."""
+"""The words for the size of a page for an embosser, `--width` and `--lines` where nothing else is."""
 
 from argparse import ArgumentParser, ArgumentTypeError, Namespace
 from collections.abc import Callable
 
+from braildesk import Session
 from braildesk.desk.layout import PageSize
+from braildesk.desk.page_places import PageMap
 from braildesk.text import limits
 
 from scribe.cli.parser import number
 
 
-def add_page_size(parser: ArgumentParser) -> None:
-    """Adds the words `--width` and `--lines`, which `page_size_of` reads."""
+def add_page_size(
+    parser: ArgumentParser, names: tuple[str, str] = ("--width", "--lines")
+) -> None:
+    """Adds the words for the cells of a line and the lines of a page."""
     usual = PageSize()
     for name, what, ends, value in (
-        ("--width", "the cells of a line", limits.WIDTHS, usual.width),
-        ("--lines", "the lines of a page", limits.PAGE_LINES, usual.lines),
+        (names[0], "the cells of a line", limits.WIDTHS, usual.width),
+        (names[1], "the lines of a page", limits.PAGE_LINES, usual.lines),
     ):
         parser.add_argument(
             name,
@@ -28,6 +32,22 @@ def add_page_size(parser: ArgumentParser) -> None:
 def page_size_of(arguments: Namespace) -> PageSize:
     """The size that the words give."""
     return PageSize(arguments.width, arguments.lines)
+
+
+def add_pages(parser: ArgumentParser) -> None:
+    """Adds the word `--pages`, and the size of these, which `page_map` reads."""
+    parser.add_argument(
+        "--pages", action="store_true", help="say on which page and line each stands"
+    )
+    add_page_size(parser, ("--page-width", "--page-lines"))
+
+
+def page_map(arguments: Namespace, session: Session) -> PageMap | None:
+    """The pages of a book, where it is to be said on which of them something stands."""
+    if not arguments.pages:
+        return None
+    page_size = PageSize(arguments.page_width, arguments.page_lines)
+    return PageMap(session, page_size)
 
 
 def _within(ends: tuple[int, int]) -> Callable[[str], int]:

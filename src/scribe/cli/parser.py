@@ -7,6 +7,7 @@ from pathlib import Path
 from typing import Any, NoReturn, TypeVar, cast
 
 from braildesk.desk import USUAL_WAIT
+from braildesk.desk.paragraph_ranges import ParagraphRange
 from braildesk.text.wrapping import wrap
 from braildesk.version import version
 
@@ -170,6 +171,38 @@ def add_paragraph(parser: Parser, in_hand: bool = False) -> None:
         "Which paragraph? Type its number.",
         in_hand=in_hand,
     )
+
+
+def add_ranges(
+    parser: argparse.ArgumentParser, word: str, does: str = "only these paragraphs"
+) -> None:
+    """Adds a word for ranges of paragraphs, such as 3-9, as `arguments.paragraphs`."""
+    parser.add_argument(
+        word,
+        dest="paragraphs",
+        metavar="PARAS",
+        type=argument(typed.paragraph_ranges),
+        default=(ParagraphRange(),),
+        help=does,
+    )
+
+
+def add_paragraphs(parser: argparse.ArgumentParser) -> None:
+    """Adds PARAS, the ranges of the paragraphs that are shown, which `asked_ranges` reads."""
+    parser.add_argument(
+        "range",
+        metavar="PARAS",
+        type=argument(typed.paragraph_ranges),
+        nargs="?",
+        help="only these paragraphs, as in 3-9",
+    )
+    add_ranges(parser, "--paragraphs", "the same")
+
+
+def asked_ranges(arguments: argparse.Namespace) -> tuple[ParagraphRange, ...]:
+    """The ranges of the paragraphs that are shown."""
+    ranges: tuple[ParagraphRange, ...] = arguments.range or arguments.paragraphs
+    return ranges
 
 
 def argument(read: Callable[[str], Value]) -> Callable[[str], Value]:

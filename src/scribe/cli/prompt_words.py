@@ -7,6 +7,7 @@ from pathlib import Path
 from typing import Any
 
 from braildesk import NotFound
+from braildesk.desk.marks import MarkOfBook
 from braildesk.protocol.requests import BY_NAME, REQUESTS, Command
 from braildesk.text.characters import visible
 from braildesk.text.excerpt import excerpt_lines, opening
@@ -88,6 +89,10 @@ def _usage(parser: Parser) -> str:
     return " ".join(" ".join(parts.group(1, 3, 2)).split()) if parts else usage
 
 
+def _say_refused(talk: Conversation, parser: Parser, refused: WordsRefused) -> None:
+    talk.console.say(_why_refused(refused), f"It is typed as: {_usage(parser)}")
+
+
 def _why_refused(refused: WordsRefused) -> str:
     """Why the words of a line aren't taken."""
     _, is_over, words = refused.sentence.partition("Unrecognized arguments: ")
@@ -100,7 +105,7 @@ def command_answered(talk: Conversation, file: Path, name: str, rest: str) -> No
     """Answers a line that begins with a command of the shell."""
     its = prompt_command(name)
     parser = its.prompt_parser()
-    arguments = Namespace(file=file, read_at=file)
+    arguments = Namespace(file=file, read_at=file, ask_person=talk.ask)
     try:
         parser.parse_args(words_of(rest), arguments)
     except TextAsked as asked:
@@ -110,11 +115,17 @@ def command_answered(talk: Conversation, file: Path, name: str, rest: str) -> No
         talk.console.say(f"{fault} Nothing was changed.")
         return
     except WordsRefused as refused:
-        talk.console.say(_why_refused(refused), f"It is typed as: {_usage(parser)}")
+        _say_refused(talk, parser, refused)
         return
     _complete(talk, parser, arguments)
     console = as_asked(talk.console, arguments)
-    talk.hand = its.answer(talk.session, arguments, console) or talk.hand
+    try:
+        outcome = its.answer(talk.session, arguments, console)
+    except WordsRefused as refused:
+        _say_refused(talk, parser, refused)
+        return
+    if isinstance(outcome, MarkOfBook):
+        talk.hand = outcome
 
 
 def _complete(talk: Conversation, parser: Parser, arguments: Namespace) -> None:

@@ -265,6 +265,11 @@ def _volume(paragraph: Paragraph) -> str:
 
 
 def change_lines(change: Change, width: int) -> list[str]:
+    """What was changed, and at which version the book is."""
+    return [*changed_lines(change, width), at_version(change.version)]
+
+
+def changed_lines(change: Change, width: int) -> list[str]:
     """What is now first, then what was, then each mark that the change touched."""
     head, former = f"Paragraph {change.paragraph}: ", "Before: "
     came, went = change.came, change.went
@@ -273,7 +278,6 @@ def change_lines(change: Change, width: int) -> list[str]:
         *excerpt_lines(head, change.now, came.start, came.stop, width),
         *excerpt_lines(former, change.before, went.start, went.stop, width),
         *marks,
-        at_version(change.version),
     ]
 
 

@@ -1,6 +1,6 @@
 """What was looked for and found, or found otherwise, in words."""
 
-from collections.abc import Iterator, Sequence
+from collections.abc import Callable, Iterator, Sequence
 
 from braildesk.desk.find import Hit, Kind, Tally, alike, unlike
 from braildesk.text.cells import Notation
@@ -33,22 +33,32 @@ def instead(sought: str, text: str) -> str:
     return f" as typed; with {in_words(unlike(sought, words))} it is {quoted(words)}"
 
 
-def word_lines(hit: Hit, width: int) -> Iterator[str]:
-    """A line for each place of a print, or more where the words need them."""
+def word_lines(
+    hit: Hit, width: int, where: Callable[[int], str] = lambda _: ""
+) -> Iterator[str]:
+    """A line for each place of a print, or more where the words need them.
+
+    It is said where that is on the pages, if this was asked for.
+    """
     for place in hit.places:
-        head = f"{_title(hit)}, character {place.start + 1}: "
+        head = f"{_title(hit)}{where(place.start)}, character {place.start + 1}: "
         yield from excerpt_lines(head, hit.text, place.start, place.stop, width)
 
 
 def cell_lines(
-    hit: Hit, text: str, origins: Sequence[Span], width: int, cells: Notation
+    hit: Hit,
+    text: str,
+    origins: Sequence[Span],
+    width: int,
+    cells: Notation,
+    where: Callable[[int], str] = lambda _: "",
 ) -> Iterator[str]:
     """Two lines for each place of a braille: its cells, and the print that they stand for.
 
     There are more of them where the cells or the words need them.
     """
     for place, origin in zip(hit.places, origins):
-        head = f"{_title(hit)}, cell {place.start + 1}: "
+        head = f"{_title(hit)}{where(place.start)}, cell {place.start + 1}: "
         braille = cells.write(hit.text)
         yield from excerpt_lines(head, braille, place.start, place.stop, width)
         head = f"  character {origin.start + 1}: "

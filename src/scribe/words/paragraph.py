@@ -1,13 +1,16 @@
 """A paragraph and its marks in words."""
 
-from collections.abc import Sequence
+from collections.abc import Callable, Sequence
 
 from braildesk import Mark, Paragraph, Style
 from braildesk.desk.marks import MarkOfBook, NextMark
 from braildesk.text.characters import visible
-from braildesk.text.excerpt import opening
+from braildesk.text.excerpt import excerpt, opening
+from braildesk.text.wrapping import columns, wrap
 
 _WORDS = 40
+#: The fewest columns of a line that show words after what is said of them.
+_ROOM = 24
 
 
 def title(paragraph: Paragraph, with_table: bool) -> str:
@@ -25,7 +28,7 @@ def title(paragraph: Paragraph, with_table: bool) -> str:
 def mark_line(
     mark: Mark, text: str, paragraph: int | None = None, page: str = ""
 ) -> str:
-    """A mark with the words that it stands on in a print, and its note."""
+    """A mark with the words that it stands on in a print, where that is, and its note."""
     flags = [
         f"Mark {mark.id}",
         "resolved" if mark.resolved else "open",
@@ -89,3 +92,35 @@ def no_paragraph(number: int, count: int) -> str:
     if not count:
         return f"There is no paragraph {number}: the book has none."
     return f"There is no paragraph {number}: the book has the paragraphs 1 to {count}."
+
+
+def counted(count: int, word: str) -> str:
+    """A number of things, of each of which a word is the name, as in “2 pages”."""
+    return f"1 {word}" if count == 1 else f"{count:,} {word}s"
+
+
+def listed(paragraph: Paragraph, text: str, has_table: bool, width: int) -> list[str]:
+    """A paragraph in a list: what it is, its length and its first words."""
+    head = f"{title(paragraph, has_table)}, {counted(paragraph.length, 'character')}"
+    return headed(head, lambda room: opening(visible(text), room), width)
+
+
+def in_its_line(head: str, text: str, start: int, stop: int, width: int) -> list[str]:
+    """What is said of words, and these in brackets with the words around them."""
+    return headed(head, lambda room: excerpt(text, start, stop, room), width)
+
+
+def headed(head: str, shown: Callable[[int], str], width: int) -> list[str]:
+    """A line of what is said of words, and these, which are shown in some columns.
+
+    Where there are few columns for them they stand on a line of their own.
+    """
+    room = width - columns(head) - len(": ")
+    alone = shown(width)
+    if not alone:
+        return wrap(head, width, "  ")
+    if columns(alone) <= room:
+        return [f"{head}: {alone}"]
+    if room < _ROOM:
+        return [*wrap(f"{head}:", width, "  "), alone]
+    return [f"{head}: {shown(room)}"]

@@ -9,6 +9,7 @@ from braildesk.desk.marks import NoMark
 from braildesk.desk.paragraph_ranges import BackwardRange, NoParagraph
 from braildesk.desk.places import NoPlace
 from braildesk.desk.tables import NoSuchTable, UnreadableTable
+from braildesk.desk.volume_plan import TooLong
 
 from scribe.words import export
 from scribe.words.changes import no_place
@@ -16,6 +17,7 @@ from scribe.words.drafts import not_kept
 from scribe.words.import_text import not_imported
 from scribe.words.paragraph import no_mark, no_paragraph
 from scribe.words.status import Status, Stop
+from scribe.words.volumes import too_long
 
 
 def as_stop(problem: Problem) -> Stop:
@@ -38,6 +40,8 @@ def as_stop(problem: Problem) -> Stop:
             return Stop(no_place(problem))
         case SameWords():
             return Stop("The new words are the same as the old. Nothing was changed.")
+        case TooLong():
+            return Stop(too_long(problem))
         case NoSuchTable():
             return Stop(_no_such_table(problem))
         case UnreadableTable(path=path, cause=cause):

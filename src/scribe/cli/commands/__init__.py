@@ -27,8 +27,12 @@ COMMANDS: Mapping[str, tuple[str, str]] = {
     "try": ("try_table", "Tries a table on print that is typed."),
     "import": ("import_text", "Types the paragraphs of a text file or a document."),
     "show": ("show", "Shows print, braille and marks."),
+    "list": ("list_paragraphs", "Shows a line for each paragraph."),
+    "history": ("history", "Says who changed what."),
+    "compare": ("compare", "Shows the words that differ from a manuscript."),
     "find": ("find", "Finds words or cells in the book."),
     "change": ("change", "Puts words in place of others."),
+    "change-all": ("change_all", "Puts words in place of others in the whole book."),
     "mark": ("mark", "Puts a mark on words, with a note."),
     "marks": ("marks", "Shows all marks with their words and notes."),
     "next": ("next_mark", "Shows the next open mark, with the words around it."),
@@ -39,6 +43,7 @@ COMMANDS: Mapping[str, tuple[str, str]] = {
     "heading": ("edits", "Makes a paragraph a heading."),
     "body": ("edits", "Makes a paragraph body text."),
     "volume": ("edits", "Says whether a paragraph begins a volume."),
+    "volumes": ("volumes", "Shows the volumes, or where they would begin."),
     "move": ("edits", "Puts a paragraph elsewhere in the book."),
     "retable": ("edits", "Gives a paragraph another table."),
     "pages": ("pages", "Says what stands on which page and line."),
@@ -53,8 +58,19 @@ COMMANDS: Mapping[str, tuple[str, str]] = {
 #: The commands that `scribe talk` takes too, by the same words, in the order in which its help lists
 #: them: each module has a `BookCommand`.
 AT_PROMPT = (
-    *("show", "find", "marks", "next", "pages", "change", "mark", "resolve", "undo"),
-    *("strike", "restore", "heading", "body", "volume", "move", "retable", "table"),
+    *(
+        "show",
+        "list",
+        "find",
+        "marks",
+        "next",
+        "pages",
+        "volumes",
+        "history",
+        "compare",
+    ),
+    *("change", "change-all", "mark", "resolve", "undo", "strike", "restore"),
+    *("heading", "body", "volume", "move", "retable", "table"),
 )
 
 

@@ -1,25 +1,39 @@
 """`scribe find`: where words or cells stand in a book."""
 
 from argparse import Namespace
+from collections.abc import Callable, Iterable
 
 from braildesk import Session
-from braildesk.desk.find import Tally, alike, find_cells, find_words, print_of, tallied
+from braildesk.desk.find import (
+    Hit,
+    Tally,
+    alike,
+    find_cells,
+    find_words,
+    print_of,
+    tallied,
+)
+from braildesk.desk.page_places import PageMap
 from braildesk.text.cells import NotCells, braille_patterns
 from braildesk.text.characters import code_and_name
 from braildesk.text.sequences import composed
 
 from scribe.cli.book_command import BookCommand
+from scribe.cli.page_size import add_pages, page_map
 from scribe.cli.parser import Parser, WordsRefused
 from scribe.cli.width import add_width
 from scribe.words.console import Console
 from scribe.words.find import cell_lines, found_summary, word_lines
+from scribe.words.pages import page_place
 from scribe.words.typed import words
 
 MORE = """\
 Each place is shown by its paragraph, its first character, counted from 1, and the words
 around it. With --braille TEXT is cells, in Braille ASCII or as Unicode characters, and
 the print that they stand for is shown after them. With --alike, words are found too that
-have other capitals, or an apostrophe, quotation mark, dash or blank of another shape."""
+have other capitals, or an apostrophe, quotation mark, dash or blank of another shape.
+With --pages the volume, page and line of each place is said, on pages of --page-width
+cells and --page-lines lines."""
 EXAMPLE = """\
 scribe find moon.braildesk moon
 scribe find moon.braildesk --alike 'the moon'
@@ -46,6 +60,7 @@ def add_words(parser: Parser) -> None:
         action="store_true",
         help="whatever the capitals, and the shapes of a few signs",
     )
+    add_pages(parser)
     add_width(parser)
     parser.set_defaults(usage=parser.format_usage().strip())
 
@@ -54,19 +69,38 @@ def answer(session: Session, arguments: Namespace, console: Console) -> None:
     """Shows where the words or cells stand, and how often."""
     text, width = arguments.text, console.columns
     tally = others = Tally()
+    pages = page_map(arguments, session)
     if arguments.braille:
         for hit in find_cells(session, sought := cells(arguments)):
             tally = tally.with_hit(hit, sought)
-            found = print_of(session, hit)
-            console.show(*cell_lines(hit, *found, width, console.cells))
+            found, where = print_of(session, hit), _of_cells(pages, hit)
+            console.show(*cell_lines(hit, *found, width, console.cells, where))
     else:
         form = alike if arguments.alike else composed
-        for hit in find_words(session, text, form):
+        hits: Iterable[Hit] = find_words(session, text, form)
+        # while these are being found, nothing else can be asked
+        for hit in hits if pages is None else list(hits):
             tally = tally.with_hit(hit, text)
-            console.show(*word_lines(hit, width))
+            console.show(*word_lines(hit, width, _of_words(pages, hit)))
         if not (tally.count or arguments.alike):
             others = tallied(find_words(session, text, alike), text)
     console.say(found_summary(text, tally, others, _OFFER))
+
+
+def _of_words(pages: PageMap | None, hit: Hit) -> Callable[[int], str]:
+    """What is said of where a character stands on the pages: nothing where none were asked for."""
+    if pages is None:
+        return lambda _: ""
+    its, number, text = pages, hit.paragraph.id, hit.text
+    return lambda place: f", {page_place(its.of_character(number, place, text))}"
+
+
+def _of_cells(pages: PageMap | None, hit: Hit) -> Callable[[int], str]:
+    """What is said of where a cell stands on the pages: nothing where none were asked for."""
+    if pages is None:
+        return lambda _: ""
+    its, number = pages, hit.paragraph.id
+    return lambda cell: f", {page_place(its.of_cell(number, cell))}"
 
 
 def cells(arguments: Namespace) -> str:

@@ -3,17 +3,22 @@
 from argparse import Namespace
 
 from braildesk import Session
-from braildesk.desk.marks import all_marks
+from braildesk.desk.marks import MarkOfBook, all_marks
+from braildesk.desk.page_places import PageMap
 
 from scribe.cli.book_command import BookCommand
+from scribe.cli.page_size import add_pages, page_map
 from scribe.cli.parser import Parser, number
 from scribe.cli.width import add_width
 from scribe.words.console import Console
+from scribe.words.pages import page_place
 from scribe.words.paragraph import mark_line, marks_summary
 
 MORE = """\
 Open marks come first, then those that are resolved, both in the order of the book. With
-PARA these are the marks of that paragraph, and with --open only those that are open."""
+PARA these are the marks of that paragraph, and with --open only those that are open. With
+--pages the volume, page and line of each is said, on pages of --page-width cells and
+--page-lines lines."""
 EXAMPLE = "scribe marks moon.braildesk"
 
 
@@ -27,6 +32,7 @@ def add_words(parser: Parser) -> None:
         help="the number of a paragraph",
     )
     parser.add_argument("--open", action="store_true", help="only those that are open")
+    add_pages(parser)
     add_width(parser)
 
 
@@ -36,15 +42,18 @@ def answer(session: Session, arguments: Namespace, console: Console) -> None:
     if number is not None:
         session.print_of(number)  # which refuses a paragraph that isn't there
         marks = [each for each in marks if each.paragraph == number]
-    console.show(
-        *(
-            mark_line(each.mark, each.text, each.paragraph)
-            for each in marks
-            if not (arguments.open and each.mark.resolved)
-        )
-    )
+    pages = page_map(arguments, session)
+    for each in marks:
+        if not (arguments.open and each.mark.resolved):
+            page = "" if pages is None else _page(pages, each)
+            console.show(mark_line(each.mark, each.text, each.paragraph, page))
     whose = "The book" if number is None else f"Paragraph {number}"
     console.say(marks_summary(marks, whose))
+
+
+def _page(pages: PageMap, its: MarkOfBook) -> str:
+    """On which page and line the words of a mark begin."""
+    return page_place(pages.of_character(its.paragraph, its.mark.start, its.text))
 
 
 COMMAND = BookCommand("marks", EXAMPLE, add_words, answer, MORE, looks=True)

@@ -1,34 +1,35 @@
 """`scribe pages`: on which page and line each paragraph stands, and what stands on a page."""
 
 from argparse import Namespace
-from collections.abc import Iterator, Sequence
+from collections.abc import Sequence
 from dataclasses import dataclass
 from pathlib import Path
 
 from braildesk import NotFound, Session, export
-from braildesk.desk.layout import Layout, PageSize, Row
-from braildesk.desk.places import words_of
+from braildesk.desk.layout import PageSize, Row
+from braildesk.desk.page_places import printed, rows_of, rows_on
 from braildesk.desk.readings import prints
 from braildesk.desk.volumes import Volume, parted, volume
 from braildesk.snapshot import snapshot
 from braildesk.text.characters import visible
 from braildesk.text.excerpt import opening
-from braildesk.text.spans import Span
 
 from scribe.cli.book_command import BookCommand
 from scribe.cli.page_size import add_page_size, page_size_of
-from scribe.cli.parser import Parser, number
+from scribe.cli.parser import Parser, WordsRefused, number
 from scribe.words.console import Console
-from scribe.words.page_size import described
+from scribe.words.pages import no_words, not_there, row_line, volume_title
 from scribe.words.status import Status, Stop
 
 MORE = """\
 Each paragraph is shown with its page and line. --page shows each line of a page with the
-print that stands on it, and --paragraph each line of a paragraph. Without VOLUME this is
-done for all volumes. What is shown was compared with the pages that export writes."""
+print that stands on it, with --line one line alone, and --paragraph each line of a
+paragraph. Without VOLUME this is done for all volumes. What is shown was compared with
+the pages that export writes."""
 EXAMPLE = """\
 scribe pages moon.braildesk
-scribe pages moon.braildesk 1 --page 1 --width 30 --lines 10"""
+scribe pages moon.braildesk 1 --page 1 --width 30 --lines 10
+scribe pages moon.braildesk --page 1 --line 2"""
 
 _OPENING = 40
 
@@ -44,12 +45,18 @@ def add_words(parser: Parser) -> None:
     which.add_argument(
         "--paragraph", metavar="N", type=number, help="the lines of a paragraph"
     )
+    parser.add_argument(
+        "--line", metavar="N", type=number, help="one line of the page, with its words"
+    )
+    parser.set_defaults(usage=parser.format_usage().strip())
 
 
 def answer(session: Session, arguments: Namespace, console: Console) -> None:
     """Shows what is laid out, once it was compared with what export writes of the book."""
+    if arguments.line is not None and arguments.page is None:
+        raise WordsRefused("Argument --line: say the page by --page.", arguments.usage)
     volumes = laid_out(session, arguments.volume, page_size_of(arguments))
-    parts = shown(session, volumes, arguments.page, arguments.paragraph)
+    parts = shown(session, volumes, arguments)
     # a book that is open is exported from a copy, and nobody else changes it meanwhile
     with snapshot(arguments.read_at) as copied:
         for part in parts:
@@ -101,39 +108,30 @@ def laid_out(session: Session, wanted: int | None, page_size: PageSize) -> list[
     return [volume(session, each, parts[each], page_size) for each in numbers]
 
 
-def shown(
-    session: Session, volumes: list[Volume], page: int | None, paragraph: int | None
-) -> list[Part]:
-    """What is shown of each volume: of a page, of a paragraph, or of each paragraph."""
+def shown(session: Session, volumes: list[Volume], arguments: Namespace) -> list[Part]:
+    """What is shown of each volume: of a page or a line of it, of a paragraph, or of each."""
+    page, line, paragraph = arguments.page, arguments.line, arguments.paragraph
+    numbers = [its.number for its in volumes]
+    if line is not None and any(page <= its.layout.pages for its in volumes):
+        found = [(its, rows_on(its.layout, page, line)) for its in volumes]
+        return _detailed(session, found, no_words(numbers, page, line))
     if page is not None:
-        found = [(its, _on_page(its.layout, page)) for its in volumes]
-        return _detailed(session, found, f"page {page}")
+        found = [(its, rows_on(its.layout, page)) for its in volumes]
+        return _detailed(session, found, not_there(numbers, f"page {page}"))
     if paragraph is not None:
-        found = [(its, _of_paragraph(its.layout, paragraph)) for its in volumes]
-        return _detailed(session, found, f"paragraph {paragraph}")
+        found = [(its, rows_of(its.layout, paragraph)) for its in volumes]
+        return _detailed(session, found, not_there(numbers, f"paragraph {paragraph}"))
     return [_listed(session, its) for its in volumes]
 
 
 def _listed(session: Session, its: Volume) -> Part:
     """A line for each paragraph: from where to where it stands, and its first words."""
-    lines = [_title(its)]
+    lines = [volume_title(its)]
     for placed, text in zip(its.layout.placed, prints(session, its.paragraphs)):
         where = span(its.layout.page_size, placed.lines) if placed.lines else "No line"
         words = opening(visible(text), _OPENING)
         lines.append(f"{where}, paragraph {placed.section.paragraph}: {words}".rstrip())
     return Part(its, lines, range(1, its.layout.pages + 1))
-
-
-def _on_page(layout: Layout, page: int) -> list[Row]:
-    """The lines of a page that have words."""
-    placed = layout.on_page(page)
-    return [row for each in placed for row in layout.rows_of(each) if row.page == page]
-
-
-def _of_paragraph(layout: Layout, number: int) -> list[Row]:
-    """The lines of a paragraph."""
-    placed = (each for each in layout.placed if each.section.paragraph == number)
-    return [row for each in placed for row in layout.rows_of(each)]
 
 
 def span(page_size: PageSize, lines: range) -> str:
@@ -149,47 +147,18 @@ def span(page_size: PageSize, lines: range) -> str:
 
 
 def _detailed(
-    session: Session, found: Sequence[tuple[Volume, list[Row]]], what: str
+    session: Session, found: Sequence[tuple[Volume, list[Row]]], none: str
 ) -> list[Part]:
     """A line for each of some lines of pages, with the print that stands on it."""
-    parts = [
-        Part(
-            its, [_title(its), *_row_lines(session, its, rows)], [r.page for r in rows]
-        )
-        for its, rows in found
-        if rows
-    ]
+    parts = []
+    for its, rows in found:
+        if rows:
+            lines = map(row_line, printed(session, its, rows))
+            pages = [row.page for row in rows]
+            parts.append(Part(its, [volume_title(its), *lines], pages))
     if not parts:
-        raise Stop(_not_there([its for its, _ in found], what))
+        raise Stop(none)
     return parts
-
-
-def _row_lines(session: Session, its: Volume, rows: Sequence[Row]) -> Iterator[str]:
-    """Lines of pages, each with the print that stands on it."""
-    numbers = {row.paragraph for row in rows}
-    chosen = [each for each in its.paragraphs if each.id in numbers]
-    texts = dict(zip((each.id for each in chosen), prints(session, chosen)))
-    cells = its.brailles
-    for row in rows:
-        number, text = row.paragraph, texts[row.paragraph]
-        on_line = Span(row.start, row.stop)
-        words = words_of(session, number, on_line, text, cells[number])
-        yield (
-            f"Page {row.page}, line {row.line}, paragraph {number}, character {words.start + 1}:"
-            f" {visible(text[words.start : words.stop])}"
-        )
-
-
-def _title(its: Volume) -> str:
-    page_size, pages = its.layout.page_size, its.layout.pages
-    count = "1 page" if pages == 1 else f"{pages:,} pages"
-    return f"Volume {its.number}: {count} of {described(page_size)}."
-
-
-def _not_there(volumes: Sequence[Volume], what: str) -> str:
-    if len(volumes) > 1:
-        return f"No volume has {what}."
-    return f"Volume {volumes[0].number} has no {what}."
 
 
 COMMAND = BookCommand("pages", EXAMPLE, add_words, answer, MORE, looks=True)

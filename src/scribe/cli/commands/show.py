@@ -5,15 +5,14 @@ from collections.abc import Sequence
 from pathlib import Path
 
 from braildesk import Paragraph, Session
-from braildesk.desk.paragraph_ranges import ParagraphRange
+from braildesk.desk.paragraph_ranges import chosen
 from braildesk.desk.readings import readings
 from braildesk.desk.state_folder import may_have
 
 from scribe.cli.book_command import BookCommand
-from scribe.cli.parser import Parser, argument
+from scribe.cli.parser import Parser, add_paragraphs, asked_ranges
 from scribe.cli.width import add_cells, add_width
 from scribe.words.console import Console
-from scribe.words.typed import paragraph_ranges
 from scribe.words.view import View
 
 MORE = """\
@@ -26,20 +25,7 @@ EXAMPLE = "scribe show moon.braildesk 1-2"
 
 def add_words(parser: Parser) -> None:
     """Adds the words of `show`."""
-    parser.add_argument(
-        "range",
-        metavar="PARAS",
-        type=argument(paragraph_ranges),
-        nargs="?",
-        help="only these paragraphs, as in 3-9",
-    )
-    parser.add_argument(
-        "--paragraphs",
-        metavar="PARAS",
-        type=argument(paragraph_ranges),
-        default=(ParagraphRange(),),
-        help="the same",
-    )
+    add_paragraphs(parser)
     parser.add_argument("--print", action="store_true", help="only the print")
     parser.add_argument("--braille", action="store_true", help="only the braille")
     add_cells(parser)
@@ -49,8 +35,7 @@ def add_words(parser: Parser) -> None:
 def answer(session: Session, arguments: Namespace, console: Console) -> None:
     """Shows the paragraphs, and names imports that were cut short."""
     book = session.paragraphs()
-    ranges = arguments.range or arguments.paragraphs
-    parts = [each.of(book) for each in ranges]
+    its = chosen(book, asked_ranges(arguments))
     view = View(
         width=console.columns,
         has_print=arguments.print or not arguments.braille,
@@ -58,8 +43,7 @@ def answer(session: Session, arguments: Namespace, console: Console) -> None:
         notation=console.cells,
         has_table=len({paragraph.table for paragraph in book}) > 1,
     )
-    chosen = [paragraph for part in parts for paragraph in part]
-    for count, reading in enumerate(readings(session, chosen)):
+    for count, reading in enumerate(readings(session, its)):
         console.show(*([""] if count else []), *view.lines(reading))
     if not book:
         console.say("The book has no paragraphs.")

@@ -1,0 +1,170 @@
+"""Words that are replaced wherever they stand, place by place and by the smallest corrections."""
+
+import unicodedata
+from collections.abc import Callable, Iterator, Sequence
+from dataclasses import dataclass
+
+from braildesk import Paragraph, Refused, Session
+from braildesk.desk.change import Change, SameWords, change_place
+from braildesk.desk.correction import replaced
+from braildesk.desk.find import any_case
+from braildesk.desk.paragraph_ranges import ParagraphRange, chosen
+from braildesk.desk.readings import prints
+from braildesk.text.sequences import composed
+from braildesk.text.spans import Form, Span, find_spans
+
+
+@dataclass(frozen=True)
+class Replacement:
+    """Which words are replaced, by which, and where."""
+
+    old: str
+    new: str
+    #: Whether they have to stand there as whole words.
+    is_of_words: bool = False
+    #: Whether they may have other capitals there, which the new words take then.
+    is_of_any_case: bool = False
+    ranges: tuple[ParagraphRange, ...] = (ParagraphRange(),)
+    by: str | None = None
+
+    @property
+    def _form(self) -> Form:
+        return any_case if self.is_of_any_case else composed
+
+    def places(self, text: str, start: int = 0) -> Iterator[Span]:
+        """The places from one on, none of which stands in another, from left to right."""
+        for place in find_spans(text, self.old, self._form):
+            if place.start >= start and (
+                not self.is_of_words or _are_words(text, place)
+            ):
+                yield place
+                start = place.stop
+
+    def comes(self, gone: str) -> str:
+        """What comes in place of words."""
+        if not self.is_of_any_case or composed(gone) == composed(self.old):
+            return self.new
+        return _with_capitals(self.new, gone)
+
+
+@dataclass(frozen=True)
+class Proposal:
+    """A place where words stand that may be replaced, and what its print would be."""
+
+    paragraph: int
+    text: str
+    place: Span
+    new: str
+
+    @property
+    def after(self) -> tuple[str, Span]:
+        """The print as it would be, and where the new words would stand in it."""
+        now = replaced(self.text, self.place.start, self.place.stop, self.new)
+        kept = len(self.text) - self.place.stop
+        return now, Span(self.place.start, max(self.place.start, len(now) - kept))
+
+
+@dataclass(frozen=True)
+class NotChanged:
+    """A place that the book refused to change, and stays as it was."""
+
+    proposal: Proposal
+    refused: Refused
+
+
+@dataclass(frozen=True)
+class Passed:
+    """A place that stays as it is: it wasn't wanted, or the new words are the same there."""
+
+    proposal: Proposal
+
+
+#: Says of a place whether it is to be changed.
+Choice = Callable[[Proposal], bool]
+
+
+def proposals(session: Session, wanted: Replacement) -> list[Proposal]:
+    """All places of a book that would be changed, as they are now."""
+    _judge(wanted)
+    its = _chosen(session, wanted)
+    return [
+        _proposal(paragraph.id, text, place, wanted)
+        for paragraph, text in zip(its, prints(session, its))
+        for place in wanted.places(text)
+    ]
+
+
+def change_all(
+    session: Session, wanted: Replacement, is_wanted: Choice = lambda _: True
+) -> Iterator[Change | NotChanged | Passed]:
+    """Replaces words wherever they stand, and gives what became of each place in the book's order.
+
+    Each place is a correction of its own, which is kept before the next one is made. What is put in
+    isn't looked through again. Raises `SameWords`, `NoParagraph` and `BackwardRange`.
+    """
+    _judge(wanted)
+    its = _chosen(session, wanted)
+    texts = list(prints(session, its))
+    for paragraph, text in zip(its, texts):
+        yield from _change_in(session, paragraph.id, text, wanted, is_wanted)
+
+
+def _change_in(
+    session: Session, number: int, text: str, wanted: Replacement, is_wanted: Choice
+) -> Iterator[Change | NotChanged | Passed]:
+    """Replaces words in a paragraph."""
+    start = 0
+    while (place := next(wanted.places(text, start), None)) is not None:
+        proposal = _proposal(number, text, place, wanted)
+        start = place.stop
+        if proposal.after[0] == text or not is_wanted(proposal):
+            yield Passed(proposal)
+            continue
+        try:
+            change = change_place(session, number, text, place, proposal.new, wanted.by)
+        except Refused as refused:
+            yield NotChanged(proposal, refused)
+            continue
+        text, start = change.now, change.came.stop
+        yield change
+
+
+def _judge(wanted: Replacement) -> None:
+    if composed(wanted.old) == composed(wanted.new):
+        raise SameWords
+
+
+def _chosen(session: Session, wanted: Replacement) -> Sequence[Paragraph]:
+    """The paragraphs in which words are replaced, each once, in the order of the book."""
+    book = session.paragraphs()
+    numbers = {each.id for each in chosen(book, wanted.ranges)}
+    return [each for each in book if each.id in numbers]
+
+
+def _proposal(number: int, text: str, place: Span, wanted: Replacement) -> Proposal:
+    return Proposal(number, text, place, wanted.comes(text[place.start : place.stop]))
+
+
+def _are_words(text: str, place: Span) -> bool:
+    """Whether what stands at a place begins and ends no word in its middle."""
+    edges = (
+        text[place.start - 1 : place.start + 1] if place.start else "",
+        text[place.stop - 1 : place.stop + 1],
+    )
+    return not any(len(pair) == 2 and all(map(_is_of_word, pair)) for pair in edges)
+
+
+def _is_of_word(character: str) -> bool:
+    """Whether it is a letter, a digit, or a mark on one."""
+    return unicodedata.category(character)[0] in "LNM"
+
+
+def _with_capitals(new: str, gone: str) -> str:
+    """New words with the capitals of those that they replace: all of them, the first one, or none."""
+    if gone.isupper() and sum(map(str.isalpha, gone)) > 1:
+        return new.upper()
+    if gone[:1].isupper():
+        return new[:1].upper() + new[1:]
+    if gone[:1].islower():
+        return new[:1].lower() + new[1:]
+    return new

@@ -1,0 +1,134 @@
+"""The histories of a book: which words came by each correction, by whom, and which went.
+
+A history has what each correction put in and how many characters that replaced, but not these. Those
+that stand in the print now, or stood there when a correction was taken back, are found again from it;
+of the others nothing is known but their number.
+"""
+
+from collections.abc import Iterator, Sequence
+from dataclasses import dataclass, field
+from itertools import groupby
+from typing import Generic, TypeVar
+
+from braildesk import Entry, Kind, Paragraph, Session
+from braildesk.desk.readings import answers
+from braildesk.protocol.requests import History, Print
+from braildesk.text.cells import BLANKS
+
+#: What stands for characters of which nothing is known.
+UNKNOWN = "…"
+Character = TypeVar("Character")
+
+
+@dataclass(frozen=True)
+class Step:
+    """An entry of a history, and the print after it: whole words that changed, and what is beside them."""
+
+    paragraph: int
+    entry: Entry
+    before: str
+    came: str
+    after: str
+    #: The words that stood in their place.
+    went: str
+    #: How many characters these have.
+    length: int
+    #: Whether at least half of these are known.
+    is_known: bool
+
+
+@dataclass
+class _Print(Generic[Character]):
+    """The characters of a print, while the entries of its history are gone through."""
+
+    characters: list[Character]
+    #: What each correction in force did: where, how many characters came, and which went.
+    _done: list[tuple[int, int, list[Character]]] = field(default_factory=list)
+
+    def apply(
+        self, entry: Entry, text: list[Character]
+    ) -> tuple[int, int, list[Character]]:
+        """Does what an entry does, and gives where, how many characters came, and which went."""
+        if entry.kind is Kind.UNDO:
+            start, count, come = self._done.pop()
+        else:
+            start, count, come = entry.start, entry.count, text
+        gone = self.characters[start : start + count]
+        self.characters[start : start + count] = come
+        if entry.kind is not Kind.UNDO:
+            self._done.append((start, len(come), gone))
+        return start, len(come), gone
+
+
+def histories(session: Session, paragraphs: Sequence[Paragraph]) -> Iterator[Step]:
+    """The entries of the histories of paragraphs, of each the newest first."""
+    found = list(answers(session, (History(each.id) for each in paragraphs)))
+    pairs = [(each.id, its) for each, its in zip(paragraphs, found) if its]
+    prints = answers(session, (Print(number) for number, _ in pairs))
+    for (number, entries), now in zip(pairs, prints):
+        yield from reversed(steps(number, now, entries))
+
+
+def steps(paragraph: int, now: str, entries: Sequence[Entry]) -> list[Step]:
+    """The entries of a history, by which a print came to be what it is now."""
+    print_text = _Print(_first(now, entries))
+    return [_step(paragraph, entry, print_text) for entry in entries]
+
+
+def _first(now: str, entries: Sequence[Entry]) -> list[str | None]:
+    """The characters with which a print began, as far as they are known."""
+    longer: list[int] = []
+    for entry in entries:
+        if entry.kind is Kind.UNDO:
+            longer.pop()
+        else:
+            longer.append(len(entry.text) - entry.count)
+    # each character of the beginning is followed by its place
+    places = _Print[int | None]([*range(len(now) - sum(longer))])
+    first: list[str | None] = [None] * len(places.characters)
+    for entry in entries:
+        places.apply(entry, [None] * len(entry.text))
+    for place, character in zip(places.characters, now):
+        if place is not None:
+            first[place] = character
+    return first
+
+
+def _step(paragraph: int, entry: Entry, text: _Print[str | None]) -> Step:
+    start, count, gone = text.apply(entry, list(entry.text))
+    now, stop = text.characters, start + count
+    front, end = _word_front(now, start), _word_end(now, stop)
+    went = [*now[front:start], *gone, *now[stop:end]]
+    return Step(
+        paragraph,
+        entry,
+        _written(now[:front]),
+        _written(now[front:end]),
+        _written(now[end:]),
+        _written(went),
+        len(went),
+        2 * went.count(None) <= len(went),
+    )
+
+
+def _word_front(text: Sequence[str | None], place: int) -> int:
+    """The front of the word in which a place stands."""
+    while place > 0 and text[place - 1] not in BLANKS:
+        place -= 1
+    return place
+
+
+def _word_end(text: Sequence[str | None], place: int) -> int:
+    """The end of the word in which a place stands."""
+    while place < len(text) and text[place] not in BLANKS:
+        place += 1
+    return place
+
+
+def _written(characters: Sequence[str | None]) -> str:
+    """Characters as a text, with one sign for those beside one another that aren't known."""
+    runs = groupby(characters, lambda each: each is None)
+    return "".join(
+        UNKNOWN if is_unknown else "".join(each for each in run if each is not None)
+        for is_unknown, run in runs
+    )

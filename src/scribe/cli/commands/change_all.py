@@ -1,0 +1,177 @@
+"""`scribe change-all`: words that are replaced wherever they stand."""
+
+import signal
+from argparse import Namespace
+from collections.abc import Callable
+from contextlib import AbstractContextManager, nullcontext, suppress
+from functools import partial
+from typing import Any
+
+from braildesk import Session
+from braildesk.desk.change_all import (
+    Choice,
+    Proposal,
+    Replacement,
+    change_all,
+    proposals,
+)
+
+from scribe.cli.book_command import BookCommand, said_where_stopped
+from scribe.cli.parser import Parser, add_ranges, argument
+from scribe.cli.width import add_width
+from scribe.prompt.conversation import Ended
+from scribe.prompt.typed_lines import GivenUp, Lines, PipedLines, TypedLines, are_typed
+from scribe.words.change_all import (
+    QUESTION,
+    SHORT_QUESTION,
+    STOP,
+    Asking,
+    Count,
+    answered,
+    nowhere,
+    proposal_lines,
+    stopped_after,
+    would_change,
+)
+from scribe.words.console import Console
+from scribe.words.status import Interrupted, Status, Stop
+from scribe.words.typed import InvalidInput, text, words
+
+MORE = """\
+Each place is a correction of its own, of the fewest characters, and is shown as it is now
+and as it was. With --ask each is shown before, and changed or left as you answer. --words
+leaves alone what is part of a longer word. With --case words with other capitals are
+changed too, and the new words take these: moon, Moon and MOON become sun, Sun and SUN.
+Places that the book refuses stay as they are, and are listed at the end with the reason."""
+EXAMPLE = """\
+scribe change-all moon.braildesk moon sun --words --dry-run
+scribe change-all moon.braildesk moon sun --case --in 1-2 --by anna"""
+_OFFER = "; --case changes other capitals too."
+
+
+def add_words(parser: Parser) -> None:
+    """Adds the words of `change-all`."""
+    parser.add_asked(
+        "old",
+        "OLD",
+        words,
+        "the words that go",
+        "Which words go, wherever they stand?",
+        "old",
+    )
+    parser.add_asked(
+        "new",
+        "NEW",
+        text,
+        "what comes in their place; '' is nothing",
+        "What comes in their place? Type '' to take them out.",
+    )
+    add_ranges(parser, "--in")
+    for word, does in (
+        ("--words", "only whole words"),
+        ("--case", "whatever the capitals, which are kept"),
+    ):
+        parser.add_argument(word, action="store_true", help=does)
+    how = parser.add_mutually_exclusive_group()
+    how.add_argument(
+        "--ask",
+        action="store_true",
+        help="show each place and ask before it is changed",
+    )
+    how.add_argument(
+        "--dry-run", action="store_true", help="show each place, and change nothing"
+    )
+    parser.add_argument(
+        "--by",
+        metavar="WHO",
+        type=argument(words),
+        help="the proofreader, kept in the history",
+    )
+    add_width(parser)
+
+
+def answer(session: Session, arguments: Namespace, console: Console) -> Status:
+    """Replaces the words, and says what became of each place."""
+    wanted = Replacement(
+        arguments.old,
+        arguments.new,
+        arguments.words,
+        arguments.case,
+        arguments.paragraphs,
+        arguments.by,
+    )
+    found: list[Proposal] = []
+
+    def so_far(changed: int, version: int) -> str:
+        return stopped_after(changed, len(found), version)
+
+    with said_where_stopped(session, arguments, console, so_far):
+        found += proposals(session, wanted)
+        if not found:
+            raise Stop(nowhere(session, wanted, _OFFER))
+        if arguments.dry_run:
+            return _shown(wanted, found, console)
+        return _changed(session, wanted, _choice(arguments, found, console), console)
+
+
+def _shown(wanted: Replacement, found: list[Proposal], console: Console) -> Status:
+    """Shows each place as it is and as it would be."""
+    for nth, each in enumerate(found, 1):
+        console.show(*proposal_lines(each, nth, len(found), console.columns))
+    console.say(would_change(wanted, found))
+    return Status.DONE
+
+
+def _changed(
+    session: Session, wanted: Replacement, choice: Choice, console: Console
+) -> Status:
+    """Replaces the words, and shows each place that was changed."""
+    count = Count(wanted)
+    for lines in count.lines(change_all(session, wanted, choice), console.columns):
+        console.show(*lines)
+    console.say(*count.sentences(session.last_version))
+    return Status.REFUSED if count.refused else Status.DONE
+
+
+def _choice(arguments: Namespace, found: list[Proposal], console: Console) -> Choice:
+    """What says which places are changed: a person where that is asked for, else all are."""
+    if not arguments.ask:
+        return lambda _: True
+    ask_person = getattr(arguments, "ask_person", None)
+    ask = partial(_asked, console)
+    if ask_person is not None:
+        ask = partial(_asked_at_prompt, ask_person)
+    return Asking(console.show, ask, len(found), console.columns).is_wanted
+
+
+def _asked_at_prompt(ask_person: Callable[..., Any]) -> str:
+    """The answer to whether a place is changed, at the prompt of a conversation.
+
+    Whoever gives up stops, since what was changed before stays so.
+    """
+    try:
+        return str(ask_person(QUESTION, SHORT_QUESTION, answered))
+    except (GivenUp, Ended):
+        return STOP
+
+
+def _asked(console: Console) -> str:
+    """The answer to whether a place is changed; the end of the input is to stop."""
+    while True:
+        console.say(QUESTION)
+        with _lines(console) as lines:
+            try:
+                line = lines.line(": ")
+            except GivenUp as given_up:
+                raise Interrupted(signal.SIGINT) from given_up
+        if line is None:
+            return STOP
+        with suppress(InvalidInput):
+            return answered(line.decode(errors="replace"))
+
+
+def _lines(console: Console) -> AbstractContextManager[Lines]:
+    return TypedLines() if are_typed() else nullcontext[Lines](PipedLines(console))
+
+
+COMMAND = BookCommand("change-all", EXAMPLE, add_words, answer, MORE)

@@ -1,0 +1,54 @@
+"""`scribe history`: who changed what in a book."""
+
+from argparse import Namespace
+
+from braildesk import Session
+from braildesk.desk.history import histories
+from braildesk.desk.paragraph_ranges import ParagraphRange
+
+from scribe.cli.book_command import BookCommand
+from scribe.cli.parser import Parser, number, words
+from scribe.cli.width import add_width
+from scribe.words.console import Console
+from scribe.words.history import history_lines, nothing_found
+
+MORE = """\
+Each correction is shown with who made it and the words as they were after it, of each
+paragraph the newest first. A book doesn't keep the words that a correction took out as
+words: those that are not known stand as an ellipsis, or are counted. Without PARA the
+histories of all paragraphs are shown in the order of the book."""
+EXAMPLE = """\
+scribe history moon.braildesk 1
+scribe change moon.braildesk 1 far near --by anna && scribe history moon.braildesk --by anna"""
+
+
+def add_words(parser: Parser) -> None:
+    """Adds the words of `history`."""
+    parser.add_argument(
+        "paragraph", metavar="PARA", type=number, nargs="?", help="only this paragraph"
+    )
+    # not by the name of `--by` elsewhere, since who talks asks for the corrections of all
+    parser.add_argument(
+        "--by",
+        dest="whose",
+        metavar="WHO",
+        type=words,
+        help="only corrections by this proofreader",
+    )
+    add_width(parser)
+
+
+def answer(session: Session, arguments: Namespace, console: Console) -> None:
+    """Shows each correction, or says that there is none."""
+    number, by = arguments.paragraph, arguments.whose
+    its = ParagraphRange(number, number).of(session.paragraphs())
+    found = list(histories(session, its))
+    wanted = [step for step in found if by is None or step.entry.who == by]
+    for lines in history_lines(wanted, console.columns):
+        console.show(*lines)
+    if not wanted:
+        names = (step.entry.who for step in found if step.entry.who is not None)
+        console.say(nothing_found(by, names))
+
+
+COMMAND = BookCommand("history", EXAMPLE, add_words, answer, MORE, looks=True)

@@ -1,0 +1,40 @@
+"""`scribe list`: a line for each paragraph of a book."""
+
+from argparse import Namespace
+
+from braildesk import Session
+from braildesk.desk.paragraph_ranges import chosen
+from braildesk.desk.readings import prints
+
+from scribe.cli.book_command import BookCommand
+from scribe.cli.parser import Parser, add_paragraphs, asked_ranges
+from scribe.cli.width import add_width
+from scribe.words.console import Console
+from scribe.words.paragraph import listed
+
+MORE = """\
+A line has the number of a paragraph, its style, whether it begins a volume or is struck,
+how many characters its print has, and its first words."""
+EXAMPLE = """\
+scribe list moon.braildesk
+scribe list moon.braildesk 2-"""
+
+
+def add_words(parser: Parser) -> None:
+    """Adds the words of `list`."""
+    add_paragraphs(parser)
+    add_width(parser)
+
+
+def answer(session: Session, arguments: Namespace, console: Console) -> None:
+    """Shows the lines."""
+    book = session.paragraphs()
+    has_table = len({each.table for each in book}) > 1
+    its = chosen(book, asked_ranges(arguments))
+    for each, text in zip(its, prints(session, its)):
+        console.show(*listed(each, text, has_table, console.columns))
+    if not book:
+        console.say("The book has no paragraphs.")
+
+
+COMMAND = BookCommand("list", EXAMPLE, add_words, answer, MORE, looks=True)

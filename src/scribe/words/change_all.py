@@ -1,0 +1,165 @@
+"""Words that are replaced wherever they stand, in words: each place, and what became of all."""
+
+from collections.abc import Callable, Iterable, Iterator
+from dataclasses import dataclass, field
+
+from braildesk import Session
+from braildesk.desk.change import Change
+from braildesk.desk.change_all import NotChanged, Passed, Proposal, Replacement
+from braildesk.desk.find import alike, find_words, tallied
+from braildesk.desk.paragraph_ranges import ParagraphRange
+from braildesk.text.excerpt import excerpt_lines
+
+from scribe.words.changes import at_version, changed_lines
+from scribe.words.find import found_summary
+from scribe.words.paragraph import counted, quoted
+from scribe.words.typed import InvalidInput
+
+#: What may be answered to whether a place is changed.
+YES, NO, ALL, STOP = "yes", "no", "all", "stop"
+ANSWERS = (YES, NO, ALL, STOP)
+QUESTION = "Change it? Type yes, no, all or stop."
+#: The same in a word or two.
+SHORT_QUESTION = "yes, no, all or stop"
+
+
+@dataclass
+class Count:
+    """What became of the places where words stand, so far."""
+
+    wanted: Replacement
+    changed: int = 0
+    passed: int = 0
+    refused: list[NotChanged] = field(default_factory=list)
+    _paragraphs: set[int] = field(default_factory=set)
+
+    def lines(
+        self, found: Iterable[Change | NotChanged | Passed], width: int
+    ) -> Iterator[list[str]]:
+        """The lines of each place that was changed, as it is counted."""
+        for each in found:
+            match each:
+                case Change():
+                    self.changed += 1
+                    self._paragraphs.add(each.paragraph)
+                    yield changed_lines(each, width)
+                case NotChanged():
+                    self.refused.append(each)
+                case Passed():
+                    self.passed += 1
+
+    def sentences(self, version: int) -> Iterator[str]:
+        """Which places were refused and why, and how many were changed."""
+        for each in self.refused:
+            place = each.proposal
+            yield (
+                f"Refused in paragraph {place.paragraph}, character"
+                f" {place.place.start + 1}: {each.refused.sentence}"
+            )
+        yield self._changed()
+        if self.refused:
+            was, stays = (
+                ("was", "stays") if len(self.refused) == 1 else ("were", "stay")
+            )
+            count = counted(len(self.refused), "place")
+            yield f"{count} {was} refused and {stays} as before."
+        if self.passed:
+            stays = "stays" if self.passed == 1 else "stay"
+            yield f"{counted(self.passed, 'place')} {stays} as before."
+        yield at_version(version)
+
+    def _changed(self) -> str:
+        old, new = quoted(self.wanted.old), quoted(self.wanted.new)
+        by = f"replaced by {new}" if self.wanted.new else "taken out"
+        if not self.changed:
+            return f"{old} was {by} nowhere."
+        places = counted(self.changed, "place")
+        return f"{old} was {by} in {places} of {counted(len(self._paragraphs), 'paragraph')}."
+
+
+class Asking:
+    """Asks of each place whether it is changed, until the answer is for all that are left."""
+
+    def __init__(
+        self,
+        show: Callable[..., None],
+        ask: Callable[[], str],
+        places: int,
+        width: int,
+    ) -> None:
+        self._show = show
+        self._ask = ask
+        self._places = places
+        self._width = width
+        self._shown = 0
+        self._of_rest: bool | None = None
+
+    def is_wanted(self, found: Proposal) -> bool:
+        """Whether a place is changed."""
+        if self._of_rest is not None:
+            return self._of_rest
+        self._shown += 1
+        self._show(*proposal_lines(found, self._shown, self._places, self._width))
+        answer = self._ask()
+        if answer in (ALL, STOP):
+            self._of_rest = answer == ALL
+        return answer in (ALL, YES)
+
+
+def answered(word: str) -> str:
+    """The answer that a word, or the front of one, is to whether a place is changed."""
+    typed = word.strip().lower()
+    for answer in ANSWERS:
+        if typed and answer.startswith(typed):
+            return answer
+    raise InvalidInput(f"the answers are {YES}, {NO}, {ALL} and {STOP}")
+
+
+def stopped_after(changed: int, places: int, version: int) -> str:
+    """What is in the book where the replacing was stopped."""
+    if not changed:
+        return f"Nothing was changed. {at_version(version)}"
+    is_are = "is" if changed == 1 else "are"
+    return (
+        f"Of {counted(places, 'place')} {changed:,} {is_are} changed in the book, from its front on."
+        f" {at_version(version)}"
+    )
+
+
+def proposal_lines(found: Proposal, nth: int, count: int, width: int) -> list[str]:
+    """A place as it is and as it would be."""
+    head, after = f"Place {nth} of {count}, paragraph {found.paragraph}: ", "After: "
+    now, came = found.after
+    place = found.place
+    return [
+        *excerpt_lines(head, found.text, place.start, place.stop, width),
+        *excerpt_lines(after, now, came.start, came.stop, width),
+    ]
+
+
+def would_change(wanted: Replacement, found: Iterable[Proposal]) -> str:
+    """How many places would be changed."""
+    numbers = [each.paragraph for each in found]
+    places, paragraphs = counted(len(numbers), "place"), len({*numbers})
+    return (
+        f"{quoted(wanted.old)} would be changed in {places} of"
+        f" {counted(paragraphs, 'paragraph')}. Nothing was changed."
+    )
+
+
+def _as_words(wanted: Replacement) -> str:
+    return " as whole words" if wanted.is_of_words else ""
+
+
+def nowhere(session: Session, wanted: Replacement, offer: str) -> str:
+    """What is said of words that stand nowhere in what is looked through."""
+    old = quoted(wanted.old)
+    if wanted.ranges != (ParagraphRange(),):
+        return (
+            f"{old} isn't in these paragraphs{_as_words(wanted)}. Nothing was changed."
+        )
+    if wanted.is_of_words:
+        return f"{old} isn't in the book{_as_words(wanted)}. Nothing was changed."
+    others = tallied(find_words(session, wanted.old, alike), wanted.old)
+    said = found_summary(wanted.old, tallied((), ""), others, offer)
+    return f"{said} Nothing was changed."

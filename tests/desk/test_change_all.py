@@ -1,0 +1,316 @@
+"""`scribe change-all`: words replaced wherever they stand, by the smallest corrections."""
+
+import re
+from io import BytesIO, StringIO
+from pathlib import Path
+
+import pytest
+from hypothesis import HealthCheck, given, settings
+from hypothesis import strategies as st
+from tool import Ran, scribe
+
+from braildesk import Entry, Kind, Session
+from braildesk.desk.change import Change, change_place
+from braildesk.desk.change_all import NotChanged, Replacement, change_all
+from braildesk.desk.paragraph_ranges import ParagraphRange
+from braildesk.text.spans import Span
+from scribe.cli import run_words
+from scribe.words.console import Console
+from scribe.words.status import Interrupted
+
+
+def changed(book: Path, *words: str, given: str = "") -> Ran:
+    return scribe("change-all", book, *words, folder=book.parent, given=given)
+
+
+def prints(book: Path) -> list[str]:
+    with Session(book) as session:
+        return [session.print_of(each.id) for each in session.paragraphs()]
+
+
+@pytest.fixture
+def moons(book: Path) -> Path:
+    """A book with a word in three paragraphs, of which the last is struck."""
+    with Session(book) as session:
+        session.add_paragraph("end", "en", "The mooon and the Mooon.")
+        session.add_paragraph("end", "en", "A mooonlit mooon")
+        session.add_paragraph("end", "en", "No mooon")
+        session.strike(3)
+    return book
+
+
+def test_each_place_is_shown_after_and_before_and_all_are_counted(moons: Path) -> None:
+    assert changed(moons, "mooon", "moon", "--in", "1-2", "--by", "anna") == Ran(
+        0,
+        "Paragraph 1: The [moon] and the Mooon.\n"
+        "Before: The [mooon] and the Mooon.\n"
+        "Paragraph 2: A [moon]lit mooon\n"
+        "Before: A [mooon]lit mooon\n"
+        "Paragraph 2: A moonlit [moon]\n"
+        "Before: A moonlit [mooon]\n",
+        "“mooon” was replaced by “moon” in 3 places of 2 paragraphs.\n"
+        "The book is at version 8.\n",
+    )
+    with Session(moons) as session:
+        # one letter goes, and the others stay
+        assert session.history_of(1) == (
+            Entry(1, Kind.CORRECT, 7, 1, "", "anna", None),
+        )
+        assert len(session.history_of(2)) == 2
+
+
+def test_what_is_refused_stays_and_is_listed_with_the_reason(moons: Path) -> None:
+    ran = changed(moons, "mooon", "moon")
+    assert ran.status == 2
+    assert ran.shown.count("Before: ") == 3
+    assert ran.said == (
+        "Refused in paragraph 3, character 4: Paragraph 3 is struck. Nothing was changed."
+        " Restore it first.\n"
+        "“mooon” was replaced by “moon” in 3 places of 2 paragraphs.\n"
+        "1 place was refused and stays as before.\n"
+        "The book is at version 8.\n"
+    )
+    assert prints(moons)[2] == "No mooon"
+    ran = changed(moons, "mooon", "mě", "--in", "3-")
+    assert (ran.status, ran.shown) == (2, "")
+    assert "“mooon” was replaced by “mě” nowhere.\n1 place was refused" in ran.said
+
+
+def test_whole_words_alone(moons: Path) -> None:
+    assert changed(moons, "mooon", "sun", "--words", "--in", "2").status == 0
+    assert prints(moons)[1] == "A mooonlit sun"
+    assert changed(moons, "moo", "sun", "--words") == Ran(
+        2, "", "“moo” isn't in the book as whole words. Nothing was changed.\n"
+    )
+
+
+def test_other_capitals_are_changed_too_and_kept(moons: Path) -> None:
+    assert changed(moons, "mooon", "sun", "--case", "--in", "1").status == 0
+    assert prints(moons)[0] == "The sun and the Sun."
+
+
+@pytest.mark.parametrize(
+    "gone, new, comes",
+    [
+        ("moon", "Sun", "Sun"),
+        ("Moon", "sun", "Sun"),
+        ("MOON", "sun", "SUN"),
+        ("mOON", "Sun", "sun"),
+        ("MOon", "sun", "Sun"),
+        ("Moon", "", ""),
+    ],
+)
+def test_new_words_take_the_capitals_of_those_that_go(
+    gone: str, new: str, comes: str
+) -> None:
+    assert Replacement("moon", new, is_of_any_case=True).comes(gone) == comes
+
+
+def test_nothing_is_changed_where_it_is_only_shown(moons: Path) -> None:
+    ran = changed(moons, "mooon", "moon", "--in", "1", "--dry-run")
+    assert ran == Ran(
+        0,
+        "Place 1 of 1, paragraph 1: The [mooon] and the Mooon.\n"
+        "After: The [moon] and the Mooon.\n",
+        "“mooon” would be changed in 1 place of 1 paragraph. Nothing was changed.\n",
+    )
+    assert prints(moons)[0] == "The mooon and the Mooon."
+
+
+def test_each_place_is_asked_about(moons: Path) -> None:
+    ran = changed(moons, "mooon", "moon", "--ask", given="\nperhaps\nno\nY\nstop\n")
+    assert ran.status == 0
+    assert ran.shown.splitlines()[:6] == [
+        "Place 1 of 4, paragraph 1: The [mooon] and the Mooon.",
+        "After: The [moon] and the Mooon.",
+        "Place 2 of 4, paragraph 2: A [mooon]lit mooon",
+        "After: A [moon]lit mooon",
+        "Paragraph 2: A [moon]lit mooon",
+        "Before: A [mooon]lit mooon",
+    ]
+    assert ran.said.count("Change it? Type yes, no, all or stop.\n") == 5
+    assert ran.said.endswith(
+        "“mooon” was replaced by “moon” in 1 place of 1 paragraph.\n"
+        "3 places stay as before.\nThe book is at version 6.\n"
+    )
+    assert prints(moons) == ["The mooon and the Mooon.", "A moonlit mooon", "No mooon"]
+
+
+@pytest.mark.parametrize(
+    "given, wanted", [("", 0), ("n\nall\n", 2), ("yes\n", 1), ("a\n", 3)]
+)
+def test_an_answer_for_all_the_rest_and_the_end_of_the_input(
+    moons: Path, given: str, wanted: int
+) -> None:
+    ran = changed(moons, "mooon", "moon", "--ask", "--in", "1-2", given=given)
+    assert (ran.status, ran.shown.count("Before: ")) == (0, wanted)
+
+
+@pytest.mark.parametrize(
+    "words, status, sentence",
+    [
+        (("sun", "moon"), 2, "“sun” isn't in the book. Nothing was changed."),
+        (
+            ("MOOON", "moon"),
+            2,
+            "“MOOON” isn't in the book as typed. With other capitals it is there 5 times, in 3"
+            " paragraphs; --case changes other capitals too. Nothing was changed.",
+        ),
+        (
+            ("sun", "moon", "--in", "1"),
+            2,
+            "“sun” isn't in these paragraphs. Nothing was changed.",
+        ),
+        (
+            ("mooon", "mooon"),
+            2,
+            "The new words are the same as the old. Nothing was changed.",
+        ),
+        (
+            ("mooon", "moon", "--in", "2-9"),
+            2,
+            "There is no paragraph 9: the book has the paragraphs 1 to 3.",
+        ),
+        (
+            ("", "moon"),
+            1,
+            "Argument OLD: it is empty, and nothing can be looked for.",
+        ),
+        (
+            ("mooon", "x", "--ask", "--dry-run"),
+            1,
+            "Argument --dry-run: not allowed with argument --ask.",
+        ),
+    ],
+)
+def test_what_can_not_be_done_is_said(
+    moons: Path, words: tuple[str, ...], status: int, sentence: str
+) -> None:
+    ran = changed(moons, *words)
+    assert (ran.status, ran.shown) == (status, "")
+    assert ran.said.startswith(sentence + "\n")
+    assert prints(moons)[0] == "The mooon and the Mooon."
+
+
+def test_where_it_is_stopped_it_is_said_what_is_in_the_book(
+    moons: Path, monkeypatch: pytest.MonkeyPatch
+) -> None:
+    left = [2]
+
+    def stopped(
+        session: Session, number: int, text: str, place: Span, new: str, by: str | None
+    ) -> Change:
+        change = change_place(session, number, text, place, new, by)
+        left[0] -= 1
+        if not left[0]:
+            raise KeyboardInterrupt
+        return change
+
+    monkeypatch.setattr("braildesk.desk.change_all.change_place", stopped)
+    shown, said = StringIO(), StringIO()
+    with pytest.raises(Interrupted):
+        run_words(
+            ["change-all", str(moons), "mooon", "moon"],
+            Console(BytesIO(), shown, said),
+        )
+    assert said.getvalue() == (
+        "Stopped. Of 4 places 2 are changed in the book, from its front on. The book is at"
+        " version 7.\n"
+    )
+    assert prints(moons) == ["The moon and the Mooon.", "A moonlit mooon", "No mooon"]
+
+
+def test_a_talk_changes_all_by_the_same_word_and_asks(moons: Path) -> None:
+    given = "change-all mooon --ask\nmoon\nno\nyes\nmaybe\n\nversion\n"
+    ran = scribe("talk", moons, "--width", "80", folder=moons.parent, given=given)
+    assert "Paragraph 2: A [moon]lit mooon" in ran.shown.splitlines()
+    assert "3 places stay as before." in ran.said
+    assert "The answers are yes, no, all and stop." in ran.said
+    assert prints(moons) == ["The mooon and the Mooon.", "A moonlit mooon", "No mooon"]
+    assert ran.shown.splitlines()[-2:] == ["The book is at version 6."] * 2
+    given = "change-all mooon moon\nhistory 1\n"
+    ran = scribe("talk", moons, "--by", "anna", folder=moons.parent, given=given)
+    assert prints(moons) == ["The moon and the Mooon.", "A moonlit moon", "No mooon"]
+    assert "1 place was refused and stays as before." in ran.said.splitlines()
+    with Session(moons) as session:
+        assert [each.who for each in session.history_of(2)] == [None, "anna"]
+
+
+TEXT = st.lists(st.sampled_from(["ab", "Ab", "AB", "a", "b", " ", "-", "é"])).map(
+    "".join
+)
+#: No words that a capital or its absence make of one another in more than one way.
+WORDS = st.sampled_from(["ab", "a", "b", "aba", " a", "ab ", "é", "-"])
+
+
+def model(text: str, old: str, new: str, words: bool, case: bool) -> tuple[str, int]:
+    """What comes of a text, by a regular expression, and in how many places."""
+    front = r"(?<!\w)" if words and old[0].isalpha() else ""
+    end = r"(?!\w)" if words and old[-1].isalpha() else ""
+    places = 0
+
+    def comes(match: re.Match[str]) -> str:
+        nonlocal places
+        gone = match[0]
+        letters = [each for each in gone if each.isalpha()]
+        come = new
+        if case and gone != old:
+            if len(letters) > 1 and all(each.isupper() for each in letters):
+                come = new.upper()
+            elif gone[0].isupper():
+                come = new[:1].upper() + new[1:]
+            elif gone[0].islower():
+                come = new[:1].lower() + new[1:]
+        places += come != gone
+        return come
+
+    flags = re.IGNORECASE if case else 0
+    return re.sub(front + re.escape(old) + end, comes, text, flags=flags), places
+
+
+@settings(
+    max_examples=60,
+    deadline=None,
+    suppress_health_check=[HealthCheck.function_scoped_fixture],
+)
+@given(
+    st.lists(st.tuples(TEXT, st.booleans()), min_size=1, max_size=3),
+    WORDS,
+    st.sampled_from(["", "c", "ab", "Ba", "xaby", "é"]),
+    st.booleans(),
+    st.booleans(),
+)
+def test_words_are_replaced_as_by_a_small_model(
+    session: Session,
+    texts: list[tuple[str, bool]],
+    old: str,
+    new: str,
+    words: bool,
+    case: bool,
+) -> None:
+    if old == new:
+        return
+    if "own" not in {each.table for each in session.paragraphs()}:
+        session.put_table("own", (TABLE + "letter é 6\nletter É 46\n").encode())
+    numbers = []
+    for text, is_struck in texts:
+        numbers.append(session.add_paragraph("end", "own", text).id)
+        if is_struck:
+            session.strike(numbers[-1])
+    ranges = (ParagraphRange(numbers[0], numbers[-1]),)
+    wanted = Replacement(old, new, words, case, ranges, "anna")
+    came = list(change_all(session, wanted))
+    done = [each.paragraph for each in came if isinstance(each, Change)]
+    refused = [e.proposal.paragraph for e in came if isinstance(e, NotChanged)]
+    for number, (text, is_struck) in zip(numbers, texts):
+        print_text, places = model(text, old, new, words, case)
+        assert session.print_of(number) == (text if is_struck else print_text)
+        assert done.count(number) == (0 if is_struck else places)
+        assert refused.count(number) == (places if is_struck else 0)
+        assert len(session.history_of(number)) == done.count(number)
+
+
+TABLE = "space \\s 0\npunctuation - 36\n" + "".join(
+    f"letter {each} {dots}\nletter {each.upper()} {dots}6\n"
+    for each, dots in (("a", 1), ("b", 12), ("c", 14), ("x", 134), ("y", 135))
+)
