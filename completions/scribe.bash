@@ -31,7 +31,7 @@ _scribe() {
             pages) words='--width --lines --page --line --paragraph' ;;
             bring) words='--list --words --for --add --anyway' ;;
             tune) words='--table --words --apply --width' ;;
-            export) words='--width --lines' ;;
+            export) words='--width --lines --only-changed --page --volume' ;;
             proof) words='--width --lines --print-first --ascii --marks-only --speak-cells --language' ;;
             copy) words='--overwrite' ;;
         esac

@@ -47,7 +47,7 @@ PATHS = [
 ]
 OPTIONS = (
     "--by --width --lines --nth --table --after --from --dry-run --paragraphs --print --braille"
-    " --ascii --page --line --pages --set --words --case --in --ask"
+    " --ascii --page --line --pages --set --words --case --in --ask --only-changed --volume"
     " --paragraph --display --keep-going --list --help -h --version --"
 ).split()
 TEXTS = [

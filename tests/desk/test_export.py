@@ -8,6 +8,8 @@ from io import BytesIO, StringIO
 from pathlib import Path
 
 import pytest
+from hypothesis import given
+from hypothesis import strategies as st
 
 from braildesk import Session
 import braildesk
@@ -15,7 +17,7 @@ from braildesk.desk import export
 from braildesk.desk.layout import PageSize
 
 from scribe.words.console import Console
-from scribe.words.export import export_in_words
+from scribe.words.export import export_in_words, numbers_in_words
 from scribe.words.failures import in_sentences
 from scribe.words.status import Status, Stop
 from strangers import NEEDS_ROOT, as_stranger, in_time, lead_to
@@ -333,3 +335,99 @@ def test_a_copy_replaces_no_file(moon: Path) -> None:
     ran = scribe("copy", moon, "plain.utb", folder=moon.parent)
     assert ran.status == 2 and "is there already" in ran.said
     assert braildesk.check(moon) == 7
+
+
+def test_pages_that_differ_from_the_older_file_are_named(moon: Path) -> None:
+    with Session(moon) as session:
+        for number in range(40):
+            session.add_paragraph("end", "en", f"star {number}")
+    first = scribe("export", moon, "out", *SIZES, folder=moon.parent)
+    assert first.shown == "out/moon-1.brf: volume 1, 11 pages, 322 cells with dots.\n"
+    again = scribe("export", moon, "out", *SIZES, folder=moon.parent)
+    assert again.shown == first.shown + "Changed in volume 1: no page of 11.\n"
+    # a page has four lines, and paragraph 3 takes two: 12 is on page 4, 43 on page 11
+    with Session(moon) as session:
+        session.correct(12, 0, 4, "moon")
+        session.correct(43, 0, 4, "moon")
+    ran = scribe("export", moon, "out", *SIZES, "--only-changed", folder=moon.parent)
+    assert ran.shown.splitlines()[1:] == [
+        "Changed in volume 1: pages 4 and 11 of 11.",
+        "out/moon-1-changed.brf: the changed pages of volume 1 alone.",
+    ]
+    pages = (moon.parent / "out" / "moon-1.brf").read_bytes().split(b"\f")
+    changed = (moon.parent / "out" / "moon-1-changed.brf").read_bytes()
+    assert changed == pages[3] + b"\f" + pages[10] + b"\f"
+    with Session(moon) as session:
+        for number in range(20, 44):
+            session.strike(number)
+    ran = scribe("export", moon, "out", *SIZES, folder=moon.parent)
+    assert ran.shown.splitlines()[1] == (
+        "Changed in volume 1: no page of 5. There were 11 pages before."
+    )
+
+
+def test_single_pages_are_written_beside_the_volumes(moon: Path) -> None:
+    with Session(moon) as session:
+        for number in range(10):
+            session.add_paragraph("end", "en", f"star {number}")
+    scribe("export", moon, "out", *SIZES, folder=moon.parent)
+    pages = (moon.parent / "out" / "moon-1.brf").read_bytes().split(b"\f")
+    words: list[str | Path] = ["export", moon, "out", *SIZES, "--page", "2-3,1"]
+    assert scribe(*words, folder=moon.parent) == Ran(
+        0, "out/moon-1-pages-2-3,1.brf: 3 pages of volume 1.\n", ""
+    )
+    found = (moon.parent / "out" / "moon-1-pages-2-3,1.brf").read_bytes()
+    assert found == b"".join(pages[n] + b"\f" for n in (1, 2, 0))
+    assert scribe("export", moon, "out", *SIZES, "--page", "9", folder=moon.parent) == (
+        Ran(2, "", "There is no page 9: volume 1 has 4 pages. Nothing was exported.\n")
+    )
+    of_volumes(moon)
+    assert scribe(*words, folder=moon.parent).said == (
+        "The book has more than one volume: say which by --volume. Nothing was exported.\n"
+    )
+    assert scribe(*words[:-1], "1", "--volume", "2", folder=moon.parent).shown == (
+        "out/moon-2-pages-1.brf: 1 page of volume 2.\n"
+    )
+    ran = scribe(*words[:-1], "1", "--volume", "7", folder=moon.parent)
+    assert ran == Ran(2, "", "There is no volume 7. Nothing was exported.\n")
+
+
+@pytest.mark.parametrize(
+    "words", [("--page", "x"), ("--page", ""), ("--volume", "1"), ("--page", "0")]
+)
+def test_pages_that_are_none_are_refused(moon: Path, words: tuple[str, ...]) -> None:
+    ran = scribe("export", moon, "out", *words, folder=moon.parent)
+    assert ran.status in (1, 2) and not ran.shown
+    assert not (moon.parent / "out").exists()
+
+
+PAGES = st.lists(st.sampled_from([b"A\r\n\f", b"B\r\n\f", b"\r\n\f"]), max_size=8)
+
+
+@given(PAGES, PAGES)
+def test_the_changed_pages_make_the_new_file_of_the_older_one(
+    before: list[bytes], now: list[bytes]
+) -> None:
+    older, newer = b"".join(before), b"".join(now)
+    found = export.Differences.of(older, newer)
+    assert (found.before, found.count) == (len(before), len(now))
+    made = [*before, *[b""] * len(now)][: len(now)]
+    for number in found.pages:
+        assert made[number - 1] != now[number - 1]
+        made[number - 1] = now[number - 1]
+    assert b"".join(made) == newer
+
+
+@pytest.mark.parametrize(
+    "numbers, words",
+    [
+        ((6,), "6"),
+        ((6, 10), "6 and 10"),
+        ((1, 2, 3), "1 to 3"),
+        ((1, 2, 3, 6, 8, 9), "1 to 3, 6 and 8 to 9"),
+    ],
+)
+def test_pages_are_listed_as_a_person_does(
+    numbers: tuple[int, ...], words: str
+) -> None:
+    assert numbers_in_words(numbers) == words

@@ -2,18 +2,20 @@
 
 import os
 import re
-from collections.abc import Callable, Iterator
+from collections.abc import Callable, Iterator, Sequence
 from dataclasses import dataclass
 from pathlib import Path
 
 from braildesk import Code, NotFound, Refused, check, export
 from braildesk.desk import Problem
-from braildesk.desk.layout import PageSize
+from braildesk.desk.layout import PageRange, PageSize
 from braildesk.desk.whole_file import Access, write_whole
 from braildesk.named_files import read_file
 
 # how often the volumes are read until all are of one version
 TRIES = 3
+#: How many bytes of an older file are compared: more than those of any volume.
+MOST_BYTES = 1 << 30
 
 
 @dataclass(frozen=True)
@@ -25,6 +27,8 @@ class Job:
     page_size: PageSize
     #: How many seconds a book is waited for that another program has open.
     wait: float
+    #: Whether the pages that differ from those of the older file are written beside it too.
+    has_changed_pages: bool = False
 
     @property
     def name(self) -> str:
@@ -34,6 +38,10 @@ class Job:
     def file(self, volume: int) -> Path:
         """The file of a volume."""
         return self.folder / f"{self.name}-{volume}.brf"
+
+    def changed_file(self, volume: int) -> Path:
+        """The file of the pages of a volume that differ from those of the older file."""
+        return self.folder / f"{self.name}-{volume}-changed.brf"
 
     def later_files(self, volumes: int) -> list[Path]:
         """Files of volumes that the book doesn't have, in their order."""
@@ -47,13 +55,56 @@ class Job:
 
 
 @dataclass(frozen=True)
+class Differences:
+    """The pages of a volume that aren't as in the file that it replaced, counted from 1."""
+
+    pages: tuple[int, ...]
+    count: int
+    #: How many pages the older file had.
+    before: int
+
+    @classmethod
+    def of(cls, older: bytes, newer: bytes) -> "Differences":
+        """What differs between two files of pages."""
+        before, now = _parted(older), _parted(newer)
+        pages = tuple(
+            number
+            for number, page in enumerate(now, 1)
+            if number > len(before) or before[number - 1] != page
+        )
+        return cls(pages, len(now), len(before))
+
+
+@dataclass(frozen=True)
 class Written:
-    """A volume that is in its file: its pages, and its cells with dots but for the pages' numbers."""
+    """A volume that is in its file: its pages, and its cells with dots but for the pages' numbers.
+
+    Where it replaced an older file, it is said what differs from that, and where those pages are.
+    """
 
     volume: int
     file: Path
     pages: int
     cells: int
+    differences: Differences | None = None
+    changed_file: Path | None = None
+
+
+@dataclass(frozen=True)
+class WrittenPages:
+    """Pages of a volume that are in a file of their own."""
+
+    volume: int
+    file: Path
+    pages: int
+
+
+class WhichVolume(Problem):
+    """Pages are to be exported of a book of several volumes, or of a volume that it doesn't have."""
+
+    def __init__(self, volume: int | None) -> None:
+        super().__init__(volume)
+        self.volume = volume
 
 
 @dataclass(frozen=True)
@@ -134,16 +185,17 @@ class Export:
         Raises `BookChanges`, `NoFolder` and `NotWritten`, and what the client raises of the book.
         """
         self._volumes = self._of_one_version()
-        self._make_folder()
+        self.make_folder()
         for volume, pages in enumerate(self._volumes, 1):
             self._check()
             file = self.job.file(volume)
             if isinstance(pages, Refused):
                 yield LeftOut(volume, file, pages, os.path.lexists(file))
                 continue
-            self._write(volume, pages)
+            differences, changed = self._compared(volume, pages)
+            self.write(volume, file, pages)
             self._written.append(volume)
-            yield Written(volume, file, *_size(pages))
+            yield Written(volume, file, *_size(pages), differences, changed)
 
     def so_far(self) -> Files | None:
         """What the files have if this was ended; none if no volume was to be written yet."""
@@ -174,13 +226,11 @@ class Export:
 
     def _read(self) -> Iterator[bytes | Refused]:
         """The pages of each volume, or why it is refused."""
-        job, page_size, volume = self.job, self.job.page_size, 1
+        volume = 1
         while True:
             self._check()
             try:
-                yield export(
-                    job.book, volume, page_size.width, page_size.lines, timeout=job.wait
-                )
+                yield _pages_of(self.job, volume)
             except NotFound:
                 return
             except Refused as refused:
@@ -189,15 +239,33 @@ class Export:
                 yield refused
             volume += 1
 
-    def _make_folder(self) -> None:
+    def make_folder(self) -> None:
+        """Makes the folder of the files; raises `NoFolder`."""
         try:
             self.job.folder.mkdir(exist_ok=True)
         except (OSError, ValueError) as cause:
             raise NoFolder(self.job.folder, cause) from cause
 
-    def _write(self, volume: int, pages: bytes) -> None:
-        """Writes a volume after some others."""
-        file = self.job.file(volume)
+    def _compared(
+        self, volume: int, pages: bytes
+    ) -> tuple[Differences | None, Path | None]:
+        """What of a volume differs from its older file, and the file with these pages alone.
+
+        That is written first: where the volume can't be, it is the same the next time.
+        """
+        older = _read(self.job.file(volume))
+        if older is None:
+            return None, None
+        differences = Differences.of(older, pages)
+        if not (self.job.has_changed_pages and differences.pages):
+            return differences, None
+        file, parted = self.job.changed_file(volume), _parted(pages)
+        changed = b"".join(parted[number - 1] for number in differences.pages)
+        self.write(volume, file, changed)
+        return differences, file
+
+    def write(self, volume: int, file: Path, pages: bytes) -> None:
+        """Writes a volume, or pages of it, after some others; raises `NotWritten`."""
         is_there = os.path.lexists(file)
         try:
             write_whole(file, pages, Access.of(self.job.book))
@@ -205,6 +273,58 @@ class Export:
             later = tuple(range(volume + 1, self.volumes + 1))
             files = Files(tuple(self._written), later)
             raise NotWritten(volume, file, cause, is_there, files) from cause
+
+
+def export_pages(
+    job: Job, volume: int | None, wanted: Sequence[PageRange]
+) -> WrittenPages:
+    """Writes some pages of a volume to a file of their own, and leaves that of the volume as it is.
+
+    Without a volume they are those of the only one. Raises `WhichVolume`, `NoPage`, `NoFolder` and
+    `NotWritten`, and what the client raises of the book.
+    """
+    number = _only_volume(job) if volume is None else volume
+    try:
+        pages = _parted(_pages_of(job, number))
+    except NotFound as missing:
+        raise WhichVolume(number) from missing
+    found = b"".join(page for each in wanted for page in each.of(number, pages))
+    name = ",".join(each.name for each in wanted)
+    file = job.folder / f"{job.name}-{number}-pages-{name}.brf"
+    made = Export(job)
+    made.make_folder()
+    made.write(number, file, found)
+    return WrittenPages(number, file, len(_parted(found)))
+
+
+def _only_volume(job: Job) -> int:
+    try:
+        _pages_of(job, 2)
+    except NotFound:
+        return 1
+    except Refused as refused:
+        if refused.code != Code.NOT_FOR_EMBOSSERS:
+            raise
+    raise WhichVolume(None)
+
+
+def _pages_of(job: Job, volume: int) -> bytes:
+    size = job.page_size
+    return export(job.book, volume, size.width, size.lines, timeout=job.wait)
+
+
+def _parted(pages: bytes) -> list[bytes]:
+    """The pages of a file, each with the form feed that ends it."""
+    *whole, rest = pages.split(b"\f")
+    return [page + b"\f" for page in whole] + ([rest] if rest else [])
+
+
+def _read(file: Path) -> bytes | None:
+    """The bytes of an older file; none where it is no file, or can't be read."""
+    try:
+        return None if file.is_symlink() else read_file(file, MOST_BYTES)
+    except OSError:
+        return None
 
 
 def _version(job: Job) -> tuple[int, int, int]:

@@ -1,20 +1,25 @@
 """An export in words: what became of each volume."""
 
-from collections.abc import Sequence
+from collections.abc import Iterator, Sequence
 
 from braildesk.desk.export import (
     BookChanges,
+    Differences,
     Export,
     Files,
     Job,
     LeftOut,
     NoFolder,
     NotWritten,
+    WhichVolume,
     Written,
+    export_pages,
 )
+from braildesk.desk.layout import NoPage, PageRange
 from braildesk.desk.whole_file import MayNotLast
 
 from scribe.words.console import Console
+from scribe.words.paragraph import counted
 from scribe.words.status import Interrupted, Status, stopped_by
 
 
@@ -24,7 +29,7 @@ def export_in_words(job: Job, console: Console) -> Status:
     try:
         for volume in made.run():
             if isinstance(volume, Written):
-                console.show(_written(volume))
+                console.show(*_written(volume))
             else:
                 console.say(_left_out(volume))
     except KeyboardInterrupt as cause:
@@ -36,9 +41,62 @@ def export_in_words(job: Job, console: Console) -> Status:
     return Status.DONE if made.is_whole else Status.REFUSED
 
 
-def _written(volume: Written) -> str:
-    pages = f"{volume.pages:,} {'page' if volume.pages == 1 else 'pages'}"
-    return f"{volume.file}: volume {volume.volume}, {pages}, {volume.cells:,} cells with dots."
+def _written(volume: Written) -> Iterator[str]:
+    pages = counted(volume.pages, "page")
+    yield f"{volume.file}: volume {volume.volume}, {pages}, {volume.cells:,} cells with dots."
+    if volume.differences is not None:
+        yield changed_pages(volume.volume, volume.differences)
+    if volume.changed_file is not None:
+        yield f"{volume.changed_file}: the changed pages of volume {volume.volume} alone."
+
+
+def changed_pages(volume: int, its: Differences) -> str:
+    """Which pages of a volume aren't as they were, as in “volume 1: pages 6 and 10 of 71”."""
+    more = ""
+    if its.before != its.count:
+        more = f" There were {counted(its.before, 'page')} before."
+    if not its.pages:
+        return f"Changed in volume {volume}: no page of {its.count:,}.{more}"
+    if len(its.pages) == its.count > 1:
+        return f"Changed in volume {volume}: all of its {counted(its.count, 'page')}.{more}"
+    pages = numbers_in_words(its.pages)
+    word = "page" if len(its.pages) == 1 else "pages"
+    return f"Changed in volume {volume}: {word} {pages} of {its.count:,}.{more}"
+
+
+def numbers_in_words(numbers: Sequence[int]) -> str:
+    """Ascending numbers as a person lists them: those that follow one another from one to another."""
+    runs: list[list[int]] = []
+    for number in numbers:
+        if runs and runs[-1][-1] == number - 1:
+            runs[-1].append(number)
+        else:
+            runs.append([number])
+    parts = []
+    for run in runs:
+        parts += [str(run[0])] if len(run) == 1 else [f"{run[0]} to {run[-1]}"]
+    *others, last = parts
+    return f"{', '.join(others)} and {last}" if others else last
+
+
+def pages_in_words(job: Job, volume: int | None, wanted: Sequence[PageRange]) -> str:
+    """Exports some pages of a volume, and says where they are; raises what `export_pages` does."""
+    made = export_pages(job, volume, wanted)
+    pages = counted(made.pages, "page")
+    return f"{made.file}: {pages} of volume {made.volume}."
+
+
+def no_page(none: NoPage) -> str:
+    """The sentence for a page that a volume doesn't have."""
+    has = counted(none.count, "page")
+    return f"There is no page {none.page}: volume {none.volume} has {has}. Nothing was exported."
+
+
+def which_volume(fault: WhichVolume) -> str:
+    """The sentence where it isn't clear of which volume pages are wanted."""
+    if fault.volume is None:
+        return "The book has more than one volume: say which by --volume. Nothing was exported."
+    return f"There is no volume {fault.volume}. Nothing was exported."
 
 
 def _left_out(volume: LeftOut) -> str:

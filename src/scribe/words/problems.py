@@ -3,8 +3,14 @@
 from braildesk.desk import Problem
 from braildesk.desk.change import SameWords
 from braildesk.desk.drafts import NotKept
-from braildesk.desk.export import BookChanges, NoFolder, NotWritten
+from braildesk.desk.export import (
+    BookChanges,
+    NoFolder,
+    NotWritten,
+    WhichVolume,
+)
 from braildesk.desk.intake import NotImported
+from braildesk.desk.layout import NoPage
 from braildesk.desk.marks import NoMark
 from braildesk.desk.paragraph_ranges import BackwardRange, NoParagraph
 from braildesk.desk.places import NoPlace
@@ -52,6 +58,10 @@ def as_stop(problem: Problem) -> Stop:
             return Stop(export.book_changes(problem), Status.FAILED)
         case NoFolder():
             return Stop(export.no_folder(problem))
+        case NoPage():
+            return Stop(export.no_page(problem))
+        case WhichVolume():
+            return Stop(export.which_volume(problem))
         case NotWritten():
             return Stop(export.not_written(problem), Status.FAILED)
     raise TypeError(f"no sentence for {problem!r}")

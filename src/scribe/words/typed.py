@@ -1,8 +1,10 @@
 """What a person types, read as what was asked for: numbers, texts, paragraphs and paths."""
 
 import re
+from collections.abc import Iterator
 from pathlib import Path
 
+from braildesk.desk.layout import PageRange
 from braildesk.desk.paragraph_ranges import ParagraphRange
 from braildesk.protocol.values import After
 from braildesk.text.characters import control_refused
@@ -68,15 +70,23 @@ def switch(word: str) -> bool:
 
 def paragraph_ranges(word: str) -> tuple[ParagraphRange, ...]:
     """The ranges of paragraphs that a word names, as in `3-9,12`."""
-    found = []
+    return tuple(ParagraphRange(*ends) for ends in _ranges(word, "paragraph"))
+
+
+def page_ranges(word: str) -> tuple[PageRange, ...]:
+    """The ranges of pages that a word names, as in `3-9,12`."""
+    return tuple(PageRange(*ends) for ends in _ranges(word, "page"))
+
+
+def _ranges(word: str, what: str) -> Iterator[tuple[int | None, int | None]]:
+    """The ends of ranges of things."""
     for part in word.split(","):
         match = _RANGE.fullmatch(part)
         if match is None or not (match[1] or match[3]):
-            raise InvalidInput(f"{part!r} is no paragraph and no range such as 3-9")
+            raise InvalidInput(f"{part!r} is no {what} and no range such as 3-9")
         first = int(match[1]) if match[1] else None
         last = int(match[3]) if match[3] else None
-        found.append(ParagraphRange(first, last if match[2] else first))
-    return tuple(found)
+        yield first, last if match[2] else first
 
 
 def words_of(line: str) -> list[str]:

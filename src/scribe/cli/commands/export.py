@@ -6,36 +6,74 @@ from pathlib import Path
 from braildesk.desk.export import Job
 
 from scribe.cli.page_size import add_page_size, page_size_of
-from scribe.cli.parser import Subparsers, add_file, command_parser
+from scribe.cli.parser import (
+    Subparsers,
+    WordsRefused,
+    add_file,
+    argument,
+    command_parser,
+    number,
+)
 from scribe.words.console import Console
-from scribe.words.export import export_in_words
+from scribe.words.export import export_in_words, pages_in_words
 from scribe.words.status import Status
+from scribe.words.typed import page_ranges
 
 MORE = """\
 The volumes of moon.braildesk are FOLDER/moon-1.brf, moon-2.brf, and so on, in Braille
 Ready Format. The folder is made where it isn't there. Nothing is written until all
 volumes were read from one version of the book. A volume is written beside an older file
 and takes its name only when it is whole. A volume that is refused leaves the older file,
-and so does a full disk. New files may be read and written by those by whom the book may."""
+and so does a full disk. New files may be read and written by those by whom the book may.
+Where a volume replaces an older file, it is said which pages differ; --only-changed also
+writes these alone, beside it, as moon-1-changed.brf. --page 6-10 writes pages of a volume
+alone, as moon-1-pages-6-10.brf, and leaves the files of the volumes as they are."""
+EXAMPLE = """\
+scribe export moon.braildesk pages --width 30 --lines 20
+scribe export moon.braildesk pages --width 30 --lines 20 --only-changed
+scribe export moon.braildesk pages --page 1"""
 
 
 def add_parser(subparsers: Subparsers) -> ArgumentParser:
     """Adds the words of `export`."""
-    parser = command_parser(
-        subparsers,
-        "export",
-        "scribe export moon.braildesk pages --width 30 --lines 20",
-        MORE,
-    )
+    parser = command_parser(subparsers, "export", EXAMPLE, MORE)
     add_file(parser)
     parser.add_argument(
         "folder", metavar="FOLDER", type=Path, help="where the volumes are written"
     )
     add_page_size(parser)
+    which = parser.add_mutually_exclusive_group()
+    which.add_argument(
+        "--only-changed",
+        action="store_true",
+        help="write the pages that differ from the older file alone, too",
+    )
+    which.add_argument(
+        "--page", metavar="6-10", type=argument(page_ranges), help="only these pages"
+    )
+    parser.add_argument(
+        "--volume", metavar="N", type=number, help="the volume of --page"
+    )
+    parser.set_defaults(usage=parser.format_usage().strip())
     return parser
 
 
 def run(arguments: Namespace, console: Console) -> Status:
-    """Writes each volume, and says what became of it."""
-    job = Job(arguments.file, arguments.folder, page_size_of(arguments), arguments.wait)
-    return export_in_words(job, console)
+    """Writes each volume, or pages of one, and says what became of it."""
+    volume, wanted = arguments.volume, arguments.page
+    if volume is not None and wanted is None:
+        raise WordsRefused(
+            "Argument --volume: say by --page which of its pages are written.",
+            arguments.usage,
+        )
+    job = Job(
+        arguments.file,
+        arguments.folder,
+        page_size_of(arguments),
+        arguments.wait,
+        arguments.only_changed,
+    )
+    if wanted is None:
+        return export_in_words(job, console)
+    console.show(pages_in_words(job, volume, wanted))
+    return Status.DONE
