@@ -2,7 +2,7 @@
 # make demo       shows a small book kept in a file and exported, by the sources as they are, without proofs
 # make install    installs the program, the command scribe, tables, manual pages and documents below $(DESTDIR)$(PREFIX)
 # make uninstall  takes away what was installed there
-# make deb        makes a package for Debian of what make built
+# make deb        makes the packages for Debian of what make built
 # make test       the gate: proves everything from nothing, tries the must-fail edits, and runs all tests
 # make attacks    tries the wrong bodies that the gate leaves out, and those that only a test sees
 # make bench      measures speed

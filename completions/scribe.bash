@@ -3,7 +3,7 @@
 
 _scribe() {
     local word=${COMP_WORDS[COMP_CWORD]} words=''
-    local commands='new edit run talk table check-table try import show list history compare
+    local commands='new edit window run talk table check-table try import show list history compare
         find change change-all mark marks next undo resolve strike restore heading body volume volumes
         move retable pages export proof copy bring tune'
     if ((COMP_CWORD == 1)); then
@@ -11,7 +11,7 @@ _scribe() {
     elif [[ $word == -* ]]; then
         case ${COMP_WORDS[1]} in
             run) words='--keep-going' ;;
-            edit) words='--by --width --lines' ;;
+            edit | window) words='--by --width --lines' ;;
             talk) words='--by --short --ascii --ascii-small --unicode --width' ;;
             table | try) words='--width' ;;
             check-table) words='--display --width' ;;

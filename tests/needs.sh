@@ -38,9 +38,20 @@ module    wheel           python3-wheel
 module    pip             python3-pip
 louis     lou_translate   liblouis-bin liblouis-data
 command   pandoc          pandoc
+module    PyQt6           python3-pyqt6
+'
+# What the tests of the window need besides, which the gate leaves out.
+window='
+module    gi              python3-gi
+atspi     atspi           gir1.2-atspi-2.0 at-spi2-core
+command   xvfb-run        xvfb
+command   xauth           xauth
+command   dbus-run-session dbus
+font      dejavu          fonts-dejavu-core
 '
 needed=$gate
 [ ! -d src ] || needed=$gate$tools
+[ $# -eq 0 ] || needed=$needed$window
 
 is_there() { # HOW NAME
     case $1 in
@@ -49,6 +60,8 @@ is_there() { # HOW NAME
         compiler) echo '#include <stdio.h>' | "$2" -x c -fsyntax-only - ;;
         python) "$PYTHON" -c 'import sys; sys.exit(sys.version_info < (3, 9))' ;;
         module) "$PYTHON" -c "import $2" ;;
+        atspi) "$PYTHON" -c 'import gi; gi.require_version("Atspi", "2.0"); from gi.repository import Atspi' && [ -x /usr/libexec/at-spi-bus-launcher ] ;;
+        font) [ -e /usr/share/fonts/truetype/dejavu/DejaVuSerif.ttf ] ;;
         louis) echo a | "$2" en-us-g1.ctb ;;
     esac > /dev/null 2>&1
 }
@@ -61,6 +74,8 @@ called() { # HOW NAME
         python) echo "Python 3.9 or later (PYTHON=$PYTHON)" ;;
         module) echo "$2 of Python" ;;
         louis) echo "$2 with its tables" ;;
+        atspi) echo "the accessibility bus with Atspi for Python" ;;
+        font) echo "the fonts DejaVu" ;;
         *) echo "$2" ;;
     esac
 }

@@ -7,7 +7,7 @@ set -eu
 cd "$(dirname "$0")/../.."
 program=$(realpath "${PROGRAM:-build/braildesk}")
 [ -x "$program" ] || { echo "tests/desk/desk.sh: $program is missing: make builds it" >&2; exit 1; }
-tests/needs.sh python black mypy pyflakes pytest hypothesis pexpect prompt_toolkit pyte setuptools wheel pip louis pandoc
+tests/needs.sh python black mypy pyflakes pytest hypothesis pexpect prompt_toolkit pyte setuptools wheel pip louis pandoc PyQt6
 python=${PYTHON:-$(tests/python.sh)}
 export BRAILDESK=$program PYTHONPATH=$PWD/src
 files=(src tests/desk sample/client.py bench/desk/desk.py)

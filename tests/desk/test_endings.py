@@ -13,7 +13,7 @@ import pytest
 import braildesk
 from braildesk import Session
 from tool import Ran, environment, scribe
-from words import GIVEN, WORDS
+from words import GIVEN, LOOKING, WORDS
 
 IN_THE_BOOK = "What was reported as kept is in the book, and what was asked after that may be there too."
 STOPPING = (signal.SIGINT, signal.SIGTERM, signal.SIGHUP)
@@ -146,8 +146,8 @@ def test_a_loop_of_a_shell_stops_where_ctrl_c_stops_scribe(moon: Path) -> None:
 READING = ("run", "talk", "try")
 #: Commands, and which of standard input, output and errors are closed.
 CLOSED = [
-    *((name, (0, 2)) for name in WORDS if name not in (*READING, "edit")),
-    *((name, (closed,)) for name in (*READING, "edit") for closed in range(3)),
+    *((name, (0, 2)) for name in WORDS if name not in (*READING, *LOOKING)),
+    *((name, (closed,)) for name in (*READING, *LOOKING) for closed in range(3)),
     *((name, (1,)) for name in ("new", "strike", "show", "export")),
 ]
 
@@ -182,7 +182,7 @@ def test_a_descriptor_that_is_closed_is_said_or_does_not_matter(
         assert ran == Ran(3, "", "Standard output is closed, so nothing was done.\n")
         assert (sample / "moon.braildesk").read_bytes() == before
         assert not (sample / "other.braildesk").exists()
-    elif name == "edit":
+    elif name in LOOKING:
         assert ran.status == 2
     elif 0 in closed and name in READING:
         assert ran.status == 3

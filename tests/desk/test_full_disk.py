@@ -11,7 +11,7 @@ import pytest
 
 from braildesk import Session
 from tool import environment
-from words import WORDS
+from words import LOOKING, WORDS
 
 #: Runs commands, each with a fresh copy of a folder on a disk of memory that refuses more then.
 EACH = """\
@@ -66,8 +66,8 @@ for words in json.load(sys.stdin):
 SAMPLE = Path(__file__).resolve().parents[2] / "sample"
 #: Mounts a disk of memory at a folder, which goes with the process, and goes on there.
 MOUNTED = 'mount -t tmpfs -o size=2m none "$1" && shift && exec "$@"'
-#: edit looks for a terminal first, and test_screen_tired.py has it.
-NAMES = [name for name in WORDS if name != "edit"]
+#: What comes of edit on a full disk is in test_screen_tired.py.
+NAMES = [name for name in WORDS if name not in LOOKING]
 
 
 @dataclass(frozen=True)

@@ -25,12 +25,20 @@ BELOW = {
     "scribe.words": BRAILDESK,
     "scribe.screen": (*BRAILDESK, "scribe.words"),
     "scribe.prompt": (*BRAILDESK, "scribe.words"),
-    "scribe.cli": (*BRAILDESK, "scribe.words", "scribe.screen", "scribe.prompt"),
+    "scribe.window": (*BRAILDESK, "scribe.words"),
+    "scribe.cli": (
+        *BRAILDESK,
+        "scribe.words",
+        "scribe.screen",
+        "scribe.prompt",
+        "scribe.window",
+    ),
     "scribe": ("scribe.cli",),
 }
 #: Modules of the command line and of terminals, and the one folder that may import each.
 OF_ONE_FOLDER = {
     "argparse": "scribe.cli",
+    "PyQt6": "scribe.window",
     "prompt_toolkit": "scribe.screen",
     "readline": "scribe.prompt",
 }
@@ -128,6 +136,8 @@ def test_no_module_imports_from_a_folder_that_is_not_below_its_own() -> None:
         ),
         ("scribe.screen.terminal", "import prompt_toolkit.output", set()),
         ("scribe.words.view", "import prompt_toolkit.output", {"prompt_toolkit"}),
+        ("scribe.window.fields", "from PyQt6.QtGui import QFont", set()),
+        ("scribe.words.view", "from PyQt6.QtGui import QFont", {"PyQt6"}),
         ("scribe.cli.commands.edit", "from scribe.screen.desk import Desk", set()),
     ],
 )

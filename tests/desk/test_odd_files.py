@@ -26,13 +26,14 @@ from scribe.words.export import export_in_words
 from scribe.words.failures import in_sentences
 from scribe.words.status import Stop
 from tool import ROOT, Ran, environment
-from words import PATHS, WORDS
+from words import LOOKING, PATHS, WORDS
 
 NOBODY = 65_534
 #: The words of each command; one of bring that names files.
 ALL = {**WORDS, "bring": ["plain.utb", "other.utb"]}
 PLACES = {*PATHS, "other.utb"}
-del ALL["edit"]  # which looks for a terminal first
+for each in LOOKING:
+    del ALL[each]
 
 
 def ran(words: Sequence[str]) -> Ran:

@@ -18,8 +18,8 @@ from braildesk.text.cells import braille_patterns
 
 from scribe.screen.background import Ending
 from scribe.screen.desk import Desk
-from scribe.screen.preview import Tables
-from scribe.screen.state import Preview, Size
+from scribe.screen.state import Size
+from scribe.words.preview import Preview, Tables
 from sitting import Sat, Sit
 from tool import ROOT
 

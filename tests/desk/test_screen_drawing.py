@@ -5,6 +5,7 @@ from dataclasses import replace
 import pytest
 
 from braildesk import Mark, Paragraph, Style
+from braildesk.desk.highlighting import Highlighted
 from braildesk.desk.readings import ParagraphReading
 from braildesk.text.spans import Span
 from braildesk.text.wrapping import columns
@@ -14,15 +15,14 @@ from scribe.screen.field import Field, Purpose
 from scribe.screen.lines import HIGHLIGHTED, MARKED
 from scribe.screen.rows import rows
 from scribe.screen.state import (
-    Highlighted,
     Opening,
     Pages,
     Pane,
-    Preview,
     Question,
     Size,
     State,
 )
+from scribe.words.preview import Preview
 from tool import ROOT
 
 PRINT = "The moon is far away."

@@ -13,6 +13,7 @@ import pytest
 from prompt_toolkit.input.ansi_escape_sequences import ANSI_SEQUENCES
 
 from braildesk import Paragraph, Session, Style
+from braildesk.desk.highlighting import Highlighted
 from braildesk.desk.readings import ParagraphReading
 from braildesk.text.spans import Span
 
@@ -20,7 +21,7 @@ from scribe.screen.drawing import draw
 from scribe.screen.field import Field, Purpose
 from scribe.screen.keyboard import Keyboard, Pasted
 from scribe.screen.keys import step
-from scribe.screen.state import Highlighted, Opening, Size, State
+from scribe.screen.state import Opening, Size, State
 from terminal import Open
 
 PRINT = "The moon is far away."

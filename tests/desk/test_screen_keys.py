@@ -6,6 +6,7 @@ from pathlib import Path
 import pytest
 
 from braildesk import Mark, Paragraph, Style, requests
+from braildesk.desk.highlighting import Highlighted
 from braildesk.desk.layout import PageSize
 from braildesk.desk.readings import ParagraphReading
 from braildesk.text.spans import Span
@@ -35,7 +36,6 @@ from scribe.screen.field import Field, Purpose
 from scribe.screen.keys import KEYS, keys_of, parted, pasted, step
 from scribe.screen.rows import rows
 from scribe.screen.state import (
-    Highlighted,
     Opening,
     Pages,
     Pane,

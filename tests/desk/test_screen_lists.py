@@ -9,9 +9,9 @@ import braildesk
 from braildesk import Session
 from braildesk.desk.layout import PageSize
 
-from scribe.screen import pagelook
 from scribe.screen.drawing import draw
 from scribe.screen.state import Size
+from scribe.words import pagelook
 from sitting import Sat, Sit
 
 SENTENCE = "Twice a day the sea comes up. "

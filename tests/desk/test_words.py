@@ -18,12 +18,12 @@ from scribe.cli import prompt_words
 from scribe.prompt.grammar import unknown_request
 from scribe.words.elsewhere import AMONG_REQUESTS, AT_PROMPT, AT_SHELL
 from tool import ROOT, Ran, environment, scribe
-from words import WORDS
+from words import LOOKING, WORDS
 
 NAMES = list(COMMANDS)
 #: The commands of the desk.
 ALL = (
-    "new edit run talk import table check-table try show list history compare find change change-all"
+    "new edit window run talk import table check-table try show list history compare find change change-all"
     " undo resolve strike restore heading body volume volumes move retable mark marks next pages"
     " export proof copy bring tune"
 ).split()
@@ -49,8 +49,8 @@ def path(tmp_path_factory: pytest.TempPathFactory) -> str:
     return f"{folder}:{os.environ['PATH']}"
 
 
-# edit needs a terminal, in which test_screen_terminal.py runs it
-@pytest.mark.parametrize("name", [name for name in ALL if name != "edit"])
+# edit needs a terminal, in which test_screen_terminal.py runs it, and window a screen, as tests/window has it
+@pytest.mark.parametrize("name", [name for name in ALL if name not in LOOKING])
 def test_the_example_of_each_command_works_as_it_stands(
     name: str, moon: Path, path: str
 ) -> None:
@@ -67,6 +67,30 @@ def test_the_example_of_each_command_works_as_it_stands(
         )
         assert done.returncode == 0, (line, done.stderr.decode())
         assert done.stdout or done.stderr, line
+
+
+def test_a_window_needs_a_screen(moon: Path) -> None:
+    ran = scribe("window", moon.name, folder=moon.parent)
+    assert (ran.status, ran.shown) == (2, "")
+    assert ran.said == (
+        "scribe window needs a screen with windows, and none is known here (DISPLAY and"
+        " WAYLAND_DISPLAY aren't set). scribe edit shows a book in a terminal.\n"
+    )
+
+
+def test_a_window_needs_pyqt6(moon: Path, tmp_path: Path) -> None:
+    missing = "raise ImportError('there is none')"
+    (tmp_path / "PyQt6").mkdir()
+    (tmp_path / "PyQt6" / "__init__.py").write_text(missing)
+    modules = f"{tmp_path}:{ROOT / 'src'}"
+    ran = scribe(
+        "window", moon.name, folder=moon.parent, DISPLAY=":9", PYTHONPATH=modules
+    )
+    assert (ran.status, ran.shown) == (3, "")
+    assert ran.said == (
+        "scribe window needs PyQt6, which is not installed. Debian has it as python3-pyqt6."
+        " scribe edit shows a book in a terminal without it.\n"
+    )
 
 
 def test_help_names_all_commands(tmp_path: Path) -> None:

@@ -14,6 +14,7 @@ PATHS = (
 WORDS: dict[str, list[str]] = {
     "new": ["other.braildesk"],
     "edit": ["moon.braildesk"],
+    "window": ["moon.braildesk"],
     "run": ["moon.braildesk"],
     "talk": ["moon.braildesk"],
     "table": ["moon.braildesk", "own", "plain.utb"],
@@ -46,6 +47,8 @@ WORDS: dict[str, list[str]] = {
     "copy": ["moon.braildesk", "copy.braildesk"],
     "bring": ["--list", "German"],
 }
+#: Commands that look for a terminal, or for a screen with windows, before they do anything.
+LOOKING = ("edit", "window")
 #: What each command is given, where it reads that.
 GIVEN = {
     "run": "strike 2\n",

@@ -1,6 +1,6 @@
 #!/bin/bash
-# Installs by scripts/install.sh into a folder and takes all away again, and makes the Debian package twice: both have the same bytes, and
-# what is in it works where it is unpacked.
+# Installs by scripts/install.sh into a folder and takes all away again, and makes the Debian packages twice: both have the same bytes, and
+# what is in the first one works where it is unpacked, without what the second one depends on.
 #   tests/make/package.sh     PROGRAM: the program (build/braildesk)
 set -eu
 cd "$(dirname "$0")/../.."
@@ -47,13 +47,16 @@ scripts/install.sh uninstall
 unset DESTDIR PREFIX
 echo 'ok  installed, used and taken away'
 
-# the package, twice
+# the packages, twice
 export SOURCE_DATE_EPOCH=1767225600
-package=$(scripts/deb.sh)
+scripts/deb.sh > "$scratch/names"
+{ read -r package; read -r desktop; } < "$scratch/names"
 cp "$package" "$scratch/first.deb"
+cp "$desktop" "$scratch/second.deb"
 sleep 1.1
-scripts/deb.sh > "$scratch/name"
+scripts/deb.sh > "$scratch/names"
 cmp "$package" "$scratch/first.deb" || fail 'two packages of one program differ'
+cmp "$desktop" "$scratch/second.deb" || fail 'two packages of one desktop differ'
 [ "$package" = "build/braildesk_${version}_amd64.deb" ] || fail "the package is called $package"
 [ "$(dpkg-deb --field "$package" Version)" = "$version" ] || fail 'the package has another version'
 dpkg-deb --extract "$package" "$scratch/root"
@@ -64,4 +67,22 @@ for file in bin/braildesk bin/scribe share/man/man1/scribe.1.gz share/doc/braild
     [ -f "$scratch/root/usr/$file" ] || fail "the package lacks $file"
 done
 (cd "$scratch/root" && dpkg-deb --info "$scratch/first.deb" md5sums | md5sum --check --quiet) || fail 'the sums of the package are wrong'
-echo 'ok  the package: twice the same bytes, unpacked and used'
+
+# what opens a book in a window
+[ "$desktop" = "build/braildesk-desktop_${version}_all.deb" ] || fail "the second package is called $desktop"
+[ "$(dpkg-deb --field "$desktop" Depends)" = "braildesk (= $version), python3-pyqt6, fonts-dejavu-core" ] || fail 'the second package depends on other packages'
+! dpkg-deb --field "$package" Depends | grep -q pyqt || fail 'the first package depends on Qt'
+dpkg-deb --extract "$desktop" "$scratch/desktop"
+for file in applications/braildesk-desktop.desktop icons/hicolor/scalable/apps/braildesk.svg \
+    icons/hicolor/scalable/mimetypes/application-x-braildesk.svg doc/braildesk-desktop/copyright doc/braildesk-desktop/changelog.gz; do
+    [ -f "$scratch/desktop/usr/share/$file" ] || fail "the second package lacks $file"
+    [ ! -e "$scratch/root/usr/share/$file" ] || fail "both packages have $file"
+done
+grep -q '^Exec=scribe window %f$' "$scratch/desktop/usr/share/applications/braildesk-desktop.desktop" || fail 'the desktop opens no window'
+for licence in 'GNU General Public License' 'No licence has been given'; do
+    grep -q "$licence" "$scratch/desktop/usr/share/doc/braildesk-desktop/copyright" || fail "the copyright of the second package lacks “$licence”"
+done
+"$PYTHON" -c 'import sys, xml.dom.minidom; xml.dom.minidom.parse(sys.argv[1])' "$scratch/desktop/usr/share/icons/hicolor/scalable/apps/braildesk.svg" ||
+    fail 'the icon is no SVG'
+(cd "$scratch/desktop" && dpkg-deb --info "$scratch/second.deb" md5sums | md5sum --check --quiet) || fail 'the sums of the second package are wrong'
+echo 'ok  the packages: twice the same bytes, unpacked and used'

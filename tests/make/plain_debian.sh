@@ -9,7 +9,7 @@ cd "$(dirname "$0")/../.."
 fail() { echo "tests/make/plain_debian.sh: $*" >&2; exit 1; }
 for tool in debootstrap lintian; do command -v $tool > /dev/null || fail "$tool is missing: install it, as by apt-get install $tool"; done
 export PROGRAM=$program
-package=$(scripts/deb.sh)
+package=$(scripts/deb.sh | head -1)
 plain=$scratch/plain
 
 # The one error that is meant: no licence has been given yet.

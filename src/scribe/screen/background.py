@@ -1,8 +1,8 @@
 """What is done with the session closed: an export, and an import."""
 
-from collections.abc import Callable, Iterable
+from collections.abc import Callable
 from dataclasses import dataclass, replace
-from io import BytesIO, StringIO
+from io import BytesIO
 from pathlib import Path
 
 from braildesk import DeskError
@@ -13,7 +13,7 @@ from braildesk.desk.import_text import Import
 
 from scribe.screen.actions import ExportTo, ImportFrom, LeaveImport
 from scribe.screen.state import Question
-from scribe.words.console import Console
+from scribe.words.console import Console, Heard
 from scribe.words.export import export_in_words
 from scribe.words.failures import in_sentences
 from scribe.words.import_text import import_in_words, question as import_question
@@ -29,24 +29,6 @@ class Ending:
     kept: str = ""
     #: What is asked before a text is imported that was imported before.
     question: Question | None = None
-
-
-class Heard(StringIO):
-    """A stream whose lines are reported as they are written."""
-
-    def __init__(self, report: Callable[[str], None]) -> None:
-        super().__init__()
-        self._report = report
-
-    def writelines(self, lines: Iterable[str]) -> None:  # type: ignore[override]
-        """Writes lines."""
-        for line in lines:
-            self.write(line)
-            self._report(line.rstrip("\n"))
-
-    def isatty(self) -> bool:
-        """Whether a person follows it, as one does here."""
-        return True
 
 
 def done_in_background(

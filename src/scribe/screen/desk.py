@@ -19,6 +19,12 @@ from braildesk.desk.aftermath import found_again
 from braildesk.desk.draft import Aim, Draft
 from braildesk.desk.drafts import Drafts, LeftAt, NotKept
 from braildesk.desk.earlier import PartIsThere, to_go_on
+from braildesk.desk.highlighting import (
+    Highlighted,
+    cells_of_marks,
+    highlighted_by_cell,
+    highlighted_by_character,
+)
 from braildesk.desk.readings import ParagraphReading, answers
 from braildesk.desk.tables import table_request
 from braildesk.desk.unfinished import NotSeen, Unfinished
@@ -29,7 +35,7 @@ from braildesk.text.excerpt import opening
 from braildesk.text.sequences import composed
 from braildesk.text.spans import Span
 
-from scribe.screen import deeds, finding, keys, lists, pagelook, pager, taking_back
+from scribe.screen import finding, keys, lists, pager, taking_back
 from scribe.screen.actions import (
     Action,
     BringBack,
@@ -54,22 +60,22 @@ from scribe.screen.actions import (
     TypeAll,
 )
 from scribe.screen.background import done_in_background, question_about
-from scribe.screen.deeds import Deed
 from scribe.screen.draft import draft_of, draft_of_pasted, field_of
 from scribe.screen.field import Field, Purpose
-from scribe.screen.highlighting import cells_of_marks, highlighted
 from scribe.screen.in_hand import left_here, with_mark_in_hand
 from scribe.screen.keys import Step
-from scribe.screen.preview import Tables
-from scribe.screen.sentences import kept
 from scribe.screen.state import Opening, Pages, Pane, Question, Size, State
-from scribe.screen.unsent import Unsent
+from scribe.words import deeds, pagelook
+from scribe.words.deeds import Deed
 from scribe.words.drafts import not_kept, what_for
 from scribe.words.failures import in_sentences, of_system
 from scribe.words.import_text import came_to, not_seen
+from scribe.words.kept import kept
 from scribe.words.paragraph import quoted
+from scribe.words.preview import Tables
 from scribe.words.queries import shown
 from scribe.words.status import Interrupted, Stop
+from scribe.words.unsent import Unsent
 
 _SHOWS_KEYS = "? shows the keys."
 _OPENED_THERE = "The book is open where it was left."
@@ -281,9 +287,15 @@ class Desk:
             its = state.reading
             whole = its.text if state.pane is Pane.PRINT else its.braille
             place = max(0, min(state.place, len(whole) - 1))
-            light = highlighted(self._session, its, state.pane, place)
+            light = self._highlighted(its, state.pane, place)
             state = replace(state, place=place, highlighted=light)
         return state
+
+    def _highlighted(
+        self, its: ParagraphReading, pane: Pane, place: int
+    ) -> Highlighted:
+        by = highlighted_by_cell if pane is Pane.CELLS else highlighted_by_character
+        return by(self._session, its, place)
 
     def _take_up(self) -> tuple[str, ...]:
         """Reads what waits from before, and says what of it can't be read."""
@@ -771,12 +783,13 @@ class Desk:
     ) -> tuple[pagelook.Volume, ...]:
         """The volumes whose pages are needed, which aren't laid out yet."""
         if isinstance(action, ListMarks | ListHeadings):
-            return pagelook.volumes_of(state)
+            return lists.volumes_of(state)
         if isinstance(action, ToPage) and action.volume is not None:
-            volumes = pagelook.volumes_of(state)
+            volumes = lists.volumes_of(state)
             return volumes[action.volume - 1 : action.volume] if action.volume else ()
         assert state.paragraph is not None
-        found = pagelook.volume_of(state, state.paragraph)
+        book, version, its = state.book, state.version, state.paragraph
+        found = pagelook.volume_of(book, version, state.page_size, its)
         return () if found is None else (found,)
 
     def _with_pages(
@@ -911,7 +924,7 @@ def _no_volume(
     state: State, action: ShowPage | ListMarks | ListHeadings | ToPage
 ) -> str:
     """What is said where no volume is there whose pages are asked for."""
-    count = len(pagelook.volumes_of(state))
+    count = len(lists.volumes_of(state))
     if isinstance(action, ToPage) and action.volume is not None and count:
         return f"There is no volume {action.volume}: the book has {count}."
     if not count or isinstance(action, ListMarks | ListHeadings):

@@ -4,6 +4,7 @@ import unicodedata
 from dataclasses import dataclass, replace
 
 from braildesk import Mark, Style
+from braildesk.desk.highlighting import Highlighted
 from braildesk.desk.readings import ParagraphReading
 from braildesk.text import limits
 from braildesk.text.cells import braille_ascii
@@ -17,7 +18,7 @@ from scribe.screen.encoding import has
 from scribe.screen.field import Field, Purpose
 from scribe.screen.lines import Area, CHOSEN, HEAD, Line, PLAIN, Piece, filled
 from scribe.screen.rows import shown
-from scribe.screen.state import Highlighted, Pages, Pane, Question, Size, State
+from scribe.screen.state import Pages, Pane, Question, Size, State
 from scribe.words.paragraph import mark_line, marked_words, title
 
 # what is most needed comes first, since a narrow screen shows only the front of it

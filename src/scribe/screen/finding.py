@@ -3,6 +3,7 @@
 from dataclasses import replace
 
 from braildesk import Session
+from braildesk.desk import search
 from braildesk.desk.find import alike, unlike
 from braildesk.desk.places import cells_of
 from braildesk.text.cells import NotCells, braille_patterns
@@ -10,7 +11,6 @@ from braildesk.text.characters import code_and_name
 from braildesk.text.sequences import composed
 from braildesk.text.spans import Span, find_spans
 
-from scribe.screen import search
 from scribe.screen.actions import ToFound, ToMark
 from scribe.screen.in_hand import at_mark
 from scribe.screen.state import Pane, State, WordsFound
@@ -26,7 +26,8 @@ def to_found(session: Session, state: State, action: ToFound) -> State:
     finds_alike = action.is_again and state.finds_alike
     state = replace(state, finds_alike=finds_alike)
     form = alike if finds_alike else composed
-    found = search.next_words(session, state, sought, form)
+    here = search.Spot(state.chosen, state.place)
+    found = search.next_words(session, state.book, here, sought, form)
     if found is None:
         return _with_others_alike(session, state, sought)
     text = session.print_of(state.book[found.spot.chosen].id)
@@ -41,10 +42,22 @@ def to_mark(session: Session, state: State, action: ToMark) -> State:
     if state.pane is Pane.CELLS:
         place = state.highlighted.words.start if state.highlighted else 0
         here = replace(state, pane=Pane.PRINT, place=place)
-    found = search.next_mark(session, here, action.is_back)
+    spot = _spot_of_mark(here)
+    found = search.next_mark(session, here.book, spot, action.is_back)
     if found is None:
         return state.saying("The book has no open marks.")
     return at_mark(replace(here, anchor=None), found, action.is_back)
+
+
+def _spot_of_mark(state: State) -> search.Spot:
+    """The spot of the mark in hand, or of the one that is shown first if it begins at the cursor."""
+    shown = state.mark_in_hand
+    if shown is None:
+        begins = (mark for mark in state.marks_here if mark.start == state.place)
+        shown = next((mark for mark in begins if mark == state.marks_here[0]), None)
+    if shown is None:
+        return search.Spot(state.chosen, state.place)
+    return search.Spot(state.chosen, shown.start, shown.id)
 
 
 def _to_cells(session: Session, state: State, sought: str) -> State:
@@ -55,7 +68,8 @@ def _to_cells(session: Session, state: State, sought: str) -> State:
         return state.saying(
             f"{character} is no cell in Braille ASCII or Unicode. Tab goes to the print."
         )
-    found = search.next_words(session, state, cells)
+    here = search.Spot(state.chosen, state.place)
+    found = search.next_cells(session, state.book, here, cells)
     if found is None:
         said = f"{quoted(sought)} isn't in the cells of the book."
         return state.saying(said)
@@ -64,7 +78,8 @@ def _to_cells(session: Session, state: State, sought: str) -> State:
 
 def _with_others_alike(session: Session, state: State, sought: str) -> State:
     """What is said of words that stand nowhere: where there are others like them, to go to."""
-    found = search.next_words(session, state, sought, alike)
+    here = search.Spot(state.chosen, state.place)
+    found = search.next_words(session, state.book, here, sought, alike)
     if found is None:
         said = f"{quoted(sought)} isn't in the print of the book."
         return state.saying(said)

@@ -3,9 +3,9 @@
 from dataclasses import replace
 
 from braildesk import Mark
+from braildesk.desk.search import Found
 
 from scribe.screen.field import Purpose
-from scribe.screen.search import Found
 from scribe.screen.state import InHand, State
 
 _FIRST = "No open mark up to the end of the book: this is the first in it."

@@ -17,9 +17,10 @@ from braildesk.text.spans import Span
 from scribe.screen import pager
 from scribe.screen.actions import ToPage
 from scribe.screen.in_hand import holding
-from scribe.screen.pagelook import Layouts, Volume, line_of, volumes_of
 from scribe.screen.state import Pages, Pane, State, Target
+from scribe.words import pagelook
 from scribe.words.page_size import described
+from scribe.words.pagelook import Layouts, Volume, line_of
 from scribe.words.paragraph import mark_line
 
 # a heading is named by so many columns of its words
@@ -28,6 +29,11 @@ _STRUCK = "struck, on no page"
 
 #: Says how far a layout has come.
 Report = Callable[[int, int], None]
+
+
+def volumes_of(state: State) -> tuple[Volume, ...]:
+    """The volumes of the book, which aren't laid out yet."""
+    return pagelook.volumes_of(state.book, state.version, state.page_size)
 
 
 class PageNumbers:

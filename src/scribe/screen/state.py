@@ -5,6 +5,7 @@ from dataclasses import dataclass, field, replace
 from enum import Enum, auto
 
 from braildesk import Mark, Paragraph, limits
+from braildesk.desk.highlighting import Highlighted
 from braildesk.desk.layout import PageSize
 from braildesk.desk.readings import ParagraphReading
 from braildesk.text.spans import Span
@@ -19,8 +20,9 @@ from scribe.screen.actions import (
     TakeBack,
     ToPage,
 )
-from scribe.screen.deeds import Deed
 from scribe.screen.field import Cut, Field
+from scribe.words.deeds import Deed
+from scribe.words.preview import Preview
 
 
 class Pane(Enum):
@@ -44,23 +46,6 @@ class Opening:
 
     words: str
     open_marks: int
-
-
-@dataclass(frozen=True)
-class Highlighted:
-    """The characters and the cells that belong to what the cursor stands on."""
-
-    words: Span
-    cells: Span
-
-
-@dataclass(frozen=True)
-class Preview:
-    """The braille of what is being typed, or why there is none."""
-
-    text: str
-    braille: str = ""
-    fault: str = ""
 
 
 @dataclass(frozen=True)

@@ -4,8 +4,8 @@ from dataclasses import replace
 
 from braildesk import Style
 
-from scribe.screen.deeds import together, typed
 from scribe.screen.state import State
+from scribe.words.deeds import together, typed
 
 
 def done_by_one_key(state: State, before: int) -> State:

@@ -8,6 +8,7 @@ import time
 from collections.abc import Callable, Iterable, Iterator
 from contextlib import suppress
 from dataclasses import dataclass
+from io import StringIO
 from typing import BinaryIO, TextIO
 
 from braildesk.text import limits
@@ -182,6 +183,24 @@ class Console:
                     self.say(f"{done:,} of {total:,} {what}.")
 
         return report
+
+
+class Heard(StringIO):
+    """A stream whose lines are reported as they are written."""
+
+    def __init__(self, report: Callable[[str], None]) -> None:
+        super().__init__()
+        self._report = report
+
+    def writelines(self, lines: Iterable[str]) -> None:  # type: ignore[override]
+        """Writes lines."""
+        for line in lines:
+            self.write(line)
+            self._report(line.rstrip("\n"))
+
+    def isatty(self) -> bool:
+        """Whether a person follows it, as one does here."""
+        return True
 
 
 def _width_of_output() -> int | None:

@@ -36,7 +36,7 @@ _CLOSED = "End this first, since the book is in use here."
 AT_PROMPT: Mapping[str, str] = {
     **{
         name: f"{name} {_OF_SHELL.format(name=name)} {_CLOSED}"
-        for name in ("edit", "run", "talk", "import", "export", "tune")
+        for name in ("edit", "window", "run", "talk", "import", "export", "tune")
     },
     **{
         name: f"{name} {_OF_SHELL.format(name=name)}"

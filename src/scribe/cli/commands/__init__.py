@@ -17,6 +17,7 @@ _EDITS = "edits"
 COMMANDS: Mapping[str, tuple[str, str]] = {
     "new": ("new", "Makes a new book with a table in it."),
     "edit": ("edit", "Shows the book on the screen, to work on."),
+    "window": ("window", "Shows the book in a window, to work on."),
     "run": (
         "run",
         "Answers the requests of standard input, with a sentence after each refusal.",

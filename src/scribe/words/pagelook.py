@@ -8,7 +8,6 @@ from braildesk.desk.layout import Layout, PageSize, Placed, Section, placed, spa
 from braildesk.desk.volumes import parted, sections
 from braildesk.text.cells import braille_ascii
 
-from scribe.screen.state import State
 from scribe.words.page_size import described
 
 # a volume of so many characters is laid out in a moment
@@ -65,6 +64,11 @@ class Volume:
         """How much has to be laid out."""
         return sum(each.length for each in self.paragraphs)
 
+    @property
+    def is_long(self) -> bool:
+        """Whether it takes a while to lay it out."""
+        return self.characters > _MANY
+
 
 class Layouts:
     """The volumes that were laid out, as long as the book and the size of its pages are the same."""
@@ -91,17 +95,22 @@ class Layouts:
         return sum(each.characters for each in lacking) <= _MANY
 
 
-def volumes_of(state: State) -> tuple[Volume, ...]:
-    """The volumes of the book, which aren't laid out yet."""
+def volumes_of(
+    book: Sequence[Paragraph], version: int, page_size: PageSize
+) -> tuple[Volume, ...]:
+    """The volumes of a version of a book, which aren't laid out yet."""
     return tuple(
-        Volume(state.version, state.page_size, number, part)
-        for number, part in enumerate(parted(state.book), 1)
+        Volume(version, page_size, number, part)
+        for number, part in enumerate(parted(book), 1)
     )
 
 
-def volume_of(state: State, its: Paragraph) -> Volume | None:
+def volume_of(
+    book: Sequence[Paragraph], version: int, page_size: PageSize, its: Paragraph
+) -> Volume | None:
     """The volume of a paragraph, which isn't laid out yet; none for one that is struck."""
-    return next((each for each in volumes_of(state) if its in each.paragraphs), None)
+    volumes = volumes_of(book, version, page_size)
+    return next((each for each in volumes if its in each.paragraphs), None)
 
 
 def laid_out(

@@ -1,15 +1,24 @@
 """The braille of print that isn't in the book yet, by `braildesk translate`."""
 
 from collections.abc import Sequence
+from dataclasses import dataclass
 
 from braildesk import DeskError, Refused, Table, Undefined, translate
 from braildesk.text.characters import around, named
 from braildesk.text.sequences import composed
 
-from scribe.screen.state import Preview
 
 # the name by which the program calls its own table
 _SUPPLIED = "@en"
+
+
+@dataclass(frozen=True)
+class Preview:
+    """The braille of what is being typed, or why there is none."""
+
+    text: str
+    braille: str = ""
+    fault: str = ""
 
 
 class Tables:

@@ -1,6 +1,6 @@
 """Where in the book something stands next: words, cells, or an open mark."""
 
-from collections.abc import Callable, Iterable, Iterator
+from collections.abc import Callable, Iterable, Iterator, Sequence
 from dataclasses import dataclass
 from itertools import islice
 from typing import Any
@@ -8,11 +8,8 @@ from typing import Any
 from braildesk import Mark, Paragraph, Session
 from braildesk.desk.readings import answers
 from braildesk.protocol.requests import Braille, Marks, Print, Request
-from braildesk.text.cells import braille_patterns
 from braildesk.text.sequences import composed
 from braildesk.text.spans import Form, find_spans
-
-from scribe.screen.state import Pane, State
 
 # how many paragraphs are asked for at once
 _BATCH = 64
@@ -46,22 +43,41 @@ class Found:
 
 
 def next_words(
-    session: Session, state: State, sought: str, form: Form = composed
+    session: Session,
+    book: Sequence[Paragraph],
+    here: Spot,
+    sought: str,
+    form: Form = composed,
 ) -> Found | None:
-    """The next place of words, or of cells while the cursor stands on cells."""
-    wanted: Callable[[int], Request[Any]] = Print
-    if state.pane is Pane.CELLS:
-        wanted, sought = Braille, braille_patterns(sought)
+    """The next place of words in the prints of a book."""
+    return _next_text(session, book, here, Print, sought, form)
 
+
+def next_cells(
+    session: Session, book: Sequence[Paragraph], here: Spot, cells: str
+) -> Found | None:
+    """The next place of cells in the braille of a book."""
+    return _next_text(session, book, here, Braille, cells, composed)
+
+
+def _next_text(
+    session: Session,
+    book: Sequence[Paragraph],
+    here: Spot,
+    wanted: Callable[[int], Request[str]],
+    sought: str,
+    form: Form,
+) -> Found | None:
     def places(text: str) -> Iterable[_Place]:
         return ((each.start, _NO_MARK) for each in find_spans(text, sought, form))
 
-    here = Spot(state.chosen, state.place)
-    return _next(session, state.book, here, wanted, places, range(len(state.book) + 1))
+    return _next(session, book, here, wanted, places, range(len(book) + 1))
 
 
-def next_mark(session: Session, state: State, is_back: bool) -> Found | None:
-    """The next open mark after the one that is shown, or the one before, by its first character.
+def next_mark(
+    session: Session, book: Sequence[Paragraph], here: Spot, is_back: bool
+) -> Found | None:
+    """The next open mark after a spot, or the one before, by its first character.
 
     Marks that begin on one character come one after the other, by their numbers.
     """
@@ -70,25 +86,14 @@ def next_mark(session: Session, state: State, is_back: bool) -> Found | None:
         found = ((m.start, m.id) for m in marks if not m.resolved)
         return sorted(found, reverse=is_back)
 
-    count = len(state.book) + 1
+    count = len(book) + 1
     order = range(0, -count, -1) if is_back else range(count)
-    return _next(session, state.book, _spot_of_mark(state), Marks, places, order)
-
-
-def _spot_of_mark(state: State) -> Spot:
-    """The spot of the mark in hand, or of the one that is shown first if it begins at the cursor."""
-    shown = state.mark_in_hand
-    if shown is None:
-        begins = (mark for mark in state.marks_here if mark.start == state.place)
-        shown = next((mark for mark in begins if mark == state.marks_here[0]), None)
-    if shown is None:
-        return Spot(state.chosen, state.place)
-    return Spot(state.chosen, shown.start, shown.id)
+    return _next(session, book, here, Marks, places, order)
 
 
 def _next(
     session: Session,
-    book: tuple[Paragraph, ...],
+    book: Sequence[Paragraph],
     here: Spot,
     wanted: Callable[[int], Request[Any]],
     places: Callable[[Any], Iterable[_Place]],
@@ -109,7 +114,7 @@ def _next(
 
 def _found(
     session: Session,
-    book: tuple[Paragraph, ...],
+    book: Sequence[Paragraph],
     rounds: list[int],
     wanted: Callable[[int], Request[Any]],
 ) -> Iterator[tuple[int, Any]]:

@@ -1,5 +1,7 @@
 """Which cells belong to a character or to a mark, and which characters to a cell."""
 
+from dataclasses import dataclass
+
 from braildesk import Session
 from braildesk.desk.places import words_of
 from braildesk.desk.readings import ParagraphReading, answers
@@ -7,23 +9,36 @@ from braildesk.protocol.requests import Where
 from braildesk.text.sequences import seams
 from braildesk.text.spans import Span
 
-from scribe.screen.state import Highlighted, Pane
+
+@dataclass(frozen=True)
+class Highlighted:
+    """The characters and the cells that belong to what the cursor stands on."""
+
+    words: Span
+    cells: Span
+
 
 _NOTHING = Highlighted(Span(0, 0), Span(0, 0))
 
 
-def highlighted(
-    session: Session, reading: ParagraphReading, pane: Pane, place: int
+def highlighted_by_cell(
+    session: Session, reading: ParagraphReading, cell: int
 ) -> Highlighted:
-    """What is highlighted where the cursor stands on a character, or on a cell."""
-    text, cells = reading.text, reading.braille
+    """What is highlighted where the cursor stands on a cell."""
+    text, cells, its = reading.text, reading.braille, Span(cell, cell + 1)
     if not text or not cells:
         return _NOTHING
-    if pane is Pane.CELLS:
-        cell = Span(place, place + 1)
-        return Highlighted(
-            words_of(session, reading.paragraph.id, cell, text, cells), cell
-        )
+    words = words_of(session, reading.paragraph.id, its, text, cells)
+    return Highlighted(words, its)
+
+
+def highlighted_by_character(
+    session: Session, reading: ParagraphReading, place: int
+) -> Highlighted:
+    """What is highlighted where the cursor stands on a character."""
+    text = reading.text
+    if not text or not reading.braille:
+        return _NOTHING
     after = min(each for each in seams(text) if each > place)
     return Highlighted(Span(place, after), _cells(session, reading, place, after))
 

@@ -1,0 +1,55 @@
+"""`scribe window`: the book in a window."""
+
+import os
+from argparse import ArgumentParser, Namespace
+
+from scribe.cli.page_size import add_page_size, page_size_of
+from scribe.cli.parser import Subparsers, add_file, command_parser, words
+from scribe.words.console import Console
+from scribe.words.status import Status, Stop
+
+MORE = """\
+The paragraphs are a table, and of the chosen one the print and the braille are shown, each
+with a caret that goes with the other's. What is typed is kept by Enter, or when another
+paragraph is chosen; each action stands in a menu with its key, and F1 lists them all. Text
+that wasn't sent is kept in ~/.local/state/braildesk, and is offered at the next opening."""
+EXAMPLE = "scribe window moon.braildesk --by anna"
+# where the environment says which screen there is, or what stands for one
+_SCREENS = ("DISPLAY", "WAYLAND_DISPLAY", "QT_QPA_PLATFORM")
+
+
+def add_parser(subparsers: Subparsers) -> ArgumentParser:
+    """Adds the words of `window`."""
+    parser = command_parser(subparsers, "window", EXAMPLE, MORE)
+    add_file(parser, wait=0)
+    parser.add_argument(
+        "--by",
+        metavar="WHO",
+        type=words,
+        help="the proofreader, whose name corrections keep",
+    )
+    add_page_size(parser)
+    return parser
+
+
+def run(arguments: Namespace, console: Console) -> Status:
+    """Shows the book until its window is closed."""
+    if not any(os.environ.get(name) for name in _SCREENS):
+        raise Stop(
+            "scribe window needs a screen with windows, and none is known here (DISPLAY and"
+            " WAYLAND_DISPLAY aren't set). scribe edit shows a book in a terminal."
+        )
+    try:
+        # imported here, since only this command needs PyQt6
+        from scribe.window.application import Application
+    except ImportError:
+        raise Stop(
+            "scribe window needs PyQt6, which is not installed. Debian has it as python3-pyqt6."
+            " scribe edit shows a book in a terminal without it.",
+            Status.FAILED,
+        ) from None
+    size = page_size_of(arguments)
+    application = Application(arguments.file, arguments.by, arguments.wait, size)
+    application.run()
+    console.show(f"{arguments.file.name} is at version {application.version:,}.")
+    return Status.DONE

@@ -1,0 +1,114 @@
+"""The application of the window: it is started, ended in order, and says how it ended."""
+
+import signal
+import socket
+import sys
+from pathlib import Path
+from types import TracebackType
+
+from PyQt6.QtCore import QSocketNotifier, QTimer
+from PyQt6.QtWidgets import QApplication
+from PyQt6.sip import voidptr
+
+from braildesk import Lost
+from braildesk.desk.layout import PageSize
+
+from scribe.window.actions import Actions
+from scribe.window.desk import Desk
+from scribe.words.status import Interrupted
+
+_SIGNALS = (signal.SIGHUP, signal.SIGTERM, signal.SIGINT)
+
+
+class Application:
+    """A book in a window, until the person closes it or a signal ends it."""
+
+    def __init__(
+        self, path: Path, by: str | None, wait: float, page_size: PageSize
+    ) -> None:
+        self._qt = QApplication(sys.argv[:1])
+        self._qt.setApplicationName("braildesk")
+        self._qt.setDesktopFileName("braildesk-desktop")
+        self._fault: BaseException | None = None
+        self._ended_by: signal.Signals | None = None
+        self._desk = Desk(path, by, wait, page_size)
+        actions = Actions(self._desk)
+        self._desk.acts = actions.all
+        self._offer = actions.offer
+
+    @property
+    def version(self) -> int:
+        """The version at which the book was last."""
+        return self._desk.contents.version
+
+    def run(self) -> None:
+        """Shows the book until its window is closed; raises what ends it otherwise."""
+        desk = self._desk
+        try:
+            desk.open()
+        except BaseException:
+            desk.is_closed = True
+            desk.close()
+            raise
+        before, sys.excepthook = sys.excepthook, self._failed
+        ends, notifier = self._take_signals()
+        try:
+            desk.window.show()
+            desk.window.activateWindow()
+            desk.window.table.setFocus()
+            QTimer.singleShot(0, lambda: desk.acting(self._offer))
+            self._qt.exec()
+        finally:
+            signal.set_wakeup_fd(-1)
+            notifier.setEnabled(False)
+            for end in ends:
+                end.close()
+            sys.excepthook = before
+            self._close()
+        if self._fault is not None:
+            raise self._fault
+        if self._ended_by is not None:
+            raise Interrupted(self._ended_by, is_said=True)
+
+    def _close(self) -> None:
+        desk = self._desk
+        desk.keep_draft(desk.draft())
+        try:
+            desk.close()
+        except Lost as lost:
+            self._fault = self._fault or lost
+
+    def _failed(
+        self,
+        kind: type[BaseException],
+        fault: BaseException,
+        trace: TracebackType | None,
+    ) -> None:
+        """A fault of scribe ends it, as elsewhere, and not without what is typed being kept."""
+        self._fault = self._fault or fault
+        self._qt.exit()
+
+    def _take_signals(
+        self,
+    ) -> tuple[tuple[socket.socket, socket.socket], QSocketNotifier]:
+        """Has signals end the window in order, also while it waits for a key."""
+        ends = socket.socketpair()
+        for end in ends:
+            end.setblocking(False)
+        signal.set_wakeup_fd(ends[1].fileno())
+        notifier = QSocketNotifier(voidptr(ends[0].fileno()), QSocketNotifier.Type.Read)
+
+        def woken() -> None:
+            # what a signal does is done by Python itself once it runs
+            ends[0].recv(1)
+
+        notifier.activated.connect(woken)
+
+        def ended(number: int, frame: object) -> None:
+            self._ended_by = signal.Signals(number)
+            self._qt.exit()
+
+        for number in _SIGNALS:
+            if signal.getsignal(number) is not signal.SIG_IGN:
+                signal.signal(number, ended)
+        return ends, notifier

@@ -1,0 +1,407 @@
+"""The session with a book, and what was done to the book in this window.
+
+All of it runs in the thread that opened the session. Nothing here knows a window.
+"""
+
+from collections.abc import Callable, Sequence
+from dataclasses import dataclass, replace
+from pathlib import Path
+from typing import Any
+
+from braildesk import Displaced, Lost, Paragraph, Refused, Session, requests
+from braildesk.desk import search
+from braildesk.desk.aftermath import opened_again
+from braildesk.desk.correction import smallest_correction
+from braildesk.desk.draft import Aim, Draft
+from braildesk.desk.find import alike
+from braildesk.desk.highlighting import (
+    Highlighted,
+    cells_of_marks,
+    highlighted_by_cell,
+    highlighted_by_character,
+)
+from braildesk.desk.layout import PageSize
+from braildesk.desk.places import cells_of, words_of
+from braildesk.desk.readings import ParagraphReading, answers
+from braildesk.desk.tables import table_request
+from braildesk.protocol.requests import Command, Request
+from braildesk.text.cells import braille_patterns
+from braildesk.text.excerpt import opening
+from braildesk.text.sequences import composed
+from braildesk.text.spans import Span
+
+from scribe.words import deeds, pagelook
+from scribe.words.deeds import Deed
+from scribe.words.kept import kept
+from scribe.words.preview import Tables
+
+# the first words of a listed paragraph
+_WORDS = 120
+_LONG = (
+    "The volume is long, and isn't laid out by itself: Ctrl+P, twice, has that done."
+)
+
+
+@dataclass(frozen=True)
+class Contents:
+    """The paragraphs of a book, its version, and the names of its tables."""
+
+    version: int
+    paragraphs: tuple[Paragraph, ...]
+    tables: tuple[str, ...]
+
+    def place(self, number: int | None) -> int | None:
+        """Where a paragraph stands in the book, if it is there."""
+        places = (n for n, each in enumerate(self.paragraphs) if each.id == number)
+        return next(places, None)
+
+
+@dataclass(frozen=True)
+class Opening:
+    """The first words of a listed paragraph, and how many of its marks are open."""
+
+    words: str
+    open_marks: int
+
+
+@dataclass(frozen=True)
+class Reading:
+    """The chosen paragraph, with the cells of its open marks."""
+
+    its: ParagraphReading
+    marked_cells: tuple[Span, ...]
+
+
+@dataclass(frozen=True)
+class Done:
+    """The book after commands, what was kept by the last one, and the paragraph to show."""
+
+    contents: Contents
+    said: str
+    paragraph: int | None
+
+
+class NotAll(Exception):
+    """Some commands were carried out, and then one was refused or the work was stopped."""
+
+    def __init__(self, done: int, cause: BaseException) -> None:
+        super().__init__(done, cause)
+        self.done = done
+        self.cause = cause
+
+
+class NothingToTakeBack(Exception):
+    """Nothing of what was done in this window is left to take back."""
+
+
+class OpenBook:
+    """A book that is open in a window."""
+
+    def __init__(self, path: Path, by: str | None, wait: float) -> None:
+        self.path = path
+        self._by = by
+        self._wait = wait
+        #: By these what is typed is translated before the book has it.
+        self.tables = Tables()
+        self._session: Session
+        self._deeds: tuple[Deed, ...] = ()
+        # the paragraphs as they were listed last: a long book takes a while to list
+        self._known: tuple[Paragraph, ...] = ()
+        self._laid: pagelook.Volume | None = None
+
+    @property
+    def session(self) -> Session:
+        """The session."""
+        return self._session
+
+    @property
+    def pid(self) -> int:
+        """The number of the process of the session."""
+        return self._session.pid
+
+    def open(self) -> Contents:
+        """Opens the session, and reads the tables that the book has."""
+        session = Session(self.path, timeout=self._wait)
+        try:
+            return self._with(session)
+        except BaseException:
+            session.close()
+            raise
+
+    def open_after(self, lost: Lost) -> tuple[Contents | None, list[str]]:
+        """Opens the book again after its session was lost, and says what the book has."""
+        if isinstance(lost, Displaced):
+            return None, [lost.sentence]
+        session, said = opened_again(self.path, lost)
+        if session is None:
+            return None, said
+        before = lost.version
+        found = self._with(session)
+        if found.version != before:
+            self._deeds = ()
+        return found, said
+
+    def close(self) -> None:
+        """Ends the session; what was kept is in the book."""
+        self._session.close()
+
+    def contents(self) -> Contents:
+        """The book as it is now."""
+        found = self._session.paragraphs()
+        self._known = found
+        return Contents(self._session.last_version, found, self.tables.names)
+
+    def openings(self, numbers: Sequence[int]) -> dict[int, Opening]:
+        """What is listed of paragraphs."""
+        asked: list[Request[Any]] = []
+        for number in numbers:
+            asked += [requests.Print(number), requests.Marks(number)]
+        found = answers(self._session, asked)
+        return {
+            number: Opening(
+                opening(next(found), _WORDS),
+                sum(not mark.resolved for mark in next(found)),
+            )
+            for number in numbers
+        }
+
+    def reading(self, paragraph: Paragraph) -> Reading:
+        """All that is shown of a paragraph."""
+        number = paragraph.id
+        asked: list[Request[Any]] = [
+            requests.Print(number),
+            requests.Braille(number),
+            requests.Marks(number),
+        ]
+        its = ParagraphReading(paragraph, *answers(self._session, asked))
+        return Reading(its, cells_of_marks(self._session, its))
+
+    def by_character(self, reading: Reading, place: int) -> Highlighted:
+        """The cells that belong to a character."""
+        place = max(0, min(place, len(reading.its.text) - 1))
+        return highlighted_by_character(self._session, reading.its, place)
+
+    def by_cell(self, reading: Reading, cell: int) -> Highlighted:
+        """The characters that belong to a cell."""
+        cell = max(0, min(cell, len(reading.its.braille) - 1))
+        return highlighted_by_cell(self._session, reading.its, cell)
+
+    def words_of(self, reading: Reading, cells: Span) -> str:
+        """The words that cells stand for."""
+        its = reading.its
+        number = its.paragraph.id
+        words = words_of(self._session, number, cells, its.text, its.braille)
+        return its.text[words.start : words.stop]
+
+    def cells_of(self, paragraph: int, words: Span) -> Span:
+        """The cells on which a mark on words stands."""
+        return cells_of(self._session, paragraph, words)
+
+    def corrected(self, reading: Reading, text: str) -> Done | None:
+        """Makes a print what was typed, by the smallest correction; nothing where it is that."""
+        least = smallest_correction(reading.its.text, composed(text))
+        if least is None:
+            return None
+        number = reading.its.paragraph.id
+        words = (number, least.start, least.count, least.text)
+        if self._by is None:
+            return self.done(requests.Correct(*words))
+        return self.done(requests.CorrectBy(*words, who=self._by))
+
+    def done(self, command: Command[Any]) -> Done:
+        """Carries out a command, and notes how it is taken back."""
+        return self._after(command, self._sent(command))
+
+    def resolved(self, reading: Reading, mark: int) -> Done:
+        """Resolves a mark, with its cells noted, on which it can be put again."""
+        its = reading.its
+        marks = tuple(each for each in its.marks if each.id == mark)
+        cells = cells_of_marks(self._session, replace(its, marks=marks))
+        command = requests.Resolve(mark)
+        deed = (
+            deeds.resolved(marks[0], its.paragraph.id, cells[0])
+            if cells
+            else Deed(f"mark {mark} was resolved")
+        )
+        answer = self._sent(command, deed)
+        return replace(self._after(command, answer), paragraph=its.paragraph.id)
+
+    def with_table(self, paragraph: int | None, name: str) -> Done:
+        """Gives a paragraph a table, which is put into the book where it isn't there."""
+        done = None
+        if name not in self.tables.names:
+            request = table_request(name, None)
+            text = request.text if isinstance(request, requests.Table) else None
+            answer = self._sent(request)
+            self.tables.put(name, text)
+            done = self._after(request, answer)
+        if paragraph is None:
+            return done or Done(self.contents(), f"kept: table {name}", None)
+        return self.done(requests.Retable(paragraph, name))
+
+    def typed_all(
+        self,
+        commands: Sequence[Callable[[int | None], Command[Any]]],
+        report: Callable[[int], None],
+    ) -> Done:
+        """Carries out commands, each with the number of the paragraph that was typed before it.
+
+        They are taken back together. Raises `NotAll`.
+        """
+        before, newest, done = self._deeds, None, 0
+        last: tuple[Command[Any], Any] | None = None
+        cause: BaseException | None = None
+        for command in commands:
+            try:
+                report(done)
+                asked = command(newest)
+                last = (asked, self._sent(asked))
+            except (Refused, KeyboardInterrupt) as stopped:
+                cause = stopped
+                break
+            done += 1
+            newest = getattr(last[1], "id", newest)
+        if done > 1:
+            whole = deeds.together(self._deeds[len(before) :])
+            self._deeds = (*before, whole)
+        if cause is not None:
+            raise NotAll(done, cause)
+        assert last is not None
+        return self._after(*last)
+
+    def taken_back(self, report: Callable[[int, int], None]) -> Done:
+        """Takes back what was done last in this window.
+
+        Raises `NothingToTakeBack`, and `NotAll` where it takes many commands and one isn't done.
+        """
+        if not self._deeds:
+            raise NothingToTakeBack
+        *earlier, deed = self._deeds
+        if not deed.back:
+            self._deeds = tuple(earlier)
+            said = f"{deed.what[:1].upper()}{deed.what[1:]}, which stays."
+            return Done(self.contents(), said, None)
+        for done, command in enumerate(deed.back):
+            try:
+                report(done, len(deed.back))
+                answer = self._ask(command)
+            except (Refused, KeyboardInterrupt) as stopped:
+                rest = replace(deed, back=deed.back[done:])
+                self._deeds = (*earlier, rest)
+                if len(deed.back) == 1:
+                    raise
+                raise NotAll(done, stopped) from stopped
+        self._deeds = tuple(earlier)
+        if deed.mark is not None:
+            # it has another number now, by which it was resolved before
+            again = deeds.deed_of(command, answer, ())
+            assert again is not None
+            self._deeds = deeds.without(deed, earlier, again)
+        number = deed.paragraph or getattr(deed.back[-1], "paragraph", None)
+        return Done(self.contents(), deed.sentence, number)
+
+    def imported(self, before: Contents) -> Contents:
+        """The book after an import, which is taken back at once if nothing else changed it."""
+        now = self.open()
+        there = {each.id for each in before.paragraphs}
+        new = sorted(each.id for each in now.paragraphs if each.id not in there)
+        if new and now.version - before.version == len(new):
+            self._deeds = (*self._deeds, deeds.typed(new, "imported"))
+        elif now.version != before.version:
+            self._deeds = ()
+        return now
+
+    def next_words(
+        self, contents: Contents, here: search.Spot, sought: str, is_alike: bool
+    ) -> search.Found | None:
+        """The next place of words."""
+        book = contents.paragraphs
+        form = alike if is_alike else composed
+        return search.next_words(self._session, book, here, sought, form)
+
+    def next_cells(
+        self, contents: Contents, here: search.Spot, sought: str
+    ) -> search.Found | None:
+        """The next place of cells; raises `NotCells`."""
+        cells = braille_patterns(sought)
+        return search.next_cells(self._session, contents.paragraphs, here, cells)
+
+    def next_mark(
+        self, contents: Contents, here: search.Spot, is_back: bool
+    ) -> search.Found | None:
+        """The next open mark, or the one before."""
+        return search.next_mark(self._session, contents.paragraphs, here, is_back)
+
+    def page(
+        self,
+        contents: Contents,
+        page_size: PageSize,
+        sought: pagelook.Sought,
+        is_asked: bool,
+    ) -> pagelook.Page:
+        """The page on which a cell stands. Its volume is laid out once for each version.
+
+        One that is long isn't, unless that is asked for.
+        """
+        its, version = sought.paragraph, contents.version
+        volume = pagelook.volume_of(contents.paragraphs, version, page_size, its)
+        if volume is None:
+            said = f"Paragraph {its.id} is struck, and stands on no page."
+            return pagelook.Page(said)
+        if self._laid is None or not self._laid.is_of(volume):
+            if volume.is_long and not is_asked:
+                return pagelook.Page(_LONG)
+            self._laid = pagelook.laid_out(self._session, volume, lambda *_: None)
+        return pagelook.page_of(self._session, self._laid, sought)
+
+    def where_kept(self, contents: Contents, draft: Draft) -> str:
+        """Where a text that waits, or its first line, is in the book, in words; or nothing.
+
+        It may be there where the session ended after it was kept, and before that was reported.
+        """
+        if draft.version is None or contents.version <= draft.version:
+            return ""
+        numbers = [each.id for each in contents.paragraphs]
+        if draft.aim.is_new:
+            number = max(numbers, default=None)
+            how = "as paragraph"
+        else:
+            number = draft.paragraph if draft.paragraph in numbers else None
+            how = "in paragraph"
+        if number is None:
+            return ""
+        if draft.aim is Aim.NOTE:
+            marks = self._session.marks_of(number)
+            is_there = bool(marks) and marks[-1].note == draft.text
+            return f"as mark {marks[-1].id}" if is_there else ""
+        text = composed(draft.first_line)
+        is_there = composed(self._session.print_of(number)) == text
+        return f"{how} {number}" if is_there else ""
+
+    def _with(self, session: Session) -> Contents:
+        self._session = session
+        for table in session.tables():
+            self.tables.put(table.name, table.text)
+        return self.contents()
+
+    def _sent(self, command: Command[Any], deed: Deed | None = None) -> Any:
+        """Sends a command to the book as it is known, and notes what it did."""
+        before = self._known
+        if isinstance(command, requests.OfParagraph):
+            if not any(each.id == command.paragraph for each in before):
+                before = self.contents().paragraphs
+        answer = self._ask(command)
+        noted = deed or deeds.deed_of(command, answer, before)
+        if noted:
+            self._deeds = (*self._deeds, noted)
+        return answer
+
+    def _ask(self, command: Command[Any]) -> Any:
+        session = self._session
+        return session.ask(replace(command, expect=session.last_version))
+
+    def _after(self, command: Command[Any], answer: Any) -> Done:
+        number = getattr(command, "paragraph", None)
+        if isinstance(command, requests.Type):
+            number = answer.id
+        return Done(self.contents(), kept(command, answer), number)

@@ -1,0 +1,671 @@
+"""A book at work in its window: what is chosen and typed, what is kept of it, and what is shown."""
+
+import os
+from collections.abc import Callable, Iterator, Sequence
+from concurrent.futures import Future
+from contextlib import contextmanager, suppress
+from dataclasses import dataclass
+from functools import partial
+from pathlib import Path
+from typing import TypeVar
+
+from PyQt6.QtCore import QModelIndex, QSocketNotifier, QTimer
+from PyQt6.QtWidgets import QWidget
+from PyQt6.sip import voidptr
+
+from braildesk import After, DeskError, Lost, Mark, Refused, requests
+from braildesk.desk.draft import Aim, Draft
+from braildesk.desk.drafts import Drafts, NotKept
+from braildesk.desk.highlighting import Highlighted
+from braildesk.desk.layout import PageSize
+from braildesk.protocol.requests import Command
+from braildesk.text.cells import braille_ascii, braille_patterns
+from braildesk.text.characters import code_and_name, visible
+from braildesk.text.sequences import composed
+from braildesk.text.spans import Span
+from braildesk.text.wrapping import wrap
+
+from scribe.window.book import Contents, Done, NotAll, OpenBook, Opening, Reading
+from scribe.window.dialogs import choice
+from scribe.window.fields import LINE_END
+from scribe.window.menus import MENUS
+from scribe.window.window import Window
+from scribe.window.worker import Worker
+from scribe.words import pagelook
+from scribe.words.drafts import not_kept
+from scribe.words.failures import in_sentences
+from scribe.words.paragraph import mark_line, title
+from scribe.words.preview import Preview
+from scribe.words.status import Stop
+from scribe.words.unsent import Unsent
+
+Result = TypeVar("Result")
+_EMPTY = "The book has no paragraph yet. Ctrl+Enter begins one."
+_CLOSED = "The book is closed: Open the book again, in the menu Book, opens it."
+
+
+@dataclass(frozen=True)
+class New:
+    """A new paragraph that is typed: before or after which one, and by which table."""
+
+    aim: Aim
+    paragraph: int | None
+    table: str
+
+
+class Desk:
+    """A book that is open in a window."""
+
+    def __init__(
+        self, path: Path, by: str | None, wait: float, page_size: PageSize
+    ) -> None:
+        self.path = path
+        self.page_size = page_size
+        #: The threads of the session, of the texts that wait, and of what is translated ahead.
+        self.work, self.aside, self.ahead = Worker(), Worker(), Worker()
+        self.book = OpenBook(path, by, wait)
+        self.drafts = Drafts(path)
+        self.unsent = Unsent(self.drafts)
+        self.contents = Contents(0, (), ())
+        self.row = -1
+        self.reading: Reading | None = None
+        self.new: New | None = None
+        self.in_hand: int | None = None
+        self.is_ascii = False
+        #: The book can't be worked on, since its session ended and none could be opened.
+        self.is_closed = False
+        self.acts: dict[str, Callable[[], None]] = {}
+        self._light: Highlighted | None = None
+        self._preview: Preview | None = None
+        self._is_showing = self._is_acting = False
+        self._came_from: QWidget | None = None
+        self._watched: QSocketNotifier | None = None
+        names = [each.name for items in MENUS.values() for each in items if each]
+        self.window = Window(
+            path.name,
+            self._ask_for,
+            {name: partial(self.act, name) for name in names},
+            self._may_close,
+        )
+        self._connect()
+
+    def _connect(self) -> None:
+        chosen = self.window.table.selectionModel()
+        assert chosen is not None
+        window = self.window
+        chosen.currentChanged.connect(self._chosen)
+        window.print.textChanged.connect(self._typed)
+        window.print.cursorPositionChanged.connect(self._in_print)
+        window.cells.cursorPositionChanged.connect(self._in_cells)
+        window.print.entered.connect(lambda: self.act("keep"))
+        window.print.left.connect(lambda: self.act("give_up"))
+        for field in (window.message, window.here, window.marks, window.cells):
+            field.left.connect(self.go_back)
+        window.message.entered.connect(self.go_back)
+
+    def open(self) -> None:
+        """Opens the book and shows it; raises what the client raises."""
+        self.contents = self.work.result(self.book.open)
+        self.watch()
+        self.show(self.contents, None)
+
+    def close(self) -> None:
+        """Ends the session and the threads, once what is typed was kept as what waits."""
+        self.unwatch()
+        self.aside.stop()
+        try:
+            if not self.is_closed:
+                self.work.result(self.book.close)
+        finally:
+            self.work.stop()
+            self.ahead.stop()
+
+    # what is done, and what becomes of failures
+
+    def act(self, name: str) -> None:
+        """Does what a menu or a key asks for."""
+        self.acting(self.acts[name])
+
+    def acting(self, act: Callable[[], None]) -> None:
+        """Does something, unless something else is being done."""
+        if self._is_acting:
+            return
+        self._is_acting = True
+        try:
+            with self.failures():
+                act()
+        finally:
+            self._is_acting = False
+
+    @contextmanager
+    def failures(self) -> Iterator[None]:
+        """Shows what wasn't done, and sees to a session that was lost."""
+        try:
+            with in_sentences():
+                yield
+        except Stop as stop:
+            self.refuse(stop.sentence)
+        except Lost as lost:
+            self.after_loss(lost)
+        except DeskError as refused:
+            self.refuse(refused.sentence)
+        except NotAll as part:
+            cause = part.cause
+            why = cause.sentence if isinstance(cause, Refused) else "Stopped."
+            self.show(self.asked(self.book.contents), None)
+            self.refuse(f"{part.done:,} done. {why}")
+
+    def asked(self, act: Callable[[], Result]) -> Result:
+        """What comes of something in the thread of the session."""
+        if self.is_closed:
+            raise Stop(_CLOSED)
+        return self.work.result(act)
+
+    def say(self, sentence: str) -> None:
+        """Has something stand in the message."""
+        self.window.message.show_text(visible(sentence))
+
+    def refuse(self, sentence: str) -> None:
+        """Has something stand in the message, which takes the focus, so that it is heard."""
+        message = self.window.message
+        if visible(sentence) == message.text:
+            sentence = f"Again: {sentence}"
+        self.say(sentence)
+        focused = self.window.focusWidget()
+        if focused is not None and focused is not message:
+            self._came_from = focused
+        message.put_caret(0)
+        message.setFocus()
+
+    def go_to(self, field: QWidget) -> None:
+        """Gives a part of the window the focus; Escape goes back."""
+        self._came_from = self.window.focusWidget()
+        field.setFocus()
+
+    def go_back(self) -> None:
+        """Gives the focus back to what had it before the message."""
+        before, self._came_from = self._came_from, None
+        (before or self.window.table).setFocus()
+
+    # what is chosen and shown
+
+    @property
+    def number(self) -> int | None:
+        """The number of the chosen paragraph."""
+        return self.reading.its.paragraph.id if self.reading else None
+
+    @property
+    def place(self) -> int:
+        """The character at the caret, or that of the cell at the caret."""
+        if self.window.cells.hasFocus() and self._light is not None:
+            return self._light.words.start
+        return self.window.print.place
+
+    def show(self, contents: Contents, number: int | None) -> None:
+        """Shows the book as it is now, with a paragraph chosen, of which something changed."""
+        self.contents = contents
+        wanted = contents.place(number if number is not None else self.number)
+        if wanted is None:
+            wanted = max(0, min(self.row, len(contents.paragraphs) - 1))
+        self._is_showing = True
+        try:
+            self.window.model.show(contents.paragraphs, number)
+            if contents.paragraphs:
+                self.window.choose(wanted)
+        finally:
+            self._is_showing = False
+        self.show_row(wanted)
+
+    def show_done(self, done: Done) -> None:
+        """Shows what was kept, and only now says so."""
+        self.show(done.contents, done.paragraph)
+        said = done.said[:1].upper() + done.said[1:]
+        self.say(said if said.endswith(".") else f"{said}.")
+
+    def do(self, command: Command[object]) -> None:
+        """Carries out a command, and shows what it did."""
+        self.show_done(self.asked(lambda: self.book.done(command)))
+
+    def show_row(self, row: int) -> None:
+        """Shows the print and the braille of a paragraph."""
+        before = self.number
+        self.row, self.new, self._preview = row, None, None
+        paragraphs = self.contents.paragraphs
+        self.reading = None
+        if paragraphs:
+            its = paragraphs[row]
+            self.reading = self.asked(lambda: self.book.reading(its))
+        if self.number != before:
+            self.in_hand = None
+        self.show_reading(0 if self.number != before else self.window.print.place)
+
+    def show_reading(self, place: int) -> None:
+        """Shows the paragraph as it is in the book."""
+        reading, window = self.reading, self.window
+        window.print.setReadOnly(reading is None or reading.its.paragraph.struck)
+        head = "&Print"
+        if reading is None:
+            self.say(_EMPTY)
+        else:
+            its = reading.its.paragraph
+            struck = "; restore it to type in it" if its.struck else ""
+            head = f"{title(its, True)}{struck}"
+        window.print_label.setText(head)
+        text = reading.its.text if reading else ""
+        marks = reading.its.marks if reading else ()
+        self._is_showing = True
+        try:
+            window.print.show_text(text)
+            window.print.put_caret(min(place, len(text)))
+            window.cells.show_text(self.shown(reading.its.braille if reading else ""))
+            window.marks.show_text("\n".join(mark_line(mark, text) for mark in marks))
+        finally:
+            self._is_showing = False
+        self.link()
+
+    def shown(self, cells: str) -> str:
+        """Cells as they are shown: Unicode, or Braille ASCII."""
+        return braille_ascii(cells) if self.is_ascii else cells
+
+    def _chosen(self, there: QModelIndex, before: QModelIndex) -> None:
+        """Another paragraph was chosen in the table: what was typed is kept first."""
+        if self._is_showing or not there.isValid():
+            return
+        number = self.contents.paragraphs[there.row()].id
+
+        def act() -> None:
+            if self.is_closed:
+                raise Stop(_CLOSED)
+            if not self.settle():
+                QTimer.singleShot(0, self._choose_again)
+                return
+            row = self.contents.place(number)
+            if row is not None:
+                self.choose(row)
+
+        self.acting(act)
+
+    def choose(self, row: int, place: int = 0) -> None:
+        """Chooses a paragraph, and puts the carets on a character of it."""
+        self._is_showing = True
+        try:
+            self.window.choose(row)
+        finally:
+            self._is_showing = False
+        if row != self.row or self.new is not None:
+            self.show_row(row)
+        self.window.print.put_caret(place)
+
+    def _choose_again(self) -> None:
+        """The paragraph stays chosen in which something is typed that wasn't kept."""
+        self._is_showing = True
+        try:
+            if 0 <= self.row < len(self.contents.paragraphs):
+                self.window.choose(self.row)
+        finally:
+            self._is_showing = False
+
+    def _ask_for(self, numbers: Sequence[int]) -> None:
+        """Has paragraphs read that are listed."""
+        if self.is_closed or not numbers:
+            return
+
+        def take(found: "Future[dict[int, Opening]]") -> None:
+            # where the session was lost or is closed for a while, it is seen to elsewhere
+            with suppress(DeskError, RuntimeError):
+                self.window.model.take(found.result())
+
+        self.work.post(lambda: self.book.openings(numbers), take)
+
+    # the carets of print and braille, which go with each other
+
+    def _in_print(self) -> None:
+        if not self._is_showing and not self.window.cells.hasFocus():
+            self.link()
+
+    def _in_cells(self) -> None:
+        if not self._is_showing and self.window.cells.hasFocus():
+            self.link()
+
+    def link(self) -> None:
+        """Has the caret of the other text stand where this one's does, and says where that is."""
+        reading, window = self.reading, self.window
+        if self.is_closed or reading is None or self.is_typed():
+            self._light = None
+            self._unlinked()
+            return
+        by_cell = window.cells.hasFocus()
+        place = window.cells.place if by_cell else window.print.place
+        seek = self.book.by_cell if by_cell else self.book.by_character
+        with self.failures():
+            self._light = self.asked(partial(seek, reading, place))
+        if self._light is None:
+            return
+        words, cells = self._light.words, self._light.cells
+        marks = [Span(m.start, m.stop) for m in reading.its.marks if not m.resolved]
+        self._is_showing = True
+        try:
+            if by_cell:
+                window.print.put_caret(words.start)
+            else:
+                at_end = place >= len(reading.its.text)
+                window.cells.put_caret(cells.stop if at_end else cells.start)
+        finally:
+            self._is_showing = False
+        window.print.light(marks, words)
+        window.cells.light(reading.marked_cells, cells)
+        window.here.show_text(self._described(reading, place, by_cell))
+        self.update_page(False)
+
+    def _described(self, reading: Reading, place: int, by_cell: bool) -> str:
+        """The place in words: the characters, their cells, and the marks there."""
+        assert self._light is not None
+        words, cells = self._light.words, self._light.cells
+        text, braille = reading.its.text, reading.its.braille
+        whole = braille if by_cell else text
+        if place >= len(whole):
+            said = (
+                f"The end, after {len(whole):,} {'cells' if by_cell else 'characters'}."
+            )
+        else:
+            sign = text[words.start : words.stop]
+            its = f"“{sign}”" if visible(sign) == sign else code_and_name(sign[0])
+            shown = self.shown(braille[cells.start : cells.stop])
+            said = (
+                f"{its} {shown}, {words.counted('character')}, {cells.counted('cell')}."
+            )
+        marks = (mark_line(mark, text) for mark in self.marks_here())
+        return "\n".join([said, *marks])
+
+    def _unlinked(self) -> None:
+        """What is seen of a text that isn't in the book yet."""
+        window = self.window
+        window.print.light((), None)
+        window.cells.light((), None)
+        text, place = window.print.text, window.print.place
+        if not self.is_typed() and self.new is None:
+            window.here.show_text("")
+            return
+        fault = self._preview.fault if self._preview else ""
+        count = f"{len(text):,} characters, not in the book yet."
+        where = f"Character {place + 1:,}" if place < len(text) else "The end"
+        said = f"{where} of {count}"
+        keeps = "Enter keeps it, Escape gives it up."
+        window.here.show_text(" ".join(filter(None, [fault, said, keeps])))
+
+    def marks_here(self) -> list[Mark]:
+        """The marks at the caret, and the one in hand; open ones first."""
+        if self.reading is None:
+            return []
+        last = max(0, len(self.reading.its.text) - 1)
+        words = self._light.words if self._light else Span(self.place, self.place + 1)
+        found = [
+            mark
+            for mark in self.reading.its.marks
+            if mark.id == self.in_hand
+            or min(mark.start, last) < max(words.stop, words.start + 1)
+            and words.start < max(mark.stop, mark.start + 1)
+        ]
+        return sorted(found, key=lambda m: (m.resolved, m.id != self.in_hand, m.id))
+
+    # the page of the caret
+
+    def update_page(self, is_asked: bool) -> None:
+        """Has the page of the caret shown, where pages are shown."""
+        reading, light = self.reading, self._light
+        if not self.window.dock.isVisible() or reading is None or light is None:
+            return
+        its = reading.its.paragraph
+        says = f"character {light.words.start + 1}"
+        sought = pagelook.Sought(its, light.cells.start, says)
+        contents, page_size = self.contents, self.page_size
+
+        def take(found: "Future[pagelook.Page]") -> None:
+            with suppress(DeskError, RuntimeError):
+                page = found.result()
+                lines = [self.shown_page(line) for line in page.lines]
+                title = wrap(page.title, max(20, page_size.width * 5 // 6))
+                self.window.show_page(title, lines, page.line)
+
+        look = partial(self.book.page, contents, page_size, sought, is_asked)
+
+        self.work.latest("page", look, take)
+
+    def shown_page(self, line: str) -> str:
+        """A line of a page, which is in Braille ASCII, as cells are shown."""
+        return line if self.is_ascii else braille_patterns(line)
+
+    # what is typed, and what is kept of it
+
+    def typed_text(self) -> str:
+        """What is typed, in one line: what else made lines of it is as a blank."""
+        text, before = self.window.print.text, self.before()
+        return text if LINE_END in before else text.replace(LINE_END, " ")
+
+    def before(self) -> str:
+        """The print in which something may be typed, as the book has it."""
+        return "" if self.new is not None or not self.reading else self.reading.its.text
+
+    def is_typed(self) -> bool:
+        """Whether a text is typed that the book doesn't have."""
+        return self.typed_text() != self.before()
+
+    def draft(self) -> Draft | None:
+        """What is typed and not in the book yet."""
+        text = self.typed_text()
+        if not self.is_typed() or not text:
+            return None
+        version = self.contents.version
+        if self.new is not None:
+            new = self.new
+            return Draft(new.aim, new.paragraph, new.table, "", text, None, version)
+        assert self.reading is not None
+        its = self.reading.its
+        table = its.paragraph.table
+        return Draft(Aim.EDIT, self.number, table, its.text, text, None, version)
+
+    def keep_draft(self, draft: Draft | None) -> None:
+        """Has a text wait until the book has it, or nothing."""
+
+        def look(found: "Future[None]") -> None:
+            try:
+                found.result()
+            except NotKept as fault:
+                self.say(not_kept(fault))
+
+        self.aside.latest("draft", lambda: self.unsent.keep(draft), look)
+
+    def wait_for_draft(self) -> None:
+        """Waits until what is typed is kept as what waits."""
+        self.aside.result(lambda: None, is_first=False)
+
+    def _typed(self) -> None:
+        if self._is_showing:
+            return
+        self.keep_draft(self.draft())
+        text, table = self.typed_text(), self.table_of_typed()
+        if not self.is_typed():
+            self._preview = None
+            if self.reading is not None and self.new is None:
+                self.show_reading(self.window.print.place)
+            return
+        if table is None:
+            return
+
+        def take(found: "Future[Preview]") -> None:
+            preview = found.result()
+            if preview.text == self.typed_text() and self.is_typed():
+                self._preview = preview
+                self._is_showing = True
+                self.window.cells.show_text(self.shown(preview.braille))
+                self._is_showing = False
+                self._unlinked()
+
+        tables = self.book.tables
+        self.ahead.latest(
+            "preview", partial(tables.preview, table, text, composed(text)), take
+        )
+        self._unlinked()
+
+    def table_of_typed(self) -> str | None:
+        """The table of the print that is typed."""
+        if self.new is not None:
+            return self.new.table
+        return self.reading.its.paragraph.table if self.reading else None
+
+    def settle(self) -> bool:
+        """Keeps what is typed; whether nothing is typed any more that the book doesn't have."""
+        new, text = self.new, self.typed_text()
+        if new is None and not self.is_typed():
+            return True
+        if new is not None and not text:
+            self.leave_new()
+            return True
+        self.keep_draft(self.draft())
+        self.wait_for_draft()
+        reading = self.reading
+        is_kept = False
+        with self.failures():
+            if new is None:
+                assert reading is not None
+                done = self.asked(partial(self.book.corrected, reading, text))
+            else:
+                done = self._typed_new(new, text)
+            is_kept = True
+        if not is_kept:
+            return not self.is_typed() and self.new is None
+        self.keep_draft(None)
+        self.new = None
+        if done is None:
+            self.show_reading(self.window.print.place)
+        else:
+            self.show_done(done)
+        return True
+
+    def _typed_new(self, new: New, text: str) -> Done:
+        after = self.after(new)
+        command = requests.Type(after, new.table, composed(text))
+        return self.asked(lambda: self.book.done(command))
+
+    def after(self, new: New) -> After:
+        """Where a new paragraph goes."""
+        place = self.contents.place(new.paragraph)
+        if place is None:
+            return "end"
+        if new.aim is Aim.AFTER:
+            return self.contents.paragraphs[place].id
+        return self.contents.paragraphs[place - 1].id if place else "front"
+
+    def begin_new(self, new: New, text: str = "") -> None:
+        """Has a new paragraph be typed."""
+        self.new, self._light = new, None
+        window = self.window
+        if not self.contents.paragraphs:
+            # that there is none is no news any more
+            self.say("")
+        where = "at the end of the book"
+        if new.paragraph is not None:
+            way = "after" if new.aim is Aim.AFTER else "before"
+            where = f"{way} paragraph {new.paragraph}"
+        said = f"A new paragraph {where}, table {new.table}"
+        window.print_label.setText(said)
+        window.print.setReadOnly(False)
+        self._is_showing = True
+        try:
+            window.print.show_text("")
+            window.cells.show_text("")
+            window.marks.show_text("")
+        finally:
+            self._is_showing = False
+        if text:
+            window.print.textCursor().insertText(text)
+        self._unlinked()
+        window.print.setFocus()
+
+    def leave_new(self) -> None:
+        """Goes back to the paragraph beside which nothing was typed."""
+        self.new = None
+        self.keep_draft(None)
+        self.show_reading(0)
+
+    # the session, which may end by itself
+
+    def watch(self) -> None:
+        """Watches the session, so that its end is seen when it comes."""
+        self.unwatch()
+        its = QSocketNotifier(
+            voidptr(os.pidfd_open(self.book.pid)), QSocketNotifier.Type.Read
+        )
+        its.activated.connect(lambda: self.acting(self._ended))
+        self._watched = its
+
+    def unwatch(self) -> None:
+        """Watches it no more."""
+        its, self._watched = self._watched, None
+        if its is not None:
+            its.setEnabled(False)
+            os.close(int(its.socket()))
+
+    def _ended(self) -> None:
+        self.unwatch()
+        if not self.is_closed:
+            self.asked(lambda: self.book.session.version())
+
+    def after_loss(self, lost: Lost) -> None:
+        """Opens the book again, and says what it has. What is typed stays typed."""
+        self.unwatch()
+        self.wait_for_draft()
+        try:
+            found, said = self.work.result(lambda: self.book.open_after(lost))
+        except (DeskError, OSError) as failed:
+            found, said = None, [lost.sentence, str(failed)]
+        if found is None:
+            self.is_closed = True
+            if self.is_typed():
+                said.append(f"What is typed is kept in {self.drafts.place}.")
+            self.refuse(" ".join(said))
+            return
+        self.taken_again(found)
+        self.refuse(" ".join(said))
+
+    def taken_again(self, contents: Contents) -> None:
+        """Shows a book that was opened again; what is typed and isn't in it stays typed."""
+        self.is_closed = False
+        self.watch()
+        draft, new, number = self.draft(), self.new, self.number
+        place = self.window.print.place
+        there = bool(
+            draft and self.asked(partial(self.book.where_kept, contents, draft))
+        )
+        self.window.model.all_unread()
+        self.show(contents, number)
+        if draft is None or there:
+            self.keep_draft(None)
+            return
+        if new is not None:
+            self.begin_new(new, draft.text)
+        elif self.number == number:
+            self.window.print.selectAll()
+            self.window.print.textCursor().insertText(draft.text)
+        else:
+            table = draft.table or contents.tables[0]
+            self.begin_new(New(Aim.AFTER, self.number, table), draft.text)
+        self.window.print.put_caret(place)
+
+    def _may_close(self) -> bool:
+        """Whether the window may go: what is typed is kept in the book, or waits."""
+        if self._is_acting:
+            return False
+        self._is_acting = True
+        try:
+            if self.is_closed or self.settle():
+                return True
+        finally:
+            self._is_acting = False
+        return self.is_left()
+
+    def is_left(self) -> bool:
+        """Asks whether the window goes while something is typed that wasn't kept."""
+        said = self.window.message.text
+        asked = f"{said}\n\nWhat is typed waits, and is offered when the book is opened again."
+        return choice(self.window, "Not kept", asked, ("&Close", "&Stay")) == 0

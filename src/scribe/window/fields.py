@@ -1,0 +1,206 @@
+"""Texts that are read or typed: the print of a paragraph, its cells, and what is said of them.
+
+Qt counts places in UTF-16, where a character beyond U+FFFF has two; all others here count characters.
+"""
+
+import re
+from collections.abc import Callable, Sequence
+
+from PyQt6.QtCore import QEvent, QMimeData, Qt, pyqtSignal
+from PyQt6.QtGui import (
+    QFont,
+    QKeyEvent,
+    QKeySequence,
+    QPalette,
+    QTextCharFormat,
+    QTextCursor,
+)
+from PyQt6.QtWidgets import QPlainTextEdit, QTextEdit, QWidget
+
+from braildesk.text.spans import Span
+
+_BEYOND = "\U00010000"
+#: What Qt puts where a line of a text ends.
+LINE_END = "\u2029"
+_LINE_END = re.compile(f"\r\n|[\r\n{LINE_END}]")
+
+
+def units(text: str, place: int) -> int:
+    """Where Qt counts the character of a text that is at a place."""
+    if not text or max(text) < _BEYOND:
+        return place
+    return len(text[:place].encode("utf-16-le", "surrogatepass")) // 2
+
+
+def characters(text: str, unit: int) -> int:
+    """The place of the character that Qt counts there, also by its second half."""
+    if not text or max(text) < _BEYOND:
+        return min(unit, len(text))
+    passed = place = 0
+    for place, character in enumerate(text):
+        passed += 1 if character < _BEYOND else 2
+        if passed > unit:
+            return place
+    return len(text)
+
+
+class Field(QPlainTextEdit):
+    """A text. Its caret is there also where it is read only."""
+
+    #: Enter was pressed; or Escape.
+    entered = pyqtSignal()
+    left = pyqtSignal()
+
+    def __init__(self, name: str, is_read_only: bool) -> None:
+        super().__init__()
+        self.setAccessibleName(name)
+        self.setTabChangesFocus(True)
+        self.setReadOnly(is_read_only)
+        if is_read_only:
+            keys = Qt.TextInteractionFlag.TextSelectableByKeyboard
+            mouse = Qt.TextInteractionFlag.TextSelectableByMouse
+            self.setTextInteractionFlags(keys | mouse)
+
+    @property
+    def text(self) -> str:
+        """The text as it is: `toPlainText` makes blanks of no-break spaces."""
+        document = self.document()
+        assert document is not None
+        return document.toRawText()
+
+    @property
+    def place(self) -> int:
+        """The character on which the caret stands."""
+        return characters(self.text, self.textCursor().position())
+
+    @property
+    def selected(self) -> Span:
+        """The characters that are selected."""
+        cursor, text = self.textCursor(), self.text
+        start = characters(text, cursor.selectionStart())
+        return Span(start, characters(text, cursor.selectionEnd()))
+
+    def show_text(self, text: str) -> None:
+        """Shows another text, if it is another one."""
+        if text != self.text:
+            self.setPlainText(text)
+
+    def put_caret(self, place: int) -> None:
+        """Puts the caret on a character, and selects nothing."""
+        cursor = self.textCursor()
+        unit = units(self.text, place)
+        if cursor.position() != unit or cursor.hasSelection():
+            cursor.setPosition(unit)
+            self.setTextCursor(cursor)
+
+    def select(self, span: Span) -> None:
+        """Selects characters, with the caret on the first of them."""
+        text, cursor = self.text, self.textCursor()
+        cursor.setPosition(units(text, span.stop))
+        cursor.setPosition(units(text, span.start), QTextCursor.MoveMode.KeepAnchor)
+        self.setTextCursor(cursor)
+
+    def light(self, marked: Sequence[Span], lit: Span | None) -> None:
+        """Underlines what is marked, and lights what belongs to the caret, for the eye alone.
+
+        A screen reader is told of neither; what they mean is said in words elsewhere.
+        """
+        underlined, ground = QTextCharFormat(), QTextCharFormat()
+        underlined.setFontUnderline(True)
+        underlined.setUnderlineStyle(QTextCharFormat.UnderlineStyle.DashUnderline)
+        palette = self.palette()
+        ground.setBackground(palette.brush(QPalette.ColorRole.Highlight))
+        ground.setForeground(palette.brush(QPalette.ColorRole.HighlightedText))
+        stretches = [(each, underlined) for each in marked]
+        if lit is not None and lit.stop > lit.start:
+            stretches.append((lit, ground))
+        text, found = self.text, []
+        for span, form in stretches:
+            its = QTextEdit.ExtraSelection()
+            its.cursor = self.textCursor()
+            its.cursor.setPosition(units(text, span.start))
+            stop = units(text, span.stop)
+            its.cursor.setPosition(stop, QTextCursor.MoveMode.KeepAnchor)
+            its.format = form
+            found.append(its)
+        self.setExtraSelections(found)
+
+    def keyPressEvent(self, event: QKeyEvent | None) -> None:
+        """Enter and Escape are keys of the desk; no other line begins in a paragraph."""
+        if event is None:
+            return
+        key = event.key()
+        if key in (Qt.Key.Key_Return, Qt.Key.Key_Enter):
+            self.entered.emit()
+        elif key == Qt.Key.Key_Escape:
+            self.left.emit()
+        else:
+            super().keyPressEvent(event)
+
+
+class Print(Field):
+    """The print of a paragraph, which is typed."""
+
+    #: Several lines were pasted or dropped.
+    pasted = pyqtSignal(list)
+
+    def __init__(self) -> None:
+        super().__init__("Print", False)
+
+    def event(self, event: QEvent | None) -> bool:
+        """Undo is an action of the desk, which knows whether something is typed."""
+        if event is None:
+            return False
+        if (
+            event.type() == QEvent.Type.ShortcutOverride
+            and isinstance(event, QKeyEvent)
+            and event.matches(QKeySequence.StandardKey.Undo)
+        ):
+            event.ignore()
+            return False
+        return super().event(event)
+
+    def insertFromMimeData(self, source: QMimeData | None) -> None:
+        """One line goes in where the caret is; of several it is asked what they are."""
+        if source is None or not source.hasText():
+            return
+        lines = lines_of(source.text())
+        if len(lines) > 1:
+            self.pasted.emit(lines)
+        elif lines:
+            self.textCursor().insertText(lines[0])
+        # the caret is seen where the text ends
+        self.ensureCursorVisible()
+
+    def canInsertFromMimeData(self, source: QMimeData | None) -> bool:
+        """Text goes in; a file that is dropped is for the window."""
+        return source is not None and source.hasText() and not source.hasUrls()
+
+
+class Cells(Field):
+    """The cells of a paragraph, where a letter is a key of the desk."""
+
+    def __init__(self, name: str, letter: Callable[[QKeyEvent], bool]) -> None:
+        super().__init__(name, True)
+        self._letter = letter
+
+    def keyPressEvent(self, event: QKeyEvent | None) -> None:
+        """Has a letter do what its action does."""
+        if event is None or not self._letter(event):
+            super().keyPressEvent(event)
+
+
+def lines_of(text: str) -> list[str]:
+    """The lines of a text that have something; one that is alone keeps its blanks."""
+    lines = _LINE_END.split(text)
+    if len(lines) == 1:
+        return [line for line in lines if line]
+    stripped = (line.replace("\t", " ").strip() for line in lines)
+    return [line for line in stripped if line]
+
+
+def with_font(widget: QWidget, family: str, size: float) -> None:
+    """Gives a text a font of a size in points."""
+    font = QFont(family)
+    font.setPointSizeF(size)
+    widget.setFont(font)

@@ -1,0 +1,169 @@
+"""The table of the paragraphs of a book."""
+
+from collections.abc import Callable, Sequence
+from typing import Any
+
+from PyQt6.QtCore import QAbstractTableModel, QModelIndex, Qt
+from PyQt6.QtGui import QKeyEvent
+from PyQt6.QtWidgets import QAbstractItemView, QTableView
+
+from braildesk import Paragraph, Style
+from braildesk.text.characters import visible
+
+from scribe.window.book import Opening
+
+_COLUMNS = ("Number", "Kind", "Open marks", "First words")
+#: The column on which the cursor stands, whose cell a screen reader reads.
+WORDS = len(_COLUMNS) - 1
+# what is above and below the words of a row, in pixels
+_ROW_MARGIN = 8
+# how many paragraphs are read at once
+_BATCH = 128
+
+
+class Paragraphs(QAbstractTableModel):
+    """What is listed of paragraphs; those that weren't read yet are asked for once they are shown."""
+
+    def __init__(self, ask: Callable[[Sequence[int]], None]) -> None:
+        super().__init__()
+        self._ask = ask
+        self._book: tuple[Paragraph, ...] = ()
+        self._openings: dict[int, Opening] = {}
+        self._asked: set[int] = set()
+
+    def rowCount(self, parent: QModelIndex = QModelIndex()) -> int:
+        return 0 if parent.isValid() else len(self._book)
+
+    def columnCount(self, parent: QModelIndex = QModelIndex()) -> int:
+        return 0 if parent.isValid() else len(_COLUMNS)
+
+    def headerData(
+        self, section: int, orientation: Qt.Orientation, role: int = 0
+    ) -> Any:
+        is_shown = role == Qt.ItemDataRole.DisplayRole
+        is_column = orientation == Qt.Orientation.Horizontal
+        return _COLUMNS[section] if is_shown and is_column else None
+
+    def data(self, index: QModelIndex, role: int = Qt.ItemDataRole.DisplayRole) -> Any:
+        if not index.isValid():
+            return None
+        its, column = self._book[index.row()], index.column()
+        if role == Qt.ItemDataRole.AccessibleTextRole and column == WORDS:
+            return self.described(index.row())
+        if role != Qt.ItemDataRole.DisplayRole:
+            return None
+        if column < 2:
+            return (str(its.id), kind(its))[column]
+        found = self._openings.get(its.id)
+        if found is None:
+            self._read(index.row())
+            return ""
+        return (_marks(found), visible(found.words))[column - 2]
+
+    def described(self, row: int) -> str:
+        """A paragraph in words, as a screen reader reads it."""
+        its = self._book[row]
+        found = self._openings.get(its.id)
+        if found is None:
+            self._read(row)
+            return f"{its.id} {kind(its)}"
+        parts = (f"{its.id} {kind(its)}", _marks(found))
+        return f"{', '.join(filter(None, parts))}: {visible(found.words)}"
+
+    def show(self, book: tuple[Paragraph, ...], changed: int | None = None) -> None:
+        """Shows a book, of which one paragraph may read otherwise than before."""
+        before, self._asked = self._book, set()
+        if changed is not None:
+            self._openings.pop(changed, None)
+        old, new = [each.id for each in before], [each.id for each in book]
+        if old == new:
+            self._book = book
+            pairs = enumerate(zip(before, book))
+            rows = [n for n, (was, its) in pairs if was != its or its.id == changed]
+            for row in rows:
+                self._tell(row, row)
+        elif len(new) == len(old) + 1 and (place := _only_new(old, new)) is not None:
+            self.beginInsertRows(QModelIndex(), place, place)
+            self._book = book
+            self.endInsertRows()
+        else:
+            self.beginResetModel()
+            self._book = book
+            self._openings = {} if changed is None else self._openings
+            self.endResetModel()
+
+    def take(self, found: dict[int, Opening]) -> None:
+        """Takes what was read of paragraphs."""
+        self._openings |= found
+        rows = [n for n, each in enumerate(self._book) if each.id in found]
+        if rows:
+            self._tell(rows[0], rows[-1])
+
+    def all_unread(self) -> None:
+        """Forgets what was read."""
+        self._openings, self._asked = {}, set()
+        if self._book:
+            self._tell(0, len(self._book) - 1)
+
+    def _tell(self, first: int, last: int) -> None:
+        self.dataChanged.emit(self.index(first, 0), self.index(last, WORDS))
+
+    def _read(self, row: int) -> None:
+        """Asks for a paragraph and for those around it."""
+        if row in self._asked:
+            return
+        first = row - row % _BATCH
+        rows = range(first, min(first + _BATCH, len(self._book)))
+        self._asked |= set(rows)
+        numbers = [self._book[each].id for each in rows]
+        self._ask([each for each in numbers if each not in self._openings])
+
+
+class Table(QTableView):
+    """The paragraphs as they are seen, of which one is chosen."""
+
+    def __init__(self, model: Paragraphs, letter: Callable[[QKeyEvent], bool]) -> None:
+        super().__init__()
+        self._letter = letter
+        self.setModel(model)
+        self.setAccessibleName("Paragraphs")
+        self.setSelectionBehavior(QAbstractItemView.SelectionBehavior.SelectRows)
+        self.setSelectionMode(QAbstractItemView.SelectionMode.SingleSelection)
+        self.setEditTriggers(QAbstractItemView.EditTrigger.NoEditTriggers)
+        self.setTabKeyNavigation(False)
+        self.setWordWrap(False)
+        header, numbers = self.horizontalHeader(), self.verticalHeader()
+        assert header is not None and numbers is not None
+        header.setStretchLastSection(True)
+        header.setHighlightSections(False)
+        numbers.hide()
+        numbers.setDefaultSectionSize(self.fontMetrics().lineSpacing() + _ROW_MARGIN)
+
+    def keyPressEvent(self, event: QKeyEvent | None) -> None:
+        """Has a letter do what its action does, and look for nothing."""
+        if event is not None and not self._letter(event):
+            super().keyPressEvent(event)
+
+
+def kind(paragraph: Paragraph) -> str:
+    """What a paragraph is, in a few words."""
+    parts = (
+        "heading" if paragraph.style is Style.HEADING else "body",
+        "begins a volume" if paragraph.begins_volume else "",
+        "struck" if paragraph.struck else "",
+    )
+    return ", ".join(filter(None, parts))
+
+
+def _marks(found: Opening) -> str:
+    count = found.open_marks
+    if not count:
+        return ""
+    return "1 open mark" if count == 1 else f"{count:,} open marks"
+
+
+def _only_new(old: Sequence[int], new: Sequence[int]) -> int | None:
+    """The place of the one number that is new, where nothing else changed."""
+    pairs = enumerate(zip(old, new))
+    place = next((n for n, (was, its) in pairs if was != its), len(old))
+    return place if new[place + 1 :] == list(old[place:]) else None

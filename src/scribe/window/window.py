@@ -1,0 +1,206 @@
+"""The window of a book: what is seen in it, and what of that is remembered."""
+
+from collections.abc import Callable, Mapping, Sequence
+from pathlib import Path
+
+from PyQt6.QtCore import QSettings, Qt, pyqtSignal
+from PyQt6.QtGui import (
+    QCloseEvent,
+    QDragEnterEvent,
+    QDropEvent,
+    QFont,
+    QKeyEvent,
+)
+from PyQt6.QtWidgets import (
+    QDockWidget,
+    QLabel,
+    QMainWindow,
+    QSplitter,
+    QVBoxLayout,
+    QWidget,
+)
+
+from braildesk.text.spans import Span
+
+from scribe.window.fields import Cells, Field, Print, with_font
+from scribe.window.menus import Menus
+from scribe.window.paragraphs import WORDS, Paragraphs, Table
+
+#: Round dots, and cells that are all equally wide.
+CELLS_FONT = "DejaVu Serif"
+_PRINT_FONT = "DejaVu Sans"
+_PRINT_POINTS, _CELL_POINTS = 14.0, 20.0
+_LEAST_POINTS, _MOST_POINTS = 6.0, 72.0
+_LARGER = 1.15
+# how the table, the texts and the marks share the room
+_HEIGHTS = [180, 270, 70]
+# the lines of what is said
+_MESSAGE_LINES = 3
+_MARGIN = 6
+_PAGE_WIDTH = 360
+
+
+class Window(QMainWindow):
+    """The paragraphs of a book, the print and the cells of the chosen one, and what is said."""
+
+    #: A file was dropped on the window.
+    dropped = pyqtSignal(Path)
+
+    def __init__(
+        self,
+        name: str,
+        ask: Callable[[Sequence[int]], None],
+        acts: Mapping[str, Callable[[], None]],
+        is_closing: Callable[[], bool],
+    ) -> None:
+        super().__init__()
+        self._is_closing = is_closing
+        self.setWindowTitle(name)
+        self.setAcceptDrops(True)
+        self.model = Paragraphs(ask)
+        self.table = Table(self.model, self._letter)
+        self.print = Print()
+        self.cells = Cells("Braille", self._letter)
+        self.marks = Field("Marks", True)
+        self.here = Field("Place", True)
+        self.message = Field("Message", True)
+        self.page = Field("Page", True)
+        self.print_label = QLabel()
+        self.menus = Menus(self, acts)
+        self._lay_out()
+        self._settings = QSettings("braildesk", "window")
+        self._restore()
+
+    def _lay_out(self) -> None:
+        halves = QSplitter(Qt.Orientation.Vertical)
+        halves.setObjectName("halves")
+        halves.addWidget(self._column(QLabel("Paragraphs"), self.table))
+        cells, marks = QLabel("Braille"), QLabel("Marks")
+        paragraph = self._column(self.print_label, self.print, cells, self.cells)
+        halves.addWidget(paragraph)
+        halves.addWidget(self._column(marks, self.marks))
+        halves.setSizes(_HEIGHTS)
+        for part, height in enumerate(_HEIGHTS):
+            halves.setStretchFactor(part, height)
+        self.halves = halves
+        place = QLabel("Place")
+        said = QLabel("Message")
+        whole = self._column(halves, place, self.here, said, self.message)
+        column = whole.layout()
+        assert column is not None
+        column.setContentsMargins(_MARGIN, _MARGIN, _MARGIN, _MARGIN)
+        self.setCentralWidget(whole)
+        for field, lines in ((self.here, 2), (self.message, _MESSAGE_LINES)):
+            height = field.fontMetrics().lineSpacing() * lines + 12
+            field.setFixedHeight(height)
+        self.dock = QDockWidget("Page", self)
+        self.dock.setObjectName("page")
+        self.dock.setWidget(self.page)
+        self.page.setMinimumWidth(_PAGE_WIDTH)
+        self.addDockWidget(Qt.DockWidgetArea.RightDockWidgetArea, self.dock)
+        self.dock.hide()
+        self.page.setLineWrapMode(Field.LineWrapMode.NoWrap)
+
+    def _column(self, *parts: QWidget) -> QWidget:
+        whole = QWidget()
+        column = QVBoxLayout(whole)
+        column.setContentsMargins(0, 0, 0, 0)
+        for part in parts:
+            column.addWidget(part)
+        return whole
+
+    def choose(self, row: int) -> None:
+        """Chooses a paragraph in the table."""
+        index = self.model.index(row, WORDS)
+        self.table.setCurrentIndex(index)
+        self.table.scrollTo(index)
+
+    def show_page(
+        self, title: Sequence[str], lines: Sequence[str], line: int | None
+    ) -> None:
+        """Shows a page below its title, with a line lit on which its caret stands."""
+        self.page.show_text("\n".join([*title, *lines]))
+        text = self.page.text
+        if line is None:
+            self.page.light((), None)
+            return
+        start = sum(len(each) + 1 for each in (*title, *lines[:line]))
+        self.page.light((), Span(start, start + len(lines[line])))
+        self.page.put_caret(min(start, len(text)))
+        self.page.ensureCursorVisible()
+
+    def enlarge(self, by: int) -> None:
+        """Has print and braille be larger, or smaller."""
+        for field in (self.print, self.cells, self.page):
+            family, points = field.font().family(), field.font().pointSizeF()
+            points = max(_LEAST_POINTS, min(points * _LARGER**by, _MOST_POINTS))
+            with_font(field, family, points)
+
+    def take_cells_font(self, font: QFont) -> None:
+        """Shows cells in a font that somebody chose."""
+        for field in (self.cells, self.page):
+            with_font(field, font.family(), font.pointSizeF())
+
+    def remember(self) -> None:
+        """Keeps the fonts, the sizes and the places of this window for the next one."""
+        settings = self._settings
+        for name, field in self._fonts().items():
+            settings.setValue(f"{name}/family", field.font().family())
+            settings.setValue(f"{name}/points", field.font().pointSizeF())
+        settings.setValue("geometry", self.saveGeometry())
+        settings.setValue("state", self.saveState())
+        settings.setValue("halves", self.halves.saveState())
+        settings.sync()
+
+    def _restore(self) -> None:
+        settings = self._settings
+        usual = {
+            "print": (_PRINT_FONT, _PRINT_POINTS),
+            "cells": (CELLS_FONT, _CELL_POINTS),
+            "page": (CELLS_FONT, _CELL_POINTS * 0.7),
+        }
+        for name, field in self._fonts().items():
+            family, points = usual[name]
+            family = settings.value(f"{name}/family", family, str)
+            points = settings.value(f"{name}/points", points, float)
+            points = max(_LEAST_POINTS, min(points, _MOST_POINTS))
+            with_font(field, family, points)
+        self.resize(960, 720)
+        if (value := settings.value("geometry")) is not None:
+            self.restoreGeometry(value)
+        if (value := settings.value("state")) is not None:
+            self.restoreState(value)
+        if (value := settings.value("halves")) is not None:
+            self.halves.restoreState(value)
+        # the page is laid out once it is asked for
+        self.dock.hide()
+
+    def _fonts(self) -> dict[str, Field]:
+        return {"print": self.print, "cells": self.cells, "page": self.page}
+
+    def _letter(self, event: QKeyEvent) -> bool:
+        return self.menus.letter(event)
+
+    def dragEnterEvent(self, event: QDragEnterEvent | None) -> None:
+        """Takes one file."""
+        data = event.mimeData() if event is not None else None
+        if event is not None and data is not None and len(data.urls()) == 1:
+            if data.urls()[0].isLocalFile():
+                event.acceptProposedAction()
+
+    def dropEvent(self, event: QDropEvent | None) -> None:
+        """Says which file was dropped."""
+        data = event.mimeData() if event is not None else None
+        if event is not None and data is not None and data.urls():
+            event.acceptProposedAction()
+            self.dropped.emit(Path(data.urls()[0].toLocalFile()))
+
+    def closeEvent(self, event: QCloseEvent | None) -> None:
+        """Ends the work on the book, unless there is something to see to first."""
+        if event is None:
+            return
+        if self._is_closing():
+            self.remember()
+            event.accept()
+        else:
+            event.ignore()

@@ -1,0 +1,118 @@
+"""Threads beside that of the window: what they are given to do, and what comes of it."""
+
+from collections import deque
+from collections.abc import Callable
+from concurrent.futures import Future
+from concurrent.futures import TimeoutError as NotYet
+from threading import Condition, Thread
+from typing import Any, TypeVar, cast
+
+from PyQt6.QtCore import QEventLoop, QObject, pyqtSignal
+
+Result = TypeVar("Result")
+# how long the window waits without even being drawn
+_MOMENT_SECONDS = 0.05
+
+
+class _Job:
+    """What is to be done, and what is called with what came of it, in the window's thread."""
+
+    def __init__(
+        self,
+        act: Callable[[], Any],
+        then: Callable[["Future[Any]"], None],
+        name: str = "",
+    ) -> None:
+        self.act = act
+        self.then = then
+        self.name = name
+        self.future: Future[Any] = Future()
+
+    def run(self) -> None:
+        """Does it."""
+        try:
+            self.future.set_result(self.act())
+        except BaseException as failure:
+            # raised again where the result is asked for
+            self.future.set_exception(failure)
+
+
+class Worker(QObject):
+    """A thread, and what waits to be done there, one after the other."""
+
+    _done = pyqtSignal(object)
+
+    def __init__(self) -> None:
+        super().__init__()
+        self._jobs: deque[_Job] = deque()
+        self._changed = Condition()
+        self._is_over = False
+        self._done.connect(self._hand_over)
+        self._thread = Thread(target=self._run, daemon=True)
+        self._thread.start()
+
+    def result(self, act: Callable[[], Result], is_first: bool = True) -> Result:
+        """What comes of something that is done before all that waits, or after it.
+
+        The window waits for it. Meanwhile it is drawn, but keys and the mouse wait.
+        """
+        job = _Job(act, lambda future: None)
+        self._put(job, is_first)
+        try:
+            return cast(Result, job.future.result(timeout=_MOMENT_SECONDS))
+        except NotYet:
+            # a time that ran out within the work looks the same
+            if job.future.done():
+                raise
+        loop = QEventLoop()
+        flags = QEventLoop.ProcessEventsFlag
+        while not job.future.done():
+            loop.processEvents(flags.ExcludeUserInputEvents | flags.WaitForMoreEvents)
+        return cast(Result, job.future.result())
+
+    def post(
+        self, act: Callable[[], Result], then: Callable[["Future[Result]"], None]
+    ) -> None:
+        """Has something done later, and then something in the thread of the window."""
+        self._put(_Job(act, then), False)
+
+    def latest(
+        self,
+        name: str,
+        act: Callable[[], Result],
+        then: Callable[["Future[Result]"], None],
+    ) -> None:
+        """The same, in place of what has that name and wasn't begun."""
+        with self._changed:
+            others = [job for job in self._jobs if job.name != name]
+            self._jobs = deque([*others, _Job(act, then, name)])
+            self._changed.notify()
+
+    def stop(self) -> None:
+        """Ends the thread once all that waits was done."""
+        with self._changed:
+            self._is_over = True
+            self._changed.notify()
+        self._thread.join()
+
+    def _put(self, job: _Job, is_first: bool) -> None:
+        with self._changed:
+            if is_first:
+                self._jobs.appendleft(job)
+            else:
+                self._jobs.append(job)
+            self._changed.notify()
+
+    def _run(self) -> None:
+        while True:
+            with self._changed:
+                while not self._jobs:
+                    if self._is_over:
+                        return
+                    self._changed.wait()
+                job = self._jobs.popleft()
+            job.run()
+            self._done.emit(job)
+
+    def _hand_over(self, job: _Job) -> None:
+        job.then(job.future)

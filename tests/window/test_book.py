@@ -1,0 +1,129 @@
+"""The session of a window, and what is taken back there, without a window."""
+
+from collections.abc import Callable, Iterator, Sequence
+from pathlib import Path
+from typing import Any
+
+import pytest
+
+from braildesk import Session, Style, requests
+from braildesk.desk.draft import Aim, Draft
+from braildesk.desk.search import Spot
+from braildesk.protocol.requests import Command
+from braildesk.text.spans import Span
+
+from scribe.window.book import NotAll, NothingToTakeBack, OpenBook
+
+
+@pytest.fixture
+def book(moon: Path) -> Iterator[OpenBook]:
+    """The book, open."""
+    found = OpenBook(moon, None, 0.0)
+    found.open()
+    yield found
+    found.close()
+
+
+def _types(lines: Sequence[str]) -> list[Callable[[int | None], Command[Any]]]:
+    def of(line: str) -> Callable[[int | None], Command[Any]]:
+        return lambda newest: requests.Type(newest or 1, "en", line)
+
+    return [of(line) for line in lines]
+
+
+def test_each_deed_is_taken_back_the_last_first(book: OpenBook) -> None:
+    book.done(requests.Style(1, Style.HEADING))
+    book.done(requests.Move(1, "end"))
+    assert [each.id for each in book.contents().paragraphs] == [2, 3, 1]
+    done = book.taken_back(lambda *_: None)
+    assert done.said == "Taken back: paragraph 1 was moved."
+    assert [each.id for each in done.contents.paragraphs] == [1, 2, 3]
+    done = book.taken_back(lambda *_: None)
+    assert done.said == "Taken back: paragraph 1 was made a heading."
+    with pytest.raises(NothingToTakeBack):
+        book.taken_back(lambda *_: None)
+
+
+def test_paragraphs_that_were_typed_together_are_taken_back_together(
+    book: OpenBook,
+) -> None:
+    book.typed_all(_types(["One.", "Two."]), lambda done: None)
+    done = book.taken_back(lambda *_: None)
+    whole = "Taken back: 2 paragraphs were typed, 4 to 5. The book keeps them, struck."
+    assert done.said == whole
+    assert [each.id for each in done.contents.paragraphs if each.struck] == [4, 5]
+
+
+def test_of_paragraphs_one_of_which_is_refused_those_before_it_are_typed(
+    book: OpenBook,
+) -> None:
+    with pytest.raises(NotAll) as part:
+        book.typed_all(_types(["One.", "#", "Two."]), lambda done: None)
+    assert part.value.done == 1
+    assert [each.id for each in book.contents().paragraphs] == [1, 4, 2, 3]
+
+
+def test_a_mark_that_was_resolved_is_put_again(book: OpenBook) -> None:
+    reading = book.reading(book.contents().paragraphs[1])
+    assert reading.marked_cells == (Span(5, 8),)
+    book.resolved(reading, 1)
+    done = book.taken_back(lambda *_: None)
+    assert done.said.startswith("Taken back: mark 1 was resolved.")
+    marks = book.session.marks_of(2)
+    assert [(mark.id, mark.resolved, mark.note) for mark in marks] == [
+        (1, True, "spelled so?"),
+        (2, False, "spelled so?"),
+    ]
+
+
+def test_a_correction_is_the_smallest_one(book: OpenBook) -> None:
+    reading = book.reading(book.contents().paragraphs[1])
+    assert book.corrected(reading, "The mon is far away.") is None
+    done = book.corrected(reading, "The moon is far away.")
+    assert done is not None and done.said == "kept: correction 1 of paragraph 2"
+    (entry,) = book.session.history_of(2)
+    assert (entry.start, entry.count, entry.text) == (6, 0, "o")
+
+
+def test_what_stands_next_is_found(book: OpenBook) -> None:
+    contents = book.contents()
+    mark = book.next_mark(contents, Spot(0, 0), False)
+    assert mark is not None and mark.spot == Spot(1, 4, 1)
+    words = book.next_words(contents, Spot(0, 0), "far", False)
+    assert words is not None and words.spot == Spot(1, 11)
+    cells = book.next_cells(contents, Spot(0, 0), "SEA")
+    assert cells is not None and cells.spot == Spot(2, 17)
+
+
+@pytest.mark.parametrize(
+    "draft, where",
+    [
+        (Draft(Aim.AFTER, 1, "en", "", "One.\nTwo.", None, 5), "as paragraph 4"),
+        (Draft(Aim.AFTER, 1, "en", "", "Else.", None, 5), ""),
+        (Draft(Aim.AFTER, 1, "en", "", "One.", None, 6), ""),
+        (
+            Draft(Aim.EDIT, 2, "en", "x", "The mon is far away.", None, 5),
+            "in paragraph 2",
+        ),
+        (Draft(Aim.EDIT, 9, "en", "x", "The mon is far away.", None, 5), ""),
+        (Draft(Aim.NOTE, 2, "en", "x", "spelled so?", Span(5, 8), 5), "as mark 1"),
+    ],
+)
+def test_a_text_that_waits_is_known_again_in_the_book(
+    book: OpenBook, draft: Draft, where: str
+) -> None:
+    book.done(requests.Type(1, "en", "One."))
+    assert book.where_kept(book.contents(), draft) == where
+
+
+def test_nothing_is_taken_back_after_another_program_changed_the_book(
+    book: OpenBook, moon: Path
+) -> None:
+    book.done(requests.Style(1, Style.HEADING))
+    before = book.contents()
+    book.close()
+    with Session(moon) as session:
+        session.strike(2)
+    book.imported(before)
+    with pytest.raises(NothingToTakeBack):
+        book.taken_back(lambda *_: None)

@@ -1,0 +1,168 @@
+"""What comes into a window otherwise than by keys: lines that are pasted, and files that are dropped."""
+
+import time
+from collections.abc import Callable, Iterator, Sequence
+from pathlib import Path
+
+import pytest
+from PyQt6.QtCore import QMimeData, QPointF, Qt, QTimer, QUrl
+from PyQt6.QtGui import QDropEvent
+from PyQt6.QtWidgets import QApplication, QDialog, QLabel
+
+from braildesk.desk.drafts import Drafts
+from braildesk.desk.layout import PageSize
+
+from scribe.window import dialogs
+from scribe.window.actions import Actions
+from scribe.window.desk import Desk
+
+Answer = Callable[[int], None]
+
+
+@pytest.fixture(scope="module")
+def application() -> QApplication:
+    """The one application of these tests."""
+    found = QApplication.instance()
+    return found if isinstance(found, QApplication) else QApplication([])
+
+
+@pytest.fixture
+def desk(application: QApplication, moon: Path) -> Iterator[Desk]:
+    """The book, at work in a window that nobody sees."""
+    found = Desk(moon, None, 0.0, PageSize())
+    found.acts = Actions(found).all
+    found.open()
+    yield found
+    found.close()
+
+
+@pytest.fixture
+def asked(monkeypatch: pytest.MonkeyPatch) -> dict[str, int]:
+    """Which answer is given to a question of a title; and reports aren't waited for."""
+    answers: dict[str, int] = {}
+
+    def choice(over: object, title: str, said: str, given: Sequence[str]) -> int:
+        return answers[title]
+
+    monkeypatch.setattr(dialogs, "choice", choice)
+    monkeypatch.setattr(dialogs, "report", lambda over, title, lines: None)
+    return answers
+
+
+def _paste(desk: Desk, text: str) -> None:
+    data = QMimeData()
+    data.setText(text)
+    desk.window.print.insertFromMimeData(data)
+
+
+def _prints(desk: Desk) -> list[str]:
+    paragraphs = desk.asked(desk.book.contents).paragraphs
+    session = desk.book.session
+    return [
+        desk.asked(lambda number=each.id: session.print_of(number))  # type: ignore[misc]
+        for each in paragraphs
+    ]
+
+
+def test_one_line_goes_in_where_the_caret_is(desk: Desk) -> None:
+    desk.window.print.put_caret(3)
+    _paste(desk, " big")
+    assert desk.window.print.text == "The big Moon"
+    assert desk.settle()
+    assert _prints(desk)[0] == "The big Moon"
+
+
+def test_lines_are_joined_if_they_are_no_paragraphs(
+    desk: Desk, asked: dict[str, int]
+) -> None:
+    asked["Pasted lines"] = 1
+    desk.window.print.put_caret(8)
+    _paste(desk, " is\nfar")
+    assert desk.window.print.text == "The Moonis far"
+
+
+def test_lines_are_paragraphs_the_first_of_which_goes_on_here(
+    desk: Desk, asked: dict[str, int]
+) -> None:
+    asked["Pasted lines"] = 0
+    desk.window.print.put_caret(8)
+    _paste(desk, "s\r\nOne.\r\n\r\nTwo.")
+    assert _prints(desk)[:3] == ["The Moons", "One.", "Two."]
+    assert not desk.is_typed()
+    desk.wait_for_draft()
+    assert Drafts(desk.path).waiting() is None
+
+
+def test_of_lines_that_are_refused_none_is_lost(
+    desk: Desk, asked: dict[str, int]
+) -> None:
+    asked["Pasted lines"] = 0
+    desk.act("new_after")
+    _paste(desk, "One.\n#\nTwo.")
+    assert _prints(desk)[:3] == ["The Moon", "One.", "The mon is far away."]
+    assert desk.window.message.text.startswith("1 typed. The table en has no cells")
+    assert [each.text for each in Drafts(desk.path).given_up()] == ["#\nTwo."]
+
+
+def test_a_line_end_from_elsewhere_is_a_blank(desk: Desk) -> None:
+    desk.window.print.setPlainText("The Moon\nis far.")
+    assert desk.settle()
+    assert _prints(desk)[0] == "The Moon is far."
+
+
+def test_a_file_that_is_dropped_is_imported(
+    desk: Desk, asked: dict[str, int], tmp_path: Path
+) -> None:
+    (text := tmp_path / "text.txt").write_text("One.\n\nTwo.\n")
+    data = QMimeData()
+    data.setUrls([QUrl.fromLocalFile(str(text))])
+    drop = QDropEvent(
+        QPointF(9, 9),
+        Qt.DropAction.CopyAction,
+        data,
+        Qt.MouseButton.LeftButton,
+        Qt.KeyboardModifier.NoModifier,
+    )
+    desk.window.dropEvent(drop)
+    assert _prints(desk)[:3] == ["The Moon", "One.", "Two."]
+    # once more it is asked first, and nothing is typed after No
+    asked["Import"] = 1
+    desk.window.dropEvent(drop)
+    assert len(_prints(desk)) == 5
+
+
+def test_what_takes_long_is_cancelled_by_its_dialog(desk: Desk) -> None:
+    def act(say: Callable[[str], None], is_stopped: Callable[[], bool]) -> str:
+        while not is_stopped():
+            say("It goes on.")
+            time.sleep(0.01)
+        return "stopped"
+
+    said: list[str] = []
+
+    def look() -> None:
+        over = QApplication.activeModalWidget()
+        found = over.findChildren(QLabel) if isinstance(over, QDialog) else []
+        labels = [each.text() for each in found if isinstance(each, QLabel)]
+        if "It goes on." in labels:
+            assert isinstance(over, QDialog)
+            said.append("It goes on.")
+            over.reject()
+
+    timer = QTimer()
+    timer.timeout.connect(look)
+    timer.start(20)
+    assert dialogs.long(desk.window, desk.work, "Long", act) == "stopped"
+    timer.stop()
+    assert said
+
+
+def test_sizes_and_fonts_are_remembered(desk: Desk, moon: Path) -> None:
+    desk.act("larger")
+    points = desk.window.cells.font().pointSizeF()
+    assert points == pytest.approx(23.0)
+    desk.window.remember()
+    again = Desk(moon, None, 0.0, PageSize())
+    again.is_closed = True
+    assert again.window.cells.font().pointSizeF() == pytest.approx(23.0)
+    again.close()

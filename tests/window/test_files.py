@@ -1,0 +1,140 @@
+"""Texts that come in and pages that go out, by dialogs, and what is copied."""
+
+from pathlib import Path
+
+from braildesk import Session
+
+from conftest import Open, prints
+from reader import Part, Reader, all_within
+
+
+def _name(window: Reader, title: str, path: Path, button: str) -> None:
+    """Gives a dialog of files the path of one, and clicks on its button."""
+    dialog = window.dialog(title)
+    field: Part = window.until(
+        "the name of the file",
+        lambda: next(
+            (e for e in all_within(dialog) if e.get_role_name() == "text"), None
+        ),
+    )
+    window.insert_in(field, str(path))
+    window.click(window.part("push button", button, dialog))
+
+
+def _close(window: Reader, title: str, words: str) -> None:
+    """Waits until a report has some words, and closes it."""
+    top = window.dialog(title)
+    field = window.part("text", title, top)
+    window.until(f"“{words}” in {title}", lambda: words in window.text_in(field))
+    window.press("Escape")
+    window.no_dialog()
+
+
+def test_a_text_is_imported_and_taken_back(
+    moon: Path, at: Open, tmp_path: Path
+) -> None:
+    text = tmp_path / "tides.txt"
+    text.write_text("One.\n\nTwo.\n", encoding="utf-8")
+    window = at(moon)
+    window.press("Ctrl+i")
+    _name(window, "Import a text", text, "Open")
+    said = "2 paragraphs typed, numbers 4 to 5, by the table en."
+    _close(window, "Import", said)
+    window.reads("Message", said)
+    window.lists(1, "4 body: One.")
+    window.press("u")
+    window.says("Taken back: 2 paragraphs were imported, 4 to 5.")
+    window.lists(2, "5 body, struck: Two.")
+    window.press("Ctrl+q")
+    assert window.end() == 0
+    with Session(moon) as session:
+        assert [each.struck for each in session.paragraphs()] == [
+            False,
+            True,
+            True,
+            False,
+            False,
+        ]
+
+
+def test_the_volumes_are_exported_as_they_are_shown(
+    moon: Path, at: Open, tmp_path: Path
+) -> None:
+    (folder := tmp_path / "pages").mkdir()
+    window = at(moon, "--width", "20", "--lines", "6")
+    window.press("Ctrl+p")
+    page = (
+        "Paragraph 1,\ncharacter 1: volume\n1, page 1, line 1,\nof 6 lines of 20\ncells."
+        "\n⠀⠀⠠⠞⠓⠑⠀⠠⠍⠕⠕⠝"
+    )
+    field = window.part("text", "Page")
+    window.until("the page", lambda: window.text_in(field).startswith(page))
+    window.press("Ctrl+e")
+    _name(window, "Export, pages of 6 lines of 20 cells", folder, "Choose")
+    _close(window, "Export", "moon-1.brf: volume 1, 1 page, 50 cells with dots.")
+    first = (folder / "moon-1.brf").read_bytes().split(b"\r\n")[:2]
+    assert first == [b"  ,THE ,MOON", b"  ,THE MON IS FAR"]
+
+
+def test_a_proof_is_written(moon: Path, at: Open, tmp_path: Path) -> None:
+    path = tmp_path / "moon.html"
+    window = at(moon)
+    window.press("Ctrl+Shift+e")
+    dialog = window.dialog("Write a proof")
+    window.until(
+        "a name that is proposed",
+        lambda: any(window.text_in(e) == "moon.html" for e in all_within(dialog)),
+    )
+    _name(window, "Write a proof", path, "Save")
+    window.no_dialog()
+    window.reads("Message", f"{path}: 1 page.")
+    assert "spelled so?" in path.read_text(encoding="utf-8")
+
+
+def test_words_are_found_changed_and_marked(moon: Path, at: Open) -> None:
+    window = at(moon)
+    window.press("Ctrl+f")
+    window.dialog("Find")
+    window.type("sea")
+    window.press("Return")
+    window.no_dialog()
+    window.focus("text", "Print")
+    window.reads("Message", "Paragraph 3, character 17.")
+    window.caret("Print", 16)
+    window.press("Ctrl+m")
+    window.dialog("Mark in paragraph 3")
+    asked = "The note of a mark on “sea”, cells 18 to 20:"
+    window.until(asked, lambda: window.has_label("Mark in paragraph 3", asked))
+    window.type("which")
+    window.press("Return")
+    window.no_dialog()
+    window.reads("Message", "Kept: mark 2.")
+    window.reads("Marks", "Mark 2, open, on “sea”: which")
+    window.press("F3")
+    window.reads("Message", "“sea” stands nowhere else in the book.")
+    window.press("Escape")
+    window.press("Ctrl+h")
+    window.dialog("Change words")
+    window.type("sea")
+    window.press("Return")
+    asked = "What comes in place of “sea” in paragraph 3:"
+    window.until(
+        "what comes in its place",
+        lambda: window.has_label("Change words", asked),
+    )
+    window.type("ocean")
+    window.press("Return")
+    window.no_dialog()
+    window.reads("Message", "Kept: correction 1 of paragraph 3.")
+    window.reads("Print", "Twice a day the ocean comes up.")
+
+
+def test_the_book_is_closed_with_what_is_typed_in_it(moon: Path, at: Open) -> None:
+    window = at(moon)
+    window.press("Ctrl+Return")
+    window.focus("text", "Print")
+    window.type("The end")
+    window.reads("Print", "The end")
+    window.press("Ctrl+q")
+    assert window.end() == 0
+    assert prints(moon)[1] == "The end"

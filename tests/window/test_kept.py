@@ -1,0 +1,130 @@
+"""Nothing that was typed is lost, and nothing is said to be kept that isn't, at any kill."""
+
+import os
+import signal
+from pathlib import Path
+
+import pytest
+
+from braildesk import Session
+from braildesk.desk.draft import Aim, Draft
+from braildesk.desk.drafts import Drafts
+
+from conftest import Open, prints
+from reader import Reader
+
+
+def _waits(window: Reader, book: Path, text: str) -> None:
+    """Waits until a text is kept as what waits."""
+
+    def is_there() -> bool:
+        found = Drafts(book).waiting()
+        return found is not None and found.text == text
+
+    window.until(f"“{text}” as what waits", is_there)
+
+
+# after how many characters it is killed; after the last, Enter was pressed too
+@pytest.mark.parametrize("typed", range(1, 11))
+def test_killed_at_ten_moments(moon: Path, at: Open, typed: int) -> None:
+    text = "A new one."
+    window = at(moon)
+    window.press("Ctrl+Return")
+    window.focus("text", "Print")
+    window.type(text[:typed])
+    window.reads("Print", text[:typed])
+    _waits(window, moon, text[:typed])
+    if typed == len(text):
+        window.press("Return")
+    window.program.send_signal(signal.SIGKILL)
+    window.program.wait()
+    waiting = Drafts(moon).waiting()
+    if text in (there := prints(moon)):
+        assert typed == len(text) and there[1] == text
+    else:
+        version = 5
+        its = Draft(Aim.AFTER, 1, "en", "", text[:typed], None, version)
+        assert waiting == its
+
+
+def test_what_was_typed_is_offered_and_typed_further(moon: Path, at: Open) -> None:
+    window = at(moon)
+    window.press("F2")
+    window.focus("text", "Print")
+    window.press("End")
+    window.caret("Print", 8)
+    window.type(" and")
+    _waits(window, moon, "The Moon and")
+    window.program.send_signal(signal.SIGTERM)
+    assert window.end() == -signal.SIGTERM
+    assert prints(moon)[0] == "The Moon"
+
+    again = at(moon, is_waited_for=False)
+    again.top = again.dialog("Unsent text")
+    asked = (
+        "A text of paragraph 1 was typed and not sent: “The Moon and”. Shall it be typed"
+        " further?"
+    )
+    again.part("label", asked)
+    again.press("Return")
+    again.no_dialog()
+    again.opened()
+    again.reads("Print", "The Moon and")
+    again.focus("text", "Print")
+    again.press("Return")
+    again.reads("Message", "Kept: correction 1 of paragraph 1.")
+    again.until("nothing that waits", lambda: Drafts(moon).waiting() is None)
+    again.press("Ctrl+q")
+    assert again.end() == 0
+    assert prints(moon)[0] == "The Moon and"
+
+
+def test_a_session_that_was_killed_is_opened_again_and_the_text_stays(
+    moon: Path, at: Open
+) -> None:
+    window = at(moon)
+    window.press("F2")
+    window.focus("text", "Print")
+    window.press("End")
+    window.caret("Print", 8)
+    window.type("s")
+    _waits(window, moon, "The Moons")
+    os.kill(_session_of(window), signal.SIGKILL)
+    window.focus("text", "Message")
+    window.reads(
+        "Message",
+        "The session was ended by signal 9. The book was opened again: it is at version 5, as"
+        " before.",
+    )
+    window.reads("Print", "The Moons")
+    window.press("F2")
+    window.focus("text", "Print")
+    window.press("Return")
+    window.reads("Message", "Kept: correction 1 of paragraph 1.")
+    window.press("Ctrl+q")
+    assert window.end() == 0
+    assert prints(moon)[0] == "The Moons"
+
+
+def test_a_book_that_is_open_elsewhere_is_not_shown(moon: Path, at: Open) -> None:
+    with Session(moon):
+        window = at(moon, is_waited_for=False)
+        _, said = window.program.communicate()
+    assert window.program.returncode == 2
+    assert f"Another program has “{moon}” open." in said.decode()
+
+
+def _session_of(window: Reader) -> int:
+    """The number of the process of the session of a window."""
+    task = Path(f"/proc/{window.program.pid}/task")
+    found = [
+        int(number)
+        for thread in task.iterdir()
+        for number in (thread / "children").read_text().split()
+    ]
+    (session,) = (each for each in found if "session" in _words(each))
+    return session
+
+
+def _words(process: int) -> list[str]:
+    return Path(f"/proc/{process}/cmdline").read_text().split("\0")

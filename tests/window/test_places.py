@@ -1,0 +1,55 @@
+"""Places of Qt, which counts in UTF-16, and those of characters; lines that are pasted."""
+
+import pytest
+
+from scribe.window.fields import characters, lines_of, units
+
+#: A text, and where Qt counts each of its characters, and its end.
+TEXTS = (
+    ("", (0,)),
+    ("moon", (0, 1, 2, 3, 4)),
+    ("e\u0301a", (0, 1, 2, 3)),
+    ("😀", (0, 2)),
+    ("a😀b", (0, 1, 3, 4)),
+    ("😀😀\u0301c", (0, 2, 4, 5, 6)),
+    ("של😀ום", (0, 1, 2, 4, 5, 6)),
+    ("\u00a0\u2028⣿", (0, 1, 2, 3)),
+)
+
+
+@pytest.mark.parametrize("text, places", TEXTS)
+def test_a_character_is_where_qt_counts_it(text: str, places: tuple[int, ...]) -> None:
+    assert tuple(units(text, n) for n in range(len(text) + 1)) == places
+    assert [characters(text, unit) for unit in places] == [*range(len(text) + 1)]
+
+
+@pytest.mark.parametrize(
+    "text, unit, place",
+    [
+        ("a😀b", 2, 1),
+        ("😀😀", 1, 0),
+        ("😀😀", 3, 1),
+        ("moon", 9, 4),
+        ("😀", 5, 1),
+    ],
+)
+def test_half_of_a_character_and_what_is_beyond_the_end_have_places(
+    text: str, unit: int, place: int
+) -> None:
+    assert characters(text, unit) == place
+
+
+@pytest.mark.parametrize(
+    "text, lines",
+    [
+        ("", []),
+        (" a word ", [" a word "]),
+        ("one\ntwo", ["one", "two"]),
+        ("one\r\n\r\n two\t2 \r", ["one", "two 2"]),
+        ("one\u2029two", ["one", "two"]),
+        ("one\u2028still one", ["one\u2028still one"]),
+        ("a line\n", ["a line"]),
+    ],
+)
+def test_lines_that_are_pasted_are_parted(text: str, lines: list[str]) -> None:
+    assert lines_of(text) == lines
