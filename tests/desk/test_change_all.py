@@ -12,7 +12,7 @@ from tool import Ran, scribe
 from braildesk import Entry, Kind, Session
 from braildesk.desk.change import Change, change_place
 from braildesk.desk.change_all import NotChanged, Replacement, change_all
-from braildesk.desk.paragraph_ranges import ParagraphRange
+from braildesk.desk.ranges import ParagraphRange
 from braildesk.text.spans import Span
 from scribe.cli import run_words
 from scribe.words.console import Console

@@ -19,7 +19,7 @@ from scribe.window.book import NotAll, NothingToTakeBack, OpenBook
 def book(moon: Path) -> Iterator[OpenBook]:
     """The book, open."""
     found = OpenBook(moon, None, 0.0)
-    found.open()
+    found.opened()
     yield found
     found.close()
 

@@ -30,8 +30,8 @@ def application() -> QApplication:
 def desk(application: QApplication, moon: Path) -> Iterator[Desk]:
     """The book, at work in a window that nobody sees."""
     found = Desk(moon, None, 0.0, PageSize())
-    found.acts = Actions(found).all
-    found.open()
+    found.acts = Actions(found).by_name
+    found.begin()
     yield found
     found.close()
 

@@ -8,7 +8,7 @@ from braildesk import Paragraph, Refused, Session
 from braildesk.desk.change import Change, SameWords, change_place
 from braildesk.desk.correction import replaced
 from braildesk.desk.find import any_case
-from braildesk.desk.paragraph_ranges import ParagraphRange, chosen
+from braildesk.desk.ranges import ParagraphRange, chosen
 from braildesk.desk.readings import prints
 from braildesk.text.sequences import composed
 from braildesk.text.spans import Form, Span, find_spans

@@ -8,7 +8,8 @@ from pathlib import Path
 
 from braildesk import Code, NotFound, Refused, check, export
 from braildesk.desk import Problem
-from braildesk.desk.layout import PageRange, PageSize
+from braildesk.desk.layout import PageSize
+from braildesk.desk.ranges import PageRange
 from braildesk.desk.whole_file import Access, write_whole
 from braildesk.named_files import read_file
 

@@ -5,11 +5,10 @@ paragraph from 0.
 """
 
 from bisect import bisect_left, bisect_right
-from collections.abc import Iterable, Iterator, Sequence
+from collections.abc import Iterable, Iterator
 from dataclasses import dataclass
 from itertools import accumulate, chain, repeat
 
-from braildesk.desk import Problem
 from braildesk.text.cells import EMPTY_CELL, braille_ascii
 
 _BODY_INDENT = 2
@@ -35,40 +34,6 @@ class PageSize:
         """The page and its line on which a line of a volume stands, which is counted from 0."""
         page, place = divmod(line, self.text_lines)
         return page + 1, place + 1
-
-
-class NoPage(Problem):
-    """A volume, which has so many pages, has none of this number."""
-
-    def __init__(self, volume: int, page: int, count: int) -> None:
-        super().__init__(volume, page, count)
-        self.volume = volume
-        self.page = page
-        self.count = count
-
-
-@dataclass(frozen=True)
-class PageRange:
-    """Pages of a volume from one to another; from the first one or to the last where none is said."""
-
-    first: int | None
-    last: int | None
-
-    def of(self, volume: int, pages: Sequence[bytes]) -> Sequence[bytes]:
-        """Those pages; raises `NoPage`."""
-        first = 1 if self.first is None else self.first
-        last = len(pages) if self.last is None else self.last
-        for page in (first, last):
-            if not 1 <= page <= len(pages):
-                raise NoPage(volume, page, len(pages))
-        return pages[first - 1 : max(first, last)]
-
-    @property
-    def name(self) -> str:
-        """The range in the name of a file, as it is typed."""
-        if self.first == self.last:
-            return str(self.first)
-        return f"{self.first or ''}-{self.last or ''}"
 
 
 @dataclass(frozen=True)

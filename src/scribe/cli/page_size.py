@@ -2,13 +2,16 @@
 
 from argparse import ArgumentParser, ArgumentTypeError, Namespace
 from collections.abc import Callable
+from typing import TYPE_CHECKING
 
 from braildesk import Session
 from braildesk.desk.layout import PageSize
-from braildesk.desk.page_places import PageMap
 from braildesk.text import limits
 
 from scribe.cli.parser import number
+
+if TYPE_CHECKING:
+    from braildesk.desk.page_places import PageMap
 
 
 def add_page_size(
@@ -42,10 +45,13 @@ def add_pages(parser: ArgumentParser) -> None:
     add_page_size(parser, ("--page-width", "--page-lines"))
 
 
-def page_map(arguments: Namespace, session: Session) -> PageMap | None:
+def page_map(arguments: Namespace, session: Session) -> "PageMap | None":
     """The pages of a book, where it is to be said on which of them something stands."""
     if not arguments.pages:
         return None
+    # imported here, since it is seldom asked for
+    from braildesk.desk.page_places import PageMap
+
     page_size = PageSize(arguments.page_width, arguments.page_lines)
     return PageMap(session, page_size)
 

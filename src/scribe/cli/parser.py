@@ -7,7 +7,7 @@ from pathlib import Path
 from typing import Any, NoReturn, TypeVar, cast
 
 from braildesk.desk import USUAL_WAIT
-from braildesk.desk.paragraph_ranges import ParagraphRange
+from braildesk.desk.ranges import ParagraphRange
 from braildesk.text.wrapping import wrap
 from braildesk.version import version
 

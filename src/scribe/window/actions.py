@@ -66,7 +66,7 @@ class Actions:
         )
 
     @property
-    def all(self) -> dict[str, Callable[[], None]]:
+    def by_name(self) -> dict[str, Callable[[], None]]:
         """Each action by its name."""
         names = (name for name in dir(self) if name in self.desk.window.menus.actions)
         return {name: getattr(self, name) for name in names}
@@ -142,10 +142,10 @@ class Actions:
         if not desk.is_closed:
             desk.say("The book is open.")
             return
-        desk.taken_again(desk.work.result(desk.book.open))
+        desk.taken_again(desk.work.result(desk.book.opened))
         desk.say(f"The book is open again, at version {desk.contents.version:,}.")
 
-    def quit(self) -> None:
+    def leave(self) -> None:
         """Ends the work, once this action is done."""
 
         def close() -> None:
@@ -737,7 +737,7 @@ class Actions:
         dock.setVisible(not dock.isVisible())
         desk.update_page(True)
 
-    def ascii(self) -> None:
+    def notation(self) -> None:
         """Shows cells in Braille ASCII, or as Unicode characters."""
         desk = self.desk
         desk.is_ascii = not desk.is_ascii

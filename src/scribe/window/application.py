@@ -33,7 +33,7 @@ class Application:
         self._ended_by: signal.Signals | None = None
         self._desk = Desk(path, by, wait, page_size)
         actions = Actions(self._desk)
-        self._desk.acts = actions.all
+        self._desk.acts = actions.by_name
         self._offer = actions.offer
 
     @property
@@ -45,7 +45,7 @@ class Application:
         """Shows the book until its window is closed; raises what ends it otherwise."""
         desk = self._desk
         try:
-            desk.open()
+            desk.begin()
         except BaseException:
             desk.is_closed = True
             desk.close()

@@ -119,7 +119,7 @@ class OpenBook:
         """The number of the process of the session."""
         return self._session.pid
 
-    def open(self) -> Contents:
+    def opened(self) -> Contents:
         """Opens the session, and reads the tables that the book has."""
         session = Session(self.path, timeout=self._wait)
         try:
@@ -302,7 +302,7 @@ class OpenBook:
 
     def imported(self, before: Contents) -> Contents:
         """The book after an import, which is taken back at once if nothing else changed it."""
-        now = self.open()
+        now = self.opened()
         there = {each.id for each in before.paragraphs}
         new = sorted(each.id for each in now.paragraphs if each.id not in there)
         if new and now.version - before.version == len(new):

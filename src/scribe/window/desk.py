@@ -103,9 +103,9 @@ class Desk:
             field.left.connect(self.go_back)
         window.message.entered.connect(self.go_back)
 
-    def open(self) -> None:
+    def begin(self) -> None:
         """Opens the book and shows it; raises what the client raises."""
-        self.contents = self.work.result(self.book.open)
+        self.contents = self.work.result(self.book.opened)
         self.watch()
         self.show(self.contents, None)
 

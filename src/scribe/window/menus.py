@@ -35,7 +35,7 @@ MENUS: Mapping[str, tuple[Item | None, ...]] = {
         Item("page_size", "Page &size…", "", "w"),
         None,
         Item("open_again", "Open the book &again"),
-        Item("quit", "&Quit", "Ctrl+Q", "q"),
+        Item("leave", "&Quit", "Ctrl+Q", "q"),
     ),
     "&Edit": (
         Item("take_back", "&Take back", "Ctrl+Z", "u"),
@@ -78,7 +78,7 @@ MENUS: Mapping[str, tuple[Item | None, ...]] = {
         Item("to_message", "To the &message", "F6"),
         None,
         Item("page", "Page of the &caret, shown or not", "Ctrl+P", "p"),
-        Item("ascii", "Braille &ASCII or Unicode", "F9", "a"),
+        Item("notation", "Braille &ASCII or Unicode", "F9", "a"),
         Item("larger", "&Larger", "Ctrl++"),
         Item("smaller", "&Smaller", "Ctrl+-"),
         Item("fonts", "&Font of the braille…"),

@@ -7,7 +7,7 @@ from braildesk import Session
 from braildesk.desk.change import Change
 from braildesk.desk.change_all import NotChanged, Passed, Proposal, Replacement
 from braildesk.desk.find import alike, find_words, tallied
-from braildesk.desk.paragraph_ranges import ParagraphRange
+from braildesk.desk.ranges import ParagraphRange
 from braildesk.text.excerpt import excerpt_lines
 
 from scribe.words.changes import at_version, changed_lines

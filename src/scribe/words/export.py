@@ -15,7 +15,7 @@ from braildesk.desk.export import (
     Written,
     export_pages,
 )
-from braildesk.desk.layout import NoPage, PageRange
+from braildesk.desk.ranges import NoPage, PageRange
 from braildesk.desk.whole_file import MayNotLast
 
 from scribe.words.console import Console

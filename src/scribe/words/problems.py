@@ -10,9 +10,9 @@ from braildesk.desk.export import (
     WhichVolume,
 )
 from braildesk.desk.intake import NotImported
-from braildesk.desk.layout import NoPage
+from braildesk.desk.ranges import NoPage
 from braildesk.desk.marks import NoMark
-from braildesk.desk.paragraph_ranges import BackwardRange, NoParagraph
+from braildesk.desk.ranges import BackwardRange, NoParagraph
 from braildesk.desk.places import NoPlace
 from braildesk.desk.tables import NoSuchTable, UnreadableTable
 from braildesk.desk.volume_plan import TooLong

@@ -4,8 +4,7 @@ import re
 from collections.abc import Iterator
 from pathlib import Path
 
-from braildesk.desk.layout import PageRange
-from braildesk.desk.paragraph_ranges import ParagraphRange
+from braildesk.desk.ranges import PageRange, ParagraphRange
 from braildesk.protocol.values import After
 from braildesk.text.characters import control_refused
 

@@ -4,7 +4,7 @@ from argparse import Namespace
 
 from braildesk import Session
 from braildesk.desk.history import histories
-from braildesk.desk.paragraph_ranges import ParagraphRange
+from braildesk.desk.ranges import ParagraphRange
 
 from scribe.cli.book_command import BookCommand
 from scribe.cli.parser import Parser, number, words

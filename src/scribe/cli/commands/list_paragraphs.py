@@ -3,7 +3,7 @@
 from argparse import Namespace
 
 from braildesk import Session
-from braildesk.desk.paragraph_ranges import chosen
+from braildesk.desk.ranges import chosen
 from braildesk.desk.readings import prints
 
 from scribe.cli.book_command import BookCommand

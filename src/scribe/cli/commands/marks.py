@@ -1,18 +1,20 @@
 """`scribe marks`: all marks of a book."""
 
 from argparse import Namespace
+from typing import TYPE_CHECKING
 
 from braildesk import Session
 from braildesk.desk.marks import MarkOfBook, all_marks
-from braildesk.desk.page_places import PageMap
 
 from scribe.cli.book_command import BookCommand
 from scribe.cli.page_size import add_pages, page_map
 from scribe.cli.parser import Parser, number
 from scribe.cli.width import add_width
 from scribe.words.console import Console
-from scribe.words.pages import page_place
 from scribe.words.paragraph import mark_line, marks_summary
+
+if TYPE_CHECKING:
+    from braildesk.desk.page_places import PageMap
 
 MORE = """\
 Open marks come first, then those that are resolved, both in the order of the book. With
@@ -51,8 +53,11 @@ def answer(session: Session, arguments: Namespace, console: Console) -> None:
     console.say(marks_summary(marks, whose))
 
 
-def _page(pages: PageMap, its: MarkOfBook) -> str:
+def _page(pages: "PageMap", its: MarkOfBook) -> str:
     """On which page and line the words of a mark begin."""
+    # imported here, since it is seldom asked for
+    from scribe.words.pages import page_place
+
     return page_place(pages.of_character(its.paragraph, its.mark.start, its.text))
 
 

@@ -5,7 +5,7 @@ from collections.abc import Sequence
 from pathlib import Path
 
 from braildesk import Paragraph, Session
-from braildesk.desk.paragraph_ranges import chosen
+from braildesk.desk.ranges import chosen
 from braildesk.desk.readings import readings
 from braildesk.desk.state_folder import may_have
 

@@ -1,4 +1,4 @@
-"""Ranges of paragraphs: those from one to another, in the order of the book."""
+"""Ranges of paragraphs, in the order of the book, and of pages: those from one to another."""
 
 from collections.abc import Sequence
 from dataclasses import dataclass
@@ -50,3 +50,37 @@ def chosen(
 ) -> list[Paragraph]:
     """The paragraphs of some ranges, in their order; raises what `ParagraphRange.of` does."""
     return [paragraph for each in ranges for paragraph in each.of(book)]
+
+
+class NoPage(Problem):
+    """A volume, which has so many pages, has none of this number."""
+
+    def __init__(self, volume: int, page: int, count: int) -> None:
+        super().__init__(volume, page, count)
+        self.volume = volume
+        self.page = page
+        self.count = count
+
+
+@dataclass(frozen=True)
+class PageRange:
+    """Pages of a volume from one to another; from the first one or to the last where none is said."""
+
+    first: int | None
+    last: int | None
+
+    def of(self, volume: int, pages: Sequence[bytes]) -> Sequence[bytes]:
+        """Those pages; raises `NoPage`."""
+        first = 1 if self.first is None else self.first
+        last = len(pages) if self.last is None else self.last
+        for page in (first, last):
+            if not 1 <= page <= len(pages):
+                raise NoPage(volume, page, len(pages))
+        return pages[first - 1 : max(first, last)]
+
+    @property
+    def name(self) -> str:
+        """The range in the name of a file, as it is typed."""
+        if self.first == self.last:
+            return str(self.first)
+        return f"{self.first or ''}-{self.last or ''}"
