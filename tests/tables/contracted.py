@@ -171,6 +171,7 @@ def make(text: Text, folder: Path) -> tuple[float, str]:
         ],
         check=True,
         stdout=subprocess.PIPE,
+        stderr=subprocess.STDOUT,
         text=True,
     )
     print(done.stdout, flush=True)
