@@ -128,7 +128,9 @@ def main() -> int:
     """Runs each check, and says what is wrong."""
     parser = argparse.ArgumentParser(description=__doc__)
     parser.add_argument("program", type=lambda it: pathlib.Path(it).resolve())
-    program = Program(parser.parse_args().program, ROOT / "src/braildesk/tables/ueb.utb")
+    program = Program(
+        parser.parse_args().program, ROOT / "src/braildesk/tables/ueb.utb"
+    )
     status = 0
     for check in CHECKS:
         name = check.__name__.replace("_", " ")
