@@ -14,6 +14,7 @@ from braildesk import Session
 import braildesk
 from braildesk.desk.own_folder import OwnFolder
 from braildesk.tables import read
+from braildesk.tables.convert import making
 from braildesk.tables.convert.causes import Cause, Judge
 from braildesk.tables.convert.chooser import Chooser
 from braildesk.tables.convert.draft import Origin, TableDraft
@@ -82,6 +83,17 @@ def rules(tailored: Tailored) -> list[str]:
     """The lines of learned rules."""
     lines = tailored.made.draft.text().splitlines()
     return [line for line in lines if "of the manuscript" in line and line[0] != "#"]
+
+
+def test_rules_for_syllables_leave_their_room_to_those_that_are_learned(
+    tmp_path: Path, monkeypatch: pytest.MonkeyPatch
+) -> None:
+    # those of German would be 18,000 of the 20,000 lines that a table has
+    def fails(*_: object) -> None:
+        raise AssertionError("syllables are asked for")
+
+    monkeypatch.setattr(making, "settle_syllables", fails)
+    assert made(tmp_path, TEXT.split("\n\n")).made.draft.cells
 
 
 def test_rules_are_learned_from_a_manuscript_and_marked_with_its_words(

@@ -2,7 +2,7 @@
 
 from __future__ import annotations
 
-from collections.abc import Iterator, Sequence
+from collections.abc import Callable, Iterator, Sequence
 from dataclasses import dataclass
 from itertools import product
 from typing import Final
@@ -60,6 +60,23 @@ class Made:
 
 def make(subject: Subject, trial: ProgramTrial) -> Made:
     """Makes a table of the profile."""
+    return _make(subject, trial, settle_syllables)
+
+
+def make_to_learn(subject: Subject, trial: ProgramTrial) -> Made:
+    """Makes a table to which rules are added that are learned from texts.
+
+    It has no rules for syllables. Those of German would fill it, and the few that a text needs are
+    learned from the text.
+    """
+    return _make(subject, trial, lambda *_: None)
+
+
+def _make(
+    subject: Subject,
+    trial: ProgramTrial,
+    settle_rules: Callable[[Subject, TableDraft, ProgramTrial], None],
+) -> Made:
     draft = TableDraft()
     alphabet = subject.alphabet
     missing = ask_letters(subject, draft)
@@ -71,7 +88,7 @@ def make(subject: Subject, trial: ProgramTrial) -> Made:
     marks = Marks(subject, draft, trial)
     missing += marks.define(alphabet.of("punctuation"))
     uncarried = read_rules(subject, draft)
-    settle_syllables(subject, draft, trial)
+    settle_rules(subject, draft, trial)
     printed = [
         one
         for one in alphabet.of("punctuation")

@@ -20,7 +20,7 @@ from braildesk.tables.convert.chooser import Chooser
 from braildesk.tables.convert.draft import MOST_LINES, Origin, ROOM_FOR_COMMENTS
 from braildesk.tables.convert.examples import Example, Progress, examples
 from braildesk.tables.convert.learning import BOOK_ROUNDS, Learned, Learner
-from braildesk.tables.convert.making import Made, make
+from braildesk.tables.convert.making import Made, make_to_learn
 from braildesk.tables.convert.operands import Cells
 from braildesk.tables.convert.oracle import Liblouis
 from braildesk.tables.convert.running_text import Agreement, agreement, tokens
@@ -145,7 +145,7 @@ class _Tailoring:
         self._manuscript: Final = manuscript
         self._means: Final = means
         self._trial: Final = ProgramTrial(folder)
-        self._made: Final = make(subject, self._trial)
+        self._made: Final = make_to_learn(subject, self._trial)
         self._chooser: Final = Chooser(read(self._made.draft.text().encode()).table)
         self._most: Final = MOST_LINES - ROOM_FOR_COMMENTS - len(self._made.draft.cells)
         carriers = subject.alphabet.carriers()
