@@ -16,7 +16,7 @@ from braildesk.named_files import read_file
 # how often the volumes are read until all are of one version
 TRIES = 3
 #: How many bytes of an older file are compared: more than those of any volume.
-MOST_BYTES = 1 << 30
+MOST_BYTES = 1 << 28
 
 
 @dataclass(frozen=True)
