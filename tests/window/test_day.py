@@ -184,7 +184,7 @@ def test_a_refusal_takes_the_focus_and_nothing_that_is_typed_is_lost(
     window.focus("text", "Print")
     window.press("Escape")
     window.reads("Print", "The Moon")
-    window.reads("Message", "Given up. Nothing was sent. Ctrl+B brings it back.")
+    window.reads("Message", "Given up. The book is as it was. Ctrl+B brings it back.")
     window.press("Ctrl+b")
     window.dialog("Bring back a text")
     window.press("Return")

@@ -62,8 +62,8 @@ def test_what_was_typed_is_offered_and_typed_further(moon: Path, at: Open) -> No
     again = at(moon, is_waited_for=False)
     again.top = again.dialog("Unsent text")
     asked = (
-        "A text of paragraph 1 was typed and not sent: “The Moon and”. Shall it be typed"
-        " further?"
+        "A text of paragraph 1 was typed and isn't in the book: “The Moon and”. Shall it be"
+        " typed further?"
     )
     again.part("label", asked)
     again.press("Return")

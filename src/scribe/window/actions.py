@@ -216,7 +216,9 @@ class Actions:
         desk.keep_draft(None)
         desk.new = None
         desk.show_reading(0)
-        desk.say(f"Given up. Nothing was sent. {fault or 'Ctrl+B brings it back.'}")
+        desk.say(
+            f"Given up. The book is as it was. {fault or 'Ctrl+B brings it back.'}"
+        )
 
     def bring_back(self) -> None:
         """Asks which text that was given up is typed further."""
@@ -882,8 +884,8 @@ class Actions:
                 return
             waiting = rest
         asked = (
-            f"{what_for(waiting)} was typed and not sent: {quoted(waiting.joined)}. Shall it be"
-            " typed further?"
+            f"{what_for(waiting)} was typed and isn't in the book: {quoted(waiting.joined)}."
+            " Shall it be typed further?"
         )
         answers = ("&Type it further", "&Give it up", "&Later")
         answer = dialogs.choice(desk.window, "Unsent text", asked, answers)
@@ -892,7 +894,7 @@ class Actions:
         elif answer == 1:
             desk.aside.result(lambda: desk.unsent.put_by(waiting), False)
             desk.keep_draft(None)
-            desk.say("Given up. Nothing was sent. Ctrl+B brings it back.")
+            desk.say("Given up. The book is as it was. Ctrl+B brings it back.")
         else:
             desk.unsent.put_off()
             desk.say(
