@@ -24,7 +24,7 @@ files() {
         echo "644 src/$file $modules/$file"
     done
     for file in docs/*.1; do echo "644 $file share/man/man1/${file##*/}"; done
-    for file in README.md CHANGELOG.md CONTRIBUTING.md docs/*.md docs/*.png; do echo "644 $file $documents/$file"; done
+    for file in README.md CHANGELOG.md CONTRIBUTING.md docs/*.md docs/developers/*.md docs/*.png; do echo "644 $file $documents/$file"; done
     for file in sample/*.txt sample/*.utb sample/*.py; do echo "644 $file $documents/examples/${file##*/}"; done
     echo "644 $made/moon.braildesk $documents/examples/moon.braildesk"
     for file in completions/*.bash; do echo "644 $file share/bash-completion/completions/$(basename "$file" .bash)"; done
