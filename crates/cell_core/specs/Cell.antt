@@ -1,4 +1,4 @@
--- A braille cell: a set of the dots 1 to 8, seen as its mask.
+-- A braille cell: a set of the dots 1 to 8, seen as its mask, the sum of 2^(k-1) over its dots k.
 use Rattle.std.specs.Prelude.{◌≡◌, ℕ, ◌+◌, ◌-◌, ◌/◌, ◌%◌, ◌^◌}
 
 -- what dot k adds to a mask

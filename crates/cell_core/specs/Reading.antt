@@ -23,6 +23,7 @@ cell_in [] = None
 cell_in (digit ∷ []) = if digit == 48 then Some 0 else with_digits 0 (digit ∷ [])
 cell_in (digit ∷ next ∷ digits) = with_digits 0 (digit ∷ next ∷ digits)
 
+-- the character is a hyphen
 abbrev pub is_hyphen : ℕ → Bool
 is_hyphen c = c == 45
 

@@ -139,7 +139,9 @@ resolved_put id = SetColumns tables.Mark (row_number id) (Resolved (pos 1))
 abbrev pub version_put : ℕ → RowPut
 version_put version = SetColumns tables.Book (pos 1) (Version (row_number version))
 
--- what the effect puts beside the version
+-- what the effect puts after the version: the row that comes, or the columns that change, with the
+-- cells of each paragraph that is translated anew, the places of those that stand elsewhere, and
+-- the spans of the marks on a new print
 abbrev pub effect_puts : Book → Effect → List RowPut
 effect_puts book (effect.AddTable name table room) = tab_put name table ∷ []
 effect_puts book (effect.ReplaceTable name table cells) = tab_put name table ∷ cells_from 0 cells.items

@@ -5,17 +5,21 @@ use Rattle.std.specs.Prelude.{ℕ, ◌-◌, ◌≤◌}
 
 -- cells of a line
 
+-- the fewest cells of a line
 abbrev pub least_width : ℕ
 least_width = 10
 
+-- the most cells of a line
 abbrev pub most_width : ℕ
 most_width = 60
 
 -- lines of a page
 
+-- the fewest lines of a page
 abbrev pub least_lines : ℕ
 least_lines = 5
 
+-- the most lines of a page
 abbrev pub most_lines : ℕ
 most_lines = 40
 

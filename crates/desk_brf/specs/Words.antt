@@ -2,9 +2,11 @@
 use Rattle.std.specs.Prelude.{◌≡◌, ℕ, ◌==◌, ◌<◌, ◌≤◌, List, [], ◌∷◌, filter, length, drop, slice_index, Bool, true, false}
 use Rattle.std.specs.List.{slice_split}
 
+-- the cell has no dots
 abbrev pub is_blank : ℕ → Bool
 is_blank cell = cell == 0
 
+-- there is at least one cell
 abbrev pub has_cells : List ℕ → Bool
 has_cells [] = false
 has_cells (cell ∷ cells) = true

@@ -17,6 +17,7 @@ abbrev pub entry_kept : KeptEntry → Entry
 entry_kept (KeptCorrects c) = Corrects (replacement_kept c) c.who
 entry_kept (KeptUndoes n) = Undoes n
 
+-- what kept entries stand for, in order
 abbrev pub entries_kept : List KeptEntry → List Entry
 entries_kept entries = map entry_kept entries
 

@@ -11,6 +11,7 @@ use Rattle.desk_model.specs.Marks.{moved_span}
 abbrev pub IsWithin : KeptMark → Type 0
 IsWithin mark = (mark.start ≤ mark.end) × (mark.end ≤ most_print)
 
+-- each of them stands within a print
 abbrev pub AreWithin : List KeptMark → Type 0
 AreWithin marks = All IsWithin marks
 

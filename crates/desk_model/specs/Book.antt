@@ -50,7 +50,7 @@ new_mark id paragraph start end note = record {
 }
 
 -- the texts of the tables stand in the order of their names, the paragraphs in the order of the book, the marks in
--- the order of their ids
+-- the order of their ids; prints and cells follow from these, and are no part of it
 pub record Book : Type 0 where
   pub version : ℕ
   pub tables : List (List ℕ × List ℕ)
@@ -73,12 +73,14 @@ mark_of book id = find (λ mark. nat_eq mark.id id) book.marks
 abbrev pub empty_book : Book
 empty_book = record { version = 0; tables = []; paragraphs = []; marks = [] }
 
--- paragraphs in the order of a book, the entries of a history, and marks
+-- paragraphs in the order of a book
 abbrev pub ParagraphList : Type 0
 ParagraphList = List Paragraph
 
+-- the entries of a history with their numbers
 abbrev pub EntryList : Type 0
 EntryList = List (ℕ × Entry)
 
+-- marks in the order of their ids
 abbrev pub MarkList : Type 0
 MarkList = List Mark

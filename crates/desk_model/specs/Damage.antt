@@ -30,6 +30,7 @@ use Rattle.desk_model.specs.NormalForm.{IsUnbarred}
 abbrev pub IsWithin : ℕ → ℕ → ℤ → Type 0
 IsWithin first last n = (pos first ≤ℤ n) × (n ≤ℤ pos last)
 
+-- 0 or 1
 abbrev pub IsFlag : ℤ → Type 0
 IsFlag n = (n ≡ pos 0) ⊎ (n ≡ pos 1)
 
@@ -45,6 +46,7 @@ pub record IsNumber {X : Type 0} (key : X → ℤ) (last : ℕ) (rows : List X) 
 
 -- ---- book
 
+-- the row of `book`: its id is 1, and its format and its version are within their ranges
 pub record IsSoundBookRow (row : BookRow) : Type 0 where
   pub id : row.id ≡ pos 1
   pub format : pos 1 ≤ℤ row.format
@@ -84,6 +86,7 @@ pub record IsItsTable (tabs : List TabRow) (row : ParaRow) (meaning : Meaning) :
   pub named : table.name ≡ row.tab
   pub means : Means table.body meaning
 
+-- the row of a paragraph: no column is damaged, and its table, which is there, defines its print
 pub record IsSoundParaRow (tabs : List TabRow) (paras : List ParaRow) (row : ParaRow) : Type 0 where
   pub number : IsNumber (λ other. other.id) most_paragraphs paras row.id
   pub place : IsWithin 1 (length paras) row.place
@@ -98,6 +101,7 @@ pub record IsSoundParaRow (tabs : List TabRow) (paras : List ParaRow) (row : Par
   pub volume : IsFlag row.volume
   pub struck : IsFlag row.struck
 
+-- a row with this id is not sound
 abbrev pub IsDamagedPara : List TabRow → List ParaRow → ℤ → Type 0
 IsDamagedPara tabs paras id = (row : ParaRow) × Contains paras row × (row.id ≡ id) × ¬ IsSoundParaRow tabs paras row
 
@@ -169,6 +173,7 @@ pub record IsSpanned (paras : List ParaRow) (row : MarkRow) : Type 0 where
   pub ordered : row.start ≤ℤ row.stop
   pub stop : row.stop ≤ℤ pos (length (chars paragraph.print))
 
+-- the row of a mark: no column is damaged, and its paragraph is there
 pub record IsSoundMarkRow (paras : List ParaRow) (marks : List MarkRow) (row : MarkRow) : Type 0 where
   pub number : IsNumber (λ other. other.id) most_marks marks row.id
   pub span : IsSpanned paras row
@@ -177,6 +182,7 @@ pub record IsSoundMarkRow (paras : List ParaRow) (marks : List MarkRow) (row : M
   pub touched : IsFlag row.touched
   pub resolved : IsFlag row.resolved
 
+-- a row with this id is not sound
 abbrev pub IsDamagedMark : List ParaRow → List MarkRow → ℤ → Type 0
 IsDamagedMark paras marks id = (row : MarkRow) × Contains marks row × (row.id ≡ id) × ¬ IsSoundMarkRow paras marks row
 
@@ -202,7 +208,13 @@ IsDamagedCache tabs paras caches id =
 
 -- ---- what is reported
 
--- the table has damage at this id; `cache` only if it is there, and of `corr` and `corr2` the one that is read
+-- The table has damage at this id; `cache` only if it is there, and of `corr` and `corr2` the one
+-- that is read. The id is always 1 in `book`; the number of the row by order of names in `tab`;
+-- that of the paragraph in `para`, `corr`, `corr2` and `cache`; and that of the mark in `mark`. If
+-- a number is missing, the next one that is there is damaged; a key that two rows have is damaged,
+-- of equal names in `tab` the second in the order of their texts; of two rows with one place the
+-- one with the greater id. This is meant for rows whose texts are UTF-8 and whose tables are those
+-- of the format (`HasItsTables`), and of each table if those that are checked before it are sound.
 abbrev pub IsDamaged : FileRows → FileTable → ℤ → Type 0
 IsDamaged rows Book id = IsDamagedBook rows.books id
 IsDamaged rows Tab id = IsDamagedTab rows.tabs id
@@ -222,7 +234,8 @@ table_turn NamedCorr = 4
 table_turn Mark = 5
 table_turn Cache = 6
 
--- no table that is checked before this one is damaged, and this one at no smaller id
+-- no table that is checked before this one is damaged, and this one at no smaller id: at most one
+-- damage is the first
 pub record IsFirstDamage (rows : FileRows) (table : FileTable) (id : ℤ) : Type 0 where
   pub damaged : IsDamaged rows table id
   pub tables : (other : FileTable) (n : ℤ) → IsDamaged rows other n → table_turn table ≤ table_turn other

@@ -5,6 +5,7 @@ use Rattle.std.specs.Prelude.{ℕ}
 abbrev pub most_version : ℕ
 most_version = 9007199254740992
 
+-- tables of a book
 abbrev pub most_tables : ℕ
 most_tables = 16
 
@@ -24,6 +25,7 @@ most_print = 4000
 abbrev pub most_entries : ℕ
 most_entries = 10000
 
+-- marks of a book
 abbrev pub most_marks : ℕ
 most_marks = 100000
 

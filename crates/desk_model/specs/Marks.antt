@@ -27,6 +27,7 @@ mark_moved_by start removed added mark =
 abbrev pub mark_moved : Replacement → Mark → Mark
 mark_moved r = mark_moved_by r.start r.count (length r.text)
 
--- the mark after the replacement was taken back
+-- The mark after the replacement was taken back: it moves as by the replacement that puts back what
+-- stood there, so one that was touched may then be longer than it was at first.
 abbrev pub mark_moved_back : Replacement → Mark → Mark
 mark_moved_back r = mark_moved_by r.start (length r.text) r.count

@@ -65,6 +65,7 @@ pub record Named : Type 0 where
   -- the first turn of refusals that is checked after it has allocated, if it allocates
   pub turn_after_asking : Option ℕ
 
+-- what a command names that names nothing: each field by its default
 abbrev pub nothing_named : Named
 nothing_named = record {
   table_given = None;

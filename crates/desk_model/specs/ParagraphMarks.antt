@@ -5,7 +5,7 @@ use Rattle.std.specs.Str.{chars}
 use Rattle.desk_model.specs.declared.mark_item.MarkItem.{MarkItem}
 use Rattle.desk_model.specs.Book.{Mark}
 
--- the marks of the paragraph with this id
+-- the marks of the paragraph with this id, in the order of their ids
 abbrev pub marks_on : ℕ → List Mark → List Mark
 marks_on id marks = filter (λ mark. mark.paragraph == id) marks
 

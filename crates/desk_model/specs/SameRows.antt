@@ -18,7 +18,8 @@ AreSameCaches None (Some b) = ⊥
 AreSameCaches (Some a) None = ⊥
 AreSameCaches (Some a) (Some b) = IsPermutation a b
 
--- the same rows of a file, those of each table in any order
+-- The same rows of a file, those of each table in any order: the entries in the same one of `corr`
+-- and `corr2`, and `cache` in both or in neither.
 pub record AreSameRows (a b : FileRows) : Type 0 where
   pub books : a.books ≡ b.books
   pub tabs : IsPermutation a.tabs b.tabs

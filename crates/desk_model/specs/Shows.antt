@@ -16,16 +16,20 @@ use Rattle.desk_model.specs.Translation.{IsBraille}
 
 -- ---- the row of each part of a book, with its texts as characters
 
+-- the row of `book`, whose id is 1
 abbrev pub book_row_of : (format version : ℕ) → BookRow
 book_row_of format version = record { id = pos 1; format = pos format; version = pos version }
 
+-- the row of a table: its name and its text
 abbrev pub tab_of : List ℕ × List ℕ → Tab
 tab_of (name, text) = record { name = name; body = text }
 
+-- the number of a style
 abbrev pub style_number : Style → ℤ
 style_number Body = pos 0
 style_number Heading = pos 1
 
+-- the number of a flag
 abbrev pub flag_number : Bool → ℤ
 flag_number false = pos 0
 flag_number true = pos 1
@@ -59,6 +63,7 @@ entry_row_of id (number, Undoes undone) = record {
 abbrev pub entry_rows_of : Paragraph → List NamedCorr
 entry_rows_of paragraph = map (entry_row_of paragraph.id) (enumerate_from 1 paragraph.history)
 
+-- the row of a mark
 abbrev pub mark_row_of : Mark → MarkRow
 mark_row_of mark = record {
   id = pos mark.id;

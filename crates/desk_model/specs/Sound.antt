@@ -28,6 +28,7 @@ abbrev pub AreSoundEntries : List ℕ → List Entry → Type 0
 AreSoundEntries original history =
     (i : ℕ) (entry : Entry) → slice_get history i ≡ Some entry → IsSoundEntry original (take i history) entry
 
+-- a history has few enough entries, each of them sound, and every print on the way is short enough
 pub record IsSoundHistory (original : List ℕ) (history : List Entry) : Type 0 where
   pub few : length history ≤ most_entries
   pub entries : AreSoundEntries original history
@@ -60,8 +61,9 @@ pub record IsSoundMark (book : Book) (mark : Mark) : Type 0 where
   pub clean : IsClean mark.note
   pub short : length mark.note ≤ most_note
 
--- all is within its limit; tables have names that differ and stand in order; the ids of paragraphs are 1, 2, .. in
--- some order, those of marks in this order; and each part is sound
+-- all is within its limit; tables have names that differ and stand in order; the ids of paragraphs
+-- are 1, 2, .. in some order, those of marks in this order; and each part is sound. All texts are
+-- then Unicode scalar values.
 pub record IsSound (book : Book) : Type 0 where
   pub version : book.version ≤ most_version
   pub few_tables : length book.tables ≤ most_tables

@@ -56,10 +56,11 @@ with_move id anchor book =
 abbrev pub next_id : Book → ℕ
 next_id book = length book.paragraphs + 1
 
--- the book at its next version, with these paragraphs, or with these marks
+-- the book at its next version, with these paragraphs
 abbrev pub next_with_paragraphs : Book → List Paragraph → Book
 next_with_paragraphs book paragraphs = record book { version = book.version + 1; paragraphs = paragraphs }
 
+-- the book at its next version, with these marks
 abbrev pub next_with_marks : Book → List BookMark → Book
 next_with_marks book marks = record book { version = book.version + 1; marks = marks }
 

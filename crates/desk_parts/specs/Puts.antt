@@ -29,12 +29,14 @@ KeyOf tables.NamedCorr = ℤ × ℤ
 pub data BookColumns : Type 0 where
   Version : ℤ → BookColumns
 
+-- the columns of a paragraph that are set at once
 pub data ParaColumns : Type 0 where
   Place : ℤ → ParaColumns
   Flags : (style volume struck : ℤ) → ParaColumns
   Table : List ℕ → ParaColumns
   Print : List ℕ → ParaColumns
 
+-- the columns of a mark that are set at once
 pub data MarkColumns : Type 0 where
   Span : (start stop touched : ℤ) → MarkColumns
   Resolved : ℤ → MarkColumns
@@ -77,6 +79,7 @@ lent_para row = record {
   struck = row.struck;
 }
 
+-- the row of a mark that is lent
 abbrev pub lent_mark : MarkPut → Mark
 lent_mark row = record {
   id = row.id;
@@ -88,6 +91,7 @@ lent_mark row = record {
   resolved = row.resolved;
 }
 
+-- the row of a history entry that is lent
 abbrev pub lent_entry : NamedCorrPut → NamedCorr
 lent_entry row = record {
   entry = record {
@@ -179,6 +183,7 @@ abbrev pub with_unnamed : (List Corr → List Corr) → EntryRows → EntryRows
 with_unnamed change (Unnamed corrs) = Unnamed (change corrs)
 with_unnamed change (Named corrs) = Named corrs
 
+-- the entries, with this done to those with names
 abbrev pub with_named : (List NamedCorr → List NamedCorr) → EntryRows → EntryRows
 with_named change (Unnamed corrs) = Unnamed corrs
 with_named change (Named corrs) = Named (change corrs)
@@ -197,6 +202,7 @@ with_rows_of tables.Mark change rows = record rows { marks = change rows.marks }
 with_rows_of tables.Cache change rows = record rows { caches = option_map change rows.caches }
 with_rows_of tables.NamedCorr change rows = record rows { entries = with_named change rows.entries }
 
+-- a file's rows once this is put
 abbrev pub with_put : RowPut → FileRows → FileRows
 with_put it rows = with_rows_of (table_put it) (change_of it) rows
 
@@ -220,5 +226,6 @@ HasTable rows tables.NamedCorr = table_of rows.entries ≡ tables.NamedCorr
 abbrev pub HasItsTable : FileRows → RowPut → Type 0
 HasItsTable rows it = HasTable rows (table_put it)
 
+-- each of `cache`, `corr2` and `corr` is there if a row of it is put
 abbrev pub HasTheirTables : List RowPut → FileRows → Type 0
 HasTheirTables puts rows = All (HasItsTable rows) puts

@@ -4,6 +4,7 @@ use Rattle.desk_parts.specs.declared.file_table.FileTable.{FileTable}
 use Rattle.desk_parts.specs.declared.file_table.FileTable.TheVariants as tables
 use Rattle.desk_parts.specs.declared.rows.BookRow.{BookRow}
 
+-- a table of braille: its name and its text
 pub record Tab : Type 0 where
   pub name : List ℕ
   pub body : List ℕ
@@ -13,6 +14,7 @@ pub record StoredTab : Type 0 where
   pub rowid : ℤ
   pub row : Tab
 
+-- a paragraph
 pub record Para : Type 0 where
   pub id : ℤ
   pub place : ℤ
@@ -23,6 +25,7 @@ pub record Para : Type 0 where
   pub volume : ℤ
   pub struck : ℤ
 
+-- an entry of a history without a name
 pub record Corr : Type 0 where
   pub para : ℤ
   pub seq : ℤ
@@ -36,6 +39,7 @@ pub record NamedCorr : Type 0 where
   pub entry : Corr
   pub who : List ℕ
 
+-- a mark
 pub record Mark : Type 0 where
   pub id : ℤ
   pub para : ℤ

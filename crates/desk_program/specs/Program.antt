@@ -83,6 +83,7 @@ files_of shelf file store Connects Closes desk = record {
   Closes = Closes desk;
 }
 
+-- what is known of the database at a path
 abbrev pub place_of : {D : Type 0} → Files D → List ℕ → Place D
 place_of files path = place files.store (files.Connects path) files.Closes files.OpenFails (files.at path)
 

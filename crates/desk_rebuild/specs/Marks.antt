@@ -27,6 +27,7 @@ pub record IsSpan (count : ℕ) (start stop : ℤ) : Type 0 where
   pub ordered : start ≤ℤ stop
   pub high : stop ≤ℤ pos count
 
+-- a note is short enough, and has no barred character
 pub record IsNoteText (text : List ℕ) : Type 0 where
   pub short : length text ≤ most_note
   pub unbarred : IsUnbarred text

@@ -78,13 +78,15 @@ pub record AreInPlaces (paras : List Para) (order : List ℕ) : Type 0 where
   pub places : map (λ row. row.place) placed ≡ map pos (range_with_len 1 (length placed))
   pub ids : map (λ row. row.id) placed ≡ map pos order
 
--- a kept paragraph without its history, without its braille, and without its marks
+-- a kept paragraph without its history
 abbrev pub without_history : KeptParagraph → KeptParagraph
 without_history kept = record kept { history = [] }
 
+-- a kept paragraph without its braille
 abbrev pub without_cells : KeptParagraph → KeptParagraph
 without_cells kept = record kept { cells = [] }
 
+-- a kept paragraph without its marks
 abbrev pub without_marks : KeptParagraph → KeptParagraph
 without_marks kept = record kept { marks = [] }
 

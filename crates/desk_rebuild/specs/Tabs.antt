@@ -19,6 +19,7 @@ use Rattle.desk_model.specs.Name.{IsTableName}
 use Rattle.desk_parts.specs.Rows.{StoredTab, Tab}
 use Rattle.desk_model.specs.Shows.{tab_of}
 
+-- the rows, without the rowids under which the file keeps them
 abbrev pub rows_of : List StoredTab → List Tab
 rows_of rows = map (λ stored. stored.row) rows
 

@@ -152,13 +152,15 @@ kind_at [] (suc at) = Any
 kind_at (c ∷ cs) (suc zero) = c.kind
 kind_at (c ∷ cs) (suc (suc at)) = kind_at cs (suc at)
 
+-- a column of this kind holds texts
 abbrev pub is_text : Kind → Bool
 is_text Text = true
 is_text _ = false
 
--- whether the query shows the rowid, and whether the table has texts
+-- whether the query shows the rowid
 abbrev pub shows_rowid : FileTable → Bool
 shows_rowid t = list_any (λ at. at == 0) (description_of t).shown
 
+-- whether the table has a column of texts
 abbrev pub has_texts : FileTable → Bool
 has_texts t = list_any (λ c. is_text c.kind) (description_of t).columns

@@ -48,6 +48,7 @@ tree_in (v ∷ vs) s t =
 abbrev pub is_among : List FileTable → FileTable → Bool
 is_among tables t = list_any (λ v. bytes_eq (description_of v).name (description_of t).name) tables
 
+-- the layout of the six tables of a new file, made in this schema
 abbrev pub new_layout : Schema → Layout
 new_layout s = record { schema = after new_tables s; has = is_among new_tables; tree = tree_in new_tables s }
 
@@ -102,7 +103,7 @@ IsMade s db = AreFreeIn s.now.schema new_tables × IsNew s.now.schema s.now.tree
 
 -- ---- tables that are made in a file
 
--- the layout with these tables too, and the contents with no rows in them
+-- the layout with these tables too
 abbrev pub with_tables : List FileTable → Layout → Layout
 with_tables tables l = record {
   schema = after tables l.schema;
@@ -110,6 +111,7 @@ with_tables tables l = record {
   tree = λ v. if is_among tables v then tree_in tables l.schema v else l.tree v;
 }
 
+-- the contents with no rows in these tables
 abbrev pub with_none : List FileTable → Trees → Contents → Contents
 with_none tables others c = record { rows = λ v. if is_among tables v then [] else c.rows v; others = others }
 

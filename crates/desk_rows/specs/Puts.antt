@@ -22,10 +22,12 @@ use Rattle.desk_rows.specs.States.{IsFile, IsUnder, ShowsContents}
 use Rattle.desk_rows.specs.Turns.{FailsWith, Ran, Statement, Stops}
 use Rattle.desk_rows.specs.declared.texts.TheConstants.{SET_FLAGS, SET_PLACE, SET_PRINT, SET_RESOLVED, SET_SPAN, SET_TABLE, SET_VERSION}
 
--- the contents with this put, and with these in turn
+-- the contents with this put: the row with its key is replaced, or the row added, or columns are
+-- set in the row with the key
 abbrev pub put_into : Contents → RowPut → Contents
 put_into c it = record c { rows = set_at (table_put it) (change_of it) c.rows }
 
+-- the contents with these put in turn
 abbrev pub puts_into : List RowPut → Contents → Contents
 puts_into puts c = fold put_into c puts
 

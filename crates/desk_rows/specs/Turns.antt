@@ -7,14 +7,16 @@ use Rattle.sqlite.specs.declared.error.Error.{Error}
 use Rattle.sqlite.specs.Held.{Held, state}
 use Rattle.sqlite.specs.State.{State, ExecutesInside, Survives}
 
+-- a statement: its text and its parameters
 pub record Statement : Type 0 where
   pub text : List ℕ
   pub params : Row
 
--- it ran, or the database answered an error to it
+-- it ran
 abbrev pub Ran : Statement → State → State → Type 0
 Ran it old new = (count : ℕ) × ExecutesInside 0 it.text it.params old new (Ok count)
 
+-- the database answered the error to it
 abbrev pub FailsWith : Statement → State → State → Error → Type 0
 FailsWith it old new e = ExecutesInside 0 it.text it.params old new (Err e)
 
@@ -40,6 +42,7 @@ with_transaction old = record old { in_transaction = true }
 abbrev pub AreRun : {S : Type 0} → Ghosts S → List Statement → Held S → State → Type 0
 AreRun {S} g its old new = (last : Held S) × RunInTurn g its (with_transaction old) last × (new.now ≡ (state g last).now)
 
+-- They ran so, and these are trees that a crash leaves.
 abbrev pub IsLeftBy : {S : Type 0} → Ghosts S → List Statement → Held S → Trees → Type 0
 IsLeftBy {S} g its old db =
     (last : Held S) × RunInTurn g its (with_transaction old) last × (db ≡ (state g last).now.trees)

@@ -43,6 +43,7 @@ DifferIn tables.Mark = DifferBy (λ m. m.id)
 DifferIn tables.Cache = DifferBy (λ k. k.para)
 DifferIn tables.NamedCorr = λ es. ⊤
 
+-- the rows that may be changed differ by their keys, those of `tab` by their rowids
 abbrev pub AreApart : Rows → Type 0
 AreApart rows = (t : FileTable) → DifferIn t (rows t)
 

@@ -37,10 +37,11 @@ ShowsBook l book s = WithBook l book (λ c. ShowsContents l c s)
 abbrev pub HoldsBook : Layout → Book → Trees → Type 0
 HoldsBook l book db = WithBook l book (λ c. IsFile l c db)
 
--- a crash now leaves the book, and one of these two
+-- a crash now leaves the book
 abbrev pub LeavesBook : Layout → Book → State → Type 0
 LeavesBook l book = Leaves (HoldsBook l book)
 
+-- a crash now leaves one of these two books
 abbrev pub LeavesEither : Layout → (book next : Book) → State → Type 0
 LeavesEither l book next = Leaves (λ db. HoldsBook l book db ⊎ HoldsBook l next db)
 
@@ -91,6 +92,7 @@ pub record Store (S : Type 0) : Type 0 where
   pub connection : Held S
   pub lost : Bool
 
+-- a store, coded as its connection and that flag
 abbrev pub store_code : {S : Type 0} → Coded S → Coded (Store S)
 store_code {S} store =
     code_by (Held S × Bool) (coded× (held_code store) coded_bool) (λ s. (s.connection, s.lost))

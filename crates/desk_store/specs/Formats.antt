@@ -14,6 +14,7 @@ pub data Format : Type 0 where
   unnamed : Format
   named : Format
 
+-- whether a format needs a table, may have it, excludes it, or does not read what stands there
 pub data Presence : Type 0 where
   needed : Presence
   optional : Presence
@@ -44,7 +45,8 @@ IsPresent optional has there = has ≡ there
 IsPresent foreign has there = (has ≡ there) × (has ≡ false)
 IsPresent unread has there = ⊤
 
--- it has the tables of a file of this format, and of those that are read exactly those that are there
+-- it has the tables of a file of this format, and of those that are read exactly those that are
+-- there; whatever stands under the name `corr` in the second format isn't read
 abbrev pub IsOfFormat : Format → Layout → Type 0
 IsOfFormat format l = (t : FileTable) → IsPresent (presence format t) (l.has t) (is_there l.schema t)
 

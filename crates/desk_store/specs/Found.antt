@@ -47,6 +47,7 @@ abbrev pub format_kept : EntryRows → Format
 format_kept (Unnamed rows) = unnamed
 format_kept (Named rows) = named
 
+-- in this state the statement that reads the entries gives these
 abbrev pub AreEntriesIn : State → EntryRows → Type 0
 AreEntriesIn s (Unnamed rows) = AreRowsIn s tables.Corr rows
 AreEntriesIn s (Named rows) = AreRowsIn s tables.NamedCorr rows
@@ -93,6 +94,7 @@ IsReadAs optional there = there ≡ true
 IsReadAs foreign there = ⊥
 IsReadAs unread there = ⊥
 
+-- the statement of each table that is read in the format can be answered
 abbrev pub CanAllAnswer : Format → State → Type 0
 CanAllAnswer format s = (t : FileTable) → IsReadAs (presence format t) (is_there s.now.schema t) → CanAnswer s t
 

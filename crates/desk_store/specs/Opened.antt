@@ -93,10 +93,11 @@ which_new EntriesAndBraille = tables.Cache ∷ tables.NamedCorr ∷ []
 which_new Entries = tables.NamedCorr ∷ []
 which_new Braille = tables.Cache ∷ []
 
--- of these two, those that a layout lacks, in the same order, and the layout with them
+-- of these two, those that a layout lacks, in the same order
 abbrev pub missing_tables : Layout → List FileTable
 missing_tables l = filter (λ t. not (l.has t)) (tables.Cache ∷ tables.NamedCorr ∷ [])
 
+-- the layout with those of the two that it lacks
 abbrev pub with_missing_tables : Layout → Layout
 with_missing_tables l = with_tables (missing_tables l) l
 

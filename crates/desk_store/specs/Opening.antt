@@ -75,6 +75,7 @@ TellsOfRow rows NoMemory = ⊥
 abbrev pub format_in : ℤ → Format
 format_in format = if int_eq format (pos 1) then unnamed else named
 
+-- the format that was read of a file
 abbrev pub format_read : FileFormat → Format
 format_read read.Unnamed = unnamed
 format_read read.Named = named
@@ -95,6 +96,7 @@ CanBeRead optional has are_utf8 = has ≡ true → are_utf8
 CanBeRead foreign has are_utf8 = has ≡ false
 CanBeRead unread has are_utf8 = ⊤
 
+-- each table of the format can be read
 abbrev pub CanAllBeRead : Format → Layout → Contents → Type 0
 CanAllBeRead format l c =
     (t : FileTable) → CanBeRead (presence format t) (l.has t) (AllByRecursion (HasUtf8Texts t) (c.rows t))

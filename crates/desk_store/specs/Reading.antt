@@ -60,6 +60,7 @@ pub record FailsToRead {S : Type 0} (g : Ghosts S) (format : Format) (old : Held
 abbrev pub AreTableRows : (t : FileTable) → List (ShownOf t) → Contents → Type 0
 AreTableRows t rows c = IsPermutation (c.rows t) (map (own t) rows) × AllByRecursion (HasUtf8Texts t) (c.rows t)
 
+-- a table was read: these are its rows
 abbrev pub ReadsTable : Format → (t : FileTable) → List (ShownOf t) → State → State → Type 0
 ReadsTable format t rows old new = IsReadFrom format old new (λ s. AreRowsIn s t rows) (λ l c. AreTableRows t rows c)
 
@@ -68,16 +69,20 @@ abbrev pub AreEntriesReadable : Format → Layout → Contents → Type 0
 AreEntriesReadable unnamed l c = AllByRecursion (HasUtf8Texts tables.Corr) (c.rows tables.Corr)
 AreEntriesReadable named l c = AllByRecursion (HasUtf8Texts tables.NamedCorr) (c.rows tables.NamedCorr)
 
+-- these are the entries of the file, and they can be read
 abbrev pub AreFileEntries : Format → EntryRows → Layout → Contents → Type 0
 AreFileEntries format entries l c = AreSameEntries (rows_of l c).entries entries × AreEntriesReadable format l c
 
+-- the entries were read: these are they
 abbrev pub ReadsEntries : Format → EntryRows → State → State → Type 0
 ReadsEntries format entries old new =
     IsReadFrom format old new (λ s. AreEntriesIn s entries) (AreFileEntries format entries)
 
+-- these are the rows of `cache`, if the file has it
 abbrev pub AreFileCells : Option (List ParaCells) → Layout → Contents → Type 0
 AreFileCells cells l c = AreSameCaches (rows_of l c).caches cells
 
+-- the braille was read: these are its rows, if the file has `cache`
 abbrev pub ReadsCells : Format → Option (List ParaCells) → State → State → Type 0
 ReadsCells format cells old new = IsReadFrom format old new (λ s. AreCellsIn s cells) (AreFileCells cells)
 
@@ -86,6 +91,7 @@ abbrev pub AreRest : Format → FileRows → Layout → Contents → Type 0
 AreRest format rows l c =
     AreSameRows (record (rows_of l c) { books = rows.books }) rows × CanAllBeRead format l c
 
+-- all tables but `book` were read: these are their rows
 abbrev pub ReadsRest : Format → Parts → State → State → Type 0
 ReadsRest format parts old new =
     IsReadFrom format old new (λ s. AreOtherRows s (rows_in parts)) (AreRest format (rows_in parts))

@@ -33,12 +33,14 @@ acts name rules = record ((new_app name).top) { rules = rules }
 abbrev pub on_file : Text → Shape
 on_file name = acts name (operand (codes "file") ∷ [])
 
+-- the action that writes a volume: its file, the number of the volume, and the size of a page
 abbrev pub export : Shape
 export = acts (codes "export")
     (operand (codes "file") ∷ within 1 20000 (operand (codes "volume"))
     ∷ within 10 60 (size (codes "width") (codes "40"))
     ∷ within 5 40 (size (codes "lines") (codes "25")) ∷ [])
 
+-- the action that translates by a table
 abbrev pub translate : Shape
 translate = acts (codes "translate") (operand (codes "table") ∷ [])
 

@@ -21,6 +21,7 @@ NamesWithinLimits app words action =
     NamesAction app words action
     × IsSomeAnd (subcommand_of app words) (λ found. IsWithinLimits found.1 action)
 
+-- the words name some action, with its numbers within their limits
 abbrev pub NameAnAction : App → List Text → Type 0
 NameAnAction app words = (action : ActionTerm) × NamesWithinLimits app words action
 

@@ -6,6 +6,7 @@ use Rattle.std.specs.List.{AllByRecursion}
 abbrev pub is_gap : ℕ → Bool
 is_gap c = (c == 32) || (c == 9)
 
+-- blanks and tabs alone, or nothing
 abbrev pub IsGap : List ℕ → Type 0
 IsGap = AllByRecursion (λ c. is_gap c ≡ true)
 

@@ -22,6 +22,7 @@ both_letters capital [] = []
 both_letters capital (mask ∷ masks) =
     defined Letter (capital, mask ∷ []) ∷ defined Letter (capital + 32, mask ∷ []) ∷ both_letters (capital + 1) masks
 
+-- capitals one after another, each with its small letter
 abbrev pub small_letters : ℕ → List ℕ → List (ℕ × ℕ)
 small_letters capital [] = []
 small_letters capital (mask ∷ masks) = (capital, capital + 32) ∷ small_letters (capital + 1) masks
@@ -32,6 +33,7 @@ digits =
     (49, 1 ∷ []) ∷ (50, 3 ∷ []) ∷ (51, 9 ∷ []) ∷ (52, 25 ∷ []) ∷ (53, 17 ∷ []) ∷
     (54, 11 ∷ []) ∷ (55, 27 ∷ []) ∷ (56, 19 ∷ []) ∷ (57, 10 ∷ []) ∷ (48, 26 ∷ []) ∷ []
 
+-- the punctuation marks
 abbrev pub marks : List (ℕ × List ℕ)
 marks =
     (46, 50 ∷ []) ∷ (44, 2 ∷ []) ∷ (59, 6 ∷ []) ∷ (58, 18 ∷ []) ∷

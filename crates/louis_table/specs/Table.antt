@@ -24,6 +24,7 @@ use Rattle.louis_table.specs.Meaning.{Meaning, definition_of, fold_of, sign_cell
 
 -- ---- the limits
 
+-- lines of a text
 abbrev pub most_lines : ℕ
 most_lines = 20000
 
@@ -167,6 +168,7 @@ partners_in (Replaces kind text cells) = []
 partners_in (Announces sign cells) = []
 partners_in (Collects set text) = []
 
+-- the two signs are one
 abbrev pub is_same_sign : Sign → Sign → Bool
 is_same_sign signs.Number signs.Number = true
 is_same_sign signs.Number signs.Capital = false
@@ -185,6 +187,7 @@ is_same_sign signs.NoContraction signs.Capital = false
 is_same_sign signs.NoContraction signs.CapitalWord = false
 is_same_sign signs.NoContraction signs.NoContraction = true
 
+-- the two sets are one
 abbrev pub is_same_set : CharacterSet → CharacterSet → Bool
 is_same_set sets.NumericMode sets.NumericMode = true
 is_same_set sets.NumericMode sets.NoContraction = false
@@ -226,7 +229,8 @@ rules_in meaning (n, Replaces kind text cells) =
 rules_in meaning (n, Announces sign cells) = []
 rules_in meaning (n, Collects set text) = []
 
--- all that a table has is that of the entries
+-- all that a table has is that of the entries, in their order: rules with their characters folded,
+-- and sets of characters as they are written
 pub record IsMadeOf (entries : List (ℕ × Entry)) (meaning : Meaning) : Type 0 where
   pub definitions : meaning.definitions ≡ flat_map (λ e. definitions_in e.1) entries
   pub partners : meaning.partners ≡ flat_map (λ e. partners_in e.1) entries
@@ -376,8 +380,13 @@ module _ (profile : Profile) where
 
 -- ---- tables with numeric mode, which the crate reads
 
+-- The text is bad, and line n is reported with this cause: by cause 9 if it isn't UTF-8, else by
+-- the first line that has a cause, with its smallest, and if none has one, by cause 7 on the first
+-- line with a character that no line defines.
 abbrev pub Bad : List ℕ → ℕ → ℕ → Type 0
 Bad = BadIn WithNumericMode
 
+-- the text is a table with this meaning; each list of bytes has exactly one meaning, or one line
+-- and cause
 abbrev pub Means : List ℕ → Meaning → Type 0
 Means = MeansIn WithNumericMode

@@ -10,6 +10,7 @@ use Rattle.louis_translate.specs.Position.{fits}
 use Rattle.louis_translate.specs.Sign.{sign_at}
 use Rattle.louis_translate.specs.Choice.{span}
 
+-- no sign stands before this place
 abbrev pub has_no_sign : Meaning → List ℕ → ℕ → Bool
 has_no_sign meaning print k = length (sign_at meaning print k) == 0
 

@@ -28,7 +28,8 @@ AreLoneCells meaning cells =
 
 -- ---- places
 
--- no sign after a number can stand at a place: the table has none, or no number reaches the place
+-- no sign after a number can stand at a place: the table has none, or no number reaches the place;
+-- after a lone cell at such a place the next place is one too
 abbrev pub IsFree : Meaning → List ℕ → ℕ → Type 0
 IsFree meaning print i = (meaning.nocontractsign ≡ []) ⊎ (follows_number meaning print i ≡ false)
 

@@ -37,6 +37,7 @@ is_edge (Some Punctuation) = true
 is_edge (Some Digit) = false
 is_edge (Some Letter) = false
 
+-- the place has a letter
 abbrev pub is_letter : Option Class → Bool
 is_letter None = false
 is_letter (Some Space) = false
@@ -44,6 +45,7 @@ is_letter (Some Punctuation) = false
 is_letter (Some Digit) = false
 is_letter (Some Letter) = true
 
+-- the place has a digit
 abbrev pub is_digit : Option Class → Bool
 is_digit None = false
 is_digit (Some Space) = false
@@ -51,7 +53,9 @@ is_digit (Some Punctuation) = false
 is_digit (Some Digit) = true
 is_digit (Some Letter) = false
 
--- the position test of a rule that would cover the places from i up to but not including j
+-- The position test of a rule that would cover the places from i up to but not including j: `word`
+-- needs an edge on both sides, `begword` an edge before and a letter after, `midword` letters on
+-- both sides, `endword` a letter before and an edge after, and `always` nothing.
 abbrev pub fits : Meaning → List ℕ → RuleKind → ℕ → ℕ → Bool
 fits meaning print Always i j = true
 fits meaning print Word i j = is_edge (class_before meaning print i) && is_edge (class_at meaning print j)

@@ -11,13 +11,16 @@ use Rattle.louis_translate.specs.Position.{class_at, class_before, is_digit, is_
 abbrev pub is_capital : Meaning → ℕ → Bool
 is_capital meaning character = is_some (partner_of meaning character)
 
+-- the place has a capital
 abbrev pub is_capital_at : Meaning → List ℕ → ℕ → Bool
 is_capital_at meaning print i = option_map_or (is_capital meaning) (slice_get print i) false
 
--- the run of capitals around a place is the longest interval of neighbouring capitals: its first place, and the place after its last
+-- the first place of the run of capitals around a place, which is the longest interval of
+-- neighbouring capitals
 abbrev pub run_start : Meaning → List ℕ → ℕ → ℕ
 run_start meaning print i = i - suffix_len (is_capital meaning) (take i print)
 
+-- and the place after the last of that run
 abbrev pub run_end : Meaning → List ℕ → ℕ → ℕ
 run_end meaning print i = i + prefix_len (is_capital meaning) (drop i print)
 
@@ -48,6 +51,7 @@ capital_sign meaning print i =
 
 -- ---- numbers
 
+-- the place has a digit
 abbrev pub is_digit_at : Meaning → List ℕ → ℕ → Bool
 is_digit_at meaning print i = is_digit (class_at meaning print i)
 
@@ -55,6 +59,7 @@ is_digit_at meaning print i = is_digit (class_at meaning print i)
 abbrev pub is_mode_char : Meaning → ℕ → Bool
 is_mode_char meaning character = list_any (λ c. nat_eq c character) meaning.mode_chars
 
+-- the place has a character that continues a number
 abbrev pub is_mode_char_at : Meaning → List ℕ → ℕ → Bool
 is_mode_char_at meaning print i = option_map_or (is_mode_char meaning) (slice_get print i) false
 
@@ -71,7 +76,8 @@ is_number_from meaning print i j =
 abbrev pub is_in_numeric_mode : Meaning → List ℕ → ℕ → Bool
 is_in_numeric_mode meaning print i = list_any (is_number_from meaning print i) (range_with_len 0 (i + 1))
 
--- the same as a relation
+-- The same as a relation. So a number goes on over the points and commas in it, and a point alone
+-- begins none.
 pub record IsInNumericMode (meaning : Meaning) (print : List ℕ) (i : ℕ) : Type 0 where
   pub from : ℕ
   pub order : from ≤ i
@@ -86,6 +92,7 @@ follows_number meaning print i = if i == 0 then false else is_in_numeric_mode me
 abbrev pub is_nocontract_char : Meaning → ℕ → Bool
 is_nocontract_char meaning character = list_any (λ c. nat_eq c character) meaning.nocontract_chars
 
+-- the place has a character that takes a sign right after a number
 abbrev pub is_nocontract_char_at : Meaning → List ℕ → ℕ → Bool
 is_nocontract_char_at meaning print i = option_map_or (is_nocontract_char meaning) (slice_get print i) false
 
@@ -104,7 +111,7 @@ plain_sign_at meaning print i =
     else (if is_capital_at meaning print i then capital_sign meaning print i else [])
 
 -- the signs with numeric mode: one before a digit that no number reaches, those before capitals, and one before a
--- character that could be read as more of a number
+-- character that could be read as more of a number; a sign that the table lacks is empty
 abbrev pub sign_at : Meaning → List ℕ → ℕ → List ℕ
 sign_at meaning print i =
     if is_digit_at meaning print i

@@ -35,6 +35,7 @@ kinds_of table = map (λ c. c.kind) table.columns
 abbrev pub HaveIntegerRowids : List Row → Type 0
 HaveIntegerRowids = AllByRecursion (λ r. IsTrue (is_int (rowid r)))
 
+-- if the value is a text, its bytes are UTF-8
 abbrev pub IsUtf8Text : Value → Type 0
 IsUtf8Text (value.Text t) = IsUtf8 t
 IsUtf8Text _ = ⊤

@@ -17,6 +17,7 @@ pub record HaveRowids (rows : List Row) : Type 0 where
 abbrev pub columns_at : List ℕ → Row → Row
 columns_at places r = map (column r) places
 
+-- the numbers from this one on, as many as there are items
 abbrev pub numbers_from : ℕ → List ℕ → List ℕ
 numbers_from at [] = []
 numbers_from at (x ∷ xs) = at ∷ numbers_from (suc at) xs

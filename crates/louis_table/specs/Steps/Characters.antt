@@ -7,6 +7,7 @@ use Rattle.louis_table.specs.Characters.{digits_behind, escape_character}
 
 -- ---- escapes
 
+-- the character, if there is one, and what follows it
 abbrev pub with_rest : Option ℕ → List ℕ → Option (ℕ × List ℕ)
 with_rest None rest = None
 with_rest (Some character) rest = Some (character, rest)
@@ -16,6 +17,7 @@ abbrev pub hex_value : ℕ → List ℕ → Option ℕ
 hex_value n [] = Some n
 hex_value n (digit ∷ digits) = if nat_lt (digit_value digit) 16 then hex_value (16 * n + digit_value digit) digits else None
 
+-- the number, if it is that of a Unicode scalar value
 abbrev pub scalar_from : Option ℕ → Option ℕ
 scalar_from None = None
 scalar_from (Some number) = if scalar number then Some number else None
@@ -24,11 +26,13 @@ scalar_from (Some number) = if scalar number then Some number else None
 abbrev pub number_at : ℕ → List ℕ → Option (ℕ × List ℕ)
 number_at count text = if nat_lt (length text) count then None else with_rest (scalar_from (hex_value 0 (take count text))) (drop count text)
 
+-- the character of an escape, by its letter or by its digits, and what follows it
 abbrev pub escape_by : Option ℕ → Option ℕ → List ℕ → Option (ℕ × List ℕ)
 escape_by (Some character) digits rest = Some (character, rest)
 escape_by None (Some count) rest = number_at count rest
 escape_by None None rest = None
 
+-- the character of the escape at the front, without its backslash, and what follows it
 abbrev pub escape_at : List ℕ → Option (ℕ × List ℕ)
 escape_at [] = None
 escape_at (letter ∷ rest) = escape_by (escape_character letter) (digits_behind letter) rest

@@ -39,10 +39,12 @@ rule_in dots = if bytes_eq dots (codes "=") then Some None else option_map Some 
 abbrev pub are_many : List ℕ → Bool
 are_many cells = nat_lt most_cells (length cells)
 
+-- there are more cells than an operand may have, if cells are written
 abbrev pub are_many_written : Option (List ℕ) → Bool
 are_many_written None = false
 are_many_written (Some cells) = are_many cells
 
+-- one of two operands has more cells than it may have
 abbrev pub are_many_of_two : List ℕ × List ℕ → Bool
 are_many_of_two cells = are_many cells.0 || are_many cells.1
 

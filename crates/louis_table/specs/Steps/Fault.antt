@@ -3,6 +3,7 @@ use Rattle.std.specs.Prelude.{ℕ}
 use Rattle.louis_table.specs.declared.fault.Cause.{Cause}
 use Rattle.louis_table.specs.declared.fault.Cause.TheVariants as causes
 
+-- the number of a cause
 abbrev pub cause_number : Cause → ℕ
 cause_number causes.UnknownOpcode = 1
 cause_number causes.MissingOperand = 2

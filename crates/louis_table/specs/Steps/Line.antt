@@ -82,10 +82,12 @@ abbrev pub as_some : Result Entry ℕ → Result (Option Entry) ℕ
 as_some (Ok entry) = Ok (Some entry)
 as_some (Err cause) = Err cause
 
+-- what a line with this opcode gives; without one it has cause 1
 abbrev pub opcode_gives : Option Opcode → List ℕ → Result (Option Entry) ℕ
 opcode_gives None rest = Err 1
 opcode_gives (Some opcode) rest = as_some (entry_at opcode rest)
 
+-- what a line gives by its first field; blank lines and comments give nothing
 abbrev pub fields_give : List ℕ → List ℕ → Result (Option Entry) ℕ
 fields_give [] rest = Ok None
 fields_give (c ∷ field) rest = if c == 35 then Ok None else opcode_gives (opcode_named (c ∷ field)) rest
@@ -124,6 +126,7 @@ is_large (Replaces kind text cells) = nat_lt most_rule_characters (length text) 
 is_large (Announces sign cells) = are_many cells
 is_large (Collects set text) = nat_lt most_set_characters (length text)
 
+-- the entry, or the smallest cause that it has
 abbrev pub verdict_by : Bool → Bool → Bool → Entry → Result Entry ℕ
 verdict_by repeated announced large entry =
     if repeated then Err 5 else if announced then Err 6 else if large then Err 8 else Ok entry
@@ -132,6 +135,7 @@ verdict_by repeated announced large entry =
 unfoldable pub entry_verdict : Meaning → Entry → Result Entry ℕ
 entry_verdict meaning entry = verdict_by (repeats meaning entry) (announces meaning entry) (is_large entry) entry
 
+-- what a line gives, or the cause for which it is refused
 abbrev pub line_verdict : Meaning → Result (Option Entry) ℕ → Result (Option Entry) ℕ
 line_verdict meaning (Ok None) = Ok None
 line_verdict meaning (Ok (Some entry)) = as_some (entry_verdict meaning entry)

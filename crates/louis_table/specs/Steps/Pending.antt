@@ -20,6 +20,7 @@ abbrev pub are_defined : Meaning → List ℕ → Bool
 are_defined meaning [] = true
 are_defined meaning (character ∷ characters) = if is_known meaning character then are_defined meaning characters else false
 
+-- the meaning defines each folded character of the rule
 abbrev pub is_complete_rule : Meaning → PendingRule → Bool
 is_complete_rule meaning rule = are_defined meaning (map (fold_of meaning) rule.characters)
 
@@ -75,6 +76,7 @@ Finishes (Err (faults.Table fault)) meaning one old new =
     (is_complete meaning one ≡ false) × (fault.line ≡ line_of one) × (fault.cause ≡ 7)
 Finishes (Err faults.NoMemory) meaning one old new = Unit {0}
 
+-- all that is written was finished, or one has a character that is not defined
 abbrev pub FinishesAll : Result (Vec Rule Global) ReadFault → Meaning → List PendingEntry → Type 0
 FinishesAll (Ok rules) meaning all = (first_lacking meaning all ≡ None) × (rules.items ≡ flat_map (complete_rules meaning) all)
 FinishesAll (Err (faults.Table fault)) meaning all = (first_lacking meaning all ≡ Some fault.line) × (fault.cause ≡ 7)

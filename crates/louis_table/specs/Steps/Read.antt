@@ -72,10 +72,12 @@ pub record IsLackingIn (lines : List (List ℕ)) (n : ℕ) : Type 0 where
   pub gives : LinesGive lines meaning all
   pub lacking : first_lacking meaning all ≡ Some n
 
+-- what is reported of the lines before their rules are finished
 abbrev pub LinesTellEarly : List (List ℕ) → ReadFault → Type 0
 LinesTellEarly lines (faults.Table fault) = IsTold lines fault.line fault.cause
 LinesTellEarly lines faults.NoMemory = Unit {0}
 
+-- what is reported of the lines
 abbrev pub LinesTell : List (List ℕ) → ReadFault → Type 0
 LinesTell lines (faults.Table fault) = IsTold lines fault.line fault.cause ⊎ (IsLackingIn lines fault.line × (fault.cause ≡ 7))
 LinesTell lines faults.NoMemory = Unit {0}

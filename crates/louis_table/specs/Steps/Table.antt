@@ -27,9 +27,11 @@ no_meaning =
       nocontract_chars = [];
     }
 
+-- the meaning with one more definition
 abbrev pub with_definition : Meaning → ℕ → Definition → Meaning
 with_definition meaning character definition = record meaning { definitions = meaning.definitions ++ (character, definition) ∷ [] }
 
+-- the meaning with one more capital and its lower character
 abbrev pub with_partner : Meaning → ℕ → ℕ → Meaning
 with_partner meaning upper lower = record meaning { partners = meaning.partners ++ (upper, lower) ∷ [] }
 
@@ -63,6 +65,7 @@ IsNewFor meaning (Replaces kind text cells) = Unit {0}
 IsNewFor meaning (Announces sign cells) = sign_cells meaning sign ≡ []
 IsNewFor meaning (Collects set text) = set_characters meaning set ≡ []
 
+-- what the line gives, if it gives an entry, is new for the meaning
 abbrev pub CanTake : Meaning → Option Entry → Type 0
 CanTake meaning None = Unit {0}
 CanTake meaning (Some entry) = IsNewFor meaning entry
