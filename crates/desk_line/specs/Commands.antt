@@ -22,6 +22,7 @@ use Rattle.desk_line.specs.Operands.{FitsOperand, Operand, Number, Lines, Place,
 abbrev pub correction_of : SpanText → List ℕ → Command
 correction_of span who = commands.Correct span.paragraph span.start span.count (chars span.text) (chars who)
 
+-- a text for places of a paragraph as a mark's note
 abbrev pub mark_of : SpanText → Command
 mark_of span = commands.Mark span.paragraph span.start span.count (chars span.text)
 
@@ -104,6 +105,8 @@ abbrev pub correction_word : List ℕ → List ℕ
 correction_word [] = codes "correct"
 correction_word (c ∷ who) = codes "correct-by"
 
+-- how each command is written: its word, its operands, and the bytes of the lines after its head
+-- line
 abbrev pub form : Command → Form
 form (commands.Table name text) = record { word = codes "table"; operands = Name name ∷ Lines text ∷ []; block = text }
 form (commands.TypeIn after name text) = one_line (codes "type") (Place after ∷ Name name ∷ Text text ∷ [])

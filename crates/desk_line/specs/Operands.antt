@@ -44,6 +44,7 @@ abbrev pub IsWordIfAny : List ℕ → Type 0
 IsWordIfAny [] = Unit {0}
 IsWordIfAny (c ∷ who) = IsWord (c ∷ who)
 
+-- the id that an anchor names, if it names one, is small enough
 abbrev pub IsSmallAnchor : Anchor → Type 0
 IsSmallAnchor Front = Unit {0}
 IsSmallAnchor End = Unit {0}
@@ -62,11 +63,13 @@ FitsOperand (Text text) = IsOneLineText text
 
 -- ---- its fields
 
+-- the field of an anchor
 abbrev pub anchor_field : Anchor → List ℕ
 anchor_field Front = codes "front"
 anchor_field End = codes "end"
 anchor_field (Para id) = decimal id
 
+-- the field of a proofreader, if one is named
 abbrev pub proofreader_fields : List ℕ → List (List ℕ)
 proofreader_fields [] = []
 proofreader_fields (c ∷ who) = shown_text (c ∷ who) ∷ []

@@ -44,6 +44,7 @@ only_one [] = None
 only_one (x ∷ []) = Some x
 only_one (x ∷ y ∷ xs) = None
 
+-- the two of a list of two
 abbrev pub only_two : List (List ℕ) → Option (List ℕ × List ℕ)
 only_two [] = None
 only_two (x ∷ xs) = option_map (λ y. (x, y)) (only_one xs)
@@ -53,12 +54,14 @@ abbrev pub of_both : {A B C : Type 0} → (A → B → C) → Option A → Optio
 of_both make None b = None
 of_both make (Some a) b = option_map (make a) b
 
+-- what three give, if all are there
 abbrev pub of_three : {A B C D : Type 0} → (A → B → C → D) → Option A → Option B → Option C → Option D
 of_three make None b c = None
 of_three make (Some a) b c = of_both (make a) b c
 
 -- ---- fields
 
+-- the field as a name, which has a character
 abbrev pub name_in : List ℕ → Option (List ℕ)
 name_in [] = None
 name_in (b ∷ field) = Some (b ∷ field)
@@ -120,6 +123,7 @@ unfoldable pub with_one_before : {A B C : Type 0} → (List ℕ → Option A) �
     → List (List ℕ) → Option C
 with_one_before first others make fields = option_and_then (λ one. of_both make (first one.0) (others one.1)) (first_and_others fields)
 
+-- a text for places of a paragraph, of numbers that were read and the fields after them
 abbrev pub span_text : (id start count : ℕ) → List (List ℕ) → SpanText
 span_text id start count rest = record { paragraph = id; start = start; count = count; text = line_of_fields rest }
 
@@ -148,6 +152,7 @@ numbered_directive word number =
     else if bytes_eq word (codes "restore") then Some (Whole (commands.Restore number))
     else None
 
+-- the command with this word and these operands
 abbrev pub directive_by : List ℕ → List (List ℕ) → Option Directive
 directive_by word fields =
     if bytes_eq word (codes "table") then with_two name_in count_in (λ name count. Table (chars name) count) fields
@@ -182,10 +187,12 @@ paragraph_query word id =
     else if bytes_eq word (codes "marks") then Some (queries.Marks id)
     else None
 
+-- the query with this word that names nothing, or a paragraph
 abbrev pub query_by_count : List ℕ → List (List ℕ) → Option Query
 query_by_count word [] = lone_query word
 query_by_count word (field ∷ fields) = option_and_then (paragraph_query word) (paragraph_in (field ∷ fields))
 
+-- the query with this word and these operands
 abbrev pub query_by : List ℕ → List (List ℕ) → Option Query
 query_by word fields =
     if bytes_eq word (codes "where") then option_map (λ two. queries.WhereIs two.0 two.1) (numbers_in fields)
@@ -198,6 +205,7 @@ query_in (word ∷ fields) = query_by word fields
 
 -- ---- head lines
 
+-- the first that is there
 abbrev pub or_else : {A : Type 0} → Option A → Option A → Option A
 or_else None other = other
 or_else (Some x) other = Some x
@@ -206,11 +214,13 @@ or_else (Some x) other = Some x
 abbrev pub expecting : List ℕ → List (List ℕ) → Option Head
 expecting number fields = of_both (λ version directive. Do directive (Some version)) (number_in number) (directive_in fields)
 
+-- a command after its first field, which may be the version that is expected
 abbrev pub command_after : List ℕ → List (List ℕ) → Option Head
 command_after [] fields = option_map (λ directive. Do directive None) (directive_by [] fields)
 command_after (b ∷ word) fields =
     if b == 64 then expecting word fields else option_map (λ directive. Do directive None) (directive_by (b ∷ word) fields)
 
+-- a command, with the version that is expected if one is
 abbrev pub command_in : List (List ℕ) → Option Head
 command_in [] = None
 command_in (field ∷ fields) = command_after field fields
@@ -233,6 +243,7 @@ abbrev pub are_lines : List (List ℕ) → ℕ → Bool
 are_lines [] count = count == 0
 are_lines (line ∷ lines) count = nat_lt 0 count && nat_le (length line) most_line_bytes && are_lines lines (count - 1)
 
+-- the request of this head and this text, if the text has just the lines that the head takes
 abbrev pub with_text : List ℕ → Head → Option Request
 with_text text head = if are_lines (lines_of text) (block_lines head) then Some (request_of head text) else None
 

@@ -56,6 +56,7 @@ details refusals.NothingToUndo = []
 details refusals.TooLong = []
 details refusals.NoMemory = []
 
+-- the line that reports a refusal
 abbrev pub refusal_line : Refusal → List ℕ
 refusal_line refusal = word_and (codes "no") (code_of refusal ∷ details refusal)
 

@@ -12,6 +12,7 @@ use Rattle.desk_line.specs.Operands.{IsSmall, Number}
 
 -- ---- what can be written
 
+-- how each query is written: its word and its operands
 abbrev pub query_form : Query → Form
 query_form (Print id) = one_line (codes "print") (Number id ∷ [])
 query_form (Braille id) = one_line (codes "braille") (Number id ∷ [])
@@ -22,10 +23,12 @@ query_form (Whence id cell) = one_line (codes "whence") (Number id ∷ Number ce
 query_form queries.List = one_line (codes "list") []
 query_form Version = one_line (codes "version") []
 
+-- the version that is expected, if one is, is small enough
 abbrev pub IsSmallIfAny : Option ℕ → Type 0
 IsSmallIfAny None = Unit {0}
 IsSmallIfAny (Some version) = IsSmall version
 
+-- each operand of the request can be written
 abbrev pub FitsRequest : Request → Type 0
 FitsRequest (Do command expect) = FitsForm (form command) × IsSmallIfAny expect
 FitsRequest (Ask query) = FitsForm (query_form query)
@@ -37,6 +40,7 @@ abbrev pub expecting_line : Option ℕ → List ℕ → List ℕ
 expecting_line None line = line
 expecting_line (Some version) line = line_of_fields ((64 ∷ decimal version) ∷ line ∷ [])
 
+-- the head line of the request
 abbrev pub head_text : Request → List ℕ
 head_text (Do command expect) = expecting_line expect (line_of_fields (form_fields (form command)))
 head_text (Ask query) = line_of_fields (form_fields (query_form query))
