@@ -141,7 +141,7 @@ version_put version = SetColumns tables.Book (pos 1) (Version (row_number versio
 
 -- what the effect puts after the version: the row that comes, or the columns that change, with the
 -- cells of each paragraph that is translated anew, the places of those that stand elsewhere, and
--- the spans of the marks on a new print
+-- the spans of all marks on a new print, even of those that stay, so that no mark is looked at twice
 abbrev pub effect_puts : Book → Effect → List RowPut
 effect_puts book (effect.AddTable name table room) = tab_put name table ∷ []
 effect_puts book (effect.ReplaceTable name table cells) = tab_put name table ∷ cells_from 0 cells.items

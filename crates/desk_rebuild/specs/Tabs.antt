@@ -23,7 +23,8 @@ use Rattle.desk_model.specs.Shows.{tab_of}
 abbrev pub rows_of : List StoredTab → List Tab
 rows_of rows = map (λ stored. stored.row) rows
 
--- by the names, and for one name by the texts
+-- by the bytes of the names, whose order in UTF-8 is that of their characters, and for one name by
+-- the texts
 abbrev pub tab_order : Tab → Tab → Ordering
 tab_order one other = ordering_then (slice_cmp nat_cmp one.name other.name) (slice_cmp nat_cmp one.body other.body)
 

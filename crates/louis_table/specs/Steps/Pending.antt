@@ -76,7 +76,8 @@ Finishes (Err (faults.Table fault)) meaning one old new =
     (is_complete meaning one ≡ false) × (fault.line ≡ line_of one) × (fault.cause ≡ 7)
 Finishes (Err faults.NoMemory) meaning one old new = Unit {0}
 
--- all that is written was finished, or one has a character that is not defined
+-- all that is written was finished, or one has a character that is not defined; rules and sets stand
+-- in one list, by their lines, so that the smallest line is reported
 abbrev pub FinishesAll : Result (Vec Rule Global) ReadFault → Meaning → List PendingEntry → Type 0
 FinishesAll (Ok rules) meaning all = (first_lacking meaning all ≡ None) × (rules.items ≡ flat_map (complete_rules meaning) all)
 FinishesAll (Err (faults.Table fault)) meaning all = (first_lacking meaning all ≡ Some fault.line) × (fault.cause ≡ 7)
