@@ -1,6 +1,7 @@
 """Random commands through the client, beside a small model of prints and marks.
 
-The model is written from docs/FORMATS.md and docs/developers/definitions.md, for two tables without signs.
+The model is written from docs/FORMATS.md and, of marks that move, from what
+crates/desk_model/specs/Marks.antt says of them, for two tables without signs.
 """
 
 import os
