@@ -64,7 +64,7 @@ test:
 trials:
 	RT='$(RT)' EVERY=23 tests/trials/trials.sh
 # scripts tests/FOLDER/NAME.sh over the built program, which run side by side, those that take longest first
-SCRIPTS := desk bring_real instructions kill memory stops package limits ueb prove tutorial client rows paths
+SCRIPTS := desk bring_real instructions kill memory stops package limits ueb prove tutorial client rows paths sentences
 runs: $(SCRIPTS:%=run-%)
 run-tutorial run-client: run-%:
 	tests/program/$*.sh $(PROGRAM)

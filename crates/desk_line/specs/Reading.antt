@@ -70,6 +70,7 @@ name_in (b ∷ field) = Some (b ∷ field)
 abbrev pub small_number : ℕ → Option ℕ
 small_number value = if nat_le value most_number then Some value else None
 
+-- the field as a number
 unfoldable pub number_in : List ℕ → Option ℕ
 number_in field =
     if nat_lt 0 (length field) && nat_le (length field) most_digits && list_all is_ascii_digit field then small_number (digits_value 10 field)
@@ -79,21 +80,25 @@ number_in field =
 abbrev pub few_lines : ℕ → Option ℕ
 few_lines count = if nat_le count most_lines then Some count else None
 
+-- the field as a number of lines, which is at most that of a table
 unfoldable pub count_in : List ℕ → Option ℕ
 count_in field = option_and_then few_lines (number_in field)
 
+-- the field as the place where a paragraph is put
 unfoldable pub anchor_in : List ℕ → Option Anchor
 anchor_in field =
     if bytes_eq field (codes "front") then Some Front
     else if bytes_eq field (codes "end") then Some End
     else option_map Para (number_in field)
 
+-- the field as a style
 unfoldable pub style_in : List ℕ → Option ParagraphStyle
 style_in field =
     if bytes_eq field (codes "body") then Some Body
     else if bytes_eq field (codes "heading") then Some Heading
     else None
 
+-- the field as a flag
 unfoldable pub flag_in : List ℕ → Option Bool
 flag_in field =
     if bytes_eq field (codes "on") then Some true
@@ -127,6 +132,7 @@ with_one_before first others make fields = option_and_then (λ one. of_both make
 abbrev pub span_text : (id start count : ℕ) → List (List ℕ) → SpanText
 span_text id start count rest = record { paragraph = id; start = start; count = count; text = line_of_fields rest }
 
+-- the fields as a text for places of a paragraph
 unfoldable pub span_text_in : List (List ℕ) → Option SpanText
 span_text_in fields =
     option_and_then (λ first. option_and_then (λ second. option_and_then (λ third.
@@ -167,6 +173,7 @@ directive_by word fields =
     else if bytes_eq word (codes "move") then with_two number_in anchor_in (λ id after. Whole (commands.Move id after)) fields
     else option_and_then (numbered_directive word) (paragraph_in fields)
 
+-- the fields as a command, whose text is still to come if lines follow
 unfoldable pub directive_in : List (List ℕ) → Option Directive
 directive_in [] = None
 directive_in (word ∷ fields) = directive_by word fields
@@ -199,6 +206,7 @@ query_by word fields =
     else if bytes_eq word (codes "whence") then option_map (λ two. queries.Whence two.0 two.1) (numbers_in fields)
     else query_by_count word fields
 
+-- the fields as a query
 unfoldable pub query_in : List (List ℕ) → Option Query
 query_in [] = None
 query_in (word ∷ fields) = query_by word fields
@@ -225,6 +233,7 @@ abbrev pub command_in : List (List ℕ) → Option Head
 command_in [] = None
 command_in (field ∷ fields) = command_after field fields
 
+-- what a head line says, by its fields
 unfoldable pub head_in : List (List ℕ) → Option Head
 head_in fields = or_else (option_map Ask (query_in fields)) (command_in fields)
 
@@ -247,5 +256,6 @@ are_lines (line ∷ lines) count = nat_lt 0 count && nat_le (length line) most_l
 abbrev pub with_text : List ℕ → Head → Option Request
 with_text text head = if are_lines (lines_of text) (block_lines head) then Some (request_of head text) else None
 
+-- the bytes as a request
 unfoldable pub request_in : List ℕ → Option Request
 request_in bytes = option_and_then (with_text (after_first_line bytes)) (head_of (head_line bytes))

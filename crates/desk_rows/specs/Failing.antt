@@ -66,5 +66,7 @@ module _ {S : Type 0} (g : Ghosts S) where
         → Survives (state g last) new (λ db. db ≡ (state g last).now.trees)
         → Fails (state g last) new ⊥ e → FailsToPut putting old new e
 
+  -- A table is not made, or the putting is stopped, and then all of it is undone; or the store
+  -- fails at the commit.
   abbrev pub FailsToChange : List FileTable → Putting S → Held S → State → Error → Type 0
   FailsToChange tables putting = FailsToPut (after_tables g tables putting)

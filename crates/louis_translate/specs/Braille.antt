@@ -60,18 +60,23 @@ module _ (sign : ℕ → List ℕ) (meaning : Meaning) (print : List ℕ) where
 -- ---- cells and places, by the signs of the table
 
 module _ (meaning : Meaning) (print : List ℕ) where
+  -- the cells of a choice: the sign at its start, then its own
   abbrev pub cells_of : Choice → List ℕ
   cells_of = cells_of_by (sign_at meaning print) meaning print
 
+  -- the cells of the choices, joined
   abbrev pub braille : List Choice → List ℕ
   braille = braille_by (sign_at meaning print) meaning print
 
+  -- the output place of a place of the print
   abbrev pub IsOutputPlace : List Choice → ℕ → ℕ → Type 0
   IsOutputPlace = IsOutputPlaceBy (sign_at meaning print) meaning print
 
+  -- the choice made the cell
   abbrev pub MakesCell : List Choice → Choice → ℕ → Type 0
   MakesCell = MakesCellBy (sign_at meaning print) meaning print
 
+  -- the print place of a cell
   abbrev pub IsPrintPlace : List Choice → ℕ → ℕ → Type 0
   IsPrintPlace = IsPrintPlaceBy (sign_at meaning print) meaning print
 

@@ -48,12 +48,16 @@ module _ (sign : ℕ → List ℕ) (meaning : Meaning) (print : List ℕ) where
 -- ---- candidates, by the signs of the table
 
 module _ (meaning : Meaning) (print : List ℕ) where
+  -- the rule may be used at place i
   abbrev pub Matches : ℕ → Rule → Type 0
   Matches = MatchesBy (sign_at meaning print) meaning print
 
+  -- the rule, or the definition of the character, may be used at place i
   abbrev pub IsCandidate : ℕ → Option ℕ → Type 0
   IsCandidate = IsCandidateBy (sign_at meaning print) meaning print
 
+  -- it is the candidate at place i to which all others yield: shorter ones, and as long ones that
+  -- are later
   abbrev pub IsChosen : ℕ → Option ℕ → Type 0
   IsChosen = IsChosenBy (sign_at meaning print) meaning print
 

@@ -27,11 +27,14 @@ module _ (sign : ℕ → List ℕ) (meaning : Meaning) (print : List ℕ) where
 -- ---- by the signs of the table
 
 module _ (meaning : Meaning) (print : List ℕ) where
+  -- the choice is the chosen one at place i
   abbrev pub IsChoiceAt : ℕ → Choice → Type 0
   IsChoiceAt = IsChoiceAtBy (sign_at meaning print) meaning print
 
+  -- the choices cover the places of the print from i up to but not including j
   abbrev pub Covers : ℕ → List Choice → ℕ → Type 0
   Covers = CoversBy (sign_at meaning print) meaning print
 
+  -- the choices cover the whole print
   abbrev pub Tiles : List Choice → Type 0
   Tiles = TilesBy (sign_at meaning print) meaning print
