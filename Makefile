@@ -30,7 +30,7 @@ need_rt = $(if $(shell command -v '$(RT)' 2> /dev/null),,$(error the command '$(
 
 $(PROGRAM): $(SOURCES)
 	$(need_rt)
-	@echo 'Proving what the program needs, and building it. From nothing this takes half an hour or more; a crate that is unchanged takes seconds.' >&2
+	@echo 'Proving what the program needs, and building it. From nothing this takes about twenty minutes on four idle processors, and longer beside other work; a crate that is unchanged takes seconds.' >&2
 	@RT='$(RT)' JOBS=$(JOBS) exec scripts/prove.sh
 	@mkdir -p $(@D)
 	@cp crates/braildesk/out/braildesk $@
@@ -38,7 +38,7 @@ $(PROGRAM): $(SOURCES)
 
 demo:
 	$(need_rt)
-	@echo 'This runs the program on a file, as the sources are, with checks as it runs. It proves nothing, and takes three minutes.'
+	@echo 'This runs the program on a file, as the sources are, with checks as it runs. It proves nothing, and takes two minutes on an idle machine.'
 	@echo "'make' proves what the program needs, and builds $(PROGRAM)."
 	@RT='$(RT)' sample/demo.sh
 
