@@ -1,4 +1,5 @@
--- What is said of a command, its expected version aside, and of what it names.
+-- What is said of a command, its expected version aside, and of what it names. Only private
+-- functions and proofs need these words.
 use Rattle.std.specs.Prelude.{◌≡◌, ◌⊎◌, ℕ, false, List, [], Some, None, IsSome}
 use Rattle.std.specs.List.{All, Contains}
 use Rattle.louis_table.specs.Meaning.{Meaning}

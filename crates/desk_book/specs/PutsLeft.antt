@@ -1,4 +1,4 @@
--- What is left of what a change puts.
+-- What is left of what a change puts. Only private functions and proofs need these words.
 use Rattle.std.specs.Prelude.{[]}
 use Rattle.desk_book.specs.declared.puts.Walk.{Walk}
 use Rattle.desk_book.specs.declared.puts.Walk.TheVariants.{Nothing, Cells, Further, Elsewhere, Spans}

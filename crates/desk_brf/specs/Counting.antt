@@ -1,4 +1,5 @@
--- Volumes counted along the paragraphs of a book, one after another.
+-- Volumes counted along the paragraphs of a book, one after another. Only private functions and
+-- proofs need these words.
 use Rattle.std.specs.Prelude.{ℕ, ◌+◌, ◌==◌, ◌||◌, if◌then◌else◌, Bool, List, [], ◌∷◌}
 use Rattle.desk_model.specs.Book.{Paragraph}
 

@@ -1,4 +1,4 @@
--- What the functions that lay lines do to them.
+-- What the functions that lay lines do to them. Only private functions and proofs need these words.
 use Rattle.std.specs.Prelude.{◌≡◌, ℕ, ◌+◌, ◌-◌, ◌/◌, ◌%◌, ◌<◌, ◌≤◌, ◌==◌, if◌then◌else◌, Bool, true, List, [], ◌∷◌, ◌++◌, length, replicate, Option, Result, is_ok, IfOk}
 use Rattle.std.specs.List.{flat_map}
 use Rattle.desk_model.specs.Book.{Book, Paragraph}

@@ -1,4 +1,4 @@
--- What comes after a text that is being sent.
+-- What comes after a text that is being sent. Only private functions and proofs need these words.
 use Rattle.std.specs.Prelude.{◌≡◌, List, ℕ, ◌++◌, true, false, Option}
 use Rattle.std.specs.Io.KnownBytes.{Appends}
 use Rattle.desk_line.specs.declared.waiting.Waiting.{Waiting}

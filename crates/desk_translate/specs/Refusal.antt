@@ -1,4 +1,4 @@
--- Why a line has no braille.
+-- Why a line has no braille. Only private functions and proofs need these words.
 use Rattle.std.specs.Prelude.{ℕ, ◌<◌, ◌≤◌, List, length, Option, Some, None}
 use Rattle.std.specs.Str.{chars}
 use Rattle.louis_table.specs.Meaning.{Meaning}
