@@ -37,7 +37,7 @@ is_edge (Some Punctuation) = true
 is_edge (Some Digit) = false
 is_edge (Some Letter) = false
 
--- the place has a letter
+-- the class, if there is one, is that of letters
 abbrev pub is_letter : Option Class → Bool
 is_letter None = false
 is_letter (Some Space) = false
@@ -45,7 +45,7 @@ is_letter (Some Punctuation) = false
 is_letter (Some Digit) = false
 is_letter (Some Letter) = true
 
--- the place has a digit
+-- the class, if there is one, is that of digits
 abbrev pub is_digit : Option Class → Bool
 is_digit None = false
 is_digit (Some Space) = false

@@ -20,7 +20,7 @@ is_capital_at meaning print i = option_map_or (is_capital meaning) (slice_get pr
 abbrev pub run_start : Meaning → List ℕ → ℕ → ℕ
 run_start meaning print i = i - suffix_len (is_capital meaning) (take i print)
 
--- and the place after the last of that run
+-- the place after the last one of that run
 abbrev pub run_end : Meaning → List ℕ → ℕ → ℕ
 run_end meaning print i = i + prefix_len (is_capital meaning) (drop i print)
 
