@@ -160,7 +160,8 @@ pub number-change_by : (version : ℕ) (number : Option ℕ) (effect : Effect)
 unfolding change_by
 number-change_by version number effect = refl
 
--- the change makes the next book of this one by the command, which is accepted
+-- the change makes the next book of this one by the command, which is accepted and whose texts are
+-- characters, and has the room for all that it adds
 pub record Carries (book : Book) (command : Command) (next : Book) (change : Change) : Type 0 where
   pub accepted : IsAccepted book None command
   pub written : HasCharacters command

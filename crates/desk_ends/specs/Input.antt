@@ -62,7 +62,7 @@ abbrev pub Passes : Bool → (old new : List ℕ) → (was line : Option (List �
 Passes true old new was line = (bytes : List ℕ) × (old ≡ bytes ++ new) × (line ≡ with_bytes was bytes) × IsFed bytes
 Passes false old new was line = (new ≡ []) × (line ≡ with_bytes was old) × HasNoFeed old
 
--- so of an input
+-- a line was passed on from the unused bytes of an input, or all of them, which have no line feed
 abbrev pub PassesLine : Bool → (old new : Input) → (was line : Option (List ℕ)) → Type 0
 PassesLine true old new was line = (bytes : List ℕ) × UsesWaiting old new bytes × (line ≡ with_bytes was bytes) × IsFed bytes
 PassesLine false old new was line =

@@ -189,7 +189,8 @@ abbrev pub AddsReply : Type 0 → (now new : Option (List ℕ)) → (was waiting
 AddsReply CanFail now new was waiting book answer =
     (text : List ℕ) × IsReply book answer text × Adds CanFail now new was waiting text
 
--- what went out is a beginning of a reply to the request, and all of it if that succeeded
+-- what went out is a beginning of a reply to the request, and all of it if that succeeded, as it does
+-- unless the end can fail
 pub record IsReplied (CanFail : Type 0) (old new : Option (List ℕ)) (book : Book) (answer : Answer) (whole : Bool) : Type 0 where
   pub text : List ℕ
   pub is : IsReply book answer text

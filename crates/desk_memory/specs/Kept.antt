@@ -149,8 +149,9 @@ pub record IsKeptParagraph (tables : KeptTables) (entry : ℕ × KeptParagraph) 
 abbrev pub HasMarks : List KeptMark → ℕ × KeptParagraph → Type 0
 HasMarks marks entry = entry.1.marks ≡ indexes_on entry.0 marks
 
--- what is true of a book as it is kept: it stands for a sound book, each table has the rules that its text means, and
--- each paragraph has its print, its braille and the indexes of its marks
+-- what is true of a book as it is kept: it stands for a sound book, each table has the rules that its
+-- text means, and each paragraph has its print, its braille, for each of its corrections the
+-- characters that gave way to it, and the indexes of its marks, which are their ids less one
 pub record IsKept (version : ℕ) (tables : KeptTables) (paragraphs : KeptParagraphs) (marks : List KeptMark) : Type 0 where
   pub sound : IsSound (book_kept version tables paragraphs marks)
   pub means : All (λ entry. Means entry.1.text entry.1.rules) tables

@@ -98,7 +98,7 @@ IsLent book next command (SetColumns tables.Mark id (Resolved resolved)) =
     (named : ℕ) × (id ≡ row_number named) × GetsResolved command named
 IsLent book next command (SetColumns t key none) = absurd none
 
--- all that is lent is
+-- all that is lent is lent for what the command changes
 abbrev pub AreLent : (book next : Book) → Command → List RowPut → Type 0
 AreLent book next command puts = All (IsLent book next command) puts
 

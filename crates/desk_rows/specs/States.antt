@@ -35,7 +35,7 @@ pub record ShowsContents (l : Layout) (c : Contents) (s : State) : Type 0 where
   pub schema : s.now.schema ≡ l.schema
   pub is : IsFile l c s.now.trees
 
--- it shows it within a transaction, over this last commit
+-- the connection shows such a database within a transaction, over this last commit
 pub record IsUnder (committed : Database) (l : Layout) (c : Contents) (s : State) : Type 0 where
   pub shows : ShowsContents l c s
   pub inside : s.in_transaction ≡ true

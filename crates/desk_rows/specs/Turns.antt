@@ -12,11 +12,11 @@ pub record Statement : Type 0 where
   pub text : List ℕ
   pub params : Row
 
--- it ran
+-- the statement ran
 abbrev pub Ran : Statement → State → State → Type 0
 Ran it old new = (count : ℕ) × ExecutesInside 0 it.text it.params old new (Ok count)
 
--- the database answered the error to it
+-- the database answered the error to the statement
 abbrev pub FailsWith : Statement → State → State → Error → Type 0
 FailsWith it old new e = ExecutesInside 0 it.text it.params old new (Err e)
 

@@ -50,6 +50,6 @@ IsPresent unread has there = ⊤
 abbrev pub IsOfFormat : Format → Layout → Type 0
 IsOfFormat format l = (t : FileTable) → IsPresent (presence format t) (l.has t) (is_there l.schema t)
 
--- it is of one of the two formats
+-- the layout is of one of the two formats
 abbrev pub IsOfEither : Layout → Type 0
 IsOfEither l = (format : Format) × IsOfFormat format l

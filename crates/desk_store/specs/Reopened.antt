@@ -13,7 +13,7 @@ use Rattle.desk_store.specs.Formats.{IsOfEither}
 abbrev pub HoldsStanding : Book → Trees → Type 0
 HoldsStanding book db = (l : Layout) × IsOfEither l × HoldsBook l book db
 
--- they show one of these books
+-- the trees show one of these books
 abbrev pub HoldsOneOf : List Book → Trees → Type 0
 HoldsOneOf books db = (book : Book) × Contains books book × HoldsStanding book db
 

@@ -12,7 +12,7 @@ use Rattle.desk_store.specs.BookFile.{rows_of}
 use Rattle.desk_store.specs.Formats.{IsOfEither}
 use Rattle.desk_store.specs.Opening.{CanAllBeRead, IsBookRow, format_in}
 
--- it is of either format, and its rows show a book
+-- the file is of either format, and its rows show a book
 abbrev pub HasBook : Layout → Contents → Type 0
 HasBook l c = IsOfEither l × ((book : Book) × RowsShow (rows_of l c) book)
 

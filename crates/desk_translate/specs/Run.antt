@@ -89,12 +89,12 @@ Ran source read_old read_new sink write_old write_new meaning ended =
     (sink.contents write_old) (sink.contents write_new) (sink.flushed write_new)
     source.can_fail sink.can_fail
 
--- it answered all lines
+-- the run answered all lines
 abbrev pub AnswersAll : {S K : Type 0} → Source S → S → S → Sink K → K → K → Meaning → Type 0
 AnswersAll source read_old read_new sink write_old write_new meaning =
     Ran source read_old read_new sink write_old write_new meaning Done
 
--- it ended early, and what went out is a beginning of what is answered to the whole input
+-- the run ended early, and what went out is a beginning of what is answered to the whole input
 abbrev pub RanShort : {S K : Type 0} → Source S → S → S → Sink K → K → K → Meaning → Type 0
 RanShort source read_old read_new sink write_old write_new meaning =
     (ended : Ended) × (ended ≢ Done)

@@ -17,6 +17,6 @@ IsLastAnswer meaning [] text = text ≡ []
 IsLastAnswer meaning (b ∷ bytes) text =
     (answer : List ℕ) × IsAnswer meaning (without_ending (b ∷ bytes)) answer × (text ≡ answer ++ 10 ∷ [])
 
--- it goes out
+-- what is answered to what is left at the end of the input goes out
 abbrev pub SendsLast : {K : Type 0} → Ghosts K → K → K → Meaning → List ℕ → Bool → Type 0
 SendsLast sink old new meaning bytes whole = (text : List ℕ) → IsLastAnswer meaning bytes text → Sends sink old new text whole
