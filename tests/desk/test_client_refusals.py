@@ -41,7 +41,7 @@ def numbers_of_rows(heading: str, column: int = 0) -> set[int]:
 
 
 def test_each_code_of_the_formats_has_a_sentence() -> None:
-    codes = numbers_of_rows("| code | what a person should do |\n")
+    codes = numbers_of_rows("| code | when | what to do |\n")
     assert codes == {*range(1, 19), *range(90, 100)}
     assert codes == set(SENTENCES)
 

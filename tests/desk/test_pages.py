@@ -40,7 +40,7 @@ def moon(book: Path) -> Path:
 
 
 def test_each_paragraph_is_shown_with_its_page_and_lines(moon: Path) -> None:
-    # the pages stand in docs/TUTORIAL.md
+    # the first of the pages stands in docs/FORMATS.md
     assert pages(moon, *SIZE) == Ran(
         0,
         "Volume 1: 1 page of 8 lines of 24 cells.\n"

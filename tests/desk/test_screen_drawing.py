@@ -23,7 +23,7 @@ from scribe.screen.state import (
     State,
 )
 from scribe.words.preview import Preview
-from tool import ROOT
+
 
 PRINT = "The moon is far away."
 CELLS = "⠠⠞⠓⠑⠀⠍⠕⠕⠝⠀⠊⠎⠀⠋⠁⠗⠀⠁⠺⠁⠽⠲"
@@ -101,24 +101,6 @@ def test_each_line_is_what_has_to_be_there_at_each_size(size: tuple[int, int]) -
     drawn = draw(replace(STATE, size=Size(*size)))
     assert drawn.texts() == SIZES[size]
     assert all(columns(line) <= size[0] for line in drawn.texts())
-
-
-def test_the_picture_of_the_page_of_the_desk_is_what_is_drawn() -> None:
-    page = (ROOT / "docs" / "DESK.md").read_text(encoding="utf-8")
-    picture = page.split("```text\n")[1].split("\n```")[0].split("\n")
-    book = (
-        Paragraph(1, "en", Style.HEADING, False, False, 8),
-        Paragraph(2, "en", Style.BODY, False, False, 21),
-        Paragraph(3, "en", Style.HEADING, True, False, 9),
-    )
-    openings = {
-        1: Opening("The Moon", 0),
-        2: Opening(PRINT, 1),
-        3: Opening("The Tides", 0),
-    }
-    reading = ParagraphReading(book[1], PRINT, CELLS, (MARK,))
-    state = replace(STATE, size=Size(72, 15), book=book, chosen=1, openings=openings)
-    assert draw(replace(state, reading=reading)).texts() == picture
 
 
 def test_the_character_of_the_cursor_its_cells_and_the_marked_words_are_lit() -> None:

@@ -1,10 +1,12 @@
-"""The book of README.md, typed, corrected, marked and exported at the screen alone."""
+"""The screens that the documents show: by the keys and the commands that stand before them."""
 
+import re
+import subprocess
 from pathlib import Path
 
 import braildesk
 from terminal import Open
-from tool import ROOT, scribe
+from tool import ROOT, environment, scribe
 
 README = (ROOT / "README.md").read_text(encoding="utf-8")
 #: What the commands show there, and the picture of the screen.
@@ -42,3 +44,26 @@ def test_the_book_of_the_readme_is_made_at_the_screen_alone(
     shown = scribe("show", "moon.braildesk", folder=tmp_path).shown.split("\n")[:-1]
     place = COMMANDS.index("$ scribe show moon.braildesk") + 1
     assert shown == COMMANDS[place : place + len(shown)]
+
+
+def test_the_screen_of_the_transcribers_page_is_what_its_steps_make(
+    tmp_path: Path, at: Open
+) -> None:
+    page = (ROOT / "docs" / "transcriber.md").read_text(encoding="utf-8")
+    before, after = page.split("```text\n", 1)
+    picture = after.split("\n```")[0].split("\n")
+    lines = re.findall(r"^[$>] .*$|^>$", before, re.MULTILINE)
+    typed = "\n".join(line[2:] for line in lines)
+    here = f"scribe() {{ '{ROOT}/bin/scribe' \"$@\"; }}\nbraildesk() {{ '{braildesk.find()}' \"$@\"; }}\n"
+    subprocess.run(
+        ["bash", "-c", here + typed],
+        cwd=tmp_path,
+        env=environment(),
+        capture_output=True,
+        check=True,
+        timeout=120,
+    )
+    terminal = at(tmp_path / "moon.braildesk", 72, len(picture))
+    terminal.wait("Paragraph 1, heading")
+    terminal.keys("/", "dusty", "enter")
+    terminal.wait_for(picture, (6, 17), "what is found")

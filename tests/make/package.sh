@@ -37,7 +37,7 @@ use() { # FOLDER MODULES: a new book by what is installed there, and the package
     grep -q 'Twice a day the sea comes' "$scratch/shown" || fail "the book of the examples below $1 is not shown"
 }
 use "$at" "$at/share/braildesk/python"
-for document in README.md docs/FORMATS.md docs/TUTORIAL.md docs/DESK.md docs/developers/proofs.md; do
+for document in README.md docs/FORMATS.md docs/transcriber.md docs/developers/proofs.md; do
     cmp "$document" "$at/share/doc/braildesk/$document" || fail "$document is not installed"
 done
 mkdir -p "$at/share/doc/braildesk/mine"

@@ -1,5 +1,5 @@
 #!/bin/bash
-# Installs the package in a plain Debian, as a new user would: what README.md, docs/TUTORIAL.md and docs/DESK.md show is typed there, and
+# Installs the package in a plain Debian, as a new user would: what README.md and the pages of docs/ show is typed there, and
 # compared; then the package is removed, and nothing of it is left but a book. lintian looks at the package first.
 #   tests/make/plain_debian.sh     as root; MIRROR: where Debian's packages are (where debootstrap looks by itself)
 # It isn't part of the gate: it fetches a plain Debian by debootstrap, which takes minutes. PROGRAM is the program (build/braildesk).

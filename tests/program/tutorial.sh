@@ -1,5 +1,5 @@
 #!/bin/bash
-# Runs the commands that README.md, docs/TUTORIAL.md and docs/DESK.md show, and compares what they print with what stands there,
+# Runs the commands that README.md and the pages of docs/ show, and compares what they print with what stands there,
 # so that none goes stale; and compares the volumes of the sample book with those in sample/. The commands are those of the blocks
 # fenced by ```console: a line that begins with '$ ' begins one, lines that begin with '> ' go on with it, and the lines after
 # it are what it prints.
@@ -43,7 +43,7 @@ replay() { # DOCUMENT
 }
 
 different=0
-for document in README.md docs/TUTORIAL.md docs/DESK.md; do
+for document in README.md docs/{transcriber,proofreader,embosser,tables,FORMATS}.md; do
     name=$(basename "$document")
     count=$(grep -c '^\$ ' "$document")
     mkdir "$scratch/$name"

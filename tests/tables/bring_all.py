@@ -1,7 +1,7 @@
 """Brings all tables of the installed liblouis over, and writes what was found.
 
     tests/tables/bring_all.py FOLDER [NAME ..]     a row of FOLDER for each table, or for those that are named
-    tests/tables/bring_all.py --write FOLDER       docs/TABLES.md and measured.tsv from the rows
+    tests/tables/bring_all.py --write FOLDER       measured.md and measured.tsv of src/braildesk/tables/convert
     tests/tables/bring_all.py --real               what both have of running text, from real/figures.tsv
 
 A table that has its row already is left out, so that a stopped run goes on. A row is the figures of
@@ -264,7 +264,7 @@ class Found:
 
 
 def document(found: Sequence[Found]) -> str:
-    """docs/TABLES.md."""
+    """measured.md of src/braildesk/tables/convert."""
     compared = [one for one in found if one.is_compared]
     europe = [one for one in compared if is_european_and_uncontracted(one.table)]
     rest = [one for one in compared if one not in europe]
@@ -347,7 +347,7 @@ def summary(
     }
 
 
-DOCUMENT: Final = ROOT / "docs" / "TABLES.md"
+DOCUMENT: Final = ROOT / "src/braildesk/tables/convert/measured.md"
 
 REAL: Final = "## On running text\n"
 MADE_UP: Final = "## On lines that were made up\n"

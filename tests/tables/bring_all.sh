@@ -1,6 +1,6 @@
 #!/bin/bash
 # Brings all tables of the installed liblouis over by the built program, compares the cells with those of liblouis, and writes
-# docs/TABLES.md and the figures that `scribe bring --list` shows.
+# measured.md of src/braildesk/tables/convert and the figures that `scribe bring --list` shows.
 #   tests/tables/bring_all.sh [FOLDER]
 # In FOLDER each table gets a file with its figures, and a table that has one is left out, so that a run which was stopped goes on;
 # without FOLDER all are measured anew. This takes some ten minutes of a processor. PROCESSES (1) says how many tables are brought over

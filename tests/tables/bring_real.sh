@@ -3,7 +3,7 @@
 #   tests/tables/bring_real.sh             eight tables on messages of the programs that are installed, as the gate does: some forty seconds
 #                                          of a processor; it fails where a share is below its least
 #   tests/tables/bring_real.sh FOLDER      every table for whose language Debian has translated manual pages, which are installed first
-#                                          (as root); writes tests/tables/real/figures.tsv, from which docs/TABLES.md is made. In FOLDER
+#                                          (as root); writes tests/tables/real/figures.tsv, from which measured.md of src/braildesk/tables/convert is made. In FOLDER
 #                                          each table has a file with its figures, and one that has it is left out. Ten minutes or more
 #   PROGRAM: the program (build/braildesk); PYTHON: the interpreter (that of tests/python.sh); PROCESSES (1): tables at once
 set -eu

@@ -4,7 +4,7 @@
 
 FOLDER has Debian's packages below `tree`, as contracted.sh puts them there. The method was made with
 the handbook alone; the other texts were held back until it was done. What is found is kept in
-contracted.tsv, from which the tables of figures in docs/CONTRACTED.md are written.
+contracted.tsv, from which the tables of figures in contracted.md of src/braildesk/tables/convert are written.
 """
 
 import csv
@@ -56,7 +56,7 @@ HELP = "help/{}/gnome-help/*.page"
 QUESTIONS = "doc/debian/FAQ/{}.html"
 KEPT = Path(__file__).with_suffix(".tsv")
 COLUMNS = "made_for text words right within paragraphs held_back lines seconds".split()
-PAGE = Path(__file__).resolve().parents[2] / "docs" / "CONTRACTED.md"
+PAGE = Path(__file__).resolve().parents[2] / "src/braildesk/tables/convert/contracted.md"
 BEGIN = "<!-- tests/tables/contracted.sh writes the tables from here -->\n"
 END = "<!-- to here -->\n"
 OWN = """\

@@ -4,7 +4,7 @@
 # FOLDER gets Debian's packages with the texts and the lists of words, by apt-get download, the texts, and the tables; what is there
 # already is used again. TEXT is one of those that contracted.py lists, as install.de; without it all are measured, which takes some
 # half an hour of a processor. Rules for a list of words are learned once and kept in FOLDER. What is found is put into contracted.tsv and
-# the tables of docs/CONTRACTED.md. The gate doesn't run this.
+# the tables of contracted.md of src/braildesk/tables/convert. The gate doesn't run this.
 set -eu
 cd "$(dirname "$0")/../.."
 python=${PYTHON:-/usr/bin/python3}

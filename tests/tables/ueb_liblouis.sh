@@ -1,6 +1,6 @@
 #!/bin/bash
 # Compares src/braildesk/tables/ueb.utb with liblouis's en-ueb-g1 on lines of running English from the documents of this machine, and looks whether
-# liblouis gives what docs/LIBLOUIS.md says that it gives. It fails where a share of the lines sinks, where a difference has no cause
+# liblouis gives what docs/tables.md says that it gives. It fails where a share of the lines sinks, where a difference has no cause
 # among those of tests/tables/ueb/causes.py, and where a cause has no example in that document.
 #   tests/tables/ueb_liblouis.sh [--lines N] [--examples N] [--table TABLE]
 #   --lines      compares at most so many lines (those of all documents, a minute or two)

@@ -1,4 +1,4 @@
-"""The part of docs/TABLES.md on running text, by the figures of `figures.py`."""
+"""The part of measured.md of src/braildesk/tables/convert on running text, by the figures of `figures.py`."""
 
 import csv
 from collections.abc import Mapping, Sequence

@@ -1,6 +1,6 @@
 """Compares src/braildesk/tables/ueb.utb with liblouis's en-ueb-g1 on English of this machine.
 
-Each difference has to have a cause that docs/LIBLOUIS.md explains by an example, and the
+Each difference has to have a cause that docs/tables.md explains by an example, and the
 shares of lines with the same cells have to be as large as they are known to be.
 """
 
@@ -28,7 +28,7 @@ from braildesk import tables as profile  # noqa: E402
 UEB = ROOT / "src/braildesk/tables/ueb.utb"
 TABLES = ["unicode.dis", "en-ueb-g1.ctb"]
 
-# The characters that alone have other cells, as docs/LIBLOUIS.md says.
+# The characters that alone have other cells, as docs/tables.md says.
 OTHERWISE_ALONE = frozenset('"?·’ﬀﬁ')
 
 # The least share of the lines with the same cells: of those that need nothing that the
@@ -202,13 +202,13 @@ def wrong_characters(program: Program) -> list[str]:
 
 
 def examples_of_the_document() -> list[rows.Row]:
-    """The examples of docs/LIBLOUIS.md that have liblouis's cells too."""
-    told = rows.of_document(ROOT / "docs/LIBLOUIS.md", "The table `ueb.utb`")
+    """The examples of docs/tables.md that have liblouis's cells too."""
+    told = rows.of_document(ROOT / "docs/tables.md", "The table `ueb.utb`")
     return [row for row in told if row.by_liblouis]
 
 
 def wrong_examples() -> list[str]:
-    """The examples of docs/LIBLOUIS.md that liblouis answers otherwise."""
+    """The examples of docs/tables.md that liblouis answers otherwise."""
     return [
         f"{row.place}: {row.print}: liblouis gives {found}"
         for row in examples_of_the_document()
@@ -223,7 +223,7 @@ def wrong_causes(table: Table) -> list[str]:
     counts = counted(table, pairs)
     wrong = [shown(region) for region in counts.unclaimed]
     wrong += [
-        f"docs/LIBLOUIS.md has no example of the cause: {cause.name}"
+        f"docs/tables.md has no example of the cause: {cause.name}"
         for cause in causes.CAUSES
         if cause.name not in counts.by_cause
     ]

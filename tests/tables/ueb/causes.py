@@ -1,4 +1,4 @@
-"""The causes for which the cells of print differ from liblouis's, as docs/LIBLOUIS.md has them.
+"""The causes for which the cells of print differ from liblouis's, as docs/tables.md has them.
 
 A cause has to do with some print, and changes only certain cells of it. It claims a
 difference where the print is such, and the cells are the same once those are set aside.

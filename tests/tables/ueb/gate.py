@@ -72,8 +72,8 @@ def every_character_stands_in_a_row(_: Program) -> list[str]:
 
 
 def examples_of_the_document_have_their_cells(program: Program) -> list[str]:
-    """Each example of docs/LIBLOUIS.md for this table has the cells that it shows."""
-    wanted = rows.of_document(ROOT / "docs/LIBLOUIS.md", "The table `ueb.utb`")
+    """Each example of docs/tables.md for this table has the cells that it shows."""
+    wanted = rows.of_document(ROOT / "docs/tables.md", "The table `ueb.utb`")
     return wrong_rows(program, wanted) if wanted else ["there are no examples"]
 
 

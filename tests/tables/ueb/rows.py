@@ -1,4 +1,4 @@
-"""Rows of print and its cells, in tests/tables/ueb/rows and in docs/LIBLOUIS.md."""
+"""Rows of print and its cells, in tests/tables/ueb/rows and in docs/tables.md."""
 
 import dataclasses
 import pathlib

@@ -38,7 +38,7 @@ is under the licence of the table that it was made from.
 With --for MANUSCRIPT rules are learned besides, by asking liblouis, from a list of words
 and from the words of a text, a document or a book, so that a contracted table writes it
 as liblouis does. What differs still is said with its causes: such a table is to be proofread.
-docs/CONTRACTED.md makes a book so."""
+docs/contracted.md makes a book so."""
 EXAMPLE = """\
 scribe bring --list
 scribe bring --list Spanish
