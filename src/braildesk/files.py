@@ -9,15 +9,13 @@ from typing import BinaryIO
 
 from braildesk import opening
 from braildesk.held import copy_held, held
+from braildesk.opening import has_work, reader, waited
 from braildesk.program import StrPath
-from braildesk.protocol.asked import BookFile
-from braildesk.protocol.book_files import has_work, log_path, real_path
+from braildesk.protocol.asked import BookFile, log_path, real_path
 from braildesk.protocol.codes import Code
 from braildesk.protocol.values import Table
 from braildesk.refusals import Failed, cannot_open, refused
-from braildesk.schema import reader
 from braildesk.text import limits
-from braildesk.waiting import waited
 from braildesk.workshop import made_for_a_while
 
 #: What SQLite is kept to when it reads a file of a stranger, as its page "Defense Against The Dark

@@ -7,15 +7,9 @@ from contextlib import contextmanager
 from pathlib import Path
 from typing import BinaryIO
 
-from braildesk import locks, opening
-from braildesk.protocol.asked import BookFile
-from braildesk.protocol.book_files import (
-    has_journal,
-    has_work,
-    is_log,
-    log_path,
-    real_path,
-)
+from braildesk import opening
+from braildesk.opening import has_journal, has_work, is_log, take_alone, take_shared
+from braildesk.protocol.asked import BookFile, log_path, real_path
 from braildesk.protocol.sentences import Why
 from braildesk.refusals import cannot_open
 from braildesk.text import limits
@@ -29,7 +23,7 @@ def held(book: BookFile, flags: int = os.O_RDONLY) -> Iterator[BinaryIO]:
     Where it is opened for writing, it is kept from all others who hold it so too.
     """
     with open_file(book, flags) as file:
-        if not (locks.take_alone if flags == os.O_RDWR else locks.take_shared)(file):
+        if not (take_alone if flags == os.O_RDWR else take_shared)(file):
             raise cannot_open(book, Why.IN_USE)
         if not is_at_path(book, file):
             # another one was put there in this moment

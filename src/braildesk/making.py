@@ -10,20 +10,13 @@ from typing import Any, BinaryIO
 
 from braildesk import opening, program as programs
 from braildesk.held import copy_held, held
+from braildesk.opening import has_journal, has_work, is_log, waited
 from braildesk.program import StrPath
-from braildesk.protocol.asked import BookFile, NewBook
-from braildesk.protocol.book_files import (
-    has_journal,
-    has_work,
-    is_log,
-    log_path,
-    real_path,
-)
+from braildesk.protocol.asked import BookFile, NewBook, log_path, real_path
 from braildesk.protocol.requests import Command
 from braildesk.protocol.sentences import Why
 from braildesk.refusals import DeskError, Failed, Refused, cannot_open, refused_as
 from braildesk.session import Session
-from braildesk.waiting import waited
 from braildesk.workshop import (
     Swapped,
     give_access,

@@ -6,7 +6,7 @@ from typing import BinaryIO
 
 from braildesk import program as programs
 from braildesk.program import StrPath
-from braildesk.protocol.book_files import real_path
+from braildesk.protocol.asked import real_path
 from braildesk.refusals import Failed, Unopened
 from braildesk.workshop import (
     copy_bytes,

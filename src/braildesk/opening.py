@@ -1,17 +1,32 @@
-"""Why a file can't be opened, by what is seen at its path."""
+"""Why a file can't be opened, by what is seen at its path; its lock, and waiting while it is in use."""
 
+import errno
+import fcntl
 import os
+import sqlite3
 import stat
+import struct
+import time
+from collections.abc import Callable
+from contextlib import closing
 from os import PathLike, fsencode, fspath
-from typing import BinaryIO
+from typing import BinaryIO, TypeVar
+from urllib.parse import quote
 
-from braildesk import locks
 from braildesk.named_files import open_file
-from braildesk.protocol.asked import AskedOfFile, NewBook, TableFile
-from braildesk.protocol.book_files import has_journal, is_log, log_path
+from braildesk.protocol.asked import (
+    AskedOfFile,
+    NewBook,
+    TableFile,
+    journal_path,
+    log_path,
+)
 from braildesk.protocol.sentences import Why
+from braildesk.refusals import CannotOpen
 from braildesk.text import limits
 
+#: The bytes of a log up to the first page in it: its own header, and that of the page.
+_BEFORE_PAGE = 32 + 24
 #: What the file of every book begins with.
 MAGIC = b"SQLite format 3\0"
 #: With less room than this on its disk a book may not be kept, in bytes.
@@ -105,7 +120,7 @@ def _why_regular(asked: AskedOfFile) -> Why:
     with open_file(asked.path) as file:
         if os.fstat(file.fileno()).st_nlink > 1:
             return Why.LINKED
-        if locks.is_used(file):
+        if is_used(file):
             return Why.IN_USE
         found = why_contents(file)
     if not is_log(log_path(asked.path)):
@@ -151,3 +166,148 @@ def _may_write(path: str) -> bool:
     return os.access(os.path.dirname(log), os.R_OK | os.W_OK | os.X_OK) and all(
         os.access(f, os.R_OK | os.W_OK) for f in files
     )
+
+
+def is_log(log: str) -> bool:
+    """Whether a log is one that the program opens, or isn't there: a link is none."""
+    try:
+        found = os.lstat(log)
+    except FileNotFoundError:
+        return True
+    return stat.S_ISREG(found.st_mode) and found.st_nlink == 1
+
+
+def has_work(log: str) -> bool:
+    """Whether a log is there that may hold what isn't in the book's file."""
+    try:
+        return os.path.getsize(log) > _BEFORE_PAGE
+    except FileNotFoundError:
+        return False
+
+
+def has_journal(path: str) -> bool:
+    """Whether a journal is there that says that a change of the file wasn't ended."""
+    journal = journal_path(path)
+    try:
+        if not stat.S_ISREG(os.lstat(journal).st_mode):
+            return True
+        # a pipe that was put there in this moment isn't waited for
+        flags = os.O_RDONLY | os.O_NOFOLLOW | os.O_NONBLOCK
+        with open(os.open(journal, flags), "rb") as file:
+            return file.read(1) not in (b"", b"\0")
+    except OSError:
+        return False
+
+
+# The lock of a book's file keeps two programs from using it at once. It is that of an open file and
+# not of a process, as the program takes it, so that it holds whatever else this process opens and
+# closes.
+#: The bytes that stand for the lock of a file, by the format of SQLite's files.
+_FIRST_LOCKED = 0x40000000
+_COUNT_LOCKED = 512
+#: The kind of a lock, from where its bytes are counted, which they are, and a process.
+_LOCK = struct.Struct("hhqqi0q")
+
+
+def take_shared(file: BinaryIO) -> bool:
+    """Keeps programs from using the file until it is closed, unless one uses it already."""
+    return _take(file, fcntl.F_RDLCK)
+
+
+def take_alone(file: BinaryIO) -> bool:
+    """Keeps all others from using or reading the file until it is closed, unless one does so.
+
+    The file is open for writing.
+    """
+    return _take(file, fcntl.F_WRLCK)
+
+
+def is_used(file: BinaryIO) -> bool:
+    """Whether a program uses the file, or reads it with a shared lock."""
+    found: bytes = fcntl.fcntl(file, fcntl.F_OFD_GETLK, _lock(fcntl.F_WRLCK))
+    return bool(_LOCK.unpack(found)[0] != fcntl.F_UNLCK)
+
+
+def _take(file: BinaryIO, kind: int) -> bool:
+    try:
+        fcntl.fcntl(file, fcntl.F_OFD_SETLK, _lock(kind))
+    except OSError as error:
+        if error.errno in (errno.EACCES, errno.EAGAIN):
+            return False
+        raise
+    return True
+
+
+def _lock(kind: int) -> bytes:
+    return _LOCK.pack(kind, os.SEEK_SET, _FIRST_LOCKED, _COUNT_LOCKED, 0)
+
+
+# A view and a virtual table give rows that stand nowhere in the file, perhaps without end. No table
+# of a book is one.
+#: How many steps of SQLite's machine may be taken in a file of a stranger.
+_STEPS = 1_000_000
+_TABLES = (b"book", b"tab", b"para", b"corr", b"corr2", b"mark", b"cache")
+#: The front of what SQLite says of a schema that it can't read.
+_MALFORMED = "malformed database schema"
+
+
+def reader(path: str | PathLike[str], is_alone: bool) -> sqlite3.Connection:
+    """What reads a file of which nobody knows who made it: alone, or with the log beside it."""
+    # neither way makes a file where none is any more
+    how = "mode=rw&immutable=1" if is_alone else "mode=rw"
+    address = f"file:{quote(fsencode(fspath(path)))}?{how}"
+    database = sqlite3.connect(address, uri=True)
+    database.execute("PRAGMA trusted_schema = OFF")
+    database.set_progress_handler(lambda: 1, _STEPS)
+    return database
+
+
+def fault_in(path: str | PathLike[str], is_alone: bool) -> Why | None:
+    """What in a schema keeps its file from being opened; None if the program has to say it."""
+    try:
+        with closing(reader(path, is_alone)) as database:
+            return None if _keeps_its_rows(database) else Why.COMPUTED
+    except sqlite3.Error as error:
+        code = getattr(error, "sqlite_errorcode", None)
+        is_stopped = code == sqlite3.SQLITE_INTERRUPT
+        is_malformed = str(error).startswith(_MALFORMED)
+        return Why.NO_SCHEMA if is_stopped or is_malformed else None
+
+
+def _keeps_its_rows(database: sqlite3.Connection) -> bool:
+    """Whether the tables of a book that are there keep their rows.
+
+    Their kinds are those that SQLite makes of the schema, whose own rows may say something else.
+    """
+    database.text_factory = bytes
+    kinds = database.execute(
+        "SELECT lower(name), type FROM pragma_table_list WHERE schema = 'main'"
+    )
+    return all(kind == b"table" for name, kind in kinds if name in _TABLES)
+
+
+Result = TypeVar("Result")
+#: The first and the longest time between two attempts, in seconds.
+_FIRST_PAUSE, _LONGEST_PAUSE = 0.02, 0.25
+#: How often it is tried again while time is left, if the cause isn't seen.
+_UNSEEN = 4
+
+
+def waited(attempt: Callable[[], Result], seconds: float) -> Result:
+    """What an attempt gives, which is made again for so many seconds while the book is in use."""
+    until = time.monotonic() + seconds
+    pause, unseen = _FIRST_PAUSE, 0
+    while True:
+        try:
+            return attempt()
+        except CannotOpen as refusal:
+            left = until - time.monotonic()
+            is_used = refusal.why is Why.IN_USE and left > 0
+            # the other program may have ended before it was looked for
+            is_unseen = refusal.why is Why.UNKNOWN
+            unseen += is_unseen
+            may_be_used = unseen == 1 or unseen <= _UNSEEN and left > 0
+            if not is_used and not (is_unseen and may_be_used):
+                raise
+        time.sleep(min(pause, max(left, 0)))
+        pause = min(pause * 2, _LONGEST_PAUSE)

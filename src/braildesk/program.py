@@ -13,6 +13,7 @@ from pathlib import Path
 from braildesk import opening
 from braildesk.held import copy_held, held
 from braildesk.named_files import read_file
+from braildesk.opening import fault_in, has_work, waited
 from braildesk.protocol.asked import (
     AskedOfFile,
     BookFile,
@@ -21,8 +22,9 @@ from braildesk.protocol.asked import (
     Pages,
     Refusal,
     TableFile,
+    log_path,
+    real_path,
 )
-from braildesk.protocol.book_files import has_work, log_path, real_path
 from braildesk.protocol.codes import Code
 from braildesk.protocol.sentences import Why
 from braildesk.protocol.values import Table
@@ -36,9 +38,7 @@ from braildesk.refusals import (
     refused,
     refused_as,
 )
-from braildesk.schema import fault_in
 from braildesk.text import limits
-from braildesk.waiting import waited
 from braildesk.workshop import made_for_a_while
 
 StrPath = str | PathLike[str]

@@ -9,9 +9,9 @@ from os import fspath
 from types import TracebackType
 from typing import Any, Literal, Self
 
-from braildesk import opening
-from braildesk import program as programs
+from braildesk import opening, program as programs
 from braildesk.openfile import OpenFile
+from braildesk.opening import waited
 from braildesk.pipe import Ending, Pipe
 from braildesk.program import StrPath
 from braildesk.protocol import requests
@@ -44,7 +44,6 @@ from braildesk.refusals import (
     refused_as,
 )
 from braildesk.text.characters import shortened
-from braildesk.waiting import waited
 
 #: How many requests are under way at most, and how many bytes of them wait to be written. More
 #: would be no faster, and if somebody stops in the middle, the more would be carried out.

@@ -15,9 +15,9 @@ from pathlib import Path
 from typing import BinaryIO
 
 from braildesk.held import copy_held, is_at_path, open_file
+from braildesk.opening import is_log
 from braildesk.program import StrPath
-from braildesk.protocol.asked import BookFile
-from braildesk.protocol.book_files import is_log, log_path
+from braildesk.protocol.asked import BookFile, log_path
 from braildesk.protocol.sentences import Why
 from braildesk.refusals import Failed, cannot_open
 from braildesk.workshop import give_access, made_for_a_while, open_made

@@ -11,7 +11,7 @@ import pytest
 
 import braildesk
 from braildesk import CannotOpen, Session, Why
-from braildesk.schema import reader
+from braildesk.opening import reader
 from strangers import in_time
 from tool import scribe
 

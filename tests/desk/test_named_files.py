@@ -14,8 +14,8 @@ import pytest
 import braildesk
 from braildesk import CannotOpen, Why, opening
 from braildesk.named_files import NoFile, TooLarge, open_file, read_file
+from braildesk.opening import has_journal
 from braildesk.protocol.asked import AskedOfFile, BookFile, TableFile
-from braildesk.protocol.book_files import has_journal
 from braildesk.tables import text_at
 from strangers import NEEDS_ROOT, in_time
 from tool import Ran, environment, scribe

@@ -1,5 +1,9 @@
-"""What may be refused: requests of a session, and files and lines of print beside them."""
+"""What may be refused: requests of a session, and files and lines of print beside them.
 
+Where the program finds the file of a book, its log and another program's journal is said here too.
+"""
+
+import os
 from dataclasses import dataclass
 from typing import Any
 
@@ -76,3 +80,18 @@ class Refusal:
     count: int | None = None
     #: For how many bytes there is room on the disk, if that was looked up and is little.
     room: int | None = None
+
+
+def real_path(path: str) -> str:
+    """Where a path leads, with no link in it: the program takes a book's file from there."""
+    return os.path.realpath(path)
+
+
+def log_path(path: str) -> str:
+    """The log of the book at a path, which lies beside the file that the path leads to."""
+    return f"{real_path(path)}-wal"
+
+
+def journal_path(path: str) -> str:
+    """The journal of another program at a book's file: no book has one."""
+    return f"{real_path(path)}-journal"

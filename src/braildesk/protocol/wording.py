@@ -12,8 +12,9 @@ from braildesk.protocol.asked import (
     Pages,
     Refusal,
     TableFile,
+    journal_path,
+    log_path,
 )
-from braildesk.protocol.book_files import journal_path, log_path
 from braildesk.protocol.codes import Code
 from braildesk.protocol.fields import plain
 from braildesk.protocol.sentences import CAUSES, LIMITS, PARTS, SENTENCES, UNOPENED
