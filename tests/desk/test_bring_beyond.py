@@ -6,11 +6,11 @@ from pathlib import Path
 import pytest
 
 from braildesk.tables.convert.beyond import needs_beyond
+from braildesk.tables.convert.draft import ProgramTrial
 from braildesk.tables.convert.making import make
 from braildesk.tables.convert.oracle import Liblouis
 from braildesk.tables.convert.source import read_source
 from braildesk.tables.convert.subject import read_subject
-from braildesk.tables.convert.trial import ProgramTrial
 
 CHARACTERS = """\
 space \\s 0

@@ -7,7 +7,12 @@ from tempfile import TemporaryDirectory
 import pytest
 
 from braildesk.tables.convert.comparison import compare, what_differs
-from braildesk.tables.convert.draft import Origin, TableDraft, comment_lines
+from braildesk.tables.convert.draft import (
+    Origin,
+    ProgramTrial,
+    TableDraft,
+    comment_lines,
+)
 from braildesk.tables.convert.making import Made, make
 from braildesk.tables.convert.oracle import Liblouis, NoLiblouis
 from braildesk.tables.convert.reduced import needs, text_without
@@ -15,7 +20,6 @@ from braildesk.tables.convert.report import losses
 from braildesk.tables.convert.shapes import Sample
 from braildesk.tables.convert.source import find_table, read_source
 from braildesk.tables.convert.subject import read_subject
-from braildesk.tables.convert.trial import ProgramTrial
 
 LETTERS = """\
 space \\s 0
@@ -111,7 +115,7 @@ def test_a_mark_within_numbers_goes_on_with_them(tmp_path: Path) -> None:
 def test_usual_marks_have_their_places_where_there_are_thousands_of_characters(
     tmp_path: Path, monkeypatch: pytest.MonkeyPatch
 ) -> None:
-    monkeypatch.setattr("braildesk.tables.convert.alphabet.MANY", 1)
+    monkeypatch.setattr("braildesk.tables.convert.subject.MANY", 1)
     text = LETTERS + DIGITS + "punctuation , 2\nmidnum , 2\npunctuation _ 456\n"
     lines = lines_of(tmp_path, text + 'punctuation " 4\npostpunc " 356\n')
     assert "numericmodechars ," in lines

@@ -4,7 +4,6 @@ from pathlib import Path
 
 import pytest
 
-from braildesk.tables.convert.alphabet import make_alphabet, script_of_table
 from braildesk.tables.convert.operands import (
     BadOperand,
     read_characters,
@@ -15,6 +14,7 @@ from braildesk.tables.convert.operands import (
     write_dots,
 )
 from braildesk.tables.convert.source import NoTable, find_table, read_source
+from braildesk.tables.convert.subject import make_alphabet, script_of_table
 from braildesk.tables.convert.table import read_table
 
 CHARACTERS = {

@@ -20,11 +20,11 @@ from dataclasses import dataclass
 from pathlib import Path
 
 from braildesk.tables import read
+from braildesk.tables.convert.draft import cells_by
 from braildesk.tables.convert.oracle import Liblouis
 from braildesk.tables.convert.report import percent
 from braildesk.tables.convert.source import find_table
 from braildesk.tables.convert.tailoring import Figures, figures
-from braildesk.tables.convert.trial import cells_by
 
 MOST_CHARACTERS = 3_900
 """A paragraph is cut here, since one of a book has 4,000 characters at most."""

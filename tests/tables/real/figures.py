@@ -25,7 +25,7 @@ sys.path.insert(0, str(Path(__file__).resolve().parents[1]))
 
 import bring_all  # noqa: E402
 
-from braildesk.tables.convert.alphabet import script_of_table  # noqa: E402
+from braildesk.tables.convert.subject import script_of_table  # noqa: E402
 from braildesk.tables.convert.conversion import Options, convert  # noqa: E402
 from braildesk.tables.convert.oracle import NoLiblouis  # noqa: E402
 from braildesk.tables.convert.source import NoTable, find_table  # noqa: E402

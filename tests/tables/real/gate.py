@@ -13,9 +13,9 @@ from pathlib import Path
 import measure
 import running
 
-from braildesk.tables.convert.alphabet import script_of_table
 from braildesk.tables.convert.conversion import Options, convert
 from braildesk.tables.convert.source import find_table
+from braildesk.tables.convert.subject import script_of_table
 
 LINES = 300
 """How many lines of a language are compared, the first in the order of their digests."""

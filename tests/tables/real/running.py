@@ -16,7 +16,7 @@ from pathlib import Path
 
 sys.path.insert(0, str(Path(__file__).resolve().parents[3] / "src"))
 
-from braildesk.tables.convert.alphabet import script_of  # noqa: E402
+from braildesk.tables.convert.subject import script_of  # noqa: E402
 
 MANUALS = Path("/usr/share/man")
 MESSAGES = Path("/usr/share/locale")

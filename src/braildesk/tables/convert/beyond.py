@@ -11,13 +11,12 @@ from collections.abc import Callable, Iterable, Sequence
 from dataclasses import dataclass
 from typing import Final
 
-from braildesk.tables.convert.draft import TableDraft
+from braildesk.tables.convert.draft import ProgramTrial, TableDraft
 from braildesk.tables.convert.numbers import sample_digits
 from braildesk.tables.convert.operands import Cells
-from braildesk.tables.convert.places import Frame, between, stripped
+from braildesk.tables.convert.oracle import Frame, between, stripped
 from braildesk.tables.convert.probes import CLOSING, OPENING, Probes, Side
 from braildesk.tables.convert.subject import Subject
-from braildesk.tables.convert.trial import ProgramTrial
 
 QUOTES: Final = "\"'"
 

@@ -8,11 +8,10 @@ from collections import Counter
 from collections.abc import Iterable, Mapping, Sequence
 from typing import Final
 
-from braildesk.tables.convert.operands import Cells
-from braildesk.tables.convert.oracle import Liblouis
-from braildesk.tables.convert.places import stripped
-from braildesk.tables.convert.running_text import Word
 from braildesk.tables import Table
+from braildesk.tables.convert.operands import Cells
+from braildesk.tables.convert.oracle import Liblouis, stripped
+from braildesk.tables.convert.running_text import Word
 from braildesk.tables.entries import Kind, SignName
 
 _QUOTES: Final = re.compile("[\"'\u2018\u2019\u201c\u201d\u00ab\u00bb]")

@@ -8,12 +8,11 @@ from dataclasses import dataclass
 from pathlib import Path
 
 from braildesk.tables.convert.beyond import needs_beyond
-from braildesk.tables.convert.draft import TableDraft
+from braildesk.tables.convert.draft import ProgramTrial, TableDraft
 from braildesk.tables.convert.operands import Cells
 from braildesk.tables.convert.reduced import needs
 from braildesk.tables.convert.shapes import Sample
 from braildesk.tables.convert.subject import Subject
-from braildesk.tables.convert.trial import ProgramTrial
 
 
 @dataclass(frozen=True)

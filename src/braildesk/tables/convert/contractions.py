@@ -6,7 +6,7 @@ from typing import Final
 
 from braildesk.tables.convert.draft import Origin, TableDraft
 from braildesk.tables.convert.operands import BadOperand, Cells, read_dots
-from braildesk.tables.convert.places import Frame, between
+from braildesk.tables.convert.oracle import Frame, between
 from braildesk.tables.convert.source import Line
 from braildesk.tables.convert.subject import Subject
 from braildesk.tables.convert.table import INEXACT, KINDS, Rule

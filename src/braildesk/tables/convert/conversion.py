@@ -11,14 +11,13 @@ from typing import Final
 from braildesk.tables.convert import report
 from braildesk.tables.convert.addition import Addition, read_addition
 from braildesk.tables.convert.comparison import Comparison, compare
-from braildesk.tables.convert.draft import TableDraft
+from braildesk.tables.convert.draft import ProgramTrial, TableDraft
 from braildesk.tables.convert.making import Made, make
 from braildesk.tables.convert.oracle import Liblouis
 from braildesk.tables.convert.shapes import ASKED, Material, Shape, UNSEEN, lines_of
 from braildesk.tables.convert.shipped import shipped_table
 from braildesk.tables.convert.source import read_source
 from braildesk.tables.convert.subject import Subject, read_subject
-from braildesk.tables.convert.trial import ProgramTrial
 from braildesk.tables.convert.words import (
     FEWEST_WORDS,
     installed_words,

@@ -11,11 +11,10 @@ from collections.abc import Iterator, Sequence
 from dataclasses import dataclass
 from typing import Final
 
-from braildesk.tables.convert.draft import Origin, TableDraft
-from braildesk.tables.convert.places import Frame, ask_frames, between
+from braildesk.tables.convert.draft import Origin, ProgramTrial, TableDraft
+from braildesk.tables.convert.oracle import Frame, ask_frames, between
 from braildesk.tables.convert.source import NoTable, find_table, read_text
 from braildesk.tables.convert.subject import Subject
-from braildesk.tables.convert.trial import ProgramTrial
 
 SYLLABLES: Final = Origin("Rules that end with a syllable, by asking liblouis.")
 

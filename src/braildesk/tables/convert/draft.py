@@ -1,12 +1,17 @@
-"""A table of the profile while it is made, and its text."""
+"""A table of the profile while it is made, its text, and what the program gives by it."""
 
 from __future__ import annotations
 
 import textwrap
+import unicodedata
 from collections.abc import Sequence
 from dataclasses import dataclass, field, replace
+from pathlib import Path
 from typing import Final
 
+from braildesk.program import translate
+from braildesk.protocol.values import Table
+from braildesk.refusals import Refused
 from braildesk.tables.convert.operands import (
     Cells,
     MOST_CELLS,
@@ -164,3 +169,46 @@ def comment_lines(sentence: str) -> list[str]:
         break_long_words=False,
         break_on_hyphens=False,
     )
+
+
+def add_normal_forms(draft: TableDraft) -> None:
+    """Defines the normal form of each character like it, with its rules, if the table lacks that.
+
+    Books keep their texts in normal form C: a Greek question mark is a semicolon there, and a table
+    that defines the former alone would refuse each question.
+    """
+    forms = {
+        one: form
+        for one in draft.cells
+        if len(form := unicodedata.normalize("NFC", one)) == 1
+        and form not in draft.cells
+    }
+    for one, form in forms.items():
+        draft.define(form, draft.classes[one], draft.cells[one])
+    for (kind, characters), (cells, origin) in list(draft.rules.items()):
+        written = "".join(forms.get(one, one) for one in characters)
+        if written != characters:
+            draft.add_rule(kind, written, cells, origin)
+
+
+class ProgramTrial:
+    """Drafts as the program translates by them. Nothing here stands in for the program."""
+
+    def __init__(self, folder: Path) -> None:
+        self._file = folder / "draft.utb"
+
+    def cells(self, draft: TableDraft, lines: Sequence[str]) -> list[Cells | None]:
+        """The cells of each line, or None if the draft lacks a character."""
+        self._file.write_text(draft.text(), encoding="utf-8", newline="\n")
+        return cells_by(self._file, lines)
+
+
+def cells_by(table: Path | Table, lines: Sequence[str]) -> list[Cells | None]:
+    """The cells of each line by a table, in a file or as a book has it, or None if it lacks a character."""
+    return [_cells(answer) for answer in translate(table, lines)]
+
+
+def _cells(answer: str | Refused) -> Cells | None:
+    if isinstance(answer, Refused):
+        return None
+    return tuple(ord(one) - 0x2800 for one in answer)

@@ -10,12 +10,11 @@ from collections.abc import Sequence
 from dataclasses import dataclass
 from typing import Final
 
-from braildesk.tables.convert.draft import Origin, TableDraft
+from braildesk.tables.convert.draft import Origin, ProgramTrial, TableDraft
 from braildesk.tables.convert.numbers import sample_digits, usual_digits
 from braildesk.tables.convert.operands import Cells
-from braildesk.tables.convert.places import stripped
+from braildesk.tables.convert.oracle import stripped
 from braildesk.tables.convert.subject import Subject
-from braildesk.tables.convert.trial import ProgramTrial
 
 BESIDE_DIGITS: Final = Origin("Marks between letters and digits, by asking liblouis.")
 

@@ -16,7 +16,6 @@ from typing import Final
 
 from braildesk.tables.convert.chooser import ALWAYS, WORD, Choice, Chooser, Rule
 from braildesk.tables.convert.examples import NOWHERE, Example, Progress
-from braildesk.tables.convert.occurrences import Occurrences
 from braildesk.tables.convert.operands import Cells
 from braildesk.tables.convert.proposals import proposals
 
@@ -272,3 +271,45 @@ def _net(
                 if key in chosen:
                     net[key] += weight
     return net
+
+
+_SIZES: Final = (2, 3, 4)
+
+_MANY: Final = 8
+"""How often on average an example may be found until all are taken at once."""
+
+
+class Occurrences:
+    """The examples by the short runs of characters that they have, so that a rule is tried on few."""
+
+    def __init__(self, examples: Sequence[Example]) -> None:
+        self._all: Final = examples
+        self._having: Final[dict[str, list[Example]]] = defaultdict(list)
+        for example in examples:
+            for run in _runs(example.seen.folded):
+                self._having[run].append(example)
+
+    def of(self, strings: Iterable[str]) -> Sequence[Example]:
+        """The examples that may have one of some strings: all of them if the strings are many."""
+        found: dict[Example, None] = {}
+        left = _MANY * len(self._all)
+        for string in strings:
+            having = self._fewest(string)
+            left -= len(having)
+            if left < 0:
+                return self._all
+            found.update(dict.fromkeys(having))
+        return [*found]
+
+    def _fewest(self, string: str) -> Sequence[Example]:
+        """The examples that have the rarest run of a string."""
+        having = (self._having.get(run, ()) for run in _runs(string))
+        return min(having, key=len, default=self._all)
+
+
+def _runs(text: str) -> set[str]:
+    return {
+        text[start : start + size]
+        for size in _SIZES
+        for start in range(len(text) - size + 1)
+    }

@@ -1,13 +1,20 @@
-"""The cells of letters and blanks: between others, and a letter that stands alone."""
+"""The cells of letters and blanks, and of capitals with their signs, alone and between others."""
 
 from __future__ import annotations
 
+from collections.abc import Sequence
 from typing import Final
 
 from braildesk.tables.convert.draft import Origin, TableDraft
 from braildesk.tables.convert.operands import Cells
-from braildesk.tables.convert.places import Frame, ask_frames, between, most_common
-from braildesk.tables.convert.subject import Subject
+from braildesk.tables.convert.oracle import (
+    Frame,
+    ask_frames,
+    between,
+    most_common,
+    stripped,
+)
+from braildesk.tables.convert.subject import Subject, script_of
 
 ALONE: Final = Origin("Letters that stand alone, by asking liblouis.")
 
@@ -56,3 +63,105 @@ def _within(subject: Subject, one: str) -> Cells | None:
     found = [between(subject.liblouis, frame) for frame in _frames(subject, one)]
     alone = subject.liblouis.cells(one)
     return most_common([cells for cells in found if cells]) or alone
+
+
+SAMPLE: Final = 60
+"""How many capitals are asked for the signs that they share."""
+
+RUNS: Final = 40
+
+
+def ask_capitals(subject: Subject, draft: TableDraft) -> list[str]:
+    """Defines the capitals with their signs. Returns those that get no cells."""
+    pairs = {
+        upper: lower
+        for upper, lower in subject.alphabet.lower.items()
+        if lower in draft.cells
+    }
+    subject.liblouis.ask(
+        text
+        for upper, lower in pairs.items()
+        for tail in [_tail(subject, upper)]
+        for text in (upper + tail, lower + tail, tail)
+    )
+    sample = _sample(subject, pairs)
+    sign = most_common(
+        [_sign(subject, upper, pairs[upper]) for upper in sample], share=0.3
+    )
+    missing = []
+    for upper, lower in pairs.items():
+        if not _define(subject, draft, upper, lower, sign or ()):
+            missing.append(upper)
+    draft.signs["capsletter"] = sign or ()
+    run = _run_sign(subject, draft, [one for one in sample if one in draft.lower])
+    draft.signs["begcapsword"] = run or ()
+    return missing
+
+
+def _sample(subject: Subject, pairs: dict[str, str]) -> list[str]:
+    own = [one for one in pairs if script_of(one) == subject.alphabet.script]
+    plain = [one for one in own if one.isascii()]
+    return (plain or own or list(pairs))[:SAMPLE]
+
+
+def _tail(subject: Subject, one: str) -> str:
+    carriers = subject.alphabet.carriers(one)
+    return carriers[0] * 2 if carriers else ""
+
+
+def _sign(subject: Subject, upper: str, lower: str) -> Cells | None:
+    """What stands before a capital at the beginning of a word, and not before its small letter."""
+    tail = _tail(subject, upper)
+    whole = subject.liblouis.cells(upper + tail)
+    small = subject.liblouis.cells(lower + tail)
+    return None if whole is None or small is None else stripped(whole, (), small)
+
+
+def _define(
+    subject: Subject, draft: TableDraft, upper: str, lower: str, sign: Cells
+) -> bool:
+    """Defines a capital with its sign, or as a letter of its own if it has no sign."""
+    first, *others = _tails(subject, upper)
+    for tail in (first, *others):
+        cells = _cells_before(subject, upper, sign, tail)
+        is_sure = tail == first or cells == draft.cells[lower]
+        if cells and is_sure and draft.define(upper, "letter", cells):
+            draft.pair(upper, lower)
+            return True
+    if subject.liblouis.cells(upper) is None:
+        return False
+    found = _cells_before(subject, upper, (), first)
+    cells = found or subject.written_cells(upper)
+    return bool(cells) and draft.define(upper, "letter", cells or ())
+
+
+def _tails(subject: Subject, one: str) -> list[str]:
+    """What a capital is asked for before, since with some of it it may be a contraction."""
+    return [letter * 2 for letter in subject.alphabet.carriers(one)] or [""]
+
+
+def _cells_before(subject: Subject, upper: str, sign: Cells, tail: str) -> Cells | None:
+    """The cells of a capital between its sign and what stands after it."""
+    whole = subject.liblouis.cells(upper + tail)
+    after = subject.liblouis.cells(tail)
+    if whole is None or after is None:
+        return None
+    return stripped(whole, sign, after)
+
+
+def _run_sign(
+    subject: Subject, draft: TableDraft, sample: Sequence[str]
+) -> Cells | None:
+    """What stands before three capitals alone, if their own signs are left out."""
+    if len(sample) < 3:
+        return None
+    found = []
+    runs = [
+        [sample[(place * step) % len(sample)] for step in (1, 3, 7)]
+        for place in range(min(RUNS, len(sample)))
+    ]
+    wholes = subject.liblouis.ask("".join(run) for run in runs)
+    for run, whole in zip(runs, wholes, strict=True):
+        plain = tuple(cell for one in run for cell in draft.cells[one])
+        found.append(None if whole is None else stripped(whole, (), plain))
+    return most_common(found) if any(one is not None for one in found) else None

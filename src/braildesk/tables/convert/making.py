@@ -7,13 +7,16 @@ from dataclasses import dataclass
 from itertools import product
 from typing import Final
 
-from braildesk.tables.convert.alphabet import Alphabet, is_pattern, script_of
-from braildesk.tables.convert.capitals import ask_capitals
 from braildesk.tables.convert.contractions import read_rules
 from braildesk.tables.convert.crossings import settle_syllables
-from braildesk.tables.convert.draft import Origin, TableDraft
+from braildesk.tables.convert.draft import (
+    Origin,
+    ProgramTrial,
+    TableDraft,
+    add_normal_forms,
+)
 from braildesk.tables.convert.joints import Joints
-from braildesk.tables.convert.letters import ask_letters, ask_lone_letters
+from braildesk.tables.convert.letters import ask_capitals, ask_letters, ask_lone_letters
 from braildesk.tables.convert.marks import (
     AFTER_LETTERS,
     ENCLOSING,
@@ -26,14 +29,12 @@ from braildesk.tables.convert.marks import (
     WITH_BLANKS,
     WITH_LETTERS,
 )
-from braildesk.tables.convert.normal import add_normal_forms
 from braildesk.tables.convert.numbers import ask_digits, ask_mode, ask_signed_letters
 from braildesk.tables.convert.probes import CLOSING, Place, Side
 from braildesk.tables.convert.reduced import LEFT_OUT
 from braildesk.tables.convert.scripts import other_scripts
 from braildesk.tables.convert.source import Line
-from braildesk.tables.convert.subject import Subject
-from braildesk.tables.convert.trial import ProgramTrial
+from braildesk.tables.convert.subject import Alphabet, Subject, is_pattern, script_of
 
 _ALL: Final = tuple(product(Side, Side))
 _LETTER_PLACES: Final = ((Side.EDGE, Side.EDGE), (Side.LETTER, Side.EDGE))

@@ -11,14 +11,12 @@ from collections.abc import Iterable, Sequence
 from itertools import product
 from typing import Final
 
-from braildesk.tables.convert.alphabet import is_pattern
-from braildesk.tables.convert.draft import Origin, TableDraft
+from braildesk.tables.convert.draft import Origin, ProgramTrial, TableDraft
 from braildesk.tables.convert.numbers import usual_digits
 from braildesk.tables.convert.operands import Cells
-from braildesk.tables.convert.places import most_common, stripped
+from braildesk.tables.convert.oracle import most_common, stripped
 from braildesk.tables.convert.probes import CLOSING, Place, Probe, Probes, Side, Wanted
-from braildesk.tables.convert.subject import Subject
-from braildesk.tables.convert.trial import ProgramTrial
+from braildesk.tables.convert.subject import Subject, is_pattern
 
 IN_PLACES: Final = Origin("Marks in their places, by asking liblouis.")
 WITH_BLANKS: Final = Origin("Marks with blanks beside them, by asking liblouis.")

@@ -5,17 +5,16 @@ from __future__ import annotations
 from collections import Counter
 from typing import Final
 
-from braildesk.tables.convert.alphabet import script_of
 from braildesk.tables.convert.draft import MOST_CHARACTERS, Origin, TableDraft
 from braildesk.tables.convert.operands import Cells
-from braildesk.tables.convert.places import (
+from braildesk.tables.convert.oracle import (
     Frame,
     ask_frames,
     between,
     most_common,
     stripped,
 )
-from braildesk.tables.convert.subject import Subject
+from braildesk.tables.convert.subject import Subject, script_of
 
 AFTER_NUMBERS: Final = Origin("Letters after digits, by asking liblouis.")
 

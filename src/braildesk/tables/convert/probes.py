@@ -10,7 +10,7 @@ from typing import Final
 from braildesk.tables.convert.draft import TableDraft
 from braildesk.tables.convert.numbers import sample_digits
 from braildesk.tables.convert.operands import Cells
-from braildesk.tables.convert.places import Frame, ask_frames, stripped
+from braildesk.tables.convert.oracle import Frame, ask_frames, stripped
 from braildesk.tables.convert.subject import Subject
 
 CLOSING: Final = ".,;:?!)]}\"'%\u00b0\u2019\u201d\u00bb\u2026"

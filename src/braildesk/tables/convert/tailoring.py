@@ -17,7 +17,12 @@ from braildesk.tables import Table, read
 from braildesk.tables.convert.addition import Addition
 from braildesk.tables.convert.causes import Cause, Judge
 from braildesk.tables.convert.chooser import Chooser
-from braildesk.tables.convert.draft import MOST_LINES, Origin, ROOM_FOR_COMMENTS
+from braildesk.tables.convert.draft import (
+    MOST_LINES,
+    Origin,
+    ProgramTrial,
+    ROOM_FOR_COMMENTS,
+)
 from braildesk.tables.convert.examples import Example, Progress, examples
 from braildesk.tables.convert.learning import BOOK_ROUNDS, Learned, Learner
 from braildesk.tables.convert.making import Made, make_to_learn
@@ -26,7 +31,6 @@ from braildesk.tables.convert.oracle import Liblouis
 from braildesk.tables.convert.running_text import Agreement, agreement, tokens
 from braildesk.tables.convert.source import read_source
 from braildesk.tables.convert.subject import Subject, read_subject
-from braildesk.tables.convert.trial import ProgramTrial
 from braildesk.tables.convert.word_list import (
     Folder,
     WordList,

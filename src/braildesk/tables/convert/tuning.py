@@ -11,16 +11,15 @@ from typing import Final
 from braildesk.protocol.values import Table
 from braildesk.tables import Reading, read
 from braildesk.tables.convert.chooser import ALWAYS, Chooser, Rule, cells_of
+from braildesk.tables.convert.draft import cells_by
 from braildesk.tables.convert.examples import Example, examples
-from braildesk.tables.convert.learning import BOOK_ROUNDS, Learned, Learner
-from braildesk.tables.convert.occurrences import Occurrences
+from braildesk.tables.convert.learning import BOOK_ROUNDS, Learned, Learner, Occurrences
 from braildesk.tables.convert.operands import write_characters, write_dots
 from braildesk.tables.convert.oracle import Liblouis
 from braildesk.tables.convert.running_text import tokens
 from braildesk.tables.convert.source import read_source
 from braildesk.tables.convert.subject import read_subject
 from braildesk.tables.convert.tailoring import Figures, Means, figures, weights_of
-from braildesk.tables.convert.trial import cells_by
 from braildesk.tables.convert.word_list import list_examples
 from braildesk.text import limits
 

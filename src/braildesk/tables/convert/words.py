@@ -8,9 +8,8 @@ from pathlib import Path
 from typing import Final
 
 from braildesk.named_files import read_file
-from braildesk.tables.convert.alphabet import script_of
 from braildesk.tables.convert.draft import TableDraft
-from braildesk.tables.convert.subject import Subject
+from braildesk.tables.convert.subject import Subject, script_of
 from braildesk.text import limits
 
 LISTS: Final = Path("/usr/share/dict")
