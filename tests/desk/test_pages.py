@@ -9,9 +9,8 @@ from hypothesis import strategies as st
 from tool import Ran, scribe
 
 from braildesk import Session, new_book
+from braildesk.desk.layout import PageSize, parted, volume
 import braildesk
-from braildesk.desk.layout import PageSize
-from braildesk.desk.volumes import parted, volume
 
 SIZE = ("--width", "24", "--lines", "8")
 

@@ -3,8 +3,7 @@
 from pathlib import Path
 
 from braildesk.desk.manuscripts import read_manuscript
-from braildesk.desk.own_folder import OwnFolder
-from braildesk.desk.state_folder import cache_folder
+from braildesk.desk.own_folder import OwnFolder, cache_folder
 from braildesk.tables.convert.addition import read_addition
 from braildesk.tables.convert.shipped import shipped_table
 from braildesk.tables.convert.tailoring import Manuscript, Means, Report

@@ -16,16 +16,16 @@ from typing import TypeVar
 
 from braildesk.desk import Problem
 from braildesk.desk.draft import Draft, draft_in
-from braildesk.desk.import_note import (
-    ImportNote,
-    Pairs,
-    note_in,
-    pairs_in,
-    values_of,
+from braildesk.desk.import_note import ImportNote, Pairs, note_in, pairs_in, values_of
+from braildesk.desk.own_folder import (
+    MOST_BYTES,
+    OwnFolder,
+    Unfit,
+    bytes_of,
+    opened,
+    state_folder,
 )
-from braildesk.desk.own_folder import MOST_BYTES, OwnFolder, Unfit, bytes_of, opened
 from braildesk.desk.record import NotSuch, Record
-from braildesk.desk.state_folder import state_folder
 
 #: How many texts that were given up are kept for a book.
 MOST_GIVEN_UP = 10

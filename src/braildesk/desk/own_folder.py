@@ -1,10 +1,11 @@
-"""A folder of one's own, in which nobody else reads or puts a file.
+"""Folders of one's own, in which nobody else reads or puts a file, and where scribe has them.
 
 Files are opened relative to the folder, never through a link, and without waiting for what is no
 file. What isn't a regular file of one's own, with one name and of a moderate size, isn't read.
 """
 
 import os
+import pwd
 import stat
 from collections.abc import Iterator
 from contextlib import contextmanager, suppress
@@ -156,3 +157,41 @@ def _make(path: Path) -> None:
         raise Unfit("the folder above it belongs to another user")
     with suppress(FileExistsError):
         path.mkdir(mode=0o700)
+
+
+def state_folder() -> Path:
+    """The folder `braildesk` where programs keep the state of their work for this user."""
+    return _named("XDG_STATE_HOME", Path(".local", "state")) / "braildesk"
+
+
+def may_have(what: str) -> bool:
+    """Whether the folder may have a file of a kind, which is the last part of its name."""
+    try:
+        names = os.listdir(state_folder())
+    except (FileNotFoundError, NotADirectoryError):
+        return False
+    except OSError:
+        return True
+    return any(name.endswith(f".{what}") for name in names)
+
+
+def cache_folder() -> Path:
+    """The folder `braildesk` where programs keep what they can make again for this user."""
+    return _named("XDG_CACHE_HOME", Path(".cache")) / "braildesk"
+
+
+def _named(variable: str, usual: Path) -> Path:
+    """The folder that a variable names, else the usual one in the home of this user."""
+    named = Path(os.environ.get(variable, ""))
+    return named if named.is_absolute() else _home() / usual
+
+
+def _home() -> Path:
+    """The home folder of this user; a path that isn't absolute if none is known."""
+    named = os.environ.get("HOME", "")
+    if named:
+        return Path(named)
+    try:
+        return Path(pwd.getpwuid(os.geteuid()).pw_dir)
+    except KeyError:
+        return Path()

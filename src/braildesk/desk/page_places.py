@@ -4,10 +4,9 @@ from collections.abc import Iterator, Sequence
 from dataclasses import dataclass
 
 from braildesk import Session
-from braildesk.desk.layout import Layout, PageSize, Placed, Row
+from braildesk.desk.layout import Layout, PageSize, Placed, Row, Volume, parted, volume
 from braildesk.desk.places import words_of
 from braildesk.desk.readings import prints
-from braildesk.desk.volumes import Volume, parted, volume
 from braildesk.text.spans import Span
 
 

@@ -7,9 +7,8 @@ from dataclasses import dataclass
 from itertools import groupby
 
 from braildesk import Mark, Paragraph, Session, Style
-from braildesk.desk.layout import PageSize, Row
+from braildesk.desk.layout import PageSize, Row, Volume, parted, volume
 from braildesk.desk.readings import answers, prints
-from braildesk.desk.volumes import Volume, parted, volume
 from braildesk.protocol.requests import Marks, Whence
 from braildesk.text.cells import EMPTY_CELL
 

@@ -11,8 +11,7 @@ from dataclasses import dataclass
 
 from braildesk import Paragraph, Session
 from braildesk.desk import Problem
-from braildesk.desk.layout import PageSize, Section, spans_of
-from braildesk.desk.volumes import sections
+from braildesk.desk.layout import PageSize, Section, sections, spans_of
 
 #: What a way to cut costs: chapters that are cut, volumes, and the squares of their pages.
 _Cost = tuple[int, int, int]

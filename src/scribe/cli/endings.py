@@ -91,7 +91,7 @@ def _kept(fault: Exception) -> Path:
     about = visible(f"scribe {version()} {command}, Python {sys.version}")
     import traceback
     from braildesk.desk.own_folder import OwnFolder
-    from braildesk.desk.state_folder import state_folder
+    from braildesk.desk.own_folder import state_folder
 
     lines = "".join(traceback.format_exception(fault))
     folder = OwnFolder(state_folder())

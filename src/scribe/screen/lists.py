@@ -4,11 +4,10 @@ from collections.abc import Callable, Iterator, Sequence
 from dataclasses import replace
 
 from braildesk import Paragraph, Session, Style
+from braildesk.desk.layout import sections, spans_of
 from braildesk.desk.marks import MarkOfBook, all_marks
 from braildesk.desk.places import words_of
-from braildesk.desk.layout import spans_of
 from braildesk.desk.readings import answers, prints
-from braildesk.desk.volumes import sections
 from braildesk.protocol.requests import Where
 from braildesk.text.characters import visible
 from braildesk.text.excerpt import opening

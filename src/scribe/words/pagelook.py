@@ -4,8 +4,16 @@ from collections.abc import Callable, Sequence
 from dataclasses import dataclass, replace
 
 from braildesk import Paragraph, Session
-from braildesk.desk.layout import Layout, PageSize, Placed, Section, placed, spans_of
-from braildesk.desk.volumes import parted, sections
+from braildesk.desk.layout import (
+    Layout,
+    PageSize,
+    Placed,
+    Section,
+    parted,
+    placed,
+    sections,
+    spans_of,
+)
 from braildesk.text.cells import braille_ascii
 
 from scribe.words.page_size import described

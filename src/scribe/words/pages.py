@@ -2,8 +2,8 @@
 
 from collections.abc import Sequence
 
+from braildesk.desk.layout import Volume
 from braildesk.desk.page_places import PagePlace, PrintedRow
-from braildesk.desk.volumes import Volume
 from braildesk.text.characters import visible
 
 from scribe.words.page_size import described

@@ -6,10 +6,9 @@ from dataclasses import dataclass
 from pathlib import Path
 
 from braildesk import NotFound, Session, export
-from braildesk.desk.layout import PageSize, Row
+from braildesk.desk.layout import PageSize, Row, Volume, parted, volume
 from braildesk.desk.page_places import printed, rows_of, rows_on
 from braildesk.desk.readings import prints
-from braildesk.desk.volumes import Volume, parted, volume
 from braildesk.snapshot import snapshot
 from braildesk.text.characters import visible
 from braildesk.text.excerpt import opening

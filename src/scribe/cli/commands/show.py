@@ -5,9 +5,9 @@ from collections.abc import Sequence
 from pathlib import Path
 
 from braildesk import Paragraph, Session
+from braildesk.desk.own_folder import may_have
 from braildesk.desk.ranges import chosen
 from braildesk.desk.readings import readings
-from braildesk.desk.state_folder import may_have
 
 from scribe.cli.book_command import BookCommand
 from scribe.cli.parser import Parser, add_paragraphs, asked_ranges
