@@ -18,8 +18,7 @@ from braildesk.desk.layout import PageSize
 
 from scribe.words.console import Console
 from scribe.words.export import export_in_words, numbers_in_words
-from scribe.words.failures import in_sentences
-from scribe.words.status import Status, Stop
+from scribe.words.status import Status, Stop, in_sentences
 from strangers import NEEDS_ROOT, as_stranger, in_time, lead_to
 from tool import Ran, scribe
 

@@ -13,8 +13,7 @@ from braildesk.desk.intake import Intake
 from braildesk.desk.manuscript import passages
 from braildesk.desk.typist import type_all
 
-from scribe.words.failures import in_sentences
-from scribe.words.status import Stop
+from scribe.words.status import Stop, in_sentences
 from tool import Ran, scribe
 
 TEXT = "The moon\nis far away.\n\nTides\n\n\tTwice a day.\n"

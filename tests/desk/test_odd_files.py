@@ -23,8 +23,7 @@ from scribe.cli import run_words
 from scribe.prompt.trial import Trial
 from scribe.words.console import Console
 from scribe.words.export import export_in_words
-from scribe.words.failures import in_sentences
-from scribe.words.status import Stop
+from scribe.words.status import Stop, in_sentences
 from tool import ROOT, Ran, environment
 from words import LOOKING, PATHS, WORDS
 

@@ -7,7 +7,7 @@ from braildesk.desk.layout import PageSize
 from scribe.cli import make_parser
 from scribe.cli.page_size import page_size_of
 from scribe.cli.parser import WordsRefused
-from scribe.words.page_size import NoSize, described, typed_page_size
+from scribe.words.pages import NoSize, described, typed_page_size
 
 COMMANDS = {
     "pages": ["pages", "m"],

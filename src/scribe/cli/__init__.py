@@ -7,11 +7,10 @@ from contextlib import suppress
 
 from scribe.cli.commands import COMMANDS, command
 from scribe.cli.endings import ended
-from scribe.cli.width import as_asked
 from scribe.cli.parser import Parser, TextAsked, WordsRefused, unknown_command
+from scribe.cli.width import as_asked
 from scribe.words.console import Console, InputFailed, OutputFailed
-from scribe.words.failures import in_sentences
-from scribe.words.status import Status, Stop
+from scribe.words.status import Status, Stop, in_sentences
 
 DESCRIPTION = """\
 Works on a braildesk book: a file of print, its braille, and the marks on it.

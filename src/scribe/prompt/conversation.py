@@ -14,8 +14,7 @@ from scribe.prompt.typed_lines import GivenUp, Lines
 from scribe.words.changes import carried_out
 from scribe.words.console import Console
 from scribe.words.paragraph import mark_line
-from scribe.words.queries import shown
-from scribe.words.replies import refusal_sentence
+from scribe.words.replies import refusal_sentence, shown
 from scribe.words.typed import InvalidInput
 
 Value = TypeVar("Value")

@@ -15,9 +15,8 @@ from scribe.screen.actions import ExportTo, ImportFrom, LeaveImport
 from scribe.screen.state import Question
 from scribe.words.console import Console, Heard
 from scribe.words.export import export_in_words
-from scribe.words.failures import in_sentences
 from scribe.words.import_text import import_in_words, question as import_question
-from scribe.words.status import Interrupted, Stop
+from scribe.words.status import Interrupted, Stop, in_sentences
 
 
 @dataclass(frozen=True)

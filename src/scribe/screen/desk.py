@@ -66,16 +66,13 @@ from scribe.screen.in_hand import left_here, with_mark_in_hand
 from scribe.screen.keys import Step
 from scribe.screen.state import Opening, Pages, Pane, Question, Size, State
 from scribe.words import deeds, pagelook
-from scribe.words.deeds import Deed
-from scribe.words.drafts import not_kept, what_for
-from scribe.words.failures import in_sentences, of_system
+from scribe.words.deeds import Deed, kept
+from scribe.words.drafts import Unsent, not_kept, what_for
 from scribe.words.import_text import came_to, not_seen
-from scribe.words.kept import kept
 from scribe.words.paragraph import quoted
 from scribe.words.preview import Tables
-from scribe.words.queries import shown
-from scribe.words.status import Interrupted, Stop
-from scribe.words.unsent import Unsent
+from scribe.words.replies import shown
+from scribe.words.status import Interrupted, Stop, in_sentences, of_system
 
 _SHOWS_KEYS = "? shows the keys."
 _OPENED_THERE = "The book is open where it was left."

@@ -40,7 +40,7 @@ from scribe.screen.field import Cut, Field, Purpose
 from scribe.screen.lists import at_target
 from scribe.screen.rows import beside
 from scribe.screen.state import Pages, Pane, Question, State
-from scribe.words.page_size import NoSize, described, typed_page_size
+from scribe.words.pages import NoSize, described, typed_page_size
 from scribe.words.paragraph import quoted
 from scribe.words.typed import typed_path
 

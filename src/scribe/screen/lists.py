@@ -18,8 +18,8 @@ from scribe.screen.actions import ToPage
 from scribe.screen.in_hand import holding
 from scribe.screen.state import Pages, Pane, State, Target
 from scribe.words import pagelook
-from scribe.words.page_size import described
 from scribe.words.pagelook import Layouts, Volume, line_of
+from scribe.words.pages import described
 from scribe.words.paragraph import mark_line
 
 # a heading is named by so many columns of its words

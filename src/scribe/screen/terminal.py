@@ -31,7 +31,7 @@ from scribe.screen.encoding import in_encoding
 from scribe.screen.keyboard import Keyboard, Pasted, Stroke
 from scribe.screen.lines import CHOSEN, HEAD, HIGHLIGHTED, MARKED, PLAIN
 from scribe.screen.state import Size, State
-from scribe.words.failures import of_system
+from scribe.words.status import of_system
 
 # no colours: what is highlighted is reversed, what is marked is underlined
 _STYLE = Style(

@@ -38,13 +38,12 @@ from scribe.window.menus import key_lines
 from scribe.words.console import Console, Heard
 from scribe.words.drafts import not_kept, what_for
 from scribe.words.export import export_in_words
-from scribe.words.failures import in_sentences
 from scribe.words.import_text import came_to, import_in_words, not_seen, question
-from scribe.words.page_size import NoSize, described, typed_page_size
+from scribe.words.pages import NoSize, described, typed_page_size
 from scribe.words.paragraph import mark_line, quoted
 from scribe.words.proof_html import Proof
-from scribe.words.queries import shown
-from scribe.words.status import Interrupted, Stop
+from scribe.words.replies import shown
+from scribe.words.status import Interrupted, Stop, in_sentences
 
 _TEXTS = "Texts (*.txt);;All files (*)"
 _NO_PARAGRAPH = "The book has no paragraph yet. Ctrl+Enter begins one."

@@ -31,8 +31,7 @@ from braildesk.text.sequences import composed
 from braildesk.text.spans import Span
 
 from scribe.words import deeds, pagelook
-from scribe.words.deeds import Deed
-from scribe.words.kept import kept
+from scribe.words.deeds import Deed, kept
 from scribe.words.preview import Tables
 
 # the first words of a listed paragraph

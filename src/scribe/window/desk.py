@@ -32,12 +32,10 @@ from scribe.window.menus import MENUS
 from scribe.window.window import Window
 from scribe.window.worker import Worker
 from scribe.words import pagelook
-from scribe.words.drafts import not_kept
-from scribe.words.failures import in_sentences
+from scribe.words.drafts import Unsent, not_kept
 from scribe.words.paragraph import mark_line, title
 from scribe.words.preview import Preview
-from scribe.words.status import Stop
-from scribe.words.unsent import Unsent
+from scribe.words.status import Stop, in_sentences
 
 Result = TypeVar("Result")
 _EMPTY = "The book has no paragraph yet. Ctrl+Enter begins one."

@@ -1,12 +1,13 @@
 """What was changed in a book, in words: what is now first, then what was."""
 
-from collections.abc import Callable
+from collections.abc import Callable, Iterable, Iterator
 from dataclasses import replace
 from typing import Any, TypeVar
 
-from braildesk import NoMemory, Paragraph, Refused, Session, Style, requests
+from braildesk import Kind, NoMemory, Paragraph, Refused, Session, Style, requests
 from braildesk.desk.change import Change, newly_touched
 from braildesk.desk.correction import smallest_correction
+from braildesk.desk.history import Step
 from braildesk.desk.marks import MarkedWords
 from braildesk.desk.places import NoPlace
 from braildesk.desk.readings import answers
@@ -18,8 +19,7 @@ from braildesk.text.excerpt import excerpt, excerpt_lines, opening
 from braildesk.text.wrapping import columns
 
 from scribe.words.find import instead
-from scribe.words.paragraph import mark_line, quoted
-
+from scribe.words.paragraph import counted, in_its_line, mark_line, quoted
 
 Answer = TypeVar("Answer")
 
@@ -295,3 +295,36 @@ def no_place(none: NoPlace) -> str:
     """The sentence for words that stand nowhere in a paragraph."""
     where = f"in paragraph {none.paragraph}{instead(none.sought, none.text)}"
     return f"{quoted(none.sought)} isn't {where}. Nothing was changed."
+
+
+def history_lines(found: Iterable[Step], width: int) -> Iterator[list[str]]:
+    """The lines of each entry: which it is, who made it, for which words, and the print after it."""
+    for step in found:
+        text = step.before + step.came + step.after
+        start = len(step.before)
+        yield in_its_line(_head(step), text, start, start + len(step.came), width)
+
+
+def nothing_found(by: str | None, names: Iterable[str]) -> str:
+    """What is said where a history has nothing to show."""
+    known = sorted({*names})
+    if by is None:
+        return "Nothing was corrected yet."
+    if not known:
+        return f"There is no correction by {quoted(by)}, nor by anybody with a name."
+    return f"There is no correction by {quoted(by)}. There are some by {', '.join(map(visible, known))}."
+
+
+def _head(step: Step) -> str:
+    entry = step.entry
+    if entry.kind is Kind.UNDO:
+        return f"Paragraph {step.paragraph}, correction {entry.undone} taken back"
+    by = "" if entry.who is None else f", by {visible(entry.who)}"
+    return f"Paragraph {step.paragraph}, correction {entry.seq}{by}{_for(step)}"
+
+
+def _for(step: Step) -> str:
+    """In place of what the words came."""
+    if not step.is_known:
+        return f", for {counted(step.length, 'character')}"
+    return f", for {quoted(step.went)}" if step.went.strip() else ""

@@ -1,7 +1,15 @@
-"""What a person began and the book doesn't have yet, in words, and why it isn't kept."""
+"""What a person began and the book doesn't have yet, in words, what becomes of it, and why it isn't kept."""
 
 from braildesk.desk.draft import Aim, Draft
-from braildesk.desk.drafts import Begun, NotAsKept, NotKept, NotRead, NotSaved, NotTaken
+from braildesk.desk.drafts import (
+    Begun,
+    Drafts,
+    NotAsKept,
+    NotKept,
+    NotRead,
+    NotSaved,
+    NotTaken,
+)
 
 _BEGUN = {
     Begun.WAITING: "What is typed",
@@ -50,3 +58,75 @@ def _not_saved(fault: NotSaved) -> str:
         return f"{what} can't be taken out of {folder}: {why}."
     where = f" in {folder}" if folder.is_absolute() else ""
     return f"{what} can't be kept{where}: {why}."
+
+
+class Unsent:
+    """What is kept of texts while they are typed, and once they aren't typed further."""
+
+    def __init__(self, drafts: Drafts) -> None:
+        self._drafts = drafts
+        #: The text that waits, which is offered at the next opening.
+        self.waiting: Draft | None = None
+        # the text that was left for later, and waits again once no other one does
+        self._later: Draft | None = None
+        # what was given up and couldn't be kept, the newest first
+        self._here: list[Draft] = []
+
+    def read(self) -> None:
+        """Reads what waits from before, or raises `NotKept`."""
+        self.waiting = self._drafts.waiting()
+
+    def keep(self, typed: Draft | None) -> None:
+        """Has what is typed wait, or what was left for later, or nothing; may raise `NotKept`."""
+        wanted = typed or self._later
+        if wanted == self.waiting:
+            return
+        if wanted is None:
+            if self.waiting in self._here:
+                # what couldn't be kept elsewhere waits on
+                return
+            self._drafts.clear()
+        else:
+            if self._later is not None and self.waiting == self._later:
+                # it is found there if the machine stops before it waits again
+                self._drafts.put_by(self._later)
+            self._drafts.save(wanted)
+        self.waiting = wanted
+
+    def put_by(self, draft: Draft) -> str:
+        """Keeps a text as the newest of those given up, and says what is in the way of that."""
+        self._forget(draft.text)
+        try:
+            self._drafts.put_by(draft)
+        except NotKept as fault:
+            self._here.insert(0, draft)
+            return f"{not_kept(fault)} It is here only until scribe ends."
+        return ""
+
+    def put_off(self) -> None:
+        """Leaves the text that waits for later."""
+        self._later = self.waiting
+
+    def take_up(self, draft: Draft, text: str) -> None:
+        """Has a text be typed further, which was given up or left for later; may raise `NotKept`."""
+        self._forget(text)
+        self.keep(draft)
+        self._here = [each for each in self._here if each.text != text]
+        self._drafts.take_out(text)
+
+    def _forget(self, text: str) -> None:
+        """A text that was left for later isn't any more."""
+        if self._later is not None and self._later.text == text:
+            self._later = None
+
+    def texts(self) -> tuple[Draft, ...]:
+        """The text that is left for later, and those given up, the newest first."""
+        first = [*([self._later] if self._later else []), *self._here]
+        try:
+            kept = self._drafts.given_up()
+        except NotKept:
+            if not first:
+                raise
+            kept = ()
+        texts = {each.text for each in first}
+        return (*first, *(each for each in kept if each.text not in texts))

@@ -16,7 +16,7 @@ from braildesk.desk.layout import (
 )
 from braildesk.text.cells import braille_ascii
 
-from scribe.words.page_size import described
+from scribe.words.pages import described
 
 # a volume of so many characters is laid out in a moment
 _MANY = 250_000

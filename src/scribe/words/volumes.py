@@ -9,7 +9,7 @@ from braildesk.desk.volume_plan import Planned, TooLong
 from braildesk.text.characters import visible
 from braildesk.text.excerpt import opening
 
-from scribe.words.page_size import described
+from scribe.words.pages import described
 from scribe.words.paragraph import counted
 
 

@@ -9,8 +9,8 @@ from braildesk.desk.ranges import ParagraphRange
 from scribe.cli.book_command import BookCommand
 from scribe.cli.parser import Parser, number, words
 from scribe.cli.width import add_width
+from scribe.words.changes import history_lines, nothing_found
 from scribe.words.console import Console
-from scribe.words.history import history_lines, nothing_found
 
 MORE = """\
 Each correction is shown with who made it and the words as they were after it, of each

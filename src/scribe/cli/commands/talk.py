@@ -18,8 +18,7 @@ from scribe.prompt.conversation import Conversation, Ended, request_line
 from scribe.prompt.typed_lines import GivenUp, Lines, PipedLines, TypedLines, are_typed
 from scribe.words.console import Console
 from scribe.words.elsewhere import AT_PROMPT as KNOWN, hint
-from scribe.words.failures import in_sentences
-from scribe.words.status import Status, Stop
+from scribe.words.status import Status, Stop, in_sentences
 
 MORE = """\
 The commands are those of the shell without the file, as in change 1 mon moon, and ask for

@@ -21,8 +21,7 @@ from scribe.prompt.typed_lines import (
     are_typed,
 )
 from scribe.words.console import Console, NoInput
-from scribe.words.failures import in_sentences
-from scribe.words.status import Status, Stop
+from scribe.words.status import Status, Stop, in_sentences
 
 MORE = """\
 Print is typed at a prompt. The answer is its braille, as braildesk translates it, and
