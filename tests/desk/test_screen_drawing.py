@@ -12,16 +12,8 @@ from braildesk.text.wrapping import columns
 
 from scribe.screen.drawing import Drawing, draw
 from scribe.screen.field import Field, Purpose
-from scribe.screen.lines import HIGHLIGHTED, MARKED
-from scribe.screen.rows import rows
-from scribe.screen.state import (
-    Opening,
-    Pages,
-    Pane,
-    Question,
-    Size,
-    State,
-)
+from scribe.screen.lines import HIGHLIGHTED, MARKED, rows
+from scribe.screen.state import Opening, Pages, Pane, Question, Size, State
 from scribe.words.preview import Preview
 
 

@@ -4,7 +4,7 @@ import pytest
 
 from braildesk.text.wrapping import columns
 
-from scribe.screen.encoding import encoding_of, has, in_encoding, is_plain
+from scribe.words.encoding import encoding_of, has, in_encoding, is_plain
 
 
 @pytest.mark.parametrize(

@@ -34,16 +34,8 @@ from scribe.screen.actions import (
 )
 from scribe.screen.field import Field, Purpose
 from scribe.screen.keys import KEYS, keys_of, parted, pasted, step
-from scribe.screen.rows import rows
-from scribe.screen.state import (
-    Opening,
-    Pages,
-    Pane,
-    Question,
-    Size,
-    State,
-    Target,
-)
+from scribe.screen.lines import rows
+from scribe.screen.state import Opening, Pages, Pane, Question, Size, State, Target
 
 PRINT = "The moon is far away."
 CELLS = "⠠⠞⠓⠑⠀⠍⠕⠕⠝⠀⠊⠎⠀⠋⠁⠗⠀⠁⠺⠁⠽⠲"

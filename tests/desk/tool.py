@@ -9,12 +9,15 @@ import tempfile
 import traceback
 from collections.abc import Callable, Mapping, Sequence
 from dataclasses import dataclass
+from importlib import import_module
 from pathlib import Path
 from typing import TextIO
 
 from scribe.cli import main
-from scribe.screen import terminal
-from scribe.words import console
+from scribe.words import encoding
+
+# imported once, and not in each process anew
+import_module("scribe.screen.terminal")
 
 ROOT = Path(__file__).resolve().parents[2]
 # what Python takes from the environment as it is started, and not later
@@ -93,8 +96,7 @@ def scribe_in_copy(
             for each in (signal.SIGPIPE, signal.SIGXFSZ):
                 signal.signal(each, signal.SIG_IGN)
             # the environment with which a process was started can't be changed in it
-            terminal.first_environment = lambda: dict(settings)
-            console.first_environment = lambda: dict(settings)
+            encoding.first_environment = lambda: dict(settings)
             sys.argv = ["scribe", *map(str, words)]
             for number, name in enumerate(("stdin", "stdout", "stderr")):
                 setattr(sys, name, _stream(number))

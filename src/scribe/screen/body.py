@@ -12,8 +12,17 @@ from braildesk.text.cells import braille_ascii, with_dots
 from braildesk.text.spans import Span
 
 from scribe.screen.field import Field
-from scribe.screen.lines import Area, HIGHLIGHTED, Line, MARKED, PLAIN, Piece
-from scribe.screen.rows import row_of, rows, shown
+from scribe.screen.lines import (
+    Area,
+    HIGHLIGHTED,
+    Line,
+    MARKED,
+    PLAIN,
+    Piece,
+    row_of,
+    rows,
+    shown,
+)
 from scribe.screen.state import Pane, State
 
 _NOTHING = Span(0, 0)

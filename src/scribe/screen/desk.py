@@ -35,7 +35,7 @@ from braildesk.text.excerpt import opening
 from braildesk.text.sequences import composed
 from braildesk.text.spans import Span
 
-from scribe.screen import finding, keys, lists, pager, taking_back
+from scribe.screen import finding, keys, lists, pager
 from scribe.screen.actions import (
     Action,
     BringBack,
@@ -60,11 +60,26 @@ from scribe.screen.actions import (
     TypeAll,
 )
 from scribe.screen.background import done_in_background, question_about
-from scribe.screen.draft import draft_of, draft_of_pasted, field_of
 from scribe.screen.field import Field, Purpose
 from scribe.screen.in_hand import left_here, with_mark_in_hand
 from scribe.screen.keys import Step
-from scribe.screen.state import Opening, Pages, Pane, Question, Size, State
+from scribe.screen.state import (
+    Opening,
+    Pages,
+    Pane,
+    Question,
+    Size,
+    State,
+    at_paragraph,
+    commands_between,
+    done_by_one_key,
+    draft_of,
+    draft_of_pasted,
+    field_of,
+    saying_first,
+    so_far,
+    with_imported,
+)
 from scribe.words import deeds, pagelook
 from scribe.words.deeds import Deed, kept
 from scribe.words.drafts import Unsent, not_kept, what_for
@@ -223,7 +238,7 @@ class Desk:
             state = replace(state, kept=f"kept: {what} of the import")
         if ending.question:
             state = replace(state, question=ending.question)
-        state = taking_back.with_imported(before, state)
+        state = with_imported(before, state)
         lines = (*_changed_between(before, state), *ending.lines)
         if lines:
             state = replace(state, pages=Pages(ending.title, lines))
@@ -475,11 +490,11 @@ class Desk:
     def _done(self, state: State, asked: Command[Any] | Action | None) -> State:
         if isinstance(asked, requests.Undo):
             taken = f"Taken back: the newest correction of paragraph {asked.paragraph}."
-            return taking_back.saying_first(taken, self._sent(state, asked))
+            return saying_first(taken, self._sent(state, asked))
         if isinstance(asked, requests.Resolve):
             found = self._sent(state, asked)
             said = f"Mark {asked.mark} is resolved." if found.message else ""
-            return taking_back.saying_first(said, found)
+            return saying_first(said, found)
         if isinstance(asked, requests.Type):
             return self._begun(self._sent(state, asked))
         if isinstance(asked, Command):
@@ -623,10 +638,10 @@ class Desk:
         if len(deed.back) > 1:
             return replace(state, away=action, message="Please wait.")
         if deed.paragraph is not None:
-            state = self.refreshed(taking_back.at_paragraph(state, deed.paragraph))
+            state = self.refreshed(at_paragraph(state, deed.paragraph))
         state = self._sent(state, replace(deed.back[0], expect=state.version))
         left = deeds.without(deed, earlier, state.deeds[-1])
-        return taking_back.saying_first(deed.sentence, replace(state, deeds=left))
+        return saying_first(deed.sentence, replace(state, deeds=left))
 
     def _all_taken_back(self, state: State, report: Callable[[str], None]) -> State:
         """Takes back what a key did by many commands, as far as none is refused."""
@@ -642,14 +657,14 @@ class Desk:
                 state = replace(state, version=version, kept=kept(asked, answer))
                 report(f"{done:,} of {count:,} done.")
         except Lost as lost:
-            return self._after_loss(taking_back.so_far(state, done), lost)
+            return self._after_loss(so_far(state, done), lost)
         except Refused as refused:
             said = f"{done:,} of {count:,} done. {refused.sentence}"
         except Interrupted:
             said = f"{done:,} of {count:,} done."
         book = self._session.paragraphs()
         state = replace(state, book=book, openings={}, reading=None, highlighted=None)
-        return self._drawn(taking_back.so_far(state, done).saying(said))
+        return self._drawn(so_far(state, done).saying(said))
 
     def _changed(self, state: State, number: int | None, before: State) -> State:
         """The state after a paragraph was changed, with that one chosen."""
@@ -884,10 +899,8 @@ class Desk:
                     raise
                 said = f"{sent} typed. {interrupted.cause.sentence}"
                 state = self._refused_among(interrupted.state.saying(said), lines)
-                return taking_back.done_by_one_key(state, before)
-        return taking_back.done_by_one_key(
-            replace(state, typed=None, preview=None), before
-        )
+                return done_by_one_key(state, before)
+        return done_by_one_key(replace(state, typed=None, preview=None), before)
 
     def _refused_among(self, state: State, lines: Sequence[str]) -> State:
         """The state in which the first of some lines is typed further, and the others are set aside."""
@@ -945,7 +958,7 @@ def _of(number: int) -> list[Request[Any]]:
 
 def _changed_between(before: State, after: State) -> tuple[str, ...]:
     """What is said where the book has been changed by more than an import."""
-    commands = taking_back.commands_between(before, after)
+    commands = commands_between(before, after)
     if after.version - before.version == commands:
         return ()
     return (

@@ -14,10 +14,9 @@ from braildesk.text.wrapping import columns, wrap
 
 from scribe.screen import pager
 from scribe.screen.body import body
-from scribe.screen.encoding import has
+from scribe.words.encoding import has
 from scribe.screen.field import Field, Purpose
-from scribe.screen.lines import Area, CHOSEN, HEAD, Line, PLAIN, Piece, filled
-from scribe.screen.rows import shown
+from scribe.screen.lines import Area, CHOSEN, HEAD, Line, PLAIN, Piece, filled, shown
 from scribe.screen.state import Pages, Pane, Question, Size, State
 from scribe.words.paragraph import mark_line, marked_words, title
 

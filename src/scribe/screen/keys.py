@@ -35,11 +35,10 @@ from scribe.screen.actions import (
     ToPage,
     TypeAll,
 )
-from scribe.screen.draft import draft_of
 from scribe.screen.field import Cut, Field, Purpose
+from scribe.screen.lines import beside
 from scribe.screen.lists import at_target
-from scribe.screen.rows import beside
-from scribe.screen.state import Pages, Pane, Question, State
+from scribe.screen.state import Pages, Pane, Question, State, draft_of
 from scribe.words.pages import NoSize, described, typed_page_size
 from scribe.words.paragraph import quoted
 from scribe.words.typed import typed_path

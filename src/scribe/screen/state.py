@@ -4,7 +4,8 @@ from collections.abc import Mapping
 from dataclasses import dataclass, field, replace
 from enum import Enum, auto
 
-from braildesk import Mark, Paragraph, limits
+from braildesk import Mark, Paragraph, Style, limits
+from braildesk.desk.draft import Aim, Draft
 from braildesk.desk.highlighting import Highlighted
 from braildesk.desk.layout import PageSize
 from braildesk.desk.readings import ParagraphReading
@@ -20,8 +21,8 @@ from scribe.screen.actions import (
     TakeBack,
     ToPage,
 )
-from scribe.screen.field import Cut, Field
-from scribe.words.deeds import Deed
+from scribe.screen.field import Cut, Field, Purpose
+from scribe.words.deeds import Deed, together, typed
 from scribe.words.preview import Preview
 
 
@@ -304,3 +305,84 @@ def _stands_on(mark: Mark, words: Span, last: int) -> bool:
     start = min(mark.start, last)
     stop = max(mark.stop, start + 1)
     return start < max(words.stop, words.start + 1) and words.start < stop
+
+
+def done_by_one_key(state: State, before: int) -> State:
+    """The state in which what was done since there were so many deeds is one deed."""
+    done = state.deeds[before:]
+    if len(done) < 2:
+        return state
+    return replace(state, deeds=(*state.deeds[:before], together(done)))
+
+
+def with_imported(before: State, after: State) -> State:
+    """The state with an import as a deed, if nothing else changed the book."""
+    there = {each.id for each in before.book}
+    new = sorted(each.id for each in after.book if each.id not in there)
+    if not new or after.version - before.version != commands_between(before, after):
+        return after
+    return replace(after, deeds=(*before.deeds, typed(new, "imported")))
+
+
+def commands_between(before: State, after: State) -> int:
+    """How many commands an import was: one for each paragraph, heading and begin of a volume."""
+    earlier = {each.id: each for each in before.book}
+    count = 0
+    for each in after.book:
+        was = earlier.get(each.id)
+        count += was is None
+        count += each.style is not (was.style if was else Style.BODY)
+        count += each.begins_volume is not (was.begins_volume if was else False)
+    return count
+
+
+def so_far(state: State, done: int) -> State:
+    """The state after so many commands that take back what a key last did."""
+    *earlier, deed = state.deeds
+    rest = deed.back[done:]
+    left = [replace(deed, back=rest)] if rest else []
+    return replace(state, deeds=(*earlier, *left))
+
+
+def saying_first(sentence: str, state: State) -> State:
+    """The state in which a sentence is said before what has to be said anyway."""
+    return state.saying(f"{sentence} {state.message}".strip())
+
+
+def at_paragraph(state: State, number: int) -> State:
+    """The state with a paragraph chosen, if the book has it."""
+    if state.paragraph and state.paragraph.id == number:
+        return state
+    places = [n for n, each in enumerate(state.book) if each.id == number]
+    return state.at(places[0]) if places else state
+
+
+def draft_of(state: State) -> Draft | None:
+    """What is typed and not in the book yet."""
+    typed = state.typed
+    if typed is None or not typed.purpose.is_for_book:
+        return None
+    pasted = state.question.lines if state.question else ()
+    text = "\n".join(pasted) or typed.text
+    before = state.reading.text if state.reading else ""
+    if not text or typed.purpose is Purpose.EDIT and text == before:
+        return None
+    number = state.paragraph.id if state.paragraph else None
+    cells = state.chosen_cells if typed.purpose is Purpose.NOTE else None
+    aim = Aim[typed.purpose.name]
+    return Draft(aim, number, state.table, before, text, cells, state.version)
+
+
+def draft_of_pasted(state: State, text: str) -> Draft:
+    """A text that was pasted where nothing is typed, as one of a new paragraph."""
+    lines = [line.strip() for line in text.replace("\r", "\n").split("\n")]
+    text = "\n".join(line.replace("\t", " ") for line in lines if line)
+    its = state.paragraph
+    table = its.table if its else state.table
+    number = its.id if its else None
+    return Draft(Aim.AFTER, number, table, "", text, None, state.version)
+
+
+def field_of(draft: Draft) -> Field:
+    """The text of a draft as it is typed further."""
+    return Field(Purpose[draft.aim.name], draft.text, len(draft.text))

@@ -27,7 +27,7 @@ from braildesk.text.characters import visible
 from scribe.screen.arrivals import Arrivals
 from scribe.screen.desk import Desk, preview_of
 from scribe.screen.drawing import Drawing, draw
-from scribe.screen.encoding import in_encoding
+from scribe.words.encoding import in_encoding
 from scribe.screen.keyboard import Keyboard, Pasted, Stroke
 from scribe.screen.lines import CHOSEN, HEAD, HIGHLIGHTED, MARKED, PLAIN
 from scribe.screen.state import Size, State
@@ -436,13 +436,3 @@ class Screen:
         self._unwatch()
         if not self.state.is_lost and not self.state.is_over:
             self._become(self._desk.lost(self.state))
-
-
-def first_environment() -> dict[str, str]:
-    """The environment as scribe was started with it, before Python took another locale."""
-    try:
-        with open("/proc/self/environ", "rb") as file:
-            words = file.read().decode(errors="replace").split("\0")
-    except OSError:
-        return dict(os.environ)
-    return dict(word.split("=", 1) for word in words if "=" in word)

@@ -16,6 +16,8 @@ from braildesk.text.cells import Notation
 from braildesk.text.characters import visible
 from braildesk.text.wrapping import columns, wrap
 
+from scribe.words import encoding
+
 PROGRESS_SECONDS = 2.0
 LEAST_WIDTH = 10
 _USUAL_WIDTH = 80
@@ -209,22 +211,9 @@ def _width_of_output() -> int | None:
     return max(found, LEAST_WIDTH) if found else None
 
 
-def first_environment() -> dict[str, str]:
-    """The environment as scribe was started with it, before Python took another locale."""
-    try:
-        with open("/proc/self/environ", "rb") as file:
-            words = file.read().decode(errors="replace").split("\0")
-    except OSError:
-        return dict(os.environ)
-    return dict(word.split("=", 1) for word in words if "=" in word)
-
-
 def _usual_cells() -> Notation:
     """How cells are written where nothing says how: in Braille ASCII if the locale isn't UTF-8."""
-    environment = first_environment()
-    names = ("LC_ALL", "LC_CTYPE", "LANG")
-    found = next((environment[name] for name in names if environment.get(name)), "")
-    is_utf8 = found.lower().replace("-", "").endswith("utf8")
+    is_utf8 = encoding.is_utf8(encoding.first_environment())
     return Notation.UNICODE if is_utf8 else Notation.ASCII
 
 

@@ -14,6 +14,7 @@ from braildesk import Lost
 from scribe.cli.page_size import add_page_size, page_size_of
 from scribe.cli.parser import Subparsers, add_file, command_parser, words
 from scribe.prompt.typed_lines import are_typed
+from scribe.words import encoding
 from scribe.words.console import Console
 from scribe.words.status import Interrupted, Status, Stop
 
@@ -60,8 +61,7 @@ def run(arguments: Namespace, console: Console) -> Status:
         # imported here, since only this command needs prompt_toolkit
         from scribe.screen.desk import Desk
         from scribe.screen.state import Size
-        from scribe.screen.encoding import encoding_of, is_plain
-        from scribe.screen.terminal import Screen, first_environment
+        from scribe.screen.terminal import Screen
     except ImportError:
         raise Stop(
             "scribe edit needs prompt_toolkit, which is not installed. Debian has it as"
@@ -70,12 +70,12 @@ def run(arguments: Namespace, console: Console) -> Status:
         ) from None
     desk = Desk(arguments.file, arguments.wait)
     columns, lines = shutil.get_terminal_size()
-    environment = first_environment()
-    is_ascii = is_plain(environment)
-    encoding = encoding_of(environment, sys.stdout.encoding)
-    _take_encoding(encoding)
+    environment = encoding.first_environment()
+    is_ascii = encoding.is_plain(environment)
+    of_terminal = encoding.encoding_of(environment, sys.stdout.encoding)
+    _take_encoding(of_terminal)
     state = desk.first_state(Size(columns, lines), arguments.by, is_ascii)
-    state = replace(state, page_size=page_size_of(arguments), encoding=encoding)
+    state = replace(state, page_size=page_size_of(arguments), encoding=of_terminal)
     screen = Screen(desk, state)
     screen.run()
     return _end(desk, screen, arguments.file.name, console)
@@ -102,8 +102,8 @@ def _end(desk: "Desk", screen: "Screen", name: str, console: Console) -> Status:
     return Status.DONE
 
 
-def _take_encoding(encoding: str) -> None:
+def _take_encoding(its: str) -> None:
     """Has keys and the screen be in an encoding."""
     for stream in (sys.stdin, sys.stdout):
         if isinstance(stream, TextIOWrapper):
-            stream.reconfigure(encoding=encoding)
+            stream.reconfigure(encoding=its)

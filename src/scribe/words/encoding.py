@@ -1,5 +1,6 @@
 """What a terminal can show: its encoding, and texts in it."""
 
+import os
 from collections.abc import Mapping
 
 from braildesk.text.wrapping import columns
@@ -9,10 +10,24 @@ _INSTEAD = {"“": '"', "”": '"', "…": "~"}
 _LACKING = "?"
 
 
+def first_environment() -> dict[str, str]:
+    """The environment as scribe was started with it, before Python took another locale."""
+    try:
+        with open("/proc/self/environ", "rb") as file:
+            words = file.read().decode(errors="replace").split("\0")
+    except OSError:
+        return dict(os.environ)
+    return dict(word.split("=", 1) for word in words if "=" in word)
+
+
+def is_utf8(environment: Mapping[str, str]) -> bool:
+    """Whether the locale of an environment says that texts are UTF-8."""
+    return _locale(environment).lower().replace("-", "").endswith("utf8")
+
+
 def is_plain(environment: Mapping[str, str]) -> bool:
     """Whether a terminal shows no Unicode patterns: the locale isn't UTF-8, or TERM is linux."""
-    is_utf8 = _locale(environment).lower().replace("-", "").endswith("utf8")
-    return not is_utf8 or environment.get("TERM") == "linux"
+    return not is_utf8(environment) or environment.get("TERM") == "linux"
 
 
 def encoding_of(environment: Mapping[str, str], usual: str) -> str:
