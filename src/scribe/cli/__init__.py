@@ -6,9 +6,8 @@ from collections.abc import Collection, Sequence
 from contextlib import suppress
 
 from scribe.cli.commands import COMMANDS, command
-from scribe.cli.endings import ended
-from scribe.cli.parser import Parser, TextAsked, WordsRefused, unknown_command
-from scribe.cli.width import as_asked
+from scribe.cli.endings import ended, said_of
+from scribe.cli.parser import Parser, TextAsked, WordsRefused, as_asked, unknown_command
 from scribe.words.console import Console, InputFailed, OutputFailed
 from scribe.words.status import Status, Stop, in_sentences
 
@@ -65,9 +64,6 @@ def run_words(words: Sequence[str], console: Console) -> Status:
         console.say(failed.sentence)
         return Status.FAILED
     except Exception as failure:
-        # imported here, since a command that only shows its help doesn't need the client
-        from scribe.cli.failed import said_of
-
         said = said_of(failure, arguments)
         if said is None:
             raise

@@ -1,19 +1,24 @@
 """Commands on a book: at a shell each opens the book, and at the prompt of `talk` it is open."""
 
-from argparse import Namespace
+from argparse import ArgumentParser, ArgumentTypeError, Namespace
 from collections.abc import Callable, Iterator
 from contextlib import contextmanager, suppress
-from dataclasses import dataclass
+from dataclasses import dataclass, replace
+from pathlib import Path
 
-from braildesk import Lost, Session, check
+from braildesk import CannotOpen, Lost, Refused, Session, Why, check
 from braildesk.desk import USUAL_WAIT
 from braildesk.desk.marks import MarkOfBook
+from braildesk.desk.places import ManyPlaces
+from braildesk.protocol.asked import BookFile
+from braildesk.refusals import refused_as
+from braildesk.text.excerpt import excerpt_lines
+from braildesk.text.spans import Span
 
-from scribe.cli.choice import places_shown
-from scribe.cli.looking import looked_at
-from scribe.cli.parser import Parser, Subparsers, add_file, command_parser
+from scribe.cli.parser import Parser, Subparsers, add_file, command_parser, number
 from scribe.words.console import Console
-from scribe.words.status import Interrupted, Status, stopped_by
+from scribe.words.paragraph import quoted
+from scribe.words.status import Interrupted, Status, Stop, stopped_by
 
 #: The mark that a person deals with from now on, or how a command ends that isn't just done.
 Outcome = MarkOfBook | Status | None
@@ -92,3 +97,92 @@ def said_where_stopped(
         now = check(arguments.file, timeout=getattr(arguments, "wait", USUAL_WAIT))
         console.say(f"{stopped_by(cause)} {so_far(now - first, now)}")
         raise Interrupted.after(cause) from cause
+
+
+@contextmanager
+def looked_at(arguments: Namespace, console: Console) -> Iterator[tuple[Session, Path]]:
+    """A session with the book, and the path at which it is read.
+
+    While another program has the book open that is a copy, of which the version is said.
+    """
+    try:
+        session = Session(arguments.file, timeout=arguments.wait)
+    except CannotOpen as refusal:
+        if refusal.why is not Why.IN_USE:
+            raise
+        # imported here, since few commands meet an open book
+        from braildesk.snapshot import snapshot
+
+        with snapshot(arguments.file) as copied, _opened(arguments, copied) as session:
+            console.say(as_kept(arguments.file, session.last_version))
+            yield session, copied
+        return
+    with session:
+        yield session, arguments.file
+
+
+def _opened(arguments: Namespace, copied: Path) -> Session:
+    """A session with a copy, which is called as the book if it is refused."""
+    try:
+        return Session(copied)
+    except Refused as refusal:
+        asked = BookFile(str(arguments.file))
+        raise refused_as(replace(refusal.refusal, asked=asked)) from None
+
+
+def as_kept(book: Path, version: int) -> str:
+    """What is said of a book that is looked at while another program has it open."""
+    return (
+        f"Another program has {book} open. This is what it had kept a moment ago, at version"
+        f" {version:,}."
+    )
+
+
+def add_nth(parser: ArgumentParser, words: str) -> None:
+    """Adds the word `--nth`: which place, counted from 1, as `arguments.nth`."""
+    parser.add_argument(
+        "--nth",
+        metavar="N",
+        type=_counted_from_one,
+        help=f"the Nth place, where {words} stands more than once",
+    )
+
+
+@contextmanager
+def places_shown(width: int) -> Iterator[None]:
+    """Stops with the places in which words stand, if it isn't clear which of them is meant."""
+    try:
+        yield
+    except ManyPlaces as many:
+        found = enumerate(many.places, 1)
+        lines = [
+            line
+            for nth, place in found
+            for line in _place_lines(many.text, place, nth, width)
+        ]
+        raise Stop(_of_many(many), more=lines) from many
+
+
+def _of_many(many: ManyPlaces) -> str:
+    count = len(many.places)
+    times = "once" if count == 1 else f"{count:,} times"
+    wanted = (
+        "Say which by --nth" if many.nth is None else f"There is no place {many.nth}"
+    )
+    return (
+        f"Paragraph {many.paragraph} has {quoted(many.sought)} {times}. {wanted}."
+        " Nothing was changed."
+    )
+
+
+def _place_lines(text: str, place: Span, nth: int, width: int) -> list[str]:
+    """A place with the words around it."""
+    head = f"--nth {nth}, character {place.start + 1}: "
+    return excerpt_lines(head, text, place.start, place.stop, width)
+
+
+def _counted_from_one(word: str) -> int:
+    nth = number(word)
+    if nth == 0:
+        raise ArgumentTypeError("places are counted from 1")
+    return nth

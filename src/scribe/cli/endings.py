@@ -1,4 +1,4 @@
-"""How the process of scribe ends: by a status, or by the signal that told it to end.
+"""How a command and the process of scribe end: by a status, or by a signal that told it to end.
 
 Whatever happens, somebody reads a sentence about it, and no status says more than is so.
 """
@@ -6,6 +6,7 @@ Whatever happens, somebody reads a sentence about it, and no status says more th
 import os
 import signal
 import sys
+from argparse import Namespace
 from collections.abc import Callable
 from contextlib import suppress
 from pathlib import Path
@@ -44,6 +45,27 @@ def _status(run: Callable[[], int]) -> int:
     except Exception as fault:
         say_last(of_fault(fault))
     return Status.FAILED
+
+
+def said_of(
+    failure: Exception, arguments: Namespace
+) -> tuple[Status, list[str]] | None:
+    """The status and what is said if a command fails; None for an exception that nobody foresaw."""
+    # imported here, since a command that only shows its help doesn't need the client
+    from braildesk import CannotOpen, DeskError, Failed, Lost, NoProgram, Why
+    from braildesk.desk.aftermath import after_loss
+
+    match failure:
+        case Lost():
+            return Status.FAILED, after_loss(arguments.file, failure)
+        case CannotOpen(why=Why.READ_ONLY | Why.NO_ROOM):
+            # the disk is why, and not what was asked
+            return Status.FAILED, [failure.sentence]
+        case Failed() | NoProgram():
+            return Status.FAILED, [failure.sentence]
+        case DeskError():
+            return Status.REFUSED, [failure.sentence]
+    return None
 
 
 def open_closed() -> None:

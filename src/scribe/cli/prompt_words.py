@@ -14,8 +14,7 @@ from braildesk.text.excerpt import excerpt_lines, opening
 from braildesk.text.spans import find_spans
 
 from scribe.cli.commands import AT_PROMPT, COMMANDS, prompt_command
-from scribe.cli.width import as_asked
-from scribe.cli.parser import Asked, Parser, TextAsked, WordsRefused
+from scribe.cli.parser import Asked, Parser, TextAsked, WordsRefused, as_asked
 from scribe.prompt.conversation import Conversation
 from scribe.words.find import instead
 from scribe.words.paragraph import quoted

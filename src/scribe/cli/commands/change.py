@@ -6,10 +6,8 @@ from braildesk import Session
 from braildesk.desk.change import change_words
 from braildesk.desk.places import Words
 
-from scribe.cli.book_command import BookCommand
-from scribe.cli.choice import add_nth
-from scribe.cli.parser import Parser, add_paragraph, argument
-from scribe.cli.width import add_width
+from scribe.cli.book_command import BookCommand, add_nth
+from scribe.cli.parser import Parser, add_paragraph, add_width, argument
 from scribe.words.changes import change_lines
 from scribe.words.console import Console
 from scribe.words.typed import text, words

@@ -17,8 +17,7 @@ from braildesk.desk.change_all import (
 )
 
 from scribe.cli.book_command import BookCommand, said_where_stopped
-from scribe.cli.parser import Parser, add_ranges, argument
-from scribe.cli.width import add_width
+from scribe.cli.parser import Parser, add_ranges, add_width, argument
 from scribe.prompt.conversation import Ended
 from scribe.prompt.typed_lines import GivenUp, Lines, PipedLines, TypedLines, are_typed
 from scribe.words.change_all import (

@@ -6,8 +6,7 @@ from pathlib import Path
 from braildesk.tables import Reading, TableText, Warning, text_at, warnings
 from braildesk.text.wrapping import wrap
 
-from scribe.cli.parser import Subparsers, command_parser
-from scribe.cli.width import add_width
+from scribe.cli.parser import Subparsers, add_width, command_parser
 from scribe.words.console import Console
 from scribe.words.status import Status
 from scribe.words.tables import counted, fault_lines, warning_lines

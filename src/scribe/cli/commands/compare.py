@@ -9,8 +9,7 @@ from braildesk.desk.manuscript import UnreadableText
 from braildesk.desk.manuscripts import read_manuscript
 
 from scribe.cli.book_command import BookCommand
-from scribe.cli.parser import Parser
-from scribe.cli.width import add_width
+from scribe.cli.parser import Parser, add_width
 from scribe.words.compare import Count, left_out
 from scribe.words.console import Console
 from scribe.words.import_text import unreadable

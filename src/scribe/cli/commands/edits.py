@@ -9,8 +9,7 @@ from braildesk import Code, NotFound, Session, Style, requests
 from braildesk.protocol.requests import Command
 
 from scribe.cli.book_command import BookCommand
-from scribe.cli.parser import Parser, add_paragraph
-from scribe.cli.width import add_width
+from scribe.cli.parser import Parser, add_paragraph, add_width
 from scribe.words.changes import carried_out
 from scribe.words.console import Console
 from scribe.words.paragraph import no_mark

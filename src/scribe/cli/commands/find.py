@@ -20,8 +20,7 @@ from braildesk.text.sequences import composed
 
 from scribe.cli.book_command import BookCommand
 from scribe.cli.page_size import add_pages, page_map
-from scribe.cli.parser import Parser, WordsRefused
-from scribe.cli.width import add_width
+from scribe.cli.parser import Parser, WordsRefused, add_width
 from scribe.words.console import Console
 from scribe.words.find import cell_lines, found_summary, word_lines
 from scribe.words.pages import page_place

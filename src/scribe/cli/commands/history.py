@@ -7,8 +7,7 @@ from braildesk.desk.history import histories
 from braildesk.desk.ranges import ParagraphRange
 
 from scribe.cli.book_command import BookCommand
-from scribe.cli.parser import Parser, number, words
-from scribe.cli.width import add_width
+from scribe.cli.parser import Parser, add_width, number, words
 from scribe.words.changes import history_lines, nothing_found
 from scribe.words.console import Console
 

@@ -7,10 +7,8 @@ from braildesk.desk.marks import mark_words
 from braildesk.desk.places import Words
 from braildesk.text.excerpt import excerpt_lines
 
-from scribe.cli.book_command import BookCommand
-from scribe.cli.choice import add_nth
-from scribe.cli.parser import Parser, add_paragraph
-from scribe.cli.width import add_width
+from scribe.cli.book_command import BookCommand, add_nth
+from scribe.cli.parser import Parser, add_paragraph, add_width
 from scribe.words.changes import at_version, wider
 from scribe.words.console import Console
 from scribe.words.paragraph import mark_line

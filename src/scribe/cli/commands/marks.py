@@ -8,8 +8,7 @@ from braildesk.desk.marks import MarkOfBook, all_marks
 
 from scribe.cli.book_command import BookCommand
 from scribe.cli.page_size import add_pages, page_map
-from scribe.cli.parser import Parser, number
-from scribe.cli.width import add_width
+from scribe.cli.parser import Parser, add_width, number
 from scribe.words.console import Console
 from scribe.words.paragraph import mark_line, marks_summary
 

@@ -7,8 +7,7 @@ from braildesk.desk.marks import MarkOfBook, next_open
 from braildesk.text.excerpt import excerpt_lines
 
 from scribe.cli.book_command import BookCommand
-from scribe.cli.parser import Parser, number
-from scribe.cli.width import add_width
+from scribe.cli.parser import Parser, add_width, number
 from scribe.words.console import Console
 from scribe.words.paragraph import mark_line, next_summary
 

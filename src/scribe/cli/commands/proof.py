@@ -8,7 +8,7 @@ from pathlib import Path
 from braildesk.desk.proof import ProofPage, proof_pages
 from braildesk.desk.whole_file import Access, MayNotLast, write_whole
 
-from scribe.cli.looking import looked_at
+from scribe.cli.book_command import looked_at
 from scribe.cli.page_size import add_page_size, page_size_of
 from scribe.cli.parser import Subparsers, add_file, command_parser
 from scribe.words.console import Console

@@ -10,8 +10,7 @@ from braildesk.desk.ranges import chosen
 from braildesk.desk.readings import readings
 
 from scribe.cli.book_command import BookCommand
-from scribe.cli.parser import Parser, add_paragraphs, asked_ranges
-from scribe.cli.width import add_cells, add_width
+from scribe.cli.parser import Parser, add_cells, add_paragraphs, add_width, asked_ranges
 from scribe.words.console import Console
 from scribe.words.view import View
 

@@ -6,8 +6,7 @@ from braildesk import Session
 from braildesk.desk.tables import table_request
 
 from scribe.cli.book_command import BookCommand
-from scribe.cli.parser import Parser
-from scribe.cli.width import add_width
+from scribe.cli.parser import Parser, add_width
 from scribe.words.changes import carried_out
 from scribe.words.console import Console
 from scribe.words.typed import typed_path, words

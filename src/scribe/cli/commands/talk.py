@@ -12,8 +12,14 @@ from braildesk.text.characters import visible
 
 from scribe.cli import prompt_words
 from scribe.cli.commands import AT_PROMPT
-from scribe.cli.parser import Subparsers, add_file, command_parser, words
-from scribe.cli.width import add_cells, width
+from scribe.cli.parser import (
+    Subparsers,
+    add_cells,
+    add_file,
+    command_parser,
+    width,
+    words,
+)
 from scribe.prompt.conversation import Conversation, Ended, request_line
 from scribe.prompt.typed_lines import GivenUp, Lines, PipedLines, TypedLines, are_typed
 from scribe.words.console import Console

@@ -9,8 +9,7 @@ from braildesk import DeskError, Failed
 from braildesk.text.sequences import composed
 from braildesk.text.wrapping import columns, wrap
 
-from scribe.cli.parser import Subparsers, command_parser
-from scribe.cli.width import add_width
+from scribe.cli.parser import Subparsers, add_width, command_parser
 from scribe.prompt.trial import Trial
 from scribe.prompt.typed_lines import (
     Due,
