@@ -5,8 +5,6 @@ from pathlib import Path
 import pytest
 
 from braildesk.tables.convert.operands import (
-    BadOperand,
-    read_characters,
     read_dots,
     shown,
     without_virtual_dots,
@@ -16,6 +14,7 @@ from braildesk.tables.convert.operands import (
 from braildesk.tables.convert.source import NoTable, find_table, read_source
 from braildesk.tables.convert.subject import make_alphabet, script_of_table
 from braildesk.tables.convert.table import read_table
+from braildesk.tables.operands import BadOperand, characters
 
 CHARACTERS = {
     "abc": "abc",
@@ -31,13 +30,15 @@ DOTS = {"1": (1,), "0": (0,), "12345678": (255,), "145-0-8": (25, 0, 128), "21":
 
 @pytest.mark.parametrize("operand", CHARACTERS)
 def test_escapes_stand_for_their_characters(operand: str) -> None:
-    assert read_characters(operand) == CHARACTERS[operand]
+    assert characters(operand) == CHARACTERS[operand]
 
 
-@pytest.mark.parametrize("operand", ["\\q", "\\x12", "a\\", "\\xd800", "\\z00110000"])
+@pytest.mark.parametrize(
+    "operand", ["\\q", "\\x12", "a\\", "\\\\\\", "\\xd800", "\\z00110000"]
+)
 def test_an_escape_that_names_no_character_is_refused(operand: str) -> None:
     with pytest.raises(BadOperand):
-        read_characters(operand)
+        characters(operand)
 
 
 def test_characters_are_written_so_that_they_are_read_back() -> None:

@@ -15,7 +15,7 @@ import braildesk
 from braildesk.desk.own_folder import OwnFolder
 from braildesk.tables import read
 from braildesk.tables.convert import making
-from braildesk.tables.convert.causes import Cause, Judge
+from braildesk.tables.convert.causes import Difference, Judge
 from braildesk.tables.convert.chooser import Chooser
 from braildesk.tables.convert.draft import Origin, TableDraft
 from braildesk.tables.convert.learning import Learned
@@ -334,7 +334,7 @@ CAPITALS = SMALL.replace(
 )
 
 
-def causes(folder: Path, line: str, text: str) -> list[tuple[str, Cause]]:
+def causes(folder: Path, line: str, text: str) -> list[tuple[str, Difference]]:
     """The words of a line that differ by a table, with their causes."""
     small(folder, CAPITALS)
     table = read(text.encode()).table
@@ -349,11 +349,11 @@ def test_each_word_that_differs_has_its_cause(
     tmp_path: Path, draft: TableDraft
 ) -> None:
     text = draft.text()
-    assert causes(tmp_path, "bat BATh", text) == [("BATh", Cause.CAPITALS)]
+    assert causes(tmp_path, "bat BATh", text) == [("BATh", Difference.CAPITALS)]
     assert causes(tmp_path, "HAT BATH THE bat", text) == [
-        ("HAT", Cause.PASSAGE),
-        ("BATH", Cause.PASSAGE),
-        ("THE", Cause.PASSAGE),
+        ("HAT", Difference.PASSAGE),
+        ("BATH", Difference.PASSAGE),
+        ("THE", Difference.PASSAGE),
     ]
 
 
@@ -375,20 +375,20 @@ word x 56-1346
 @pytest.mark.parametrize(
     "line, word, ours, theirs, cause",
     [
-        ("ab X", "X", "⠠⠰⠭", "⠰⠠⠭", Cause.LETTER_SIGN),
-        ("ab AX", "AX", "⠠⠠⠁⠭", "⠰⠠⠠⠁⠭", Cause.LETTER_SIGN),
-        ("ab ABa", "ABa", "⠠⠁⠠⠃⠁", "⠠⠠⠁⠃⠠⠄⠁", Cause.CAPITALS),
-        ("ab AB.Ab", "AB.Ab", "⠠⠠⠁⠃⠲⠠⠁⠃", "⠠⠠⠁⠃⠲⠁⠠⠄⠃", Cause.CAPITALS),
-        ("ab AB BX", "BX", "⠠⠠⠃⠭", "⠃⠭", Cause.PASSAGE),
-        ("1 11", "11", "⠼⠁⠁", "⠁⠁", Cause.NUMBER),
-        ("ab .1", ".1", "⠲⠼⠁", "⠼⠲⠁", Cause.FIRST_MARK),
-        ('"b ab', "ab", "⠁⠃", "⠃⠃", Cause.QUOTES),
-        ("b ab", "ab", "⠁⠃", "⠃⠃", Cause.NEIGHBOURS),
-        ("ab be", "be", "⠃⠑", "⠆", Cause.RULES),
+        ("ab X", "X", "⠠⠰⠭", "⠰⠠⠭", Difference.LETTER_SIGN),
+        ("ab AX", "AX", "⠠⠠⠁⠭", "⠰⠠⠠⠁⠭", Difference.LETTER_SIGN),
+        ("ab ABa", "ABa", "⠠⠁⠠⠃⠁", "⠠⠠⠁⠃⠠⠄⠁", Difference.CAPITALS),
+        ("ab AB.Ab", "AB.Ab", "⠠⠠⠁⠃⠲⠠⠁⠃", "⠠⠠⠁⠃⠲⠁⠠⠄⠃", Difference.CAPITALS),
+        ("ab AB BX", "BX", "⠠⠠⠃⠭", "⠃⠭", Difference.PASSAGE),
+        ("1 11", "11", "⠼⠁⠁", "⠁⠁", Difference.NUMBER),
+        ("ab .1", ".1", "⠲⠼⠁", "⠼⠲⠁", Difference.FIRST_MARK),
+        ('"b ab', "ab", "⠁⠃", "⠃⠃", Difference.QUOTES),
+        ("b ab", "ab", "⠁⠃", "⠃⠃", Difference.NEIGHBOURS),
+        ("ab be", "be", "⠃⠑", "⠆", Difference.RULES),
     ],
 )
 def test_a_cause_is_known_by_the_print_and_the_cells(
-    line: str, word: str, ours: str, theirs: str, cause: Cause, tmp_path: Path
+    line: str, word: str, ours: str, theirs: str, cause: Difference, tmp_path: Path
 ) -> None:
     ours_there, theirs_there = (
         tuple(ord(cell) - 0x2800 for cell in cells) for cells in (ours, theirs)

@@ -16,7 +16,7 @@ from braildesk.desk.draft import Aim, Draft
 from braildesk.desk.drafts import Drafts
 from braildesk.text.cells import braille_patterns
 
-from scribe.screen.background import Ending
+from scribe.screen.background import ActionResult
 from scribe.screen.desk import Desk
 from scribe.screen.state import Size
 from scribe.words.preview import Preview, Tables
@@ -427,10 +427,10 @@ def test_an_import_into_an_empty_book_has_the_table_that_was_chosen(
 def test_an_import_that_is_cut_short_is_kept_as_far_as_it_came(
     moon: Path, sit: Sit, monkeypatch: pytest.MonkeyPatch
 ) -> None:
-    def cut_short(path: Path, *_: object) -> Ending:
+    def cut_short(path: Path, *_: object) -> ActionResult:
         with Session(path) as session:
             session.add_paragraph("end", "en", "The sun")
-        return Ending("Import.", ("The session ended.",))
+        return ActionResult("Import.", ("The session ended.",))
 
     monkeypatch.setattr("scribe.screen.desk.done_in_background", cut_short)
     sat = sit(moon)

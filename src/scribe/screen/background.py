@@ -20,7 +20,7 @@ from scribe.words.status import Interrupted, Stop, in_sentences
 
 
 @dataclass(frozen=True)
-class Ending:
+class ActionResult:
     """What is shown of an action, and what was kept by it, if anything was."""
 
     title: str
@@ -35,7 +35,7 @@ def done_in_background(
     action: ExportTo | ImportFrom,
     report: Callable[[str], None],
     check: Callable[[], None],
-) -> Ending:
+) -> ActionResult:
     """Does an action as the command of the same name does, until the check has it end."""
     shown, said = Heard(report), Heard(report)
     console = Console(BytesIO(), shown, said, check)
@@ -57,7 +57,7 @@ def done_in_background(
         pass
     what = "Export." if isinstance(action, ExportTo) else "Import."
     lines = (*shown.getvalue().splitlines(), *said.getvalue().splitlines())
-    return Ending(what, lines, kept, question)
+    return ActionResult(what, lines, kept, question)
 
 
 def _imported(

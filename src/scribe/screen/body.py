@@ -18,7 +18,7 @@ from scribe.screen.lines import (
     Line,
     MARKED,
     PLAIN,
-    Piece,
+    Run,
     row_of,
     rows,
     shown,
@@ -47,7 +47,7 @@ class _Text:
         """A line of it."""
         places = range(row.start, row.stop)
         return tuple(
-            Piece("".join(shown(self.text[place]) for place in group), look)
+            Run("".join(shown(self.text[place]) for place in group), look)
             for look, group in groupby(places, key=self._look)
         )
 

@@ -16,7 +16,7 @@ from scribe.screen import pager
 from scribe.screen.body import body
 from scribe.words.encoding import has
 from scribe.screen.field import Field, Purpose
-from scribe.screen.lines import Area, CHOSEN, HEAD, Line, PLAIN, Piece, filled, shown
+from scribe.screen.lines import Area, CHOSEN, HEAD, Line, PLAIN, Run, filled, shown
 from scribe.screen.state import Pages, Pane, Question, Size, State
 from scribe.words.paragraph import mark_line, marked_words, title
 
@@ -134,7 +134,7 @@ def _title(state: State) -> Line:
     if columns(text) > state.size.columns:
         text = text.removeprefix("last ")
     text = opening(text, state.size.columns)
-    return (Piece(text + " " * (state.size.columns - columns(text)), HEAD),)
+    return (Run(text + " " * (state.size.columns - columns(text)), HEAD),)
 
 
 def _middle(state: State, room: int) -> Area:
@@ -142,7 +142,7 @@ def _middle(state: State, room: int) -> Area:
         text = "The book has no paragraphs. o types the first one, i imports a text."
         if not state.tables:
             text = "The book has no table and no paragraphs. t puts a table into it."
-        lines: list[Line] = [(Piece(each),) for each in wrap(text, state.size.columns)]
+        lines: list[Line] = [(Run(each),) for each in wrap(text, state.size.columns)]
         return Area(filled(lines, room), (0, 0))
     listed = _listed(state, min(state.list_lines, max(1, room - 3)))
     if state.is_quiet:
@@ -170,8 +170,8 @@ def _listed(state: State, count: int) -> list[Line]:
         words = its.words if its else ""
         head = f"{sign}{paragraph.id:>5} {', '.join(filter(None, flags))}: "
         text = opening(head + visible(words), state.size.columns - 1)
-        lines.append((Piece(text, CHOSEN if place == state.chosen else PLAIN),))
-    return lines + [(Piece(""),)] * (count - len(lines))
+        lines.append((Run(text, CHOSEN if place == state.chosen else PLAIN),))
+    return lines + [(Run(""),)] * (count - len(lines))
 
 
 def _rule(state: State) -> Line:
@@ -185,7 +185,7 @@ def _rule(state: State) -> Line:
     else:
         text = ""
     text = opening(f"-- {text} ", state.size.columns)
-    return (Piece(text + "-" * (state.size.columns - columns(text))),)
+    return (Run(text + "-" * (state.size.columns - columns(text))),)
 
 
 def _pages(state: State, pages: Pages, room: int) -> Area:
@@ -193,7 +193,7 @@ def _pages(state: State, pages: Pages, room: int) -> Area:
     size = Size(state.size.columns, room + pager.OTHERS)
     found = pager.seen(pager.fitted(pages, size), size)
     lines: list[Line] = [
-        (Piece(line, CHOSEN if place == found.cursor else PLAIN),)
+        (Run(line, CHOSEN if place == found.cursor else PLAIN),)
         for place, line in enumerate([*found.head, *found.lines])
     ]
     return Area(filled(lines, room), (found.cursor, 0))
@@ -208,12 +208,12 @@ def _bottom(state: State) -> Area:
     if typed and not typed.purpose.is_print:
         text, place = _tail(PROMPTS[typed.purpose], typed, width)
         lines = _below(state, state.size.lines - 2, own.count - 1)
-        return Area([(Piece(line),) for line in [*lines, text]], (len(lines), place))
+        return Area([(Run(line),) for line in [*lines, text]], (len(lines), place))
     lines = _below(state, state.size.lines - 1, own.count - own.hint)
     # the keys are what is needed least
     if own.hint and len(lines) < state.size.lines - 1 - _LEAST_OF_BOOK:
         lines.append(opening(_hint(state), width))
-    return Area([(Piece(line),) for line in lines])
+    return Area([(Run(line),) for line in lines])
 
 
 def _asked(state: State, question: Question) -> Area:
@@ -231,7 +231,7 @@ def _asked(state: State, question: Question) -> Area:
         marks = _mark_lines(state, _marks(state), free - len(place))
         above = [*place, *marks][:free]
         lines = [*above, *[""] * (free - len(above)), *lines]
-    return Area([(Piece(line),) for line in lines], (len(lines) - 1, 0))
+    return Area([(Run(line),) for line in lines], (len(lines) - 1, 0))
 
 
 def _hint(state: State) -> str:

@@ -13,14 +13,14 @@ PLAIN, HIGHLIGHTED, MARKED, CHOSEN, HEAD = "", "highlighted", "marked", "chosen"
 
 
 @dataclass(frozen=True)
-class Piece:
+class Run:
     """Some text of a line, and how it looks."""
 
     text: str
     look: str = PLAIN
 
 
-Line = tuple[Piece, ...]
+Line = tuple[Run, ...]
 
 
 @dataclass(frozen=True)
@@ -33,7 +33,7 @@ class Area:
 
 def filled(lines: list[Line], room: int) -> list[Line]:
     """As many lines as there is room for, empty ones at the end."""
-    return (lines + [(Piece(""),)] * room)[:room]
+    return (lines + [(Run(""),)] * room)[:room]
 
 
 def shown(character: str) -> str:

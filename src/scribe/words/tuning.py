@@ -3,7 +3,7 @@
 from collections import Counter
 from collections.abc import Iterator, Sequence
 
-from braildesk.tables.convert.causes import Cause
+from braildesk.tables.convert.causes import Difference
 from braildesk.tables.convert.manuscript_report import counted, differing
 from braildesk.tables.convert.operands import shown
 from braildesk.tables.convert.report import percent
@@ -25,7 +25,7 @@ def share_line(figures: Figures) -> str:
 
 def difference_lines(figures: Figures) -> Iterator[str]:
     """The words that differ by their causes, each once with both of its brailles."""
-    by_cause: dict[Cause, Counter[tuple[str, str, str]]] = {}
+    by_cause: dict[Difference, Counter[tuple[str, str, str]]] = {}
     for word, cause in zip(figures.agreement.differences, figures.causes, strict=True):
         ours = "unknown cells" if word.ours is None else shown(word.ours)
         both = word.text, ours, shown(word.theirs)
@@ -71,7 +71,7 @@ def apart_lines(figures: Figures, numbers: Sequence[int]) -> Iterator[str]:
     """The words that differ whatever the rules, by their paragraphs."""
     by_paragraph: dict[int, list[str]] = {}
     for word, cause in zip(figures.agreement.differences, figures.causes, strict=True):
-        reason = "no rule was found" if cause is Cause.RULES else cause.value
+        reason = "no rule was found" if cause is Difference.RULES else cause.value
         by_paragraph.setdefault(numbers[word.line], []).append(
             f"{word.text} ({reason})"
         )

@@ -13,10 +13,10 @@ from typing import Final
 
 from braildesk.tables.convert.draft import ProgramTrial, TableDraft
 from braildesk.tables.convert.numbers import sample_digits
-from braildesk.tables.convert.operands import Cells
 from braildesk.tables.convert.oracle import Frame, between, stripped
 from braildesk.tables.convert.probes import CLOSING, OPENING, Probes, Side
 from braildesk.tables.convert.subject import Subject
+from braildesk.tables.operands import Cells
 
 QUOTES: Final = "\"'"
 

@@ -9,15 +9,15 @@ from collections.abc import Iterable, Mapping, Sequence
 from typing import Final
 
 from braildesk.tables import Table
-from braildesk.tables.convert.operands import Cells
 from braildesk.tables.convert.oracle import Liblouis, stripped
 from braildesk.tables.convert.running_text import Word
 from braildesk.tables.entries import Kind, SignName
+from braildesk.tables.operands import Cells
 
 _QUOTES: Final = re.compile("[\"'\u2018\u2019\u201c\u201d\u00ab\u00bb]")
 
 
-class Cause(enum.Enum):
+class Difference(enum.Enum):
     """Why a word differs. All but the last are beyond the rules of a table of braildesk."""
 
     PASSAGE = "passages of capitals"
@@ -32,7 +32,7 @@ class Cause(enum.Enum):
     @property
     def is_beyond(self) -> bool:
         """Whether rules of a table can't say it."""
-        return self is not Cause.RULES
+        return self is not Difference.RULES
 
 
 class Judge:
@@ -48,7 +48,7 @@ class Judge:
         self._letters: Final = _sign_of_letters(table)
         self._end: Final = self._end_of_capitals()
 
-    def causes(self, lines: Sequence[str], words: Sequence[Word]) -> list[Cause]:
+    def causes(self, lines: Sequence[str], words: Sequence[Word]) -> list[Difference]:
         """The cause of each word."""
         alone = self._liblouis.ask(word.text for word in words)
         return [
@@ -56,25 +56,25 @@ class Judge:
             for word, its in zip(words, alone, strict=True)
         ]
 
-    def _cause(self, line: str, word: Word, alone: Cells | None) -> Cause:
+    def _cause(self, line: str, word: Word, alone: Cells | None) -> Difference:
         by_neighbours = alone != word.theirs
         before = line[: word.start].split()[-1:]
         after = line[word.end :].split()[:1]
         if by_neighbours and self._is_in_passage(word.text, before + after):
-            return Cause.PASSAGE
+            return Difference.PASSAGE
         if self._capital and self._has_run_before_small(word.text):
-            return Cause.CAPITALS
+            return Difference.CAPITALS
         if by_neighbours and _is_parted_number(word.text, before, after):
-            return Cause.NUMBER
+            return Difference.NUMBER
         if self._lacks_sign_of_letters(word):
-            return Cause.LETTER_SIGN
+            return Difference.LETTER_SIGN
         if self._is_of_signs_of_capitals(word):
-            return Cause.CAPITALS
+            return Difference.CAPITALS
         if self._begins_with_mark(word):
-            return Cause.FIRST_MARK
+            return Difference.FIRST_MARK
         if by_neighbours:
-            return Cause.QUOTES if _QUOTES.search(line) else Cause.NEIGHBOURS
-        return Cause.RULES
+            return Difference.QUOTES if _QUOTES.search(line) else Difference.NEIGHBOURS
+        return Difference.RULES
 
     def _end_of_capitals(self) -> Cells:
         """What liblouis has between a run of capitals and a small letter, if anything."""

@@ -10,9 +10,9 @@ from collections.abc import Iterable, Mapping
 from dataclasses import dataclass
 from typing import Final
 
-from braildesk.tables.convert.operands import Cells
 from braildesk.tables import Table
 from braildesk.tables.entries import Class, Kind
+from braildesk.tables.operands import Cells
 from braildesk.tables.tiling import signs
 
 WORD, BEGINNING, MIDDLE, END, ALWAYS = map(

@@ -9,10 +9,10 @@ from pathlib import Path
 
 from braildesk.tables.convert.beyond import needs_beyond
 from braildesk.tables.convert.draft import ProgramTrial, TableDraft
-from braildesk.tables.convert.operands import Cells
 from braildesk.tables.convert.reduced import needs
 from braildesk.tables.convert.shapes import Sample
 from braildesk.tables.convert.subject import Subject
+from braildesk.tables.operands import Cells
 
 
 @dataclass(frozen=True)

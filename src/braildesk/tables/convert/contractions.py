@@ -5,11 +5,12 @@ from __future__ import annotations
 from typing import Final
 
 from braildesk.tables.convert.draft import Origin, TableDraft
-from braildesk.tables.convert.operands import BadOperand, Cells, read_dots
+from braildesk.tables.convert.operands import read_dots
 from braildesk.tables.convert.oracle import Frame, between
 from braildesk.tables.convert.source import Line
 from braildesk.tables.convert.subject import Subject
-from braildesk.tables.convert.table import INEXACT, KINDS, Rule
+from braildesk.tables.convert.table import INEXACT, KINDS, SourceRule
+from braildesk.tables.operands import BadOperand, Cells
 
 READ: Final = Origin("Rules of the table.")
 
@@ -30,14 +31,16 @@ def read_rules(subject: Subject, draft: TableDraft) -> list[tuple[str, Line]]:
     return left
 
 
-def _is_asked(draft: TableDraft, rule: Rule, folded: str) -> bool:
+def _is_asked(draft: TableDraft, rule: SourceRule, folded: str) -> bool:
     """Whether liblouis is asked for what the rule does, since it is of one mark, or a definition."""
     if len(folded) != 1 or folded not in draft.cells:
         return False
     return draft.classes[folded] != "letter" or rule.line.opcode == "always"
 
 
-def _carry(subject: Subject, draft: TableDraft, rule: Rule, folded: str) -> str | None:
+def _carry(
+    subject: Subject, draft: TableDraft, rule: SourceRule, folded: str
+) -> str | None:
     """Adds a rule, or says why it can't be."""
     name = rule.line.name
     if any(one not in draft.cells for one in folded):
@@ -54,7 +57,7 @@ def _carry(subject: Subject, draft: TableDraft, rule: Rule, folded: str) -> str 
 
 
 def _cells(
-    subject: Subject, draft: TableDraft, rule: Rule, folded: str, kind: str
+    subject: Subject, draft: TableDraft, rule: SourceRule, folded: str, kind: str
 ) -> Cells | None:
     """The cells of a rule. Where they have virtual dots, which later passes take away, liblouis is asked."""
     if rule.dots == "=":

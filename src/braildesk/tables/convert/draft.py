@@ -12,12 +12,8 @@ from typing import Final
 from braildesk.program import translate
 from braildesk.protocol.values import Table
 from braildesk.refusals import Refused
-from braildesk.tables.convert.operands import (
-    Cells,
-    MOST_CELLS,
-    write_characters,
-    write_dots,
-)
+from braildesk.tables.convert.operands import MOST_CELLS, write_characters, write_dots
+from braildesk.tables.operands import Cells
 from braildesk.text.characters import visible
 
 MOST_LINES: Final = 20_000

@@ -12,8 +12,8 @@ from itertools import islice
 from typing import Final
 
 from braildesk.tables.convert.chooser import Choice, Chooser, Print, cells_of
-from braildesk.tables.convert.operands import Cells
 from braildesk.tables.convert.oracle import Liblouis, Piece
+from braildesk.tables.operands import Cells
 
 AT_ONCE: Final = 5_000
 """How many tokens are asked for before it is said how many are done."""

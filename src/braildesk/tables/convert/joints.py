@@ -12,9 +12,9 @@ from typing import Final
 
 from braildesk.tables.convert.draft import Origin, ProgramTrial, TableDraft
 from braildesk.tables.convert.numbers import sample_digits, usual_digits
-from braildesk.tables.convert.operands import Cells
 from braildesk.tables.convert.oracle import stripped
 from braildesk.tables.convert.subject import Subject
+from braildesk.tables.operands import Cells
 
 BESIDE_DIGITS: Final = Origin("Marks between letters and digits, by asking liblouis.")
 

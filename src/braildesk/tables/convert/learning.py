@@ -16,8 +16,8 @@ from typing import Final
 
 from braildesk.tables.convert.chooser import ALWAYS, WORD, Choice, Chooser, Rule
 from braildesk.tables.convert.examples import NOWHERE, Example, Progress
-from braildesk.tables.convert.operands import Cells
 from braildesk.tables.convert.proposals import proposals
+from braildesk.tables.operands import Cells
 
 PENALTY: Final = 1.5
 """How much more an example counts that a rule sets wrong."""

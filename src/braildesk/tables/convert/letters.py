@@ -6,7 +6,6 @@ from collections.abc import Sequence
 from typing import Final
 
 from braildesk.tables.convert.draft import Origin, TableDraft
-from braildesk.tables.convert.operands import Cells
 from braildesk.tables.convert.oracle import (
     Frame,
     ask_frames,
@@ -15,6 +14,7 @@ from braildesk.tables.convert.oracle import (
     stripped,
 )
 from braildesk.tables.convert.subject import Subject, script_of
+from braildesk.tables.operands import Cells
 
 ALONE: Final = Origin("Letters that stand alone, by asking liblouis.")
 

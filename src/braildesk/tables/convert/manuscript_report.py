@@ -6,7 +6,7 @@ from collections import Counter
 from collections.abc import Iterator
 
 from braildesk.tables.convert import report
-from braildesk.tables.convert.causes import Cause
+from braildesk.tables.convert.causes import Difference
 from braildesk.tables.convert.tailoring import Figures, Tailored
 from braildesk.text.characters import named
 
@@ -92,7 +92,7 @@ def _causes(figures: Figures) -> Iterator[str]:
         yield f"{differing(words.total(), cause)}: {_examples(words)}."
 
 
-def differing(count: int, cause: Cause) -> str:
+def differing(count: int, cause: Difference) -> str:
     """How many words differ, and by what."""
     words = "1 word differs" if count == 1 else f"{count:,} words differ"
     return f"{words} by {cause.value}"

@@ -13,10 +13,10 @@ from typing import Final
 
 from braildesk.tables.convert.draft import Origin, ProgramTrial, TableDraft
 from braildesk.tables.convert.numbers import usual_digits
-from braildesk.tables.convert.operands import Cells
 from braildesk.tables.convert.oracle import most_common, stripped
 from braildesk.tables.convert.probes import CLOSING, Place, Probe, Probes, Side, Wanted
 from braildesk.tables.convert.subject import Subject, is_pattern
+from braildesk.tables.operands import Cells
 
 IN_PLACES: Final = Origin("Marks in their places, by asking liblouis.")
 WITH_BLANKS: Final = Origin("Marks with blanks beside them, by asking liblouis.")

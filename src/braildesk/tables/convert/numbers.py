@@ -6,7 +6,6 @@ from collections import Counter
 from typing import Final
 
 from braildesk.tables.convert.draft import MOST_CHARACTERS, Origin, TableDraft
-from braildesk.tables.convert.operands import Cells
 from braildesk.tables.convert.oracle import (
     Frame,
     ask_frames,
@@ -15,6 +14,7 @@ from braildesk.tables.convert.oracle import (
     stripped,
 )
 from braildesk.tables.convert.subject import Subject, script_of
+from braildesk.tables.operands import Cells
 
 AFTER_NUMBERS: Final = Origin("Letters after digits, by asking liblouis.")
 

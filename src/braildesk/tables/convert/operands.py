@@ -1,4 +1,7 @@
-"""The operands of a table's lines: characters with their escapes, and cells written as dots."""
+"""The operands of a table's lines as liblouis has them: cells written as dots, and operands written.
+
+Its characters with their escapes are those of `braildesk.tables.operands`.
+"""
 
 from __future__ import annotations
 
@@ -6,51 +9,14 @@ import re
 from collections.abc import Iterable
 from typing import Final
 
-Cells = tuple[int, ...]
-"""Cells as masks: the sum of 2^(k-1) over the dots k of each."""
+from braildesk.tables.operands import BadOperand, Cells
+from braildesk.text.characters import shortened
 
 MOST_CELLS: Final = 20
 """The most cells of a dots operand of the profile."""
 
-_ESCAPE: Final = re.compile(
-    r"\\(?:x([0-9a-fA-F]{4})|y([0-9a-fA-F]{5})|z([0-9a-fA-F]{8})|(.))", re.DOTALL
-)
-_SHORT: Final = {
-    "s": " ",
-    "t": "\t",
-    "n": "\n",
-    "f": "\f",
-    "r": "\r",
-    "v": "\v",
-    "e": "\x1b",
-    "\\": "\\",
-}
 _DOTS: Final = re.compile(r"[0-9a-f]+(?:-[0-9a-f]+)*")
 _VIRTUAL: Final = "9abcdef"
-
-
-class BadOperand(ValueError):
-    """An operand that cannot be read."""
-
-
-def read_characters(operand: str) -> str:
-    """The characters that an operand stands for."""
-
-    def plain(found: re.Match[str]) -> str:
-        number = found[1] or found[2] or found[3]
-        if number is None:
-            if found[4] not in _SHORT:
-                raise BadOperand(f"the escape \\{found[4]} is none of the language")
-            return _SHORT[found[4]]
-        code = int(number, 16)
-        if code > 0x10FFFF or 0xD800 <= code <= 0xDFFF:
-            raise BadOperand(f"\\{found[0][1:]} names no character")
-        return chr(code)
-
-    text = _ESCAPE.sub(plain, operand)
-    if operand.endswith("\\") and not operand.endswith("\\\\"):
-        raise BadOperand("the operand ends within an escape")
-    return text
 
 
 def write_characters(characters: str) -> str:
@@ -76,9 +42,9 @@ def _written(character: str, *, first: bool) -> str:
 def read_dots(operand: str) -> Cells:
     """The cells of a dots operand. One with virtual dots is none of them, for these are no dots of a page."""
     if not _DOTS.fullmatch(operand):
-        raise BadOperand(f"{operand} is no dots operand")
+        raise BadOperand(f"{shortened(operand)} is no dots operand.")
     if any(dot in _VIRTUAL for dot in operand):
-        raise BadOperand(f"{operand} has virtual dots")
+        raise BadOperand(f"{shortened(operand)} has virtual dots.")
     return tuple(_mask(cell) for cell in operand.split("-"))
 
 

@@ -19,7 +19,7 @@ from types import TracebackType
 from typing import Any, Final
 
 from braildesk.confined import Limits, confined
-from braildesk.tables.convert.operands import Cells
+from braildesk.tables.operands import Cells
 
 FIRST_SECONDS: Final = 30.0
 """How long the reading of a table may take on a busy machine; the system ends the process well before."""

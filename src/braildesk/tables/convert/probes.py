@@ -9,9 +9,9 @@ from typing import Final
 
 from braildesk.tables.convert.draft import TableDraft
 from braildesk.tables.convert.numbers import sample_digits
-from braildesk.tables.convert.operands import Cells
 from braildesk.tables.convert.oracle import Frame, ask_frames, stripped
 from braildesk.tables.convert.subject import Subject
+from braildesk.tables.operands import Cells
 
 CLOSING: Final = ".,;:?!)]}\"'%\u00b0\u2019\u201d\u00bb\u2026"
 OPENING: Final = "([{\u201e\u201c\u201a\u2018\u00ab"

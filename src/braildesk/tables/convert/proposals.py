@@ -14,7 +14,8 @@ from typing import Final
 from braildesk.tables.convert.chooser import ALWAYS, WORD, Choice, Chooser, Rule
 from braildesk.tables.convert.draft import MOST_CHARACTERS
 from braildesk.tables.convert.examples import NOWHERE, Example
-from braildesk.tables.convert.operands import MOST_CELLS, Cells
+from braildesk.tables.convert.operands import MOST_CELLS
+from braildesk.tables.operands import Cells
 
 LONGEST: Final = 20
 """How many characters of a token a rule covers at most, but one that is the whole token."""

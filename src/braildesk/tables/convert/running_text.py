@@ -8,8 +8,8 @@ from dataclasses import dataclass
 from typing import Final
 
 from braildesk.tables.convert.chooser import Chooser
-from braildesk.tables.convert.operands import Cells
 from braildesk.tables.convert.oracle import Liblouis
+from braildesk.tables.operands import Cells
 
 BLANK: Final = 0
 """The cell without dots."""

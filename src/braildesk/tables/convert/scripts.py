@@ -16,9 +16,9 @@ from typing import Final
 
 from braildesk.tables.convert.draft import Origin, TableDraft
 from braildesk.tables.convert.numbers import usual_digits
-from braildesk.tables.convert.operands import Cells
 from braildesk.tables.convert.oracle import stripped
 from braildesk.tables.convert.subject import Subject, script_of
+from braildesk.tables.operands import Cells
 
 OTHER_SCRIPTS: Final = Origin("Letters of other scripts, by asking liblouis.")
 PASSAGES: Final = Origin("Between words of another script, by asking liblouis.")

@@ -7,15 +7,11 @@ from collections.abc import Mapping
 from dataclasses import dataclass
 from typing import Final
 
-from braildesk.tables.convert.operands import (
-    BadOperand,
-    Cells,
-    read_dots,
-    without_virtual_dots,
-)
+from braildesk.tables.convert.operands import read_dots, without_virtual_dots
 from braildesk.tables.convert.oracle import Liblouis
 from braildesk.tables.convert.source import Source
 from braildesk.tables.convert.table import RULED, SourceTable, read_table
+from braildesk.tables.operands import BadOperand, Cells
 
 MANY: Final = 3_000
 """With so many characters, as Chinese and Korean have them, each is asked for in few places."""

@@ -6,8 +6,8 @@ from collections.abc import Callable, Mapping, Sequence
 from dataclasses import dataclass, field
 from typing import Final
 
-from braildesk.tables.convert.operands import BadOperand, read_characters
 from braildesk.tables.convert.source import Line, Source
+from braildesk.tables.operands import BadOperand, characters
 
 DEFINITIONS: Final = (
     "space",
@@ -68,7 +68,7 @@ SILENT: Final = ("display", "include", "undefined", "attribute", "base", "multin
 
 
 @dataclass(frozen=True)
-class Rule:
+class SourceRule:
     """A rule as it is written."""
 
     line: Line
@@ -84,7 +84,7 @@ class SourceTable:
     dots: Mapping[str, str]
     lower: Mapping[str, str]
     signs: Mapping[str, str]
-    rules: tuple[Rule, ...]
+    rules: tuple[SourceRule, ...]
     asked: tuple[Line, ...]
     left: tuple[Line, ...]
 
@@ -95,7 +95,7 @@ class _Reading:
     dots: dict[str, str] = field(default_factory=dict)
     lower: dict[str, str] = field(default_factory=dict)
     signs: dict[str, str] = field(default_factory=dict)
-    rules: list[Rule] = field(default_factory=list)
+    rules: list[SourceRule] = field(default_factory=list)
     asked: list[Line] = field(default_factory=list)
     left: list[Line] = field(default_factory=list)
     ruled: dict[str, str] = field(default_factory=dict)
@@ -136,7 +136,7 @@ class _Reading:
     def define(self, line: Line) -> bool:
         if len(line.operands) < 2:
             return False
-        character = read_characters(line.operands[0])
+        character = characters(line.operands[0])
         if len(character) != 1:
             return False
         if line.opcode == "litdigit":
@@ -149,18 +149,18 @@ class _Reading:
         """Two characters with a name before them, and the dots of both with a comma between them."""
         if len(line.operands) < 3:
             return False
-        characters = read_characters(line.operands[1])
+        pair = characters(line.operands[1])
         dots = line.operands[2].split(",")
-        if len(characters) != 2 or len(dots) != 2:
+        if len(pair) != 2 or len(dots) != 2:
             return False
-        for character, its_dots in zip(characters, dots):
+        for character, its_dots in zip(pair, dots):
             self.dots.setdefault(character, its_dots)
             self.classes.setdefault(character, set()).add(line.opcode)
         return True
 
     def hyphen(self, line: Line) -> bool:
         """A character that goes between the digits of some numbers, and has cells elsewhere too."""
-        return self.written(read_characters(line.operands[0]), line.operands[1:])
+        return self.written(characters(line.operands[0]), line.operands[1:])
 
     def written(self, characters: str, dots: Sequence[str]) -> bool:
         """Takes note of a single character that is written by a rule, if nothing defines it."""
@@ -172,7 +172,7 @@ class _Reading:
     def base(self, line: Line) -> bool:
         if len(line.operands) < 3:
             return False
-        upper, lower = (read_characters(operand) for operand in line.operands[1:3])
+        upper, lower = (characters(operand) for operand in line.operands[1:3])
         if len(upper) != 1 or len(lower) != 1:
             return False
         self.lower.setdefault(upper, lower)
@@ -185,7 +185,7 @@ class _Reading:
         if len(line.operands) < 2:
             return False
         if line.operands[0] in DEFINITIONS:
-            for character in read_characters(line.operands[1]):
+            for character in characters(line.operands[1]):
                 self.classes.setdefault(character, set()).add(line.operands[0])
         return True
 
@@ -198,10 +198,10 @@ class _Reading:
     def rule(self, line: Line) -> bool:
         if len(line.operands) < 2:
             return False
-        characters = read_characters(line.operands[0])
-        self.rules.append(Rule(line, characters, line.operands[1]))
+        text = characters(line.operands[0])
+        self.rules.append(SourceRule(line, text, line.operands[1]))
         if line.opcode == "always":
-            self.written(characters, line.operands[1:])
+            self.written(text, line.operands[1:])
         return True
 
 

@@ -15,7 +15,7 @@ from typing import Final
 
 from braildesk.tables import Table, read
 from braildesk.tables.convert.addition import Addition
-from braildesk.tables.convert.causes import Cause, Judge
+from braildesk.tables.convert.causes import Difference, Judge
 from braildesk.tables.convert.chooser import Chooser
 from braildesk.tables.convert.draft import (
     MOST_LINES,
@@ -26,7 +26,6 @@ from braildesk.tables.convert.draft import (
 from braildesk.tables.convert.examples import Example, Progress, examples
 from braildesk.tables.convert.learning import BOOK_ROUNDS, Learned, Learner
 from braildesk.tables.convert.making import Made, make_to_learn
-from braildesk.tables.convert.operands import Cells
 from braildesk.tables.convert.oracle import Liblouis
 from braildesk.tables.convert.running_text import Agreement, agreement, tokens
 from braildesk.tables.convert.source import read_source
@@ -41,6 +40,7 @@ from braildesk.tables.convert.word_list import (
     list_examples,
     name_of,
 )
+from braildesk.tables.operands import Cells
 
 HELD_BACK: Final = 10
 """Each paragraph of so many is held back."""
@@ -84,13 +84,13 @@ class Figures:
     """How the program's cells compare with liblouis's on a text, and why words differ."""
 
     agreement: Agreement
-    causes: tuple[Cause, ...]
+    causes: tuple[Difference, ...]
     """The cause of each word that differs."""
 
     @property
-    def by_cause(self) -> dict[Cause, Counter[str]]:
+    def by_cause(self) -> dict[Difference, Counter[str]]:
         """The words that differ by their causes, the most frequent cause first."""
-        found: dict[Cause, Counter[str]] = {}
+        found: dict[Difference, Counter[str]] = {}
         for cause, _ in Counter(self.causes).most_common():
             found[cause] = Counter()
         for word, cause in zip(self.agreement.differences, self.causes, strict=True):
