@@ -7,7 +7,7 @@ from pathlib import Path
 import pytest
 
 from braildesk.tables.convert.draft import comment_lines
-from braildesk.text.characters import control_refused, visible
+from braildesk.text.characters import control_refused, near, visible
 
 from scribe.words.console import Console
 from tool import scribe
@@ -93,3 +93,19 @@ def test_each_control_character_is_refused(code: int) -> None:
 @pytest.mark.parametrize("text", ["\t", "\u00a0", "\u00ad", "\u202e", "ÂÀ", "😀", ""])
 def test_other_characters_are_not_refused(text: str) -> None:
     assert control_refused(text.encode()) is None
+
+
+@pytest.mark.parametrize(
+    "word, asked",
+    [
+        ("stryke", " Did you mean strike?"),
+        ("lettre", " Did you mean letter?"),
+        # an opcode of liblouis that means something else
+        ("lowword", ""),
+        ("include", ""),
+    ],
+)
+def test_a_name_is_offered_for_a_word_that_is_much_like_it(
+    word: str, asked: str
+) -> None:
+    assert near(word, ["letter", "strike", "word"]) == asked

@@ -13,7 +13,7 @@ from typing import Generic, TypeVar
 from braildesk import Entry, Kind, Paragraph, Session
 from braildesk.desk.readings import answers
 from braildesk.protocol.requests import History, Print
-from braildesk.text.cells import BLANKS
+from braildesk.text.excerpt import word_end, word_front
 
 #: What stands for characters of which nothing is known.
 UNKNOWN = "…"
@@ -97,7 +97,7 @@ def _first(now: str, entries: Sequence[Entry]) -> list[str | None]:
 def _step(paragraph: int, entry: Entry, text: _Print[str | None]) -> Step:
     start, count, gone = text.apply(entry, list(entry.text))
     now, stop = text.characters, start + count
-    front, end = _word_front(now, start), _word_end(now, stop)
+    front, end = word_front(now, start), word_end(now, stop)
     went = [*now[front:start], *gone, *now[stop:end]]
     return Step(
         paragraph,
@@ -109,20 +109,6 @@ def _step(paragraph: int, entry: Entry, text: _Print[str | None]) -> Step:
         len(went),
         2 * went.count(None) <= len(went),
     )
-
-
-def _word_front(text: Sequence[str | None], place: int) -> int:
-    """The front of the word in which a place stands."""
-    while place > 0 and text[place - 1] not in BLANKS:
-        place -= 1
-    return place
-
-
-def _word_end(text: Sequence[str | None], place: int) -> int:
-    """The end of the word in which a place stands."""
-    while place < len(text) and text[place] not in BLANKS:
-        place += 1
-    return place
 
 
 def _written(characters: Sequence[str | None]) -> str:

@@ -3,12 +3,11 @@
 The causes are the numbers of docs/FORMATS.md.
 """
 
-import difflib
 from dataclasses import dataclass
 from enum import IntEnum
 
 from braildesk.text import limits
-from braildesk.text.characters import named, shortened
+from braildesk.text.characters import named, near, shortened
 
 #: The characters of a rule or a set, and the cells of a dots operand, at most.
 MOST_CHARACTERS = 60
@@ -40,11 +39,8 @@ class Fault:
 
 def no_opcode(line: int, word: str, opcodes: list[str]) -> Fault:
     """The line begins with a word that is no opcode."""
-    near = difflib.get_close_matches(word, opcodes, n=1)
-    guess = f" Did you mean {near[0]}?" if near else ""
-    return Fault(
-        line, Cause.NO_OPCODE, f"{shortened(word)} is no opcode of braildesk.{guess}"
-    )
+    said = f"{shortened(word)} is no opcode of braildesk.{near(word, opcodes)}"
+    return Fault(line, Cause.NO_OPCODE, said)
 
 
 def missing(line: int, form: str) -> Fault:

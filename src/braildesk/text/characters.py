@@ -1,11 +1,14 @@
-"""Characters as sentences and screens show them."""
+"""Characters and words as sentences and screens show them."""
 
 import re
 import unicodedata
-from collections.abc import Callable
+from collections.abc import Callable, Iterable
 
 #: How many characters at most a sentence shows on either side of the one that it speaks of.
 _AROUND = 20
+
+#: How like a word has to be to a name that may be meant by it.
+_NEAR = 0.75
 
 #: Names of the control characters up to U+001F, to which Unicode gives none.
 _C0_NAMES = (
@@ -116,3 +119,11 @@ def shortened(text: str, most: int = 60) -> str:
     """The front of a text, in quotation marks."""
     rest = "…" if len(text) > most else ""
     return f"“{visible(text[:most], is_visible)}{rest}”"
+
+
+def near(word: str, names: Iterable[str]) -> str:
+    """The question whether a name was meant by a word that is none, after a blank; or nothing."""
+    import difflib  # which few words need
+
+    found = difflib.get_close_matches(word, names, n=1, cutoff=_NEAR)
+    return f" Did you mean {found[0]}?" if found else ""

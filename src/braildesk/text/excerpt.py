@@ -1,6 +1,6 @@
 """Some words of a text, and as many of those around them as a line has room for."""
 
-from collections.abc import Callable
+from collections.abc import Callable, Sequence
 
 from braildesk.text.cells import BLANKS
 from braildesk.text.characters import visible
@@ -95,3 +95,17 @@ def _fitting(pieces: list[str], width: int, size_of: Callable[[str], int]) -> li
     if not blank and pieces[0] in BLANKS:
         taken = min(taken, 1)
     return [*pieces[: blank or taken], _CUT]
+
+
+def word_front(text: Sequence[str | None], place: int) -> int:
+    """The front of the word in which a place of a text stands; None in it are unknown characters."""
+    while place > 0 and text[place - 1] not in BLANKS:
+        place -= 1
+    return place
+
+
+def word_end(text: Sequence[str | None], place: int) -> int:
+    """The end of the word in which a place stands."""
+    while place < len(text) and text[place] not in BLANKS:
+        place += 1
+    return place

@@ -13,9 +13,9 @@ from braildesk.desk.places import NoPlace
 from braildesk.desk.readings import answers
 from braildesk.protocol.requests import Command, Request
 from braildesk.protocol.values import After, Corrected, Done, Marked, Typed
-from braildesk.text.cells import BLANKS, Notation
+from braildesk.text.cells import Notation
 from braildesk.text.characters import visible
-from braildesk.text.excerpt import excerpt, excerpt_lines, opening
+from braildesk.text.excerpt import excerpt, excerpt_lines, opening, word_end, word_front
 from braildesk.text.wrapping import columns
 
 from scribe.words.find import instead
@@ -119,27 +119,13 @@ def difference(before: str, now: str, width: int, title: str, same: str) -> list
     least = smallest_correction(before, now)
     if least is None:
         return [same]
-    start = _word_front(now, least.start)
-    kept = len(before) - _word_end(before, least.stop)
+    start = word_front(now, least.start)
+    kept = len(before) - word_end(before, least.stop)
     head, former = f"{title}: ", "Before: "
     return [
         head + excerpt(now, start, len(now) - kept, width - len(head)),
         former + excerpt(before, start, len(before) - kept, width - len(former)),
     ]
-
-
-def _word_front(text: str, place: int) -> int:
-    """The front of the word in which a place of a text stands."""
-    while place > 0 and text[place - 1] not in BLANKS:
-        place -= 1
-    return place
-
-
-def _word_end(text: str, place: int) -> int:
-    """The end of the word in which a place of a text stands."""
-    while place < len(text) and text[place] not in BLANKS:
-        place += 1
-    return place
 
 
 def _marked(session: Session, command: requests.Mark) -> list[str]:

@@ -6,9 +6,7 @@ A word that names a thing of scribe in another place is answered by the name of 
 from collections.abc import Iterable, Mapping
 
 from braildesk.protocol.requests import BY_NAME
-
-#: How like a word has to be to one that it may be meant for.
-_NEAR = 0.75
+from braildesk.text.characters import near
 
 #: Requests, commands of scribe talk and keys, for somebody at a shell.
 AT_SHELL: Mapping[str, str] = {
@@ -69,7 +67,4 @@ def hint(word: str, names: Iterable[str], elsewhere: Mapping[str, str]) -> str:
     """What to do about a word that is none of these names, with a blank before it; or nothing."""
     if word in elsewhere:
         return f" {elsewhere[word]}"
-    import difflib  # which few commands need
-
-    near = difflib.get_close_matches(word, names, n=1, cutoff=_NEAR)
-    return f" Did you mean {near[0]}?" if near else ""
+    return near(word, names)
