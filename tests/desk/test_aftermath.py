@@ -8,10 +8,11 @@ from pathlib import Path
 import pytest
 
 from braildesk import Lost, Session, requests
-from braildesk.desk.aftermath import found_again
+from braildesk.desk import aftermath
 from braildesk.protocol.requests import Request
 
 from scribe.cli import run_words
+from scribe.words.aftermath import found_again
 from scribe.words.console import Console
 from stand_in import ANSWERED, KEPT, KILL_PROGRAM, READ, REPLY
 from terminal import standing_in
@@ -145,4 +146,4 @@ def test_what_is_found_again_is_said_by_the_version_and_the_book(
 ) -> None:
     lost = Lost("It ended.", "", None, 0, version, unanswered)
     with Session(moon) as session:
-        assert found_again(session, lost) == found
+        assert found_again(aftermath.found_again(session, lost)) == found

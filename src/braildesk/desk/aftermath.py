@@ -1,9 +1,10 @@
 """What became of a command that was not answered: the book is opened again, and shows it."""
 
+from dataclasses import dataclass
 from pathlib import Path
 from typing import Any
 
-from braildesk import DeskError, Displaced, Kind, Lost, Paragraph, Refused, Session
+from braildesk import DeskError, Kind, Lost, Paragraph, Refused, Session
 from braildesk.protocol import requests, values
 from braildesk.protocol.requests import Request
 from braildesk.text.sequences import composed
@@ -12,62 +13,42 @@ from braildesk.text.sequences import composed
 _PATIENCE = 2.0
 
 
-def after_loss(path: Path, lost: Lost) -> list[str]:
-    """What is said if a session was lost: what happened, and what is in the book."""
-    session, said = opened_again(path, lost)
-    if session is not None:
-        try:
-            session.close()
-        except DeskError as failed:
-            return [lost.sentence, failed.sentence]
-    return said
-
-
-def opened_again(path: Path, lost: Lost) -> tuple[Session | None, list[str]]:
-    """The book in another session, if it can be opened again, and what is said of the loss."""
-    if isinstance(lost, Displaced):
-        return None, [lost.sentence]
-    session = None
-    try:
-        session = Session(path, timeout=_PATIENCE)
-        return session, [lost.cause, _found_unshown(session, lost)]
-    except DeskError as failed:
-        if session is not None and not isinstance(failed, Lost):
-            session.close()
-        return None, [lost.sentence, failed.sentence]
-    except OSError as failure:
-        why = f"The book could not be opened again: {failure.strerror}."
-        return None, [lost.sentence, why]
-
-
-def _found_unshown(session: Session, lost: Lost) -> str:
-    """What a book has if nobody may have read yet what the last command did."""
-    is_as_answered = session.last_version == lost.version and not lost.unanswered
-    if is_as_answered and lost.acknowledged is not None:
-        return (
-            f"The book was opened again: it is at version {session.last_version:,}, and what was changed"
-            " last is in it."
-        )
-    return found_again(session, lost)
-
-
-def found_again(session: Session, lost: Lost) -> str:
+@dataclass(frozen=True)
+class FoundAgain:
     """What a book that was opened again has of what wasn't answered before."""
-    now, before = session.last_version, lost.version
-    at = f"The book was opened again: it is at version {now:,}"
-    if now == before:
-        said = ", and what was asked last is not in it" if lost.unanswered else ""
-        return f"{at}, as before{said}."
-    count = len(lost.unanswered)
-    if 0 < now - before <= count and is_in(session, lost.unanswered[now - before - 1]):
-        if count == 1:
-            return f"{at}, and what was asked last is in it."
-        more = "1 is" if now - before == 1 else f"{now - before:,} are"
-        return f"{at}. Of {count:,} commands that were not answered, {more} in it."
-    return (
-        f"{at}, and was at {before:,} before: another program changed it meanwhile. Look whether"
-        " what was asked last is in it."
-    )
+
+    #: Its version, and the one that it was last reported at.
+    version: int
+    before: int
+    #: How many commands were not answered.
+    unanswered: int
+    #: How many of these are in the book, the first ones; None if another program changed it.
+    kept: int | None
+    #: Whether a command was answered after which nothing was asked.
+    is_answered: bool
+
+
+def opened_again(path: Path, lost: Lost) -> tuple[Session, FoundAgain]:
+    """The book in another session, and what it has; raises `DeskError` or `OSError`."""
+    session = Session(path, timeout=_PATIENCE)
+    try:
+        return session, found_again(session, lost)
+    except DeskError as failed:
+        if not isinstance(failed, Lost):
+            session.close()
+        raise
+
+
+def found_again(session: Session, lost: Lost) -> FoundAgain:
+    """What a book that was opened again has of what wasn't answered before."""
+    now, before, asked = session.last_version, lost.version, lost.unanswered
+    kept: int | None = now - before
+    if now != before and not (
+        0 < now - before <= len(asked) and is_in(session, asked[now - before - 1])
+    ):
+        kept = None
+    is_answered = not asked and lost.acknowledged is not None
+    return FoundAgain(now, before, len(asked), kept, is_answered)
 
 
 def is_in(session: Session, command: Request[Any]) -> bool:

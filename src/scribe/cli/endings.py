@@ -53,7 +53,7 @@ def said_of(
     """The status and what is said if a command fails; None for an exception that nobody foresaw."""
     # imported here, since a command that only shows its help doesn't need the client
     from braildesk import CannotOpen, DeskError, Failed, Lost, NoProgram, Why
-    from braildesk.desk.aftermath import after_loss
+    from scribe.words.aftermath import after_loss
 
     match failure:
         case Lost():

@@ -15,7 +15,7 @@ from braildesk import (
     VersionConflict,
     requests,
 )
-from braildesk.desk.aftermath import found_again
+from braildesk.desk import aftermath
 from braildesk.desk.draft import Aim, Draft
 from braildesk.desk.drafts import Drafts, LeftAt, NotKept
 from braildesk.desk.earlier import PartIsThere, to_go_on
@@ -81,6 +81,7 @@ from scribe.screen.state import (
     with_imported,
 )
 from scribe.words import deeds, pagelook
+from scribe.words.aftermath import found_again
 from scribe.words.deeds import Deed, kept
 from scribe.words.drafts import Unsent, not_kept, what_for
 from scribe.words.import_text import came_to, not_seen
@@ -560,7 +561,7 @@ class Desk:
         unsaved = state.message if waits != self._unsent.waiting else ""
         try:
             self._open()
-            found_words = found_again(self._session, lost)
+            found_words = found_again(aftermath.found_again(self._session, lost))
             said = f"{lost.cause} {found_words} {unsaved}".strip()
             found = replace(state, typed=None, preview=None, question=None, pages=None)
             found = self._opened_again(found).saying(said)

@@ -10,7 +10,6 @@ from typing import Any
 
 from braildesk import Displaced, Lost, Paragraph, Refused, Session, requests
 from braildesk.desk import search
-from braildesk.desk.aftermath import opened_again
 from braildesk.desk.correction import smallest_correction
 from braildesk.desk.draft import Aim, Draft
 from braildesk.desk.find import alike
@@ -31,6 +30,7 @@ from braildesk.text.sequences import composed
 from braildesk.text.spans import Span
 
 from scribe.words import deeds, pagelook
+from scribe.words.aftermath import opened_again
 from scribe.words.deeds import Deed, kept
 from scribe.words.preview import Tables
 

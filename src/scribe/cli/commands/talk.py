@@ -6,7 +6,6 @@ from dataclasses import replace
 from pathlib import Path
 
 from braildesk import Lost, Refused, Session
-from braildesk.desk.aftermath import opened_again
 from braildesk.protocol.requests import BY_NAME
 from braildesk.text.characters import visible
 
@@ -22,6 +21,7 @@ from scribe.cli.parser import (
 )
 from scribe.prompt.conversation import Conversation, Ended, request_line
 from scribe.prompt.typed_lines import GivenUp, Lines, PipedLines, TypedLines, are_typed
+from scribe.words.aftermath import opened_again
 from scribe.words.console import Console
 from scribe.words.elsewhere import AT_PROMPT as KNOWN, hint
 from scribe.words.status import Status, Stop, in_sentences

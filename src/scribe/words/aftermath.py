@@ -1,0 +1,60 @@
+"""What became of a command that was not answered, in words, once the book is opened again."""
+
+from pathlib import Path
+
+from braildesk import DeskError, Displaced, Lost, Session
+from braildesk.desk import aftermath
+from braildesk.desk.aftermath import FoundAgain
+
+
+def after_loss(path: Path, lost: Lost) -> list[str]:
+    """What is said if a session was lost: what happened, and what is in the book."""
+    session, said = opened_again(path, lost)
+    if session is not None:
+        try:
+            session.close()
+        except DeskError as failed:
+            return [lost.sentence, failed.sentence]
+    return said
+
+
+def opened_again(path: Path, lost: Lost) -> tuple[Session | None, list[str]]:
+    """The book in another session, if it can be opened again, and what is said of the loss."""
+    if isinstance(lost, Displaced):
+        return None, [lost.sentence]
+    try:
+        session, found = aftermath.opened_again(path, lost)
+    except DeskError as failed:
+        return None, [lost.sentence, failed.sentence]
+    except OSError as failure:
+        why = f"The book could not be opened again: {failure.strerror}."
+        return None, [lost.sentence, why]
+    return session, [lost.cause, _found_unshown(found)]
+
+
+def _found_unshown(found: FoundAgain) -> str:
+    """What a book has if nobody may have read yet what the last command did."""
+    if found.is_answered and found.version == found.before:
+        return (
+            f"The book was opened again: it is at version {found.version:,}, and what was changed"
+            " last is in it."
+        )
+    return found_again(found)
+
+
+def found_again(found: FoundAgain) -> str:
+    """What a book that was opened again has of what wasn't answered before."""
+    at = f"The book was opened again: it is at version {found.version:,}"
+    count, kept = found.unanswered, found.kept
+    if kept is None:
+        return (
+            f"{at}, and was at {found.before:,} before: another program changed it meanwhile. Look"
+            " whether what was asked last is in it."
+        )
+    if kept == 0:
+        said = ", and what was asked last is not in it" if count else ""
+        return f"{at}, as before{said}."
+    if count == 1:
+        return f"{at}, and what was asked last is in it."
+    more = "1 is" if kept == 1 else f"{kept:,} are"
+    return f"{at}. Of {count:,} commands that were not answered, {more} in it."
