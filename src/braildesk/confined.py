@@ -18,7 +18,7 @@ _PR_SET_PDEATHSIG: Final = 1
 
 @dataclass(frozen=True)
 class Limits:
-    """What a program may have at most, where that is limited."""
+    """What a program may have at most, if that is limited."""
 
     #: The bytes of its addresses.
     memory: int

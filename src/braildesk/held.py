@@ -20,7 +20,7 @@ from braildesk.workshop import copy_bytes, create
 def held(book: BookFile, flags: int = os.O_RDONLY) -> Iterator[BinaryIO]:
     """The file of a book, open and kept from being used by a session meanwhile.
 
-    Where it is opened for writing, it is kept from all others who hold it so too.
+    If it is opened for writing, it is kept from all others who hold it so too.
     """
     with open_file(book, flags) as file:
         if not (take_alone if flags == os.O_RDWR else take_shared)(file):

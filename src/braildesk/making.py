@@ -244,7 +244,7 @@ def _finish(source: BinaryIO, made: Path, copied: os.stat_result) -> None:
 
 
 def _put(made: Path, target: _Target) -> None:
-    """Gives a whole copy its path, where nothing of an older book is left beside it."""
+    """Gives a whole copy its path, if nothing of an older book is left beside it."""
     if target.replaces:
         put_over(made, target.path)
         return

@@ -217,7 +217,7 @@ def test_help_names_each_thing_that_can_be_typed(talk: Talk) -> None:
         "  correction of a paragraph that is in",
         "  force.",
         "For example: undo 1",
-        "@12 undo 1 does the same only where the",
+        "@12 undo 1 does the same only if the",
         "  book is at version 12.",
     ]
 

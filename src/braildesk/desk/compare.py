@@ -152,7 +152,7 @@ def _parted(
 ) -> tuple[Sequence[Word], Sequence[Word]]:
     """Words that differ: those within paragraphs, and those of whole paragraphs.
 
-    Where there are none of the first, and words on the other side, all of them count as the first.
+    If there are none of the first, and words on the other side, all of them count as the first.
     """
     whole = {*_whole(words, all_words, start, stop)}
     within = [each for each in words if each.paragraph not in whole]

@@ -146,7 +146,7 @@ class Drafts:
         return self._read(Begun.IMPORTS, _notes_in) or ()
 
     def left_at(self) -> LeftAt | None:
-        """Where the book was left, none where that isn't known; what can't be read is no fault."""
+        """Where the book was left, none if that isn't known; what can't be read is no fault."""
         try:
             data = self._folder.read(self._name(Begun.LEFT_AT))
             return None if data is None else _left_at_in(Record.of(data))
@@ -154,7 +154,7 @@ class Drafts:
             return None
 
     def leave_at(self, place: LeftAt) -> None:
-        """Keeps where the book is left; nothing is lost where that can't be kept."""
+        """Keeps where the book is left; nothing is lost if that can't be kept."""
         try:
             self._write(Begun.LEFT_AT, asdict(place))
         except NotSaved:

@@ -80,7 +80,7 @@ class Differences:
 class Written:
     """A volume that is in its file: its pages, and its cells with dots but for the pages' numbers.
 
-    Where it replaced an older file, it is said what differs from that, and where those pages are.
+    If it replaced an older file, it is said what differs from that, and where those pages are.
     """
 
     volume: int
@@ -252,7 +252,7 @@ class Export:
     ) -> tuple[Differences | None, Path | None]:
         """What of a volume differs from its older file, and the file with these pages alone.
 
-        That is written first: where the volume can't be, it is the same the next time.
+        That is written first: if the volume can't be, it is the same the next time.
         """
         older = _read(self.job.file(volume))
         if older is None:
@@ -321,7 +321,7 @@ def _parted(pages: bytes) -> list[bytes]:
 
 
 def _read(file: Path) -> bytes | None:
-    """The bytes of an older file; none where it is no file, or can't be read."""
+    """The bytes of an older file; none if it is no file, or can't be read."""
     try:
         return None if file.is_symlink() else read_file(file, MOST_BYTES)
     except OSError:

@@ -140,7 +140,7 @@ def values_of(pairs: Pairs) -> list[dict[str, str]]:
 
 
 def pairs_in(kept: Record) -> Pairs:
-    """The pairs of which these values were kept; `NotSuch` where they are none."""
+    """The pairs of which these values were kept; `NotSuch` if they are none."""
     found = tuple(
         (each.text("old"), each.text("new")) for each in kept.records("replacements")
     )

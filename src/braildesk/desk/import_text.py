@@ -131,7 +131,7 @@ class Faulty(NotImported):
 class Importer:
     """Imports a text step by step: `prepare` judges all of it, and then `type_text` types it.
 
-    It is noted until it is done. Where that can't be, this is reported, and the import goes on.
+    It is noted until it is done. If that can't be, this is reported, and the import goes on.
     """
 
     def __init__(self, job: Import, report: Callable[[NotKept], None]) -> None:
@@ -307,7 +307,7 @@ def _parted(
 ) -> tuple[tuple[Passage, ...], tuple[Passage, ...]]:
     """The paragraphs of a text before those that are typed, and these.
 
-    There are none of these where the import was cut short after the last one.
+    There are none of these if the import was cut short after the last one.
     """
     line = job.line or 1
     if job.way is Way.GO_ON and line > whole[-1].last_line:
@@ -316,7 +316,7 @@ def _parted(
 
 
 def _signs_for(job: Import, reading: Reading) -> Reading:
-    """The reading with signs that the table has: another bullet and brackets where it lacks the usual."""
+    """The reading with signs that the table has: another bullet and brackets if it lacks the usual."""
     with Session(job.book, timeout=job.wait) as session:
         anchor = paragraph_before(session.paragraphs(), job.after)
     table = table_for(read_tables(job.book, timeout=job.wait), anchor, job.table)

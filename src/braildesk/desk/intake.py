@@ -83,7 +83,7 @@ class Intake:
     passages: tuple[Passage, ...]
     after: After
     table: Table
-    #: What the paragraph before the first of these lacks, where the import was cut short after it.
+    #: What the paragraph before the first of these lacks, if the import was cut short after it.
     lacking: tuple[Command[Any], ...] = ()
 
     def requests(self) -> Iterator[Command[Any]]:

@@ -24,9 +24,9 @@ def read_manuscript(
 ) -> Manuscript:
     """The paragraphs of a document, of a text, or of a book, there those aside that are struck.
 
-    `OSError` where the file can't be read, `UnreadableText` where it is no manuscript, and what a
-    session raises where it is a book that can't be opened. In a text blank lines part the
-    paragraphs. Where nothing parts them, so that one is longer than any of a book, each of its lines
+    `OSError` if the file can't be read, `UnreadableText` if it is no manuscript, and what a
+    session raises if it is a book that can't be opened. In a text blank lines part the
+    paragraphs. If nothing parts them, so that one is longer than any of a book, each of its lines
     is a paragraph.
     """
     if reading.kind is None and not is_handed_over(path) and _is_book(path):

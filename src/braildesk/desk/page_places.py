@@ -31,14 +31,14 @@ class PageMap:
                 self._placed[placed.section.paragraph] = number, placed
 
     def of_character(self, paragraph: int, place: int, text: str) -> PagePlace | None:
-        """Where a character of a print stands; none where that is on no page."""
+        """Where a character of a print stands; none if that is on no page."""
         if not text or paragraph not in self._placed:
             return None
         last = min(place, len(text) - 1)
         return self.of_cell(paragraph, self._session.output_position(paragraph, last))
 
     def of_cell(self, paragraph: int, cell: int) -> PagePlace | None:
-        """Where a cell of a paragraph stands; none where that is on no page.
+        """Where a cell of a paragraph stands; none if that is on no page.
 
         An empty cell at which a line is broken stands on none: what is before it does.
         """

@@ -87,7 +87,7 @@ def _words(
 ) -> dict[int, list[_Word]]:
     """The words of each paragraph of a volume.
 
-    Where a print has as many words as its braille, they are paired; of others the book says where each
+    If a print has as many words as its braille, they are paired; of others the book says where each
     run of cells comes from.
     """
     brailles = its.brailles

@@ -64,7 +64,7 @@ class NoPage(Problem):
 
 @dataclass(frozen=True)
 class PageRange:
-    """Pages of a volume from one to another; from the first one or to the last where none is said."""
+    """Pages of a volume from one to another; from the first one or to the last if none is said."""
 
     first: int | None
     last: int | None

@@ -43,7 +43,7 @@ class Replaced:
 class Replacer:
     """Puts characters in the place of others, and counts how often.
 
-    Where two could stand at a place the longer is taken. What was put there isn't replaced again.
+    If two could stand at a place the longer is taken. What was put there isn't replaced again.
     """
 
     def __init__(self, pairs: Pairs) -> None:
@@ -79,7 +79,7 @@ class Replacer:
         return tuple(passage for passage in made if passage.lines)
 
     def _line(self, line: Line) -> Line | None:
-        """A line with the new characters, none where nothing is left of it."""
+        """A line with the new characters, none if nothing is left of it."""
         pieces: list[str] = []
         columns: list[int] = []
         place = 0

@@ -34,7 +34,7 @@ class Spot:
 class Found:
     """What stands next, and whether the other end of the book had to be gone to for it.
 
-    It is the same where nothing else was found all around the book.
+    It is the same if nothing else was found all around the book.
     """
 
     spot: Spot

@@ -1,6 +1,6 @@
 """Where volumes begin so that none has too many pages.
 
-A volume begins at a heading where that can be. Only a chapter that has too many pages by itself is cut
+A volume begins at a heading if that can be. Only a chapter that has too many pages by itself is cut
 before one of its paragraphs. Of all ways to do so that cut as few chapters, one is taken that has the
 fewest volumes, and of these one whose volumes are of the most even size.
 """

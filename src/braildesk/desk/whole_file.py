@@ -55,7 +55,7 @@ def write_whole(path: Path, data: bytes, access: Access = Access()) -> None:
     """Gives a name these bytes, in place of the file that it named.
 
     They are written beside it, in a file whose name begins with a full stop, and are on the disk
-    when that file gets the name. Where anything fails before that, what had the name is as it was;
+    when that file gets the name. If anything fails before that, what had the name is as it was;
     `MayNotLast` comes after it. The name alone is replaced: a link there is gone and the file that
     it led to stays as it was, and a pipe of that name isn't opened. A file of one's own keeps its
     permissions to read and write. Any other gets what is said here and the umask allows. A book is

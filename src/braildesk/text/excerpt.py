@@ -28,8 +28,8 @@ def excerpt(text: str, start: int, stop: int, width: int) -> str:
 def excerpt_lines(head: str, text: str, start: int, stop: int, width: int) -> list[str]:
     """A head and an excerpt after it, in as few lines of the width as have all of the words.
 
-    The excerpt begins a line of its own where the rest of the head's line is short, and goes on in
-    others where the words fill more than one.
+    The excerpt begins a line of its own if the rest of the head's line is short, and goes on in
+    others if the words fill more than one.
     """
     words = f"[{visible(text[start:stop])}]"
     size, room = columns(words), width - columns(head)
@@ -52,7 +52,7 @@ def opening(text: str, width: int) -> str:
         # each character is a sequence of one column
         blank = max(text.rfind(each, 1, width) for each in BLANKS)
         if blank < 0 and text[0] in BLANKS:
-            # no word is cut where another one ends before it
+            # no word is cut if another one ends before it
             return (text[0] if width > 1 else "") + _CUT
         return text[: blank if blank > 0 else width - 1] + _CUT
     return "".join(_fitting(sequences(text), width, size_of))

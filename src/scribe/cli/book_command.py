@@ -83,7 +83,7 @@ def said_where_stopped(
     console: Console,
     so_far: Callable[[int, int], str],
 ) -> Iterator[None]:
-    """Says what is in the book where many changes are stopped among them.
+    """Says what is in the book if many changes are stopped among them.
 
     This is said by how many were made, each of which is a version, and the version of the book.
     """

@@ -28,7 +28,7 @@ def add_page_size(
             metavar="N",
             type=_within(ends),
             default=value,
-            help=f"{what}, {ends[0]} to {ends[1]}; {value} where it isn't given",
+            help=f"{what}, {ends[0]} to {ends[1]}; {value} if it isn't given",
         )
 
 
@@ -46,7 +46,7 @@ def add_pages(parser: ArgumentParser) -> None:
 
 
 def page_map(arguments: Namespace, session: Session) -> "PageMap | None":
-    """The pages of a book, where it is to be said on which of them something stands."""
+    """The pages of a book, if it is to be said on which of them something stands."""
     if not arguments.pages:
         return None
     # imported here, since it is seldom asked for

@@ -68,7 +68,7 @@ class _Version(argparse.Action):
 
 @dataclass(frozen=True)
 class Asked:
-    """A word that has to be there. A prompt asks for it where it is missing."""
+    """A word that has to be there. A prompt asks for it if it is missing."""
 
     action: argparse.Action
     read: Callable[[str], Any]
@@ -159,7 +159,7 @@ def add_file(parser: argparse.ArgumentParser, wait: float = USUAL_WAIT) -> None:
         type=seconds,
         default=wait,
         help="how long to wait for a book that another program has open;"
-        f" {wait:g} where it isn't given",
+        f" {wait:g} if it isn't given",
     )
 
 
@@ -261,7 +261,7 @@ def add_width(parser: argparse.ArgumentParser) -> None:
         dest="columns",
         metavar="N",
         type=width,
-        help="no line over N columns; the terminal's width where it isn't given",
+        help="no line over N columns; the terminal's width if it isn't given",
     )
 
 

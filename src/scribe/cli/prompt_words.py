@@ -66,7 +66,7 @@ def help_of(name: str) -> list[str] | None:
     lines = [f"{asked.form()}: {asked.__doc__}", f"For example: {asked.example}"]
     if issubclass(asked, Command):
         lines.append(
-            f"@12 {asked.example} does the same only where the book is at version 12."
+            f"@12 {asked.example} does the same only if the book is at version 12."
         )
     return lines
 
@@ -183,7 +183,7 @@ def _reader(
 
 
 def _show_paragraph(talk: Conversation, parser: Parser, arguments: Namespace) -> None:
-    """Shows how a paragraph begins, or its mark in hand, where more will be asked for."""
+    """Shows how a paragraph begins, or its mark in hand, if more will be asked for."""
     if all(getattr(arguments, each.action.dest) is not None for each in parser.asked):
         return
     number, width, hand = arguments.paragraph, talk.console.columns, talk.hand

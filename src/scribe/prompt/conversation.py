@@ -46,7 +46,7 @@ class Conversation:
     typed: list[str] = field(default_factory=list)
 
     def next_line(self, prompt: str, is_kept: bool = False) -> bytes:
-        """The next line that is typed; Ended where there is none, GivenUp by Ctrl-C."""
+        """The next line that is typed; Ended if there is none, GivenUp by Ctrl-C."""
         self.console.flush()
         line = self.lines.line(prompt, is_kept)
         if line is None:
@@ -84,7 +84,7 @@ class Conversation:
         return self.next_line(f"{short}: ")
 
     def remind(self) -> None:
-        """Shows the mark in hand again where its paragraph is corrected, until it is resolved."""
+        """Shows the mark in hand again if its paragraph is corrected, until it is resolved."""
         was = self.hand
         if was is None:
             return
@@ -100,7 +100,7 @@ class Conversation:
 
 
 def _read(answer: str, read: Callable[[str], Value]) -> Value:
-    """What an answer is read as, without the blanks around it where it is none with them."""
+    """What an answer is read as, without the blanks around it if it is none with them."""
     try:
         return read(answer)
     except InvalidInput:
@@ -134,7 +134,7 @@ def request_line(conversation: Conversation, line: bytes) -> None:
 
 
 def _head(line: bytes) -> Request[Any] | TableHead:
-    """The request of a line, without the blanks at its end where it is none with them."""
+    """The request of a line, without the blanks at its end if it is none with them."""
     try:
         return read_head(line)
     except NotARequest:

@@ -80,7 +80,7 @@ class Trial:
         return [cells, *piece_lines(pieces, self._table.reading)]
 
     def _saved(self) -> _Saved | None:
-        """When the file was saved, where it is there and no pipe."""
+        """When the file was saved, if it is there and no pipe."""
         try:
             found = self._path.stat()
         except OSError:

@@ -61,7 +61,7 @@ class Lines(Protocol):
         is_kept: bool = False,
         is_due: Callable[[], bool] = never,
     ) -> bytes | None:
-        """The next line without its ending, or None at the end; GivenUp where it is given up.
+        """The next line without its ending, or None at the end; GivenUp if it is given up.
 
         A line that is kept is one of those that the arrow keys bring back. At a terminal it is
         asked now and then whether something is due, until the line is begun, and Due is raised.
@@ -153,7 +153,7 @@ class TypedLines(AbstractContextManager["TypedLines"]):
             print()
             raise GivenUp from None
         if is_kept and line:
-            # where the system has no locale with UTF-8, only lines of ASCII come back
+            # if the system has no locale with UTF-8, only lines of ASCII come back
             with suppress(UnicodeEncodeError):
                 self._readline.add_history(line)
         return line.encode("utf-8", "surrogateescape")

@@ -48,7 +48,7 @@ class ListHeadings:
 
 @dataclass(frozen=True)
 class ToPage:
-    """To a line of a page, of the volume of the cursor where none is named; counted from 1."""
+    """To a line of a page, of the volume of the cursor if none is named; counted from 1."""
 
     page: int
     line: int = 1

@@ -33,7 +33,7 @@ class Arrivals:
 
     @property
     def due(self) -> float | None:
-        """The time at which nothing more comes with what is held; None where nothing is."""
+        """The time at which nothing more comes with what is held; None if nothing is."""
         if not self._held:
             return None
         is_text = _is_pasted(self._held)
@@ -66,7 +66,7 @@ class Arrivals:
         return self._judged() if due is not None and now >= due else []
 
     def rest(self) -> list[Stroke]:
-        """What is held, where nothing comes any more."""
+        """What is held, if nothing comes any more."""
         return self._judged()
 
     def _judged(self) -> list[Stroke]:

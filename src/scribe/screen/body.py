@@ -26,7 +26,7 @@ from scribe.screen.lines import (
 from scribe.screen.state import Pane, State
 
 _NOTHING = Span(0, 0)
-# what dot 7 and dot 8 say of a cell, where a key asked for them
+# what dot 7 and dot 8 say of a cell, if a key asked for them
 _DOT_OF_MARK, _DOT_OF_CURSOR = 7, 8
 
 

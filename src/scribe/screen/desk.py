@@ -114,7 +114,7 @@ class Desk:
 
     def __init__(self, path: Path, wait: float = 0.0) -> None:
         self.path = path
-        #: How many seconds the book is waited for where another program has it open.
+        #: How many seconds the book is waited for if another program has it open.
         self._wait = wait
         self.drafts = Drafts(path)
         self.tables = Tables()
@@ -190,7 +190,7 @@ class Desk:
         return replace(state, preview=self.tables.preview(*preview_of(state, typed)))
 
     def lost(self, state: State) -> State:
-        """The state where the session was seen to end: nothing else is sent."""
+        """The state if the session was seen to end: nothing else is sent."""
         try:
             self._session.version()
         except Lost as lost:
@@ -324,7 +324,7 @@ class Desk:
         return tuple(notices)
 
     def _reminded(self, state: State) -> State:
-        """Asks about an import that was cut short, or says so where something else is asked."""
+        """Asks about an import that was cut short, or says so if something else is asked."""
         for found in to_go_on(self.drafts, self._session, state.book):
             if isinstance(found, Unfinished) and state.question is None:
                 action = ImportFrom(Path(found.note.text), found.after)
@@ -438,7 +438,7 @@ class Desk:
     def _where_kept(self, state: State, saved: Draft) -> str:
         """Where a text that waits, or its first line, is in the book, in words; or nothing.
 
-        It may be there where the session ended after it was kept, and before that was reported.
+        It may be there if the session ended after it was kept, and before that was reported.
         """
         numbers = [each.id for each in state.book]
         if saved.version is None or state.version <= saved.version or not numbers:
@@ -572,7 +572,7 @@ class Desk:
             return self._ended(state, lost.sentence, of_system(failure))
 
     def _ended(self, state: State, *sentences: str) -> State:
-        """What the screen says where the session ended and the book could not be opened again."""
+        """What the screen says if the session ended and the book could not be opened again."""
         lines = list(sentences)
         if state.typed is not None and state.typed.text:
             lines += [
@@ -783,7 +783,7 @@ class Desk:
     def _by_pages(
         self, state: State, action: ShowPage | ListMarks | ListHeadings | ToPage
     ) -> State:
-        """What needs the pages of volumes, and is done aside where these are long."""
+        """What needs the pages of volumes, and is done aside if these are long."""
         volumes = self._volumes_for(state, action)
         if not volumes:
             return state.saying(_no_volume(state, action))
@@ -859,7 +859,7 @@ class Desk:
             return state
 
     def _with_table(self, state: State, name: str) -> State:
-        """Puts an installed table into the book where it has none of that name, then gives it."""
+        """Puts an installed table into the book if it has none of that name, then gives it."""
         if name not in state.tables:
             request = table_request(name, None)
             text = request.text if isinstance(request, requests.Table) else None
@@ -934,7 +934,7 @@ def preview_of(state: State, typed: Field) -> tuple[str, str, str]:
 def _no_volume(
     state: State, action: ShowPage | ListMarks | ListHeadings | ToPage
 ) -> str:
-    """What is said where no volume is there whose pages are asked for."""
+    """What is said if no volume is there whose pages are asked for."""
     count = len(lists.volumes_of(state))
     if isinstance(action, ToPage) and action.volume is not None and count:
         return f"There is no volume {action.volume}: the book has {count}."
@@ -945,7 +945,7 @@ def _no_volume(
 
 
 def _amount(saved: Draft) -> str:
-    """How much text it is, where that isn't seen from its first words."""
+    """How much text it is, if that isn't seen from its first words."""
     lines = saved.text.count("\n") + 1
     if lines == 1 and quoted(saved.text) == f"“{visible(saved.text)}”":
         return ""
@@ -958,7 +958,7 @@ def _of(number: int) -> list[Request[Any]]:
 
 
 def _changed_between(before: State, after: State) -> tuple[str, ...]:
-    """What is said where the book has been changed by more than an import."""
+    """What is said if the book has been changed by more than an import."""
     commands = commands_between(before, after)
     if after.version - before.version == commands:
         return ()
@@ -969,7 +969,7 @@ def _changed_between(before: State, after: State) -> tuple[str, ...]:
 
 
 def _closed(state: State, sentence: str) -> State:
-    """The state where the book could not be opened again."""
+    """The state if the book could not be opened again."""
     before = state.pages.lines if state.is_lost and state.pages else ()
     # what was said before is still true, and is said once
     lines = dict.fromkeys((*sentence.split("\n"), *before))

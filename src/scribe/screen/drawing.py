@@ -112,7 +112,7 @@ def _above(state: State, room: int) -> Area:
 
 
 def _own(state: State) -> _Own:
-    """The rows below the book; a quiet screen names keys only where nothing else can be done."""
+    """The rows below the book; a quiet screen names keys only if nothing else can be done."""
     own = next(own for least, own in _OWN.items() if state.size.lines >= least)
     if state.is_quiet and not (state.is_lost or state.away):
         return replace(own, hint=0)
@@ -217,7 +217,7 @@ def _bottom(state: State) -> Area:
 
 
 def _asked(state: State, question: Question) -> Area:
-    """A question after what is said, on all lines but the first where it needs them."""
+    """A question after what is said, on all lines but the first if it needs them."""
     width, most = state.size.columns, state.size.lines - 1
     how = f"y is yes, n is no. {question.more}".rstrip()
     asked = wrap(f"{visible(question.sentence)} {how}", width)
@@ -253,7 +253,7 @@ def _hint(state: State) -> str:
 
 
 def _tail(prompt: str, typed: Field, width: int) -> tuple[str, int]:
-    """The line of a field, from a word on where it is too long, and the cursor in it."""
+    """The line of a field, from a word on if it is too long, and the cursor in it."""
     if columns(prompt) > max(width // 2, width - _LEAST_TYPED):
         prompt = opening(prompt, width // 2 - 1) + " "
     before = "".join(map(shown, typed.text[: typed.place]))
@@ -270,7 +270,7 @@ def _tail(prompt: str, typed: Field, width: int) -> tuple[str, int]:
 def _below(state: State, room: int, count: int) -> list[str]:
     """What the cursor stands on, the marks there, and what is said, in so many rows of their own.
 
-    There are more rows where what is said needs them, as far as the book leaves room.
+    There are more rows if what is said needs them, as far as the book leaves room.
     """
     said = _said(state, room - _LEAST_BESIDE_SAID)
     if state.pages:
@@ -347,7 +347,7 @@ def _mark_lines(state: State, marks: tuple[Mark, ...], most: int) -> list[str]:
 
 
 def _marked(state: State) -> list[str]:
-    """On which words of the paragraph the open marks are, where the cursor is on none of them."""
+    """On which words of the paragraph the open marks are, if the cursor is on none of them."""
     is_new = state.typed is not None and state.typed.purpose.is_new
     if state.reading is None or is_new:
         return []
@@ -364,7 +364,7 @@ def _marked(state: State) -> list[str]:
 
 
 def _how_many(marks: tuple[Mark, ...]) -> str:
-    """How many marks there are where there are several, and how many of them are open."""
+    """How many marks there are if there are several, and how many of them are open."""
     if len(marks) == 1:
         return ""
     count = sum(not mark.resolved for mark in marks)
@@ -394,7 +394,7 @@ def _cursor_in_words(
 
 
 def _words(text: str, encoding: str) -> str:
-    """Some characters in quotation marks, or by their names where they can't be seen there."""
+    """Some characters in quotation marks, or by their names if they can't be seen there."""
     is_unseen = (
         len(text) == 1 and text != " " and unicodedata.category(text)[0] in "CZM"
     )
@@ -404,7 +404,7 @@ def _words(text: str, encoding: str) -> str:
 
 
 def _at_most(lines: list[str], count: int, width: int) -> list[str]:
-    """Some lines, or the first of them where they are more, with a sign that others follow."""
+    """Some lines, or the first of them if they are more, with a sign that others follow."""
     if len(lines) <= count:
         return lines
     if count < 1:

@@ -75,7 +75,7 @@ class Keyboard:
         return found
 
     def last(self) -> list[Stroke]:
-        """The key that waits for more characters, where none come: Escape, or one with Alt."""
+        """The key that waits for more characters, if none come: Escape, or one with Alt."""
         rest = self._rest
         if not rest or rest.startswith(_PASTE):
             return []
@@ -83,7 +83,7 @@ class Keyboard:
         return ["escape" if not rest.strip(_ESCAPE) else named(rest)]
 
     def rest(self) -> list[Stroke]:
-        """What came of a paste whose end didn't come, where nothing comes any more."""
+        """What came of a paste whose end didn't come, if nothing comes any more."""
         rest, self._rest = self._rest, ""
         if not rest.startswith(_PASTE):
             return []
@@ -136,7 +136,7 @@ def named(sequence: str) -> str:
 
 
 def _base(kind: str, number: str, last: str) -> str | None:
-    """A key without what is held down with it, where it is known."""
+    """A key without what is held down with it, if it is known."""
     if kind == "[[":
         return _CONSOLE.get(last)
     if kind == "[" and last in _RXVT:

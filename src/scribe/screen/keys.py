@@ -323,7 +323,7 @@ def _on_other_line(state: State, typed: Field, by: int) -> State:
 
 
 def about_length(state: State, typed: Field) -> Question | None:
-    """Whether print that is too long for a paragraph goes on in a new one, where it is too long."""
+    """Whether print that is too long for a paragraph goes on in a new one, if it is too long."""
     if not typed.purpose.is_print or len(print_of(state, typed)) <= _MOST:
         return None
     first, rest = parted(typed.text, _MOST)
@@ -552,7 +552,7 @@ def _new(purpose: Purpose, said: str = "") -> Callable[[State], Step]:
 
 
 def _table_of_new(state: State) -> str | None:
-    """The table of a new paragraph, where there is no doubt about it."""
+    """The table of a new paragraph, if there is no doubt about it."""
     if state.paragraph is not None:
         return state.paragraph.table
     only = state.tables[0] if len(state.tables) == 1 else None
@@ -593,7 +593,7 @@ def _no_further(is_back: bool) -> str:
 
 
 def _placed(state: State, place: int, is_back: bool) -> Step:
-    """The cursor at a place of the paragraph, or what is said where it stands there already."""
+    """The cursor at a place of the paragraph, or what is said if it stands there already."""
     if place != state.place:
         return Step(replace(state, place=place, highlighted=None))
     where = "front" if is_back else "end"
@@ -646,7 +646,7 @@ def _by_word(state: State, is_back: bool) -> Step:
 
 
 def _word_end(text: str, place: int) -> int:
-    """The last place of the word, or of the next one where this is the last place already."""
+    """The last place of the word, or of the next one if this is the last place already."""
     rest = text[place + 1 :]
     if not rest.strip(" "):
         return place
@@ -702,7 +702,7 @@ def _chosen(state: State) -> Paragraph:
 
 
 def _take_back(state: State) -> Step:
-    """What a key last did is taken back; where keys did nothing, the newest correction is."""
+    """What a key last did is taken back; if keys did nothing, the newest correction is."""
     if not state.deeds:
         return Step(state, requests.Undo(_chosen(state).id, expect=state.version))
     *earlier, deed = state.deeds

@@ -73,7 +73,7 @@ def _size(character: str) -> int:
 
 
 def beside(text: str, width: int, place: int, by: int) -> int | None:
-    """The place under one of the line before, or over one of the line after; None where none is."""
+    """The place under one of the line before, or over one of the line after; None if none is."""
     lines = rows(text, width)
     here = row_of(lines, place)
     if not 0 <= here + by < len(lines):

@@ -78,7 +78,7 @@ def moved(pages: Pages, size: Size, key: str) -> Pages | None:
         case "pageup" | "pagedown":
             by = most if key == "pagedown" else -most
             top = max(0, min(pages.top + by, last + 1 - most))
-            # where there is nothing further to see, the cursor goes to the end of it
+            # if there is nothing further to see, the cursor goes to the end of it
             place = top if top != pages.top else last if by > 0 else HEAD_LINE
             return replace(pages, top=top, place=place)
     return None
@@ -101,7 +101,7 @@ def _at(pages: Pages, size: Size, place: int) -> Pages:
 
 
 def _wrapped(pages: Pages, size: Size) -> tuple[str, ...]:
-    """All lines, parted where they are longer than the screen."""
+    """All lines, parted if they are longer than the screen."""
     return _parted(pages.lines, size.columns)
 
 

@@ -62,7 +62,7 @@ class Question:
     #: about what is taken back.
     yes: ImportFrom | TakeBack | None = None
     no: LeaveImport | None = None
-    #: The place of the text that U asks about next, where this one was given up.
+    #: The place of the text that U asks about next, if this one was given up.
     older: int | None = None
     more: str = ""
 
@@ -165,7 +165,7 @@ class State:
     #: What was looked for last, and whether words that are only like it are found too.
     sought: str = ""
     finds_alike: bool = False
-    #: The table of a new paragraph where no paragraph is chosen.
+    #: The table of a new paragraph if no paragraph is chosen.
     table: str | None = None
     #: What keys did in this session and didn't take back, the newest last.
     deeds: tuple[Deed, ...] = ()
@@ -190,7 +190,7 @@ class State:
 
     @property
     def paragraph(self) -> Paragraph | None:
-        """The chosen paragraph, none where the book is empty."""
+        """The chosen paragraph, none if the book is empty."""
         return self.book[self.chosen] if self.book else None
 
     @property

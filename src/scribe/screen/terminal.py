@@ -92,7 +92,7 @@ class Output(Vt100_Output):
     """What is written on the terminal. Only here a failure says something of the terminal."""
 
     def flush(self) -> None:
-        """Writes out what is drawn; HungUp where the terminal was closed."""
+        """Writes out what is drawn; HungUp if the terminal was closed."""
         try:
             super().flush()
         except OSError as failure:
@@ -129,7 +129,7 @@ class Screen:
         self._is_idle, self._works = True, 0
         #: Whether the terminal was closed, so that nobody reads what is said.
         self.is_hung_up = False
-        #: The signal that ended scribe, where one did.
+        #: The signal that ended scribe, if one did.
         self.ended_by: signal.Signals | None = None
         #: What has to be said after the screen is left.
         self.unseen: tuple[str, ...] = ()
@@ -186,7 +186,7 @@ class Screen:
                 is_of_line = False
 
     def _keep_last(self) -> None:
-        """Keeps what is typed at the end, or has it said where it can't be kept."""
+        """Keeps what is typed at the end, or has it said if it can't be kept."""
         self._desk.keep_place(self.state)
         kept = self._desk.save_draft(self.state)
         if kept is not self.state and kept.typed is not None:
@@ -333,7 +333,7 @@ class Screen:
                 loop.call_soon_threadsafe(self._say, line)
 
         self._aside = self._worker.submit(self._desk.away, self.state, report)
-        # where the screen ends meanwhile, the work is waited for and not given up
+        # if the screen ends meanwhile, the work is waited for and not given up
         state = await asyncio.shield(asyncio.wrap_future(self._aside))
         self._desk.take_over()
         self._become(state)
@@ -346,7 +346,7 @@ class Screen:
             self._app.invalidate()
 
     def _look_ahead(self) -> None:
-        """Translates what is typed, where it isn't that already."""
+        """Translates what is typed, if it isn't that already."""
         typed, preview = self.state.shown, self.state.preview
         if typed is None or not typed.purpose.is_print or self._translates:
             return

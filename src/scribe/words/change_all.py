@@ -116,7 +116,7 @@ def answered(word: str) -> str:
 
 
 def stopped_after(changed: int, places: int, version: int) -> str:
-    """What is in the book where the replacing was stopped."""
+    """What is in the book if the replacing was stopped."""
     if not changed:
         return f"Nothing was changed. {at_version(version)}"
     is_are = "is" if changed == 1 else "are"

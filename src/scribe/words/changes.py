@@ -27,7 +27,7 @@ Answer = TypeVar("Answer")
 def carried_out(
     session: Session, command: Command[Any], width: int, cells: Notation
 ) -> list[str]:
-    """Sends a command, and says what it changed; Refused where it is refused."""
+    """Sends a command, and says what it changed; Refused if it is refused."""
     before = session.last_version
     try:
         return _carried_out(session, command, width, cells)
@@ -292,7 +292,7 @@ def history_lines(found: Iterable[Step], width: int) -> Iterator[list[str]]:
 
 
 def nothing_found(by: str | None, names: Iterable[str]) -> str:
-    """What is said where a history has nothing to show."""
+    """What is said if a history has nothing to show."""
     known = sorted({*names})
     if by is None:
         return "Nothing was corrected yet."

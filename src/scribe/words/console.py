@@ -85,7 +85,7 @@ class Console:
     errors: TextIO
     #: Raises Interrupted if the work is to end: at the process's own streams a signal does that.
     check: Callable[[], None] = lambda: None
-    #: The columns of a line; None where a line is as long as it comes, as for another program.
+    #: The columns of a line; None if a line is as long as it comes, as for another program.
     width: int | None = None
     #: How cells are written.
     cells: Notation = Notation.UNICODE
@@ -169,8 +169,8 @@ class Console:
     def progress(self, what: str) -> Callable[[int, int], None]:
         """A function of how many are done, of how many, that says so from time to time.
 
-        Where the errors are no terminal nothing is said. Each sentence is a line of its own, since
-        a line that is written over can't be followed by a screen reader. Where nothing more can be
+        If the errors are no terminal nothing is said. Each sentence is a line of its own, since
+        a line that is written over can't be followed by a screen reader. If nothing more can be
         said the work goes on.
         """
         is_followed = self.errors.isatty()
@@ -212,7 +212,7 @@ def _width_of_output() -> int | None:
 
 
 def _usual_cells() -> Notation:
-    """How cells are written where nothing says how: in Braille ASCII if the locale isn't UTF-8."""
+    """How cells are written if nothing says how: in Braille ASCII if the locale isn't UTF-8."""
     is_utf8 = encoding.is_utf8(encoding.first_environment())
     return Notation.UNICODE if is_utf8 else Notation.ASCII
 

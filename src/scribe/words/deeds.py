@@ -16,7 +16,7 @@ _PUT_AGAIN = "It stays resolved, and a new mark stands in its place."
 
 @dataclass(frozen=True)
 class Deed:
-    """What was done, and the commands that take it back; none where the book has no way back.
+    """What was done, and the commands that take it back; none if the book has no way back.
 
     What the book keeps all the same is in words. The paragraph is the one to be shown then.
     """
@@ -37,7 +37,7 @@ class Deed:
 def deed_of(
     command: Command[Any], answer: Any, book: Sequence[Paragraph]
 ) -> Deed | None:
-    """What a command did to a book that was so before; none where it took something back."""
+    """What a command did to a book that was so before; none if it took something back."""
     match command:
         case requests.Undo() | requests.Resolve():
             return None
@@ -122,7 +122,7 @@ def together(deeds: Sequence[Deed]) -> Deed:
 def without(taken: Deed, earlier: Sequence[Deed], done: Deed) -> tuple[Deed, ...]:
     """The deeds before one that was taken back by doing another.
 
-    Where a mark was put again it has another number, by which it is resolved.
+    If a mark was put again it has another number, by which it is resolved.
     """
     if taken.mark is None:
         return tuple(earlier)

@@ -93,7 +93,7 @@ def no_page(none: NoPage) -> str:
 
 
 def which_volume(fault: WhichVolume) -> str:
-    """The sentence where it isn't clear of which volume pages are wanted."""
+    """The sentence if it isn't clear of which volume pages are wanted."""
     if fault.volume is None:
         return "The book has more than one volume: say which by --volume. Nothing was exported."
     return f"There is no volume {fault.volume}. Nothing was exported."

@@ -36,7 +36,7 @@ def instead(sought: str, text: str) -> str:
 def word_lines(
     hit: Hit, width: int, where: Callable[[int], str] = lambda _: ""
 ) -> Iterator[str]:
-    """A line for each place of a print, or more where the words need them.
+    """A line for each place of a print, or more if the words need them.
 
     It is said where that is on the pages, if this was asked for.
     """
@@ -55,7 +55,7 @@ def cell_lines(
 ) -> Iterator[str]:
     """Two lines for each place of a braille: its cells, and the print that they stand for.
 
-    There are more of them where the cells or the words need them.
+    There are more of them if the cells or the words need them.
     """
     for place, origin in zip(hit.places, origins):
         head = f"{_title(hit)}{where(place.start)}, cell {place.start + 1}: "

@@ -10,7 +10,7 @@ from braildesk.desk.manuscripts import Taken
 from braildesk.desk.replacements import Replaced
 from braildesk.text.characters import visible
 
-#: How many places of a kind are shown where not all of them are.
+#: How many places of a kind are shown if not all of them are.
 FEW = 5
 _NAMES = {
     Kind.TEXT: "text",

@@ -49,7 +49,7 @@ class Sought:
 class Volume:
     """A volume of a version of a book, and the lines on which each of its paragraphs stands.
 
-    Lines are counted from 0 through all its pages. There is a fault where it can have no pages.
+    Lines are counted from 0 through all its pages. There is a fault if it can have no pages.
     """
 
     version: int
@@ -85,7 +85,7 @@ class Layouts:
         self._laid: dict[int, Volume] = {}
 
     def of(self, volume: Volume) -> Volume | None:
-        """A volume as it was laid out, none where it wasn't yet."""
+        """A volume as it was laid out, none if it wasn't yet."""
         laid = self._laid.get(volume.number)
         return laid if laid is not None and laid.is_of(volume) else None
 
@@ -182,7 +182,7 @@ def _lines_of(session: Session, volume: Volume, page: int) -> list[str]:
 
 
 def _not_for_pages(volume: int, section: Section) -> str:
-    """Why a volume has no pages: a cell that isn't in Braille ASCII; nothing where it has them."""
+    """Why a volume has no pages: a cell that isn't in Braille ASCII; nothing if it has them."""
     letters = braille_ascii(section.braille)
     if letters.isascii():
         return ""

@@ -113,7 +113,7 @@ def in_its_line(head: str, text: str, start: int, stop: int, width: int) -> list
 def headed(head: str, shown: Callable[[int], str], width: int) -> list[str]:
     """A line of what is said of words, and these, which are shown in some columns.
 
-    Where there are few columns for them they stand on a line of their own.
+    If there are few columns for them they stand on a line of their own.
     """
     room = width - columns(head) - len(": ")
     alone = shown(width)

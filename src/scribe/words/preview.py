@@ -48,7 +48,7 @@ class Tables:
         return Preview(typed, fault=_fault(name, text, answer))
 
     def first_fault(self, name: str, lines: Sequence[str]) -> str:
-        """Why one of several prints would be refused, with its line; nothing where none would."""
+        """Why one of several prints would be refused, with its line; nothing if none would."""
         texts = list(map(composed, lines))
         try:
             found = self._answers(name, texts)

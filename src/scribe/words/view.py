@@ -51,7 +51,7 @@ _WORD = re.compile(rf"([\s{EMPTY_CELL}]*)([^\s{EMPTY_CELL}]+)")
 def interlinear(text: str, braille: str, width: int) -> list[str]:
     """Lines of print, each with the line of its braille under it.
 
-    Where both have as many words, a line of braille has the words of the line of print above it;
+    If both have as many words, a line of braille has the words of the line of print above it;
     else all lines of print come first.
     """
     words, cells = _WORD.findall(text), _WORD.findall(braille)

@@ -60,7 +60,7 @@ def was_set(changed: Sequence[tuple[Paragraph, bool]], version: int) -> Iterator
 
 
 def stopped_after(done: int, count: int, version: int) -> str:
-    """What is in the book where the setting was stopped."""
+    """What is in the book if the setting was stopped."""
     if not done:
         return "Nothing was changed."
     is_are = "is" if done == 1 else "are"

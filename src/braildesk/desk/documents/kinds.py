@@ -127,7 +127,7 @@ def is_container(front: bytes) -> bool:
 
 @contextmanager
 def unpacked(data: bytes) -> Iterator[zipfile.ZipFile]:
-    """The container that some bytes are; `NoDocument` where it can't be read, or has too much."""
+    """The container that some bytes are; `NoDocument` if it can't be read, or has too much."""
     try:
         with zipfile.ZipFile(BytesIO(data)) as container:
             sizes = [
@@ -174,7 +174,7 @@ def _kind_of_zip(data: bytes) -> Kind:
 
 
 def _judge_open(container: zipfile.ZipFile, kind: Kind, names: frozenset[str]) -> None:
-    """`NoDocument` where the parts of a container are encrypted each by itself."""
+    """`NoDocument` if the parts of a container are encrypted each by itself."""
     manifest, rights = "META-INF/manifest.xml", "META-INF/encryption.xml"
     if kind is Kind.ODT and manifest in names:
         root = ElementTree.fromstring(part_of(container, manifest))

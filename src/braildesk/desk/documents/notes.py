@@ -1,6 +1,6 @@
 """Notes of pages of HTML, which are links to paragraphs at the end, made notes of the tree.
 
-A link is a note's number where it is said to be one (by its class or role) and the target is in the
+A link is a note's number if it is said to be one (by its class or role) and the target is in the
 document. The paragraphs of the note are taken from where they stand, with the link back left out.
 """
 

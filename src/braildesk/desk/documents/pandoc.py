@@ -128,7 +128,7 @@ def as_docx(data: bytes, kind: Kind) -> bytes:
 
 
 def _run(name: str, words: Sequence[str], source: IO[bytes] | None) -> bytes:
-    """What a program answers; ``UnreadableText`` where it fails, or is too slow or too large."""
+    """What a program answers; ``UnreadableText`` if it fails, or is too slow or too large."""
     try:
         with tempfile.TemporaryFile() as output, tempfile.TemporaryFile() as errors:
             with subprocess.Popen(
@@ -149,7 +149,7 @@ def _run(name: str, words: Sequence[str], source: IO[bytes] | None) -> bytes:
 
 
 def _wait(name: str, process: subprocess.Popen[bytes]) -> None:
-    """Waits for a program to end. Where that takes too long, or this one is stopped, it is ended."""
+    """Waits for a program to end. If that takes too long, or this one is stopped, it is ended."""
     try:
         process.wait(_SECONDS)
     except subprocess.TimeoutExpired as fault:

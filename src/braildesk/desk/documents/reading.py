@@ -114,7 +114,7 @@ def plain(text: str) -> str:
 
 
 def short_enough(part: Part) -> Iterator[Part]:
-    """A part, parted at its sentences where it is longer than a print may be."""
+    """A part, parted at its sentences if it is longer than a print may be."""
     rest = part.text
     while len(rest) > limits.PRINT_CHARACTERS:
         stop = _stop(rest)

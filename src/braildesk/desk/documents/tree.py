@@ -52,7 +52,7 @@ class NotRead(UnreadableText):
 def document(
     tree: Node, reading: Reading = Reading(), *, with_front: bool = False
 ) -> Document:
-    """The paragraphs of a tree; with its title and those who wrote it where these are print too.
+    """The paragraphs of a tree; with its title and those who wrote it if these are print too.
 
     Raises ``NotRead``.
     """

@@ -59,7 +59,7 @@ def _carry(
 def _cells(
     subject: Subject, draft: TableDraft, rule: SourceRule, folded: str, kind: str
 ) -> Cells | None:
-    """The cells of a rule. Where they have virtual dots, which later passes take away, liblouis is asked."""
+    """The cells of a rule. If they have virtual dots, which later passes take away, liblouis is asked."""
     if rule.dots == "=":
         return tuple(cell for one in folded for cell in draft.cells[one])
     try:

@@ -59,7 +59,7 @@ class Probe:
 class Probes:
     """The lines by which characters are asked for in their places.
 
-    Where numbers have no sign, a single digit may have one of its own, so two stand beside a character.
+    If numbers have no sign, a single digit may have one of its own, so two stand beside a character.
     """
 
     def __init__(self, subject: Subject, draft: TableDraft) -> None:
@@ -158,7 +158,7 @@ class Probes:
         """The cells, unless they are those of a pass of liblouis that was to make others of them.
 
         A table whose letters and digits have six dots marks places for its later passes by dots 7 and 8.
-        Where none of these foresees a place, the marked cell is left, which no page can have.
+        If none of these foresees a place, the marked cell is left, which no page can have.
         """
         if cells is None or not self._is_of_six_dots:
             return cells

@@ -92,7 +92,7 @@ class Script:
         self._own: Final = subject.alphabet.carriers()[0] * 2
         self._places: Final[dict[str, _Places]] = {}
         self._in_run: Final[dict[str, Cells]] = {}
-        """The cells of capitals after other ones, where these aren't those after a small letter."""
+        """The cells of capitals after other ones, if these aren't those after a small letter."""
 
     def settle_letters(self) -> None:
         """Asks for the letters in their places, and adds what they need."""

@@ -133,7 +133,7 @@ def _changed(
 
 
 def _choice(arguments: Namespace, found: list[Proposal], console: Console) -> Choice:
-    """What says which places are changed: a person where that is asked for, else all are."""
+    """What says which places are changed: a person if that is asked for, else all are."""
     if not arguments.ask:
         return lambda _: True
     ask_person = getattr(arguments, "ask_person", None)

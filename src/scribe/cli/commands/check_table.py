@@ -17,7 +17,7 @@ refused, lines are shown that are accepted but rarely meant: a rule that is neve
 chosen, since an earlier line has the same characters or since a sign always stands
 inside it; a capital without its sign; a cell with dot 7 or 8, which no page for an
 embosser can have. The first refused line is compared with the one that braildesk
-reports. The status is 0 where no line is refused."""
+reports. The status is 0 if no line is refused."""
 EXAMPLE = """\
 scribe check-table plain.utb
 scribe check-table plain.utb --display"""
@@ -43,7 +43,7 @@ def add_parser(subparsers: Subparsers) -> ArgumentParser:
 
 
 def run(arguments: Namespace, console: Console) -> Status:
-    """Shows the faults, or the warnings where there is none."""
+    """Shows the faults, or the warnings if there is none."""
     reading = TableText(arguments.table, text_at(arguments.table)).reading
     rare = warnings(reading.table, is_for_embosser=not arguments.display)
     found = [] if reading.faults else rare

@@ -82,7 +82,7 @@ def run(arguments: Namespace, console: Console) -> Status:
 
 
 def _end(desk: "Desk", screen: "Screen", name: str, console: Console) -> Status:
-    """Closes the book, and says how its session ended, where somebody is there to read it."""
+    """Closes the book, and says how its session ended, if somebody is there to read it."""
     try:
         desk.close()
     except Lost as lost:

@@ -87,7 +87,7 @@ def answer(session: Session, arguments: Namespace, console: Console) -> None:
 
 
 def _of_words(pages: PageMap | None, hit: Hit) -> Callable[[int], str]:
-    """What is said of where a character stands on the pages: nothing where none were asked for."""
+    """What is said of where a character stands on the pages: nothing if none were asked for."""
     if pages is None:
         return lambda _: ""
     its, number, text = pages, hit.paragraph.id, hit.text
@@ -95,7 +95,7 @@ def _of_words(pages: PageMap | None, hit: Hit) -> Callable[[int], str]:
 
 
 def _of_cells(pages: PageMap | None, hit: Hit) -> Callable[[int], str]:
-    """What is said of where a cell stands on the pages: nothing where none were asked for."""
+    """What is said of where a cell stands on the pages: nothing if none were asked for."""
     if pages is None:
         return lambda _: ""
     its, number = pages, hit.paragraph.id

@@ -28,7 +28,7 @@ character that the table lacks and each paragraph that is too long is shown with
 and column. If the typing is cut short, also by a terminal that is closed, --continue types
 the rest; --from goes on at a line of the text. A text that stands there already, or of
 which a part does, isn't typed once more without --again.
-DOCX, ODT, EPUB, HTML and Markdown are read by pandoc, and RTF and DOC by LibreOffice, where
+DOCX, ODT, EPUB, HTML and Markdown are read by pandoc, and RTF and DOC by LibreOffice, if
 these are installed; which of them it is, is found. Headings become headings. What a book
 can't hold, as emphasis and the form of tables, is said before anything is typed, and so is
 each word of the file that no paragraph has."""

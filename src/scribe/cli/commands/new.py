@@ -11,8 +11,8 @@ from scribe.words.status import Status
 
 EVERYDAY = "ueb"
 MORE = """\
-Its table is ueb where that is installed with scribe, else en, the one that the program
-supplies. A file that has a book already is left as it is, and where anything fails no
+Its table is ueb if that is installed with scribe, else en, the one that the program
+supplies. A file that has a book already is left as it is, and if anything fails no
 file is made."""
 
 

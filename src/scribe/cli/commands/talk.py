@@ -57,7 +57,7 @@ def add_parser(subparsers: Subparsers) -> ArgumentParser:
         dest="columns",
         metavar="N",
         type=width,
-        help=f"no line over N columns; {USUAL_WIDTH}, or the terminal's width where that is"
+        help=f"no line over N columns; {USUAL_WIDTH}, or the terminal's width if that is"
         " less, where it isn't given",
     )
     return parser

@@ -56,9 +56,9 @@ class _Talk:
         self.console.say(*wrap(sentence, self.width, _INDENT))
 
     def next_line(self) -> bytes | None:
-        """The next line that is typed, or None where the person ends.
+        """The next line that is typed, or None if the person ends.
 
-        It is an empty one too where the file was saved before a line is begun.
+        It is an empty one too if the file was saved before a line is begun.
         """
         self.console.flush()
         try:

@@ -72,7 +72,7 @@ class _Book:
 
 
 def run(arguments: Namespace, console: Console) -> Status:
-    """Shows what differs and what mends it, and mends it where that is asked for."""
+    """Shows what differs and what mends it, and mends it if that is asked for."""
     try:
         source = named_table(arguments.source)
     except NoTable as found:
