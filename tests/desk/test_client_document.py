@@ -59,6 +59,7 @@ def used_by(module: Path) -> set[str]:
 
 def test_no_module_uses_one_that_is_named_after_it() -> None:
     layout = DOCUMENT.read_text().split("\n## How it is laid out\n", 1)[1]
+    layout = layout.split("\n## ", 1)[0]
     named = re.findall(r"`(\w+)`", layout)
     modules = {
         path.stem: path

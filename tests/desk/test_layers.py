@@ -157,3 +157,17 @@ def test_no_method_has_the_name_of_a_function_that_python_has() -> None:
         if isinstance(method, ast.FunctionDef) and method.name in vars(builtins)
     ]
     assert found == []
+
+
+def test_each_module_of_the_client_is_named_where_its_layout_is_described() -> None:
+    text = (ROOT / "docs" / "CLIENT.md").read_text(encoding="utf-8")
+    layout = text[text.index("## How it is laid out") :]
+    front = (SRC / "braildesk/tables/convert/__init__.py").read_text(encoding="utf-8")
+    missing = {
+        module
+        for module, path in modules().items()
+        if module.startswith("braildesk.") and path.name != "__init__.py"
+        # those of the conversion are named on its own front page
+        if f"`{path.stem}`" not in (front if "convert." in module else layout)
+    }
+    assert missing == set()
