@@ -75,6 +75,14 @@ class Placed:
     lines: range
     spans: list[Span]
 
+    def line_of(self, cell: int) -> int:
+        """The line on which a cell stands.
+
+        An empty cell at which a line is broken stands on none: what is before it does.
+        """
+        before = sum(start <= cell for start, _ in self.spans)
+        return self.lines[max(0, before - 1)]
+
     @property
     def shown(self) -> list[str]:
         """What is embossed on its lines."""

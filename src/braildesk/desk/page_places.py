@@ -38,16 +38,11 @@ class PageMap:
         return self.of_cell(paragraph, self._session.output_position(paragraph, last))
 
     def of_cell(self, paragraph: int, cell: int) -> PagePlace | None:
-        """Where a cell of a paragraph stands; none if that is on no page.
-
-        An empty cell at which a line is broken stands on none: what is before it does.
-        """
+        """Where a cell of a paragraph stands; none if that is on no page."""
         number, placed = self._placed.get(paragraph, (0, None))
         if placed is None or not placed.spans:
             return None
-        before = sum(start <= cell for start, _ in placed.spans)
-        line = placed.lines[max(0, before - 1)]
-        return PagePlace(number, *self._page_size.place(line))
+        return PagePlace(number, *self._page_size.place(placed.line_of(cell)))
 
 
 @dataclass(frozen=True)

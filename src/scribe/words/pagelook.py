@@ -158,10 +158,8 @@ def page_of(session: Session, volume: Volume, sought: Sought) -> Page:
 
 def line_of(volume: Volume, section: Section, lines: range, cell: int) -> int:
     """The line of a volume on which a cell of a paragraph stands that takes some lines."""
-    # an empty cell at which a line is broken stands on none: what is before it does
     spans = spans_of(section, volume.page_size.width)
-    before = sum(start <= cell for start, _ in spans)
-    return lines[max(0, before - 1)]
+    return Placed(section, lines, spans).line_of(cell)
 
 
 def _lines_of(session: Session, volume: Volume, page: int) -> list[str]:
