@@ -8,6 +8,8 @@ from pathlib import Path
 import pytest
 
 from braildesk.desk.whole_file import Access, MayNotLast, NoPlaceForAFile, write_whole
+
+from scribe.words.status import may_not_last
 from strangers import NEEDS_ROOT, STRANGER, as_stranger, lead_to
 from tool import scribe
 
@@ -187,7 +189,7 @@ def test_a_folder_that_cannot_be_synced_has_the_new_file_and_that_is_said(
     with pytest.raises(MayNotLast) as failed:
         write_whole(file, b"newer")
     assert file.read_bytes() == b"newer"
-    assert failed.value.sentence_about(file) == (
+    assert may_not_last(file, failed.value) == (
         f"{file} is written, but its folder could not be brought to the disk: no sync. After"
         " a loss of power the older file may be there."
     )

@@ -24,13 +24,6 @@ _NO_SYNC_OF_FOLDERS = (errno.EINVAL, errno.ENOTSUP, errno.ENOSYS)
 class MayNotLast(OSError):
     """A file has its new bytes, and whether its name outlasts a loss of power isn't known."""
 
-    def sentence_about(self, file: Path) -> str:
-        """What is so of the file."""
-        return (
-            f"{file} is written, but its folder could not be brought to the disk:"
-            f" {self.strerror}. After a loss of power the older file may be there."
-        )
-
 
 class NoPlaceForAFile(OSError):
     """What stands at a path, or what a link there leads to, isn't replaced by a file."""

@@ -20,7 +20,7 @@ from braildesk.desk.whole_file import MayNotLast
 
 from scribe.words.console import Console
 from scribe.words.paragraph import counted
-from scribe.words.status import Interrupted, Status, stopped_by
+from scribe.words.status import Interrupted, Status, may_not_last, stopped_by
 
 
 def export_in_words(job: Job, console: Console) -> Status:
@@ -132,7 +132,7 @@ def not_written(fault: NotWritten) -> str:
     """What is said of a volume that couldn't be written, and of the others."""
     if isinstance(fault.cause, MayNotLast):
         files = Files((*fault.files.new, fault.volume), fault.files.as_before)
-        return fault.cause.sentence_about(fault.file) + _files(files)
+        return may_not_last(fault.file, fault.cause) + _files(files)
     left = "is as it was" if fault.is_there else "was not made"
     return (
         f"Volume {fault.volume} could not be written: {fault.cause.strerror}. {fault.file}"

@@ -5,6 +5,7 @@ import os
 import signal
 from collections.abc import Iterable, Iterator
 from contextlib import contextmanager
+from pathlib import Path
 
 from braildesk.desk import Problem
 
@@ -94,6 +95,14 @@ def of_system(failure: OSError) -> str:
     why = failure.strerror or str(failure) or type(failure).__name__
     what = f"{named} could not be read or written" if named else "The system failed"
     return f"{what}: {why}. What was reported as kept is in the book."
+
+
+def may_not_last(file: Path, failure: OSError) -> str:
+    """What is so of a file whose name may not outlast a loss of power."""
+    return (
+        f"{file} is written, but its folder could not be brought to the disk:"
+        f" {failure.strerror}. After a loss of power the older file may be there."
+    )
 
 
 def _is_nowhere() -> bool:

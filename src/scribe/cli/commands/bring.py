@@ -24,7 +24,7 @@ from braildesk.tables.convert.tailoring import Manuscript, tailor
 from scribe.cli.parser import Subparsers, command_parser, readable
 from scribe.words.console import Console
 from scribe.words.import_text import unreadable
-from scribe.words.status import Status, Stop
+from scribe.words.status import Status, Stop, may_not_last
 
 MORE = """\
 TABLE is a table that liblouis has, by its name, as de-g0.utb or de-g0, or its title, or a
@@ -231,7 +231,7 @@ def _written(text: str, file: Path | None, console: Console) -> Status:
     try:
         write_whole(file, text.encode())
     except MayNotLast as error:
-        raise Stop(error.sentence_about(file), Status.FAILED) from error
+        raise Stop(may_not_last(file, error), Status.FAILED) from error
     except OSError as error:
         raise Stop(
             f"{file} could not be written: {error.strerror}.", Status.FAILED

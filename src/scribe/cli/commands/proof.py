@@ -13,7 +13,7 @@ from scribe.cli.page_size import add_page_size, page_size_of
 from scribe.cli.parser import Subparsers, add_file, command_parser
 from scribe.words.console import Console
 from scribe.words.proof_html import Proof
-from scribe.words.status import Status, Stop
+from scribe.words.status import Status, Stop, may_not_last
 
 MORE = """\
 PROOF is one file of HTML for any browser: each page as it will be embossed, the print
@@ -75,7 +75,7 @@ def run(arguments: Namespace, console: Console) -> Status:
     try:
         write_whole(arguments.proof, text, Access.of(arguments.file))
     except MayNotLast as error:
-        raise Stop(error.sentence_about(arguments.proof), Status.FAILED) from error
+        raise Stop(may_not_last(arguments.proof, error), Status.FAILED) from error
     except OSError as error:
         raise Stop(
             f"{arguments.proof} could not be written: {error.strerror}.", Status.FAILED
