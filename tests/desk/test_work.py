@@ -23,7 +23,7 @@ COUNT = 600
 #: What each paragraph of the book has, once.
 WORDS = "far away"
 #: How many of our modules are imported, and how many in all, at most.
-MODULES = {"--help": (24, 130), "show": (62, 190), "marks": (58, 185)}
+MODULES = {"--help": (24, 130), "show": (56, 184), "marks": (54, 178)}
 #: Modules that take as long as all of a short command, and are needed by few.
 DEAR = {
     "braildesk.desk.drafts",
