@@ -1,9 +1,10 @@
 """Each key once, at three sizes, and what a screen reader would say of the screen after each.
 
-`screens/80x24.txt` and the two others have the screens: after each line with keys the lines that
-changed, in their order and with their numbers, and where the cursor stands. They are drawn without a
-terminal; the first keys are pressed in one too. With `SCREENS=write` in the environment the files
-are written as the screens are, to be read and compared by `git diff`.
+The files of the folder `screens` have the screens: after each line with keys the lines that changed,
+in their order and with their numbers, and where the cursor stands. They are drawn without a terminal;
+the first keys are pressed in one too. Those of 40 by 12 and 80 by 24 were written by hand, by what
+the documents say of each key, and are changed by hand. With `SCREENS=write` in the environment those
+of 200 by 60 are written as the screens are, to be read and compared by `git diff`.
 """
 
 import os
@@ -22,7 +23,6 @@ from sitting import Sat, Sit
 from terminal import Open
 
 SCREENS = Path(__file__).with_name("screens")
-SIZES = [(80, 24), (40, 12), (200, 60)]
 #: How many of the steps are pressed in a terminal too: those along the paragraph and to others.
 IN_TERMINAL = 26
 #: The keys of each step; what is in quotation marks is typed.
@@ -120,6 +120,53 @@ c-up
 )
 
 
+#: The keys of a line that is typed, those that do nothing, and what a table lacks.
+TYPING = """
+enter
+c-right
+right
+a-f
+a-b
+end
+c-left
+home
+up
+down
+f5
+delete
+'T'
+c-k
+c-y
+backspace
+'!'
+c-w
+a-backspace
+c-u
+c-u
+c-y
+a-b
+a-d
+escape
+enter
+enter
+o
+'ě'
+backspace
+escape
+f5
+""".strip().split(
+    "\n"
+)
+#: The size and the steps of each file.
+FILES = {
+    "40x12": ((40, 12), STEPS),
+    "typing-40x12": ((40, 12), TYPING),
+    "80x24": ((80, 24), STEPS),
+    "200x60": ((200, 60), STEPS),
+}
+BY_HAND = ("40x12", "typing-40x12", "80x24")
+
+
 @dataclass
 class Shown:
     """What stands on a screen, and where the cursor is: a line and a column."""
@@ -201,22 +248,23 @@ def cells_alone(lines: list[str]) -> bool:
     )
 
 
-@pytest.mark.parametrize("size", SIZES, ids=lambda size: f"{size[0]}x{size[1]}")
+@pytest.mark.parametrize("name", FILES)
 def test_the_screen_after_each_key_is_what_has_to_be_there(
-    moon: Path, sit: Sit, size: tuple[int, int], monkeypatch: pytest.MonkeyPatch
+    moon: Path, sit: Sit, name: str, monkeypatch: pytest.MonkeyPatch
 ) -> None:
+    size, steps = FILES[name]
     monkeypatch.chdir(moon.parent)
     (moon.parent / "text.txt").write_text("The sun\n\nThe stars.\n")
     empty = Shown([""] * size[1], (0, 0))
-    wanted = Wanted(SCREENS / f"{size[0]}x{size[1]}.txt")
+    wanted = Wanted(SCREENS / f"{name}.txt")
     sat = sit(moon, size=Size(*size))
-    shown = [(keys, pressed(sat, keys)) for keys in ["", *STEPS]]
-    if os.environ.get("SCREENS") == "write":
+    shown = [(keys, pressed(sat, keys)) for keys in ["", *steps]]
+    if os.environ.get("SCREENS") == "write" and name not in BY_HAND:
         wanted.steps = [(keys or "opened", each) for keys, each in shown]
         wanted.write(empty)
         return
     wanted.read(empty)
-    assert [keys for keys, _ in wanted.steps] == ["opened", *STEPS]
+    assert [keys for keys, _ in wanted.steps] == ["opened", *steps]
     for (keys, there), (_, each) in zip(wanted.steps, shown):
         assert (keys, each.lines, each.cursor) == (keys, there.lines, there.cursor)
         assert cells_alone(each.lines), keys

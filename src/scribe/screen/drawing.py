@@ -341,7 +341,8 @@ def _mark_lines(state: State, marks: tuple[Mark, ...], most: int) -> list[str]:
     first = wrap(_how_many(marks) + mark_line(marks[0], text), width)
     others = [wrap(mark_line(mark, text), width) for mark in marks[1:]]
     if len(first) + sum(map(len, others)) > most:
-        others = [_at_most(each, 1, width) for each in others[: most // 3]]
+        count = max(most // 3, most - len(first))
+        others = [_at_most(each, 1, width) for each in others[:count]]
     first = _at_most(first, most - sum(map(len, others)), width)
     return [*first, *(line for each in others for line in each)]
 
