@@ -1,12 +1,14 @@
 """Books that are made whole or not at all: new ones, and copies."""
 
 import os
+import sqlite3
 from collections.abc import Iterator, Sequence
-from contextlib import contextmanager
+from contextlib import closing, contextmanager
 from dataclasses import dataclass, replace
-from os import fspath
+from os import fsencode, fspath
 from pathlib import Path
 from typing import Any, BinaryIO
+from urllib.parse import quote
 
 from braildesk import opening, program as programs
 from braildesk.held import copy_held, held
@@ -246,6 +248,7 @@ def _finish(source: BinaryIO, made: Path, copied: os.stat_result) -> None:
 def _put(made: Path, target: _Target) -> None:
     """Gives a whole copy its path, if nothing of an older book is left beside it."""
     if target.replaces:
+        _empty_log(target)
         put_over(made, target.path)
         return
     _judge_log(target.named, NotCopied, "copy")
@@ -253,3 +256,26 @@ def _put(made: Path, target: _Target) -> None:
         put(made, target.path)
     except FileExistsError:
         raise _taken(target.named) from None
+
+
+def _empty_log(target: _Target) -> None:
+    """Puts what stands in the log of a held book into its file.
+
+    Until the copy takes its place the book is whole in that file then, whenever this ends.
+    """
+    if not has_work(f"{target.path}-wal"):
+        return
+    # the lock is held here already, so that SQLite takes none, nor shares the log with anybody
+    address = f"file:{quote(fsencode(target.path))}?mode=rw&vfs=unix-none"
+    try:
+        with closing(sqlite3.connect(address, uri=True)) as database:
+            database.execute("PRAGMA trusted_schema = OFF")
+            database.set_progress_handler(lambda: 1, opening.STEPS)
+            database.execute("PRAGMA locking_mode = EXCLUSIVE")
+            database.execute("PRAGMA wal_checkpoint(TRUNCATE)").fetchone()
+    except sqlite3.OperationalError as error:
+        why = f"what stands in the log of the older book can't be put into its file ({error})"
+        raise _not_written(target.named, why) from error
+    except sqlite3.DatabaseError:
+        # no program opens what is there, nor finds any work in its log
+        pass

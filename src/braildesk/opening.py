@@ -245,7 +245,7 @@ def _lock(kind: int) -> bytes:
 # A view and a virtual table give rows that stand nowhere in the file, perhaps without end. No table
 # of a book is one.
 #: How many steps of SQLite's machine may be taken in a file of a stranger.
-_STEPS = 1_000_000
+STEPS = 1_000_000
 _TABLES = (b"book", b"tab", b"para", b"corr", b"corr2", b"mark", b"cache")
 #: The front of what SQLite says of a schema that it can't read.
 _MALFORMED = "malformed database schema"
@@ -258,7 +258,7 @@ def reader(path: str | PathLike[str], is_alone: bool) -> sqlite3.Connection:
     address = f"file:{quote(fsencode(fspath(path)))}?{how}"
     database = sqlite3.connect(address, uri=True)
     database.execute("PRAGMA trusted_schema = OFF")
-    database.set_progress_handler(lambda: 1, _STEPS)
+    database.set_progress_handler(lambda: 1, STEPS)
     return database
 
 

@@ -205,6 +205,60 @@ def test_a_book_that_can_not_be_replaced_keeps_its_work(
         assert session.print_of(1) == "of the old book"
 
 
+#: What Python does with names and files while a copy takes the place of a book.
+STEPS = {"os.mkdir", "os.remove", "os.rename", "os.rmdir", "sqlite3.connect"}
+
+
+def killed_before(step: int, deed: Callable[[], object]) -> bool:
+    """Whether a copy of this process was killed before so many steps of what it did were done."""
+    child = os.fork()
+    if child == 0:
+        done = 0
+
+        def watch(event: str, _: object) -> None:
+            nonlocal done
+            if event in STEPS:
+                done += 1
+                if done > step:
+                    os.kill(os.getpid(), signal.SIGKILL)
+
+        try:
+            sys.addaudithook(watch)
+            deed()
+            os._exit(0)
+        finally:
+            os._exit(1)
+    status = os.waitstatus_to_exitcode(os.waitpid(child, 0)[1])
+    assert status in (0, -signal.SIGKILL)
+    return status != 0
+
+
+def test_where_a_copy_is_killed_the_older_book_is_there_with_its_work_or_the_copy(
+    book: Path, tmp_path: Path
+) -> None:
+    older, folder = tmp_path / "older", tmp_path / "folder"
+    shutil.copyfile(book, older)
+    killed_after(older, "at version 2")
+    with Session(book) as session:
+        session.add_paragraph("end", "en", "at version 2")
+        session.add_paragraph("end", "en", "at version 3")
+    folder.mkdir()
+    to = folder / "to"
+    found = list[int]()
+    while 3 not in found:
+        for ending in ("", "-wal"):
+            shutil.copyfile(f"{older}{ending}", f"{to}{ending}")
+        is_killed = killed_before(
+            len(found), lambda: braildesk.copy(book, to, overwrite=True)
+        )
+        found.append(braildesk.check(to))
+        assert is_killed or found[-1] == 3
+    # until the copy has its name, which is one of the last things done
+    assert (len(found) > 4, set(found)) == (True, {2, 3})
+    assert braildesk.copy(book, to, overwrite=True) == 3
+    assert names(folder) <= {"to", "to-wal"}
+
+
 @NEEDS_ROOT
 def test_a_book_of_another_that_can_not_be_replaced_gets_no_log_of_the_copy(
     made_once: Path, open_folder: Path
