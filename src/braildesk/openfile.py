@@ -1,10 +1,11 @@
-"""The file of a book that a session has open: whether it still is at its path, and what is in it."""
+"""The file of a book that a session has open: whether it still is there and a book, and what is in it."""
 
 import os
 from pathlib import Path
 from typing import BinaryIO
 
 from braildesk import program as programs
+from braildesk.opening import MAGIC
 from braildesk.program import StrPath
 from braildesk.protocol.asked import real_path
 from braildesk.refusals import Failed, Unopened
@@ -25,12 +26,14 @@ class OpenFile:
         #: Where the path leads.
         self.path = real_path(path)
         self._descriptor: int | None = None
+        self._was_database = False
         if os.path.isfile(self.path):
             try:
                 # a pipe that stands there by now isn't waited for
                 self._descriptor = os.open(self.path, os.O_RDONLY | os.O_NONBLOCK)
             except OSError:
                 return  # the program says why
+            self._was_database = self._is_database(self._descriptor)
 
     @property
     def is_at_its_path(self) -> bool:
@@ -43,6 +46,20 @@ class OpenFile:
             return os.path.samestat(found, os.fstat(self._descriptor))
         except OSError:
             return False
+
+    @property
+    def is_overwritten(self) -> bool:
+        """Whether the file began as a database does, and doesn't any more, or is empty.
+
+        No program that uses it as one ever changes these bytes, whatever else it writes there.
+        """
+        if self._descriptor is None or not self._was_database:
+            return False
+        return not self._is_database(self._descriptor)
+
+    @staticmethod
+    def _is_database(descriptor: int) -> bool:
+        return os.pread(descriptor, len(MAGIC), 0) == MAGIC
 
     def opened(self) -> BinaryIO:
         """The file, to be read from its front, and closed."""
@@ -68,6 +85,18 @@ class OpenFile:
         except OSError as error:
             raise Failed(f"{error.strerror or error}.") from error
 
+    def save_text(self, text: str) -> str:
+        """Puts a text to a new path beside the file."""
+        assert self._descriptor is not None
+        try:
+            with made_beside(self.path) as made:
+                with create(made) as written:
+                    written.write(text.encode())
+                    give_access(written.fileno(), os.fstat(self._descriptor))
+                return _put_beside(made, self.path, ".txt")
+        except OSError as error:
+            raise Failed(f"{error.strerror or error}.") from error
+
     def close(self) -> None:
         """Holds the file no longer."""
         if self._descriptor is not None:
@@ -83,11 +112,11 @@ def _version(made: Path, program: StrPath | None) -> int:
         raise Failed("What was written there can't be opened.") from failed
 
 
-def _put_beside(made: Path, path: str) -> str:
+def _put_beside(made: Path, path: str, ending: str = "") -> str:
     """Puts a file beside a path, under a name that nothing has."""
     number = 1
     while True:
-        saved = f"{path}-saved-{number}"
+        saved = f"{path}-saved-{number}{ending}"
         try:
             if not os.path.lexists(f"{saved}-wal"):
                 put(made, saved)

@@ -158,10 +158,10 @@ class SessionEnded(Lost):
 
 
 class Displaced(Lost):
-    """The file of a session's book was removed, renamed or replaced while it was open.
+    """The file of a session's book was removed, renamed, replaced or overwritten while it was open.
 
-    What was acknowledged is in that file, and isn't in what stands at the path. The sentence says
-    where all of it was saved.
+    What was acknowledged is not in what stands at the path. The sentence says where all of it was
+    saved, or of a file that was overwritten the print.
     """
 
 

@@ -81,6 +81,8 @@ class Session:
         self._is_streaming = False
         self._thread = threading.get_ident()
         self._is_closed = False
+        #: Whether the file isn't looked at any more, since what it held is being saved.
+        self._is_saving = False
         self._lost: Lost | None = None
         self._acknowledged: Request[Any] | None = None
         self._answered = 0
@@ -119,6 +121,8 @@ class Session:
         # looked at while nobody else can have it: once the program has ended, anybody may replace it
         if self._acknowledged is not None and not self._file.is_at_its_path:
             raise self._displaced()
+        if self._file.is_overwritten:
+            raise self._overwritten()
         self._is_closed = True
         ending = self._pipe.close()
         if ending.status:
@@ -312,8 +316,11 @@ class Session:
             raise self._lose(
                 Lost, refused_as(Refusal(Code.NOT_KEPT, request, room=room)).sentence
             )
-        if reply.word == "ok" and not self._file.is_at_its_path:
-            raise self._displaced()
+        if reply.word == "ok" and not self._is_saving:
+            if not self._file.is_at_its_path:
+                raise self._displaced()
+            if self._file.is_overwritten:
+                raise self._overwritten()
         return reply
 
     def _note(self, request: Request[Any], reply: Reply) -> None:
@@ -389,6 +396,41 @@ class Session:
         self._file.close()
         self._lost = self._lost_as(Displaced, cause, kept)
         return self._lost
+
+    def _overwritten(self) -> Lost:
+        """The exception of a session whose file was written into by others, with the print saved.
+
+        The program answers from what it has in memory, whatever stands in the file.
+        """
+        self._is_saving, self._is_streaming = True, False
+        shown = shortened(self._book.path, len(self._book.path))
+        cause = (
+            f"Another program wrote into the file of the book, {shown}, while it was open: it is no"
+            " book any more."
+        )
+        try:
+            saved = self._file.save_text(self._all_print())
+            kept = (
+                "The print of all paragraphs, with what was kept last, is in the new file"
+                f" {shortened(saved, len(saved))}. Go on with a copy of the book, and import from"
+                " that file what it lacks."
+            )
+        except DeskError as failed:
+            kept = (
+                "What was kept last isn't safe there, and its print could not be saved in a new"
+                f" file: {failed.sentence} Copy what you typed last."
+            )
+        self._is_closed = True
+        self._pipe.drop()
+        self._pipe.kill()
+        self._pipe.close()
+        self._file.close()
+        self._lost = self._lost_as(Displaced, cause, kept)
+        return self._lost
+
+    def _all_print(self) -> str:
+        """The print of all paragraphs, with an empty line between each and the next."""
+        return "\n\n".join(self.print_of(each.id) for each in self.paragraphs()) + "\n"
 
     def _kept(self, waiting: Sequence[Command[Any]]) -> str:
         """What is in the book after all, and what may be."""

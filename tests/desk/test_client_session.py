@@ -622,6 +622,40 @@ def test_a_book_that_is_gone_with_its_folder_says_that_it_is_not_saved(
     )
 
 
+@pytest.mark.parametrize("moment", ["before a command", "among many", "before the end"])
+@pytest.mark.parametrize("how", ["emptied", "overwritten"])
+def test_the_print_of_a_book_that_was_written_into_is_saved(
+    book: Path, how: str, moment: str
+) -> None:
+    def write() -> None:
+        with open(book, "r+b") as file:
+            if how == "emptied":
+                file.truncate(0)
+            else:
+                file.write(b"Dear Anna,\n")
+
+    book.chmod(0o640)
+    with pytest.raises(Displaced) as caught:
+        with Session(book) as session:
+            session.add_paragraph("end", "en", "One.")
+            session.add_paragraph("end", "en", "Two.")
+            write()
+            if moment == "before a command":
+                session.move(2, "front")
+            elif moment == "among many":
+                for _ in session.each([requests.Move(2, "front")] * 3):
+                    pass
+    saved = Path(f"{book}-saved-1.txt")
+    assert caught.value.sentence == (
+        f"Another program wrote into the file of the book, “{book}”, while it was open: it is no book"
+        " any more. The print of all paragraphs, with what was kept last, is in the new file"
+        f" “{saved}”. Go on with a copy of the book, and import from that file what it lacks."
+    )
+    texts = ["One.", "Two."] if moment == "before the end" else ["Two.", "One."]
+    assert saved.read_text() == "\n\n".join(texts) + "\n"
+    assert saved.stat().st_mode & 0o777 == 0o640
+
+
 def test_a_session_that_asked_alone_does_not_mind_what_became_of_the_file(
     book: Path,
 ) -> None:
