@@ -186,6 +186,29 @@ def test_a_mark_whose_words_are_gone_is_put_again_on_the_character_there(
     assert marks == [(1, 4, True, "spelled so?"), (2, 4, False, "spelled so?")]
 
 
+def test_a_mark_that_could_not_be_put_again_is_resolved_once_that_is_asked(
+    moon: Path, sit: Sit
+) -> None:
+    sat = sit(moon)
+    sat.press("n", "enter", "c-e", "c-u", "enter", "r")
+    assert sat.state.kept == "kept: correction 2 of paragraph 1"
+    asked = (
+        "Paragraph 1 is empty, so mark 1 can't be put on it again. Shall it be resolved?"
+        " y is yes, n is no."
+    )
+    assert " ".join(sat.lines[-3:]).strip() == asked
+    sat.press("n")
+    assert (sat.state.message, sat.state.question) == ("Nothing was resolved.", None)
+    assert not sat.state.marks_here[0].resolved
+    sat.press("r", "y")
+    assert sat.state.kept == "kept: mark 1 resolved"
+    sat.press("u")
+    assert sat.state.message == (
+        "The book has no way back from this: mark 1 was resolved. u again takes back that"
+        " paragraph 1 was corrected."
+    )
+
+
 def test_a_table_that_was_put_into_the_book_stays_there_which_is_said_before(
     moon: Path, sit: Sit
 ) -> None:

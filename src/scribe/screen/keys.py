@@ -73,6 +73,7 @@ _SENTENCE = re.compile(r"[.!?\u2026][\u201d\u2019\u00bb\"')\]]*\s+")
 _AS_IT_WAS = "Given up. The book is as it was."
 _NOT_ADDED = "This paragraph was empty, and wasn't added."
 _STAYS_TYPED = "It stays as it is typed. Enter asks again."
+_DONE = {ImportFrom: "typed", TakeBack: "taken back", requests.Resolve: "resolved"}
 _HELP = "Keys "
 # what shows keys also where ? is a letter
 _ASKS_FOR_KEYS = ("f1", "a-?")
@@ -222,9 +223,12 @@ def _answered(state: State, question: Question, key: str) -> Step:
 
 
 def _about_errand(
-    state: State, question: Question, action: ImportFrom | TakeBack, key: str
+    state: State,
+    question: Question,
+    action: ImportFrom | TakeBack | requests.Resolve,
+    key: str,
 ) -> Step:
-    """An earlier import of a text goes on or is done again; or what keys did is taken back."""
+    """An import goes on or is done again; what keys did is taken back; a mark is resolved."""
     answered = replace(state, question=None)
     if key == "y":
         return Step(answered, action)
@@ -233,8 +237,7 @@ def _about_errand(
     if question.no and key in ("l", "escape"):
         return Step(answered.saying(_ASKED_LATER))
     if key in ("n", "escape"):
-        done = "taken back" if isinstance(action, TakeBack) else "typed"
-        return Step(answered.saying(f"Nothing was {done}."))
+        return Step(answered.saying(f"Nothing was {_DONE[type(action)]}."))
     return Step(state.saying(_NO_ANSWER))
 
 
@@ -692,7 +695,14 @@ def _mark(state: State) -> Step:
 def _resolve(state: State) -> Step:
     for mark in state.marks_here:
         if not mark.resolved:
-            return Step(state, requests.Resolve(mark.id, expect=state.version))
+            asked = requests.Resolve(mark.id, expect=state.version)
+            if state.reading is None or state.reading.braille:
+                return Step(state, asked)
+            sentence = (
+                f"Paragraph {_chosen(state).id} is empty, so mark {mark.id} can't be put on it again."
+                " Shall it be resolved?"
+            )
+            return Step(replace(state, question=Question(sentence, yes=asked)))
     return Step(state.saying("There is no open mark here. n looks for the next one."))
 
 

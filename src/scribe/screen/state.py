@@ -9,6 +9,7 @@ from braildesk.desk.draft import Aim, Draft
 from braildesk.desk.highlighting import Highlighted
 from braildesk.desk.layout import PageSize
 from braildesk.desk.readings import ParagraphReading
+from braildesk.protocol.requests import Resolve
 from braildesk.text.spans import Span
 
 from scribe.screen.actions import (
@@ -58,9 +59,9 @@ class Question:
     draft: Field | None = None
     #: A text that is too long for one paragraph, and may go on in a new one, in its two parts.
     parts: tuple[str, str] | None = None
-    #: What is done if the answer is yes, or no, where the question is about a text in a file or
-    #: about what is taken back.
-    yes: ImportFrom | TakeBack | None = None
+    #: What is done if the answer is yes, or no, where the question is about a text in a file, about
+    #: what is taken back, or about what can't be.
+    yes: ImportFrom | TakeBack | Resolve | None = None
     no: LeaveImport | None = None
     #: The place of the text that U asks about next, if this one was given up.
     older: int | None = None
