@@ -7,7 +7,9 @@ from pathlib import Path
 
 import pytest
 
-from scribe.screen.arrivals import Arrivals
+from braildesk import Session
+
+from scribe.screen.arrivals import Arrivals, Lull
 from scribe.screen.keyboard import Keyboard, Pasted, Stroke
 from stand_in import READ, WAIT
 from terminal import Open, standing_in
@@ -109,6 +111,43 @@ def test_what_comes_is_done_once_and_in_its_order_however_it_comes() -> None:
             for each in done_with(*came)
         ]
         assert "".join(done) == text
+
+
+def test_a_paste_is_over_once_for_three_seconds_keys_come_one_by_one_or_nothing() -> (
+    None
+):
+    lull = Lull()
+    lull.came(200, True, 10.0)
+    lull.came(1_000, True, 12.5)
+    # over a slow line characters come one by one, and faster than hands type them
+    for hundredth in range(0, 400, 3):
+        lull.came(1, True, 12.51 + hundredth / 100)
+    assert lull.due == pytest.approx(19.5)
+    for at in (17.0, 17.5, 19.0):
+        lull.came(1, True, at)
+        assert not lull.is_over(at)
+    assert lull.is_over(19.51)
+    lull.came(6, False, 19.6)
+    assert (lull.due, lull.is_over(100.0)) == (None, False)
+
+
+def test_keys_act_again_where_the_end_of_a_paste_never_comes(
+    moon: Path, at: Open
+) -> None:
+    terminal = at(moon, 160)
+    terminal.wait("? shows the keys.")
+    terminal.keys("o")
+    terminal.wait("-- New paragraph after paragraph 1")
+    terminal.send("\x1b[200~It rose.")
+    terminal.wait(
+        "The end of the pasted text didn't come. All that came is taken as pasted"
+    )
+    terminal.keys("enter")
+    terminal.wait("version 8, table en, last kept: paragraph 4")
+    terminal.keys("escape", "q")
+    assert terminal.ended() == 0
+    with Session(moon) as session:
+        assert session.print_of(4) == "It rose."
 
 
 def test_keys_that_were_typed_while_a_command_was_under_way_act_one_by_one(

@@ -17,6 +17,7 @@ from braildesk.desk.highlighting import Highlighted
 from braildesk.desk.readings import ParagraphReading
 from braildesk.text.spans import Span
 
+from scribe.screen import keyboard as keyboards
 from scribe.screen.drawing import draw
 from scribe.screen.field import Field, Purpose
 from scribe.screen.keyboard import Keyboard, Pasted
@@ -213,6 +214,28 @@ def test_a_paste_whose_end_never_comes_is_text_and_no_other_rest_is(end: str) ->
     assert keyboard.strokes("\x1b[200~It rose." + end) + keyboard.last() == []
     assert (keyboard.rest(), keyboard.rest()) == ([Pasted("It rose.")], [])
     assert keyboard.strokes("\x1b[20") + keyboard.rest() == []
+
+
+def test_a_paste_may_be_ended_and_keys_that_were_pressed_in_it_are_no_text() -> None:
+    keyboard = Keyboard()
+    assert keyboard.strokes("s") + keyboard.end_paste() == ["s"]
+    pressed = ["\x1b[200~It rose.\rIt", "\x1b[A", "\x7f", "\x1b", "\x03", "\t", " set."]
+    assert [stroke for each in pressed for stroke in keyboard.strokes(each)] == []
+    assert keyboard.is_pasting
+    text = "It rose.\rIt\t set."
+    assert keyboard.end_paste() == [Pasted(text, has_end=False)]
+    assert not keyboard.is_pasting
+    assert keyboard.strokes("s\x1b[201~") == ["s", "unknown"]
+
+
+def test_a_paste_is_waited_for_up_to_so_many_characters(
+    monkeypatch: pytest.MonkeyPatch,
+) -> None:
+    monkeypatch.setattr(keyboards, "_MOST", 20)
+    keyboard = Keyboard()
+    assert keyboard.strokes("\x1b[200~It rose.") == []
+    assert keyboard.strokes(" It set.") == [Pasted("It rose. It set.", has_end=False)]
+    assert keyboard.strokes("s") == ["s"]
 
 
 def test_keys_with_alt_at_the_terminal_leave_the_text_and_escape_alone_ends_it(

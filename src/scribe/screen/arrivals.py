@@ -16,6 +16,8 @@ _TOGETHER_SECONDS = 0.015
 _PASTE_SECONDS = 0.05
 # keys that waited while the desk was busy are typed if there was so much time for each
 _TYPED_SECONDS = 0.04
+# how long a paste is waited for once no more of it comes
+_LULL_SECONDS = 3.0
 _FEW = 3
 _TEXT = {"enter": "\n", "tab": "\t"}
 
@@ -74,6 +76,31 @@ class Arrivals:
         if not _is_pasted(held):
             return list(held)
         return [Pasted("".join(_TEXT.get(key, key) for key in held))]
+
+
+@dataclass
+class Lull:
+    """A paste whose end doesn't come: it is over once keys alone come for some time, or nothing.
+
+    A terminal that breaks off in the middle would have each key be text of the paste for good.
+    """
+
+    #: The time at which the paste is over; None where nothing is being pasted.
+    due: float | None = None
+    _latest: float = 0.0
+
+    def came(self, characters: int, is_pasting: bool, now: float) -> None:
+        """Characters came, all at once, after which a text is being pasted or isn't."""
+        is_of_paste = characters > _FEW or now - self._latest < _PASTE_SECONDS
+        self._latest = now
+        if not is_pasting:
+            self.due = None
+        elif is_of_paste or self.due is None:
+            self.due = now + _LULL_SECONDS
+
+    def is_over(self, now: float) -> bool:
+        """Whether the end of the paste isn't waited for any longer."""
+        return self.due is not None and now >= self.due
 
 
 def _is_pasted(held: Sequence[str]) -> bool:

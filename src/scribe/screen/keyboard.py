@@ -49,11 +49,18 @@ _CONTROLS = {"\r": "enter", "\n": "enter", "\t": "tab", "\x08": "backspace"}
 _CONTROLS |= {"\x7f": "backspace", _ESCAPE: "escape"}
 
 
+# so much of a text that is pasted is waited for, in characters
+_MOST = 1 << 22
+# what is no text in a paste of which nobody knows where it ended: keys that were pressed after it
+_NO_TEXT = re.compile(rf"{_KEY.pattern}|[\x00-\x08\x0b\x0c\x0e-\x1f\x7f]", re.DOTALL)
+
+
 @dataclass(frozen=True)
 class Pasted:
-    """A text that was pasted."""
+    """A text that was pasted, and whether its end came too."""
 
     text: str
+    has_end: bool = True
 
 
 #: A key by its name or its character, or a pasted text.
@@ -66,13 +73,25 @@ class Keyboard:
     def __init__(self) -> None:
         self._rest = ""
 
+    @property
+    def is_pasting(self) -> bool:
+        """Whether the end of a text that is pasted hasn't come yet."""
+        return self._rest.startswith(_PASTE)
+
     def strokes(self, text: str) -> list[Stroke]:
         """The keys that are there whole, once more characters have come."""
         self._rest += text
         found: list[Stroke] = []
         while (stroke := self._next()) is not None:
             found.append(stroke)
-        return found
+        return found + (self.end_paste() if len(self._rest) > _MOST else [])
+
+    def end_paste(self) -> list[Stroke]:
+        """What came of a paste whose end isn't waited for any longer; what comes next is keys."""
+        if not self.is_pasting:
+            return []
+        text, self._rest = self._rest.removeprefix(_PASTE), ""
+        return [Pasted(_NO_TEXT.sub("", text), has_end=False)]
 
     def last(self) -> list[Stroke]:
         """The key that waits for more characters, if none come: Escape, or one with Alt."""

@@ -24,7 +24,7 @@ from prompt_toolkit.styles import Style
 
 from braildesk.text.characters import visible
 
-from scribe.screen.arrivals import Arrivals
+from scribe.screen.arrivals import Arrivals, Lull
 from scribe.screen.desk import Desk, preview_of
 from scribe.screen.drawing import Drawing, draw
 from scribe.words.encoding import in_encoding
@@ -50,6 +50,7 @@ _CLASSES = {
 _SAVE_SECONDS = 1.0
 # how long Escape waits for a key that would make it Alt
 _ESCAPE_SECONDS = 0.1
+_NO_END = "The end of the pasted text didn't come. All that came is taken as pasted, and keys act again."
 
 
 class _Input(Vt100Input):
@@ -120,6 +121,7 @@ class Screen:
         self._clock = clock
         self._keyboard = Keyboard()
         self._arrivals = Arrivals()
+        self._lull = Lull()
         self._timer: asyncio.TimerHandle | None = None
         self._waiting: list[Stroke] = []
         #: What had come and wasn't read as scribe was told to end.
@@ -274,14 +276,21 @@ class Screen:
         now, read_at = self._clock(), self._read_at
         self._read_at = now
         since = None if self._is_idle else max(self._busy_from, read_at)
-        self._do(self._arrivals.came(self._keyboard.strokes(text), now, since))
+        strokes = self._keyboard.strokes(text)
+        self._lull.came(len(text), self._keyboard.is_pasting, now)
+        self._do(self._arrivals.came(strokes, now, since))
 
     def _paused(self) -> None:
         """Nothing comes after Escape, so it is that key."""
         self._do(self._arrivals.came(self._keyboard.last(), self._clock()))
 
     def _let_go(self) -> None:
-        self._do(self._arrivals.let_go(self._clock()))
+        now = self._clock()
+        if self._lull.is_over(now):
+            self._lull.due = None
+            self._do(self._arrivals.came(self._keyboard.end_paste(), now))
+        else:
+            self._do(self._arrivals.let_go(now))
 
     def _do(self, strokes: Sequence[Stroke]) -> None:
         """Carries out keys, and sees to it that those that are held are let go."""
@@ -299,16 +308,18 @@ class Screen:
             if isinstance(stroke, Pasted) or self.state.is_over:
                 self._waiting.append(stroke)
         elif isinstance(stroke, Pasted):
-            self._become(self._desk.paste(self.state, stroke.text))
+            state = self._desk.paste(self.state, stroke.text)
+            self._become(state if stroke.has_end else state.saying_too(_NO_END))
         else:
             self._become(self._desk.press(self.state, stroke))
 
     def _wait_for_held(self) -> None:
         if self._timer is not None:
             self._timer.cancel()
-        due, self._timer = self._arrivals.due, None
-        if due is not None:
-            wait = max(0.0, due - self._clock())
+        dues = [due for due in (self._arrivals.due, self._lull.due) if due is not None]
+        self._timer = None
+        if dues:
+            wait = max(0.0, min(dues) - self._clock())
             self._timer = asyncio.get_running_loop().call_later(wait, self._let_go)
 
     def _become(self, state: State) -> None:
