@@ -1,5 +1,6 @@
 """What is given up, left for later or pasted where nothing is typed: it is kept and comes back."""
 
+import errno
 import os
 import shutil
 import signal
@@ -10,6 +11,7 @@ import pytest
 from braildesk import Session
 from braildesk.desk.draft import Aim, Draft
 from braildesk.desk.drafts import Drafts
+from braildesk.desk.own_folder import OwnFolder
 from sitting import Sat, Sit
 from stand_in import KEPT, KILL_PROGRAM
 from terminal import Open, standing_in
@@ -318,6 +320,30 @@ def test_what_cant_be_kept_is_said_beside_a_refusal_and_once(
         sat.state = sat.desk.save_draft(sat.state)
     assert sat.state.message.startswith("The table of paragraph 1 has no cells for “ě”")
     assert sat.state.message.count("What is typed can't be kept in ") == 1
+
+
+def test_what_is_in_the_way_is_said_once_until_it_is_another_thing(
+    moon: Path, sit: Sit, monkeypatch: pytest.MonkeyPatch
+) -> None:
+    monkeypatch.setenv("XDG_STATE_HOME", "/proc/nowhere")
+    sat = sit(moon)
+    said = []
+    for key in ("o", "I", "t", "enter", "S", "enter", "escape", "s"):
+        sat.press(key)
+        # as each second
+        sat.state = sat.desk.save_draft(sat.state)
+        said.append(sat.state.message)
+    assert [each for each in said if "can't be kept in" in each] == said[1:2]
+    sat.press("o", "I")
+    monkeypatch.setattr(OwnFolder, "write", no_room)
+    sat.state = sat.desk.save_draft(sat.state)
+    assert "No space left on device" in sat.state.message
+    # where scribe ends it is said whether it was said before or not
+    assert "No space left on device" in sat.desk.saved(sat.state.saying("")).message
+
+
+def no_room(*_: object) -> None:
+    raise OSError(errno.ENOSPC, os.strerror(errno.ENOSPC))
 
 
 @pytest.mark.parametrize("typing", [True, False])

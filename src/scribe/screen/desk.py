@@ -121,6 +121,8 @@ class Desk:
         self._session: Session
         self._unsent = Unsent(self.drafts)
         self._notices = self._take_up()
+        #: What was last said to be in the way of keeping what is typed.
+        self._fault = ""
         #: The signal by which the work with the session closed is to end.
         self._stopped_by: signal.Signals | None = None
         #: The volumes that were laid out.
@@ -198,15 +200,34 @@ class Desk:
         return state
 
     def save_draft(self, state: State) -> State:
-        """Keeps what is typed until the book has it, and takes it away once nothing waits."""
-        if state.question is not None and state.question.draft is not None:
+        """Keeps what is typed until the book has it, and takes it away once nothing waits.
+
+        What is in the way is said once, and again when it is another thing.
+        """
+        fault = self._keep(state)
+        if not fault or fault == self._fault:
             return state
+        self._fault = fault
+        # tried again each second, which must not hide what is said
+        return state.saying_too(fault)
+
+    def saved(self, state: State) -> State:
+        """Does the same, and says what is in the way also where it was said before."""
+        fault = self._keep(state)
+        return state.saying_too(fault) if fault else state
+
+    def _keep(self, state: State) -> str:
+        """Keeps what is typed, or nothing, and gives what is in the way of it."""
+        if state.question is not None and state.question.draft is not None:
+            return ""
+        before = self._unsent.waiting
         try:
             self._unsent.keep(draft_of(state))
         except NotKept as fault:
-            # tried again each second, which must not hide what is said
-            return state.saying_too(not_kept(fault))
-        return state
+            return not_kept(fault)
+        if before != self._unsent.waiting:
+            self._fault = ""
+        return ""
 
     def away(self, state: State, report: Callable[[str], None]) -> State:
         """Does what takes long or needs the session closed, in a thread of its own."""
@@ -554,7 +575,7 @@ class Desk:
 
     def _after_loss(self, state: State, lost: Lost) -> State:
         """The book opened again after its session ended by itself, and what it has is said."""
-        state = self.save_draft(state.saying(""))
+        state = self.saved(state.saying(""))
         if isinstance(lost, Displaced):
             return self._ended(state, lost.sentence)
         waits = draft_of(state) or self._unsent.waiting
@@ -592,8 +613,8 @@ class Desk:
 
     def _sent(self, state: State, command: Command[Any]) -> State:
         """Sends a command; only what its `ok` says is said to be kept."""
-        # what is sent is kept until the book has it
-        state = self.save_draft(state)
+        # what is sent is kept until the book has it; what is in the way is said if it has not
+        self._keep(state)
         before, typed = state, state.typed
         try:
             resolving = self._resolving(state, command)
@@ -920,7 +941,7 @@ class Desk:
         back = (
             f"Once nothing is typed any more, U brings back the {what} after this one."
         )
-        return self.save_draft(state.saying_too(fault or back))
+        return self.saved(state.saying_too(fault or back))
 
 
 def preview_of(state: State, typed: Field) -> tuple[str, str, str]:

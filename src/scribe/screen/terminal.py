@@ -190,7 +190,7 @@ class Screen:
     def _keep_last(self) -> None:
         """Keeps what is typed at the end, or has it said if it can't be kept."""
         self._desk.keep_place(self.state)
-        kept = self._desk.save_draft(self.state)
+        kept = self._desk.saved(self.state)
         if kept is not self.state and kept.typed is not None:
             typed = ("This was typed:", visible(kept.typed.text))
             self.unseen = (*self.unseen, kept.message, *typed)
@@ -423,7 +423,7 @@ class Screen:
         """What ends scribe from outside: what is typed is kept."""
         self._stop_aside()
         self._unread += self._input.rest()
-        self.state = self._desk.save_draft(self.state)
+        self.state = self._desk.saved(self.state)
         # a terminal that is closed and a shell that ends may both send a signal
         if not self.state.is_over:
             self.state = replace(self.state, is_over=True)
