@@ -346,6 +346,47 @@ def no_room(*_: object) -> None:
     raise OSError(errno.ENOSPC, os.strerror(errno.ENOSPC))
 
 
+@pytest.mark.parametrize("key", ["c-u", "c-w", "a-backspace"])
+def test_what_was_cut_comes_back_by_ctrl_y_after_scribe_was_killed(
+    moon: Path, sit: Sit, key: str
+) -> None:
+    sat = sit(moon)
+    sat.press("o", *"Moonrise", key)
+    sat.state = sat.desk.save_draft(sat.state)
+    assert sat.desk.drafts.waiting() is None
+    sat.desk.close()
+    # as after a kill: nothing of what the first one had is left but its files
+    again = sit(moon)
+    assert again.state.message == (
+        "“Moonrise” was cut out of what was typed. Ctrl-Y puts it in while you type. ? shows"
+        " the keys."
+    )
+    again.press("o", "c-y")
+    assert again.state.typed and again.state.typed.text == "Moonrise"
+
+
+def test_what_was_cut_out_of_a_text_that_waits_comes_back_by_ctrl_y(
+    moon: Path, at: Open
+) -> None:
+    terminal = at(moon)
+    terminal.wait("? shows the keys.")
+    terminal.keys("o", *"It rose", "c-w")
+    terminal.wait("“rose” was cut.")
+    terminal.send_signal(signal.SIGTERM)
+    assert terminal.ended() == -signal.SIGTERM
+    again = at(moon)
+    again.wait("y is yes, n is no. l leaves it for later.")
+    again.keys("y")
+    again.wait("-- New paragraph after paragraph 1")
+    again.keys("c-y")
+    again.wait("It rose")
+    again.keys("enter")
+    again.wait("last kept: paragraph 4")
+    again.keys("escape", "q")
+    assert again.ended() == 0
+    assert Drafts(moon).cut() == ""
+
+
 @pytest.mark.parametrize("typing", [True, False])
 def test_text_that_came_before_the_end_and_was_not_taken_in_is_kept(
     moon: Path, at: Open, typing: bool

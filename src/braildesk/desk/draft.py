@@ -66,8 +66,8 @@ class Draft:
             "purpose": self.aim.name,
             "paragraph": self.paragraph,
             "table": self.table,
-            "before": _written(self.before),
-            "text": _written(self.text),
+            "before": written(self.before),
+            "text": written(self.text),
             "cells": None if cells is None else [cells.start, cells.stop],
             "version": self.version,
         }
@@ -92,7 +92,7 @@ def draft_in(kept: Record) -> Draft:
     )
 
 
-def _written(text: str) -> str:
+def written(text: str) -> str:
     """A text as it is kept: what came in bytes that aren't UTF-8 has no character."""
     return _SURROGATE.sub("\N{REPLACEMENT CHARACTER}", text)
 

@@ -15,7 +15,7 @@ from pathlib import Path
 from typing import TypeVar
 
 from braildesk.desk import Problem
-from braildesk.desk.draft import Draft, draft_in
+from braildesk.desk.draft import Draft, draft_in, written
 from braildesk.desk.import_note import ImportNote, Pairs, note_in, pairs_in, values_of
 from braildesk.desk.own_folder import (
     MOST_BYTES,
@@ -42,6 +42,7 @@ class Begun(Enum):
     IMPORTS = "imports"
     REPLACEMENTS = "replacements"
     LEFT_AT = "left-at"
+    CUT = "cut"
 
 
 @dataclass(frozen=True)
@@ -159,6 +160,21 @@ class Drafts:
             self._write(Begun.LEFT_AT, asdict(place))
         except NotSaved:
             pass
+
+    def cut(self) -> str:
+        """What was cut out of a text and not put in again; what can't be read is no fault."""
+        try:
+            data = self._folder.read(self._name(Begun.CUT))
+            return "" if data is None else Record.of(data).text("text")
+        except (NotSuch, OSError):
+            return ""
+
+    def keep_cut(self, text: str) -> None:
+        """Keeps what was cut out of a text, in place of what was; nothing is kept of no text."""
+        if text:
+            self._write(Begun.CUT, {"text": written(text)})
+        else:
+            self._remove(Begun.CUT)
 
     def begin_import(self, note: ImportNote) -> None:
         """Notes an import before its first paragraph is typed, in place of others of its text."""

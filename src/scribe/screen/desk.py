@@ -60,7 +60,7 @@ from scribe.screen.actions import (
     TypeAll,
 )
 from scribe.screen.background import done_in_background, question_about
-from scribe.screen.field import Field, Purpose
+from scribe.screen.field import Cut, Field, Purpose
 from scribe.screen.in_hand import left_here, with_mark_in_hand
 from scribe.screen.keys import Step
 from scribe.screen.state import (
@@ -154,7 +154,7 @@ class Desk:
             is_ascii=is_ascii,
             message=self._greeting(),
         )
-        state = self._where_left(state)
+        state = self._with_cut(self._where_left(state))
         state = self._reminded(self._offered(state, self._unsent.waiting))
         return self.refreshed(state)
 
@@ -217,15 +217,18 @@ class Desk:
         return state.saying_too(fault) if fault else state
 
     def _keep(self, state: State) -> str:
-        """Keeps what is typed, or nothing, and gives what is in the way of it."""
+        """Keeps what is typed and what was cut, or nothing, and gives what is in the way of it."""
         if state.question is not None and state.question.draft is not None:
             return ""
-        before = self._unsent.waiting
+        before = self._unsent.waiting, self._unsent.cut
         try:
-            self._unsent.keep(draft_of(state))
+            try:
+                self._unsent.keep_cut(state.cut.text if state.cut else "")
+            finally:
+                self._unsent.keep(draft_of(state))
         except NotKept as fault:
             return not_kept(fault)
-        if before != self._unsent.waiting:
+        if before != (self._unsent.waiting, self._unsent.cut):
             self._fault = ""
         return ""
 
@@ -291,6 +294,17 @@ class Desk:
         pane = Pane.CELLS if left.is_in_cells else Pane.PRINT
         state = replace(state.at(places[0], left.place), pane=pane)
         return state.saying(f"{_OPENED_THERE} {state.message}".rstrip())
+
+    def _with_cut(self, state: State) -> State:
+        """The state with what was cut out of a text when scribe was ended, for Ctrl-Y."""
+        text = self._unsent.cut
+        if not text:
+            return state
+        state = replace(state, cut=Cut(Field(Purpose.EDIT), text, False))
+        if self._unsent.waiting:
+            return state
+        said = f"{quoted(text)} was cut out of what was typed. Ctrl-Y puts it in while you type."
+        return state.saying(f"{said} {state.message}".rstrip())
 
     def stop(self, number: signal.Signals) -> None:
         """Has the work with the session closed end before its next step."""

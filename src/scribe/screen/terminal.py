@@ -190,8 +190,9 @@ class Screen:
     def _keep_last(self) -> None:
         """Keeps what is typed at the end, or has it said if it can't be kept."""
         self._desk.keep_place(self.state)
-        kept = self._desk.saved(self.state)
-        if kept is not self.state and kept.typed is not None:
+        state = self.state if self.state.typed else replace(self.state, cut=None)
+        kept = self._desk.saved(state)
+        if kept is not state and kept.typed is not None:
             typed = ("This was typed:", visible(kept.typed.text))
             self.unseen = (*self.unseen, kept.message, *typed)
         self.state = kept

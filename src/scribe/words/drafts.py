@@ -17,6 +17,7 @@ _BEGUN = {
     Begun.IMPORTS: "How far the import comes",
     Begun.REPLACEMENTS: "What stands in the place of other characters",
     Begun.LEFT_AT: "Where the book is left",
+    Begun.CUT: "What is cut out of it",
 }
 
 
@@ -67,6 +68,8 @@ class Unsent:
         self._drafts = drafts
         #: The text that waits, which is offered at the next opening.
         self.waiting: Draft | None = None
+        #: What was last cut out of a text that was typed, which is put in again by a key.
+        self.cut = ""
         # the text that was left for later, and waits again once no other one does
         self._later: Draft | None = None
         # what was given up and couldn't be kept, the newest first
@@ -74,6 +77,7 @@ class Unsent:
 
     def read(self) -> None:
         """Reads what waits from before, or raises `NotKept`."""
+        self.cut = self._drafts.cut()
         self.waiting = self._drafts.waiting()
 
     def keep(self, typed: Draft | None) -> None:
@@ -92,6 +96,12 @@ class Unsent:
                 self._drafts.put_by(self._later)
             self._drafts.save(wanted)
         self.waiting = wanted
+
+    def keep_cut(self, text: str) -> None:
+        """Keeps what was last cut out of a text, or nothing; may raise `NotKept`."""
+        if text != self.cut:
+            self._drafts.keep_cut(text)
+            self.cut = text
 
     def put_by(self, draft: Draft) -> str:
         """Keeps a text as the newest of those given up, and says what is in the way of that."""
