@@ -1,6 +1,7 @@
 """The words of the command line, and what becomes of them."""
 
 import os
+import shlex
 import shutil
 import signal
 import subprocess
@@ -12,6 +13,7 @@ import pytest
 import braildesk
 from braildesk import Session
 from braildesk.protocol.requests import BY_NAME
+from braildesk.tables.convert import words as word_lists
 from scribe.cli.commands import COMMANDS
 from scribe.cli.parser import unknown_command
 from scribe.cli import prompt_words
@@ -52,21 +54,37 @@ def path(tmp_path_factory: pytest.TempPathFactory) -> str:
 # edit needs a terminal, in which test_screen_terminal.py runs it, and window a screen, as tests/window has it
 @pytest.mark.parametrize("name", [name for name in ALL if name not in LOOKING])
 def test_the_example_of_each_command_works_as_it_stands(
-    name: str, moon: Path, path: str
+    name: str, moon: Path, path: str, monkeypatch: pytest.MonkeyPatch
 ) -> None:
+    # the same words on any machine, and fewer of them than in a list that is installed
+    lists = moon.parent / "lists"
+    lists.mkdir()
+    (lists / "british-english").write_text("moon\ntide\nsea\naway\n")
+    monkeypatch.setattr(word_lists, "LISTS", lists)
     help_text = scribe(name, "--help", folder=moon.parent)
     assert (help_text.status, help_text.said) == (0, "")
     lines = examples(help_text.shown)
     assert lines and any(f"scribe {name} " in line for line in lines)
     for line in lines:
-        done = subprocess.run(
-            ["sh", "-c", line],
-            cwd=moon.parent,
-            env=environment(PATH=path, BRAILDESK=braildesk.find()),
-            capture_output=True,
-        )
-        assert done.returncode == 0, (line, done.stderr.decode())
-        assert done.stdout or done.stderr, line
+        ran = of_line(line, moon.parent, path)
+        assert ran.status == 0, (line, ran.said)
+        assert ran.shown or ran.said, line
+
+
+def of_line(line: str, folder: Path, path: str) -> Ran:
+    """Runs a line of the shell, which needs none where it is the words of one command."""
+    parts = shlex.shlex(line, posix=True, punctuation_chars=True)
+    parts.whitespace_split = True
+    command, *words = parts
+    if command == "scribe" and not {"|", "&&", ">"} & {*words}:
+        return scribe(*words, folder=folder)
+    done = subprocess.run(
+        ["sh", "-c", line],
+        cwd=folder,
+        env=environment(PATH=path, BRAILDESK=braildesk.find()),
+        capture_output=True,
+    )
+    return Ran(done.returncode, done.stdout.decode(), done.stderr.decode())
 
 
 def test_a_window_needs_a_screen(moon: Path) -> None:
