@@ -1,5 +1,6 @@
 """What the tests of the desk share: the built program, and books made by it."""
 
+import fcntl
 import os
 import shutil
 import signal
@@ -138,20 +139,36 @@ def moon(moon_once: Path, tmp_path: Path) -> Path:
 def big_book() -> Iterator[Path]:
     """A book of 20,000 paragraphs, of which each names its number, and which no test changes.
 
-    Each is kept before the next one, which takes a disk minutes and a disk of memory seconds.
+    Each is kept before the next one, which takes a disk minutes and a disk of memory seconds. Of the
+    processes that run the tests side by side the first one that needs it makes it for all.
     """
     memory = "/dev/shm" if os.access("/dev/shm", os.W_OK) else None
     with TemporaryDirectory(prefix="scribe-big-", dir=memory) as folder:
         path = Path(folder, "big.braildesk")
-        braildesk.new_book(path)
-        with Session(path) as session:
-            session.supply_table("en")
-            typed = session.each(
-                Type("end", "en", f"Paragraph number {number} of the moon.")
-                for number in range(1, 20_001)
-            )
-            assert all(isinstance(answer, Typed) for answer in typed)
+        if TAKEN is None:
+            make_big_book(path)
+        else:
+            made = Path(TAKEN).with_name(path.name)
+            with open(made.with_suffix(".lock"), "w", encoding="utf-8") as lock:
+                # the others wait here while it is made
+                fcntl.flock(lock, fcntl.LOCK_EX)
+                if not made.exists():
+                    make_big_book(path)
+                    shutil.copyfile(path, made)
+            shutil.copyfile(made, path)
         yield path
+
+
+def make_big_book(path: Path) -> None:
+    """Makes that book."""
+    braildesk.new_book(path)
+    with Session(path) as session:
+        session.supply_table("en")
+        typed = session.each(
+            Type("end", "en", f"Paragraph number {number} of the moon.")
+            for number in range(1, 20_001)
+        )
+        assert all(isinstance(answer, Typed) for answer in typed)
 
 
 @pytest.fixture
