@@ -164,7 +164,7 @@ def test_no_process_is_left_where_the_reading_of_a_table_is_broken_off(
         raise cause
 
     before = children(os.getpid())
-    monkeypatch.setattr(oracle._Process, "_line", breaks_off)
+    monkeypatch.setattr(oracle._Process, "_lines", breaks_off)
     with pytest.raises(cause):
         Liblouis(tmp_path / "any.utb")
     assert children(os.getpid()) == before

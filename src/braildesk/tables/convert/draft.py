@@ -207,4 +207,5 @@ def cells_by(table: Path | Table, lines: Sequence[str]) -> list[Cells | None]:
 def _cells(answer: str | Refused) -> Cells | None:
     if isinstance(answer, Refused):
         return None
-    return tuple(ord(one) - 0x2800 for one in answer)
+    # the low byte of each character of Braille Patterns is its cell
+    return tuple(answer.encode("utf-16-le")[::2])

@@ -90,7 +90,7 @@ class Marks:
             probe
             for characters in strings
             for place in places
-            for probe in self._probes.of(characters, place)[:1]
+            for probe in self._probes.first_of(characters, place)
         ]
         different: dict[str, set[Place]] = {}
         for probe in self._different(probes):

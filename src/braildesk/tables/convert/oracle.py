@@ -11,7 +11,7 @@ import select
 import subprocess
 import sys
 import time
-from collections import Counter
+from collections import Counter, deque
 from collections.abc import Iterable, Iterator, Sequence
 from dataclasses import dataclass
 from pathlib import Path
@@ -130,6 +130,8 @@ class _Process:
     def __init__(self) -> None:
         self._running: subprocess.Popen[bytes] | None = None
         self._unread = b""
+        #: The answers that came and weren't taken yet.
+        self._came: deque[Any] = deque()
         self._read: set[Path] = set()
 
     def close(self) -> None:
@@ -138,6 +140,7 @@ class _Process:
             self._running.communicate()
         self._running = None
         self._unread = b""
+        self._came.clear()
         self._read.clear()
 
     def read(self, table: Path) -> str:
@@ -182,9 +185,14 @@ class _Process:
             raise _Silent from error
 
     def _answer(self, seconds: float) -> Any:
-        return json.loads(self._line(seconds))
+        if not self._came:
+            # each stands on a line of its own, and many are read faster together
+            lines = self._lines(seconds).replace(b"\n", b",")
+            self._came.extend(json.loads(b"[" + lines + b"]"))
+        return self._came.popleft()
 
-    def _line(self, seconds: float) -> bytes:
+    def _lines(self, seconds: float) -> bytes:
+        """The lines that have come to their ends, once there is one."""
         assert self._running is not None and self._running.stdout is not None
         stream = self._running.stdout
         end = time.monotonic() + seconds
@@ -196,13 +204,13 @@ class _Process:
                 self.close()
                 raise _Silent
             self._unread += more
-        line, _, self._unread = self._unread.partition(b"\n")
-        return line
+        lines, _, self._unread = self._unread.rpartition(b"\n")
+        return lines
 
 
 def _cells(braille: str) -> Cells:
     """The cells of braille. The dots that no page has are masked, as liblouis masks them."""
-    return tuple(ord(cell) & 255 for cell in braille)
+    return tuple(braille.encode("utf-16-le", "surrogatepass")[::2])
 
 
 @dataclass(frozen=True)

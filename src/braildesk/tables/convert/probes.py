@@ -3,8 +3,9 @@
 from __future__ import annotations
 
 import enum
-from collections.abc import Iterable, Sequence
+from collections.abc import Iterable, Iterator, Sequence
 from dataclasses import dataclass, replace
+from itertools import islice
 from typing import Final
 
 from braildesk.tables.convert.draft import TableDraft
@@ -85,13 +86,19 @@ class Probes:
 
     def of(self, characters: str, place: Place) -> list[Probe]:
         """The characters in a place, beside two letters and digits. None if the table has none."""
+        return list(self._of(characters, place))
+
+    def first_of(self, characters: str, place: Place) -> list[Probe]:
+        """The same beside one letter and digit."""
+        return list(islice(self._of(characters, place), 1))
+
+    def _of(self, characters: str, place: Place) -> Iterator[Probe]:
         left, right = place
         if left is Side.EDGE and characters.startswith(" "):
-            return []
+            return
         if right is Side.EDGE and characters.endswith(" "):
-            return []
+            return
         inside = place == (Side.EDGE, Side.EDGE) and len(characters) == 1
-        probes = []
         for letter, first, second in self._samples:
             probe = Probe(
                 characters,
@@ -100,8 +107,9 @@ class Probes:
                 self._before(left, letter, first),
                 self._after(right, letter, second),
             )
-            probes.append(self._beside_mark(probe) if inside else probe)
-        return [probe for probe in probes if self._is_whole(probe)]
+            probe = self._beside_mark(probe) if inside else probe
+            if self._is_whole(probe):
+                yield probe
 
     def _before(self, side: Side, letter: str, digit: str) -> str:
         """What stands before, within a line: a number at the beginning of one may be that of a list."""
@@ -178,7 +186,7 @@ class Probes:
         return cells
 
     def _is_whole(self, probe: Probe) -> bool:
-        return all(one in self._draft.cells for one in probe.line) and (
+        return self._draft.cells.keys() >= {*probe.line} and (
             (probe.left is Side.EDGE or probe.before != "")
             and (probe.right is Side.EDGE or probe.after != "")
         )
