@@ -53,7 +53,7 @@ def odd(kind: str, folder: Path) -> str:
     """A path of a kind."""
     match kind:
         case "a long path":
-            return "x/" * 2_500
+            return f"{'x' * 200}/" * 25
         case "a long name":
             return "x" * 300
         case "a loop":
