@@ -2,7 +2,14 @@
 
 import time
 import unicodedata
-from collections.abc import ItemsView, Iterable, Iterator, ValuesView
+from collections.abc import (
+    Callable,
+    ItemsView,
+    Iterable,
+    Iterator,
+    Sequence,
+    ValuesView,
+)
 from dataclasses import replace
 from pathlib import Path
 from typing import Any, cast
@@ -10,6 +17,7 @@ from typing import Any, cast
 import pytest
 
 from braildesk import Mark, Paragraph, Session, Style, Table
+from braildesk.desk.find import Hit
 from braildesk.desk.layout import PageSize
 from braildesk.desk.manuscript import Position, passages
 from braildesk.desk.proof import proof_pages
@@ -17,9 +25,11 @@ from braildesk.desk.validation import faults
 from braildesk.protocol import requests
 from braildesk.tables import read, warnings
 from braildesk.tables.convert.shipped import head_of
-from braildesk.text import sequences
+from braildesk.text import sequences, wrapping
 from braildesk.text.sequences import belongs, composed
+from braildesk.text.spans import find_spans
 from braildesk.text.wrapping import wrap
+from scribe.words.find import word_lines
 
 # far more than the least that is wanted takes on a slow machine, and far less than its square
 SECONDS = 5
@@ -117,7 +127,7 @@ def test_of_a_line_without_end_the_characters_are_looked_at_where_it_matters(
     looked: list[int] = []
     of_text = sequences.seams
 
-    def seams(text: str) -> list[int]:
+    def seams(text: str) -> Sequence[int]:
         looked.append(len(text))
         return of_text(text)
 
@@ -132,6 +142,24 @@ def test_of_a_line_without_end_the_characters_are_looked_at_where_it_matters(
         assert passage.position(place).column == len(passage.lines[0].text)
         assert passage.position(4_000) < passage.position(place)
         assert sum(looked) < 10_000
+
+
+def test_a_text_is_measured_once_for_all_places_that_are_found_in_it(
+    monkeypatch: pytest.MonkeyPatch,
+) -> None:
+    measured: list[int] = []
+    of_text = wrapping.measure
+
+    def measure(text: str) -> Callable[[str], int]:
+        measured.append(len(text))
+        return of_text(text)
+
+    monkeypatch.setattr("braildesk.text.excerpt.measure", measure)
+    text = "the moon " * 1_000
+    its = Paragraph(1, "en", Style.BODY, False, False, len(text))
+    lines = list(word_lines(Hit(its, text, find_spans(text, "moon")), 80))
+    assert len(lines) == 1_000
+    assert measured == [len(text)]
 
 
 class OfOneParagraph:

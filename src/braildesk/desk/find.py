@@ -87,11 +87,11 @@ class Tally:
     def with_hit(self, hit: Hit, sought: str) -> "Tally":
         """With those of another paragraph."""
         found = {hit.text[place.start : place.stop] for place in hit.places} - {sought}
-        kinds = {kind for words in found for kind in unlike(sought, words)}
+        kinds = set(self.kinds).union(*(unlike(sought, words) for words in found))
         return Tally(
             self.count + len(hit.places),
             self.paragraphs + 1,
-            tuple(kind for kind in Kind if kind in kinds | set(self.kinds)),
+            tuple(kind for kind in Kind if kind in kinds) if found else self.kinds,
         )
 
 

@@ -1,76 +1,133 @@
 """Some words of a text, and as many of those around them as a line has room for."""
 
+import re
 from collections.abc import Callable, Sequence
 
-from braildesk.text.cells import BLANKS
+from braildesk.text.cells import BLANKS, EMPTY_CELL
 from braildesk.text.characters import visible
 from braildesk.text.sequences import sequences
 from braildesk.text.wrapping import columns, measure, wrap
 
 _CUT = "…"
 _INDENT = "  "
+# the blanks that are one column each: all but the tab
+_BLANK = re.compile(f"[ {EMPTY_CELL}]")
 #: How much of a text beside the words is worth the rest of a line.
 _BESIDE = 10
+_BRACKETS = len("[]")
+
+
+class Excerpts:
+    """Excerpts of one text, which is looked through once for how its characters are shown."""
+
+    def __init__(self, text: str) -> None:
+        self._text = text
+        #: Whether each character stands for itself, in one column.
+        self._is_plain = visible(text) == text and measure(text) is len
+
+    def line(self, start: int, stop: int, width: int) -> str:
+        """The words from one place to another in brackets, and words around them, in a line.
+
+        Where words are left out stands an ellipsis, also within the brackets if they are too long.
+        """
+        text, room = self._text, width - _BRACKETS - (stop - start)
+        if room < 0 or not self._is_plain:
+            return _in_brackets(text, start, stop, width)
+        half, rest = room // 2, len(text) - stop
+        front = _ending(text, start, room - rest if room - rest > half else half)
+        return f"{front}[{text[start:stop]}]{_opening(text, stop, room - len(front))}"
+
+    def lines(self, head: str, start: int, stop: int, width: int) -> list[str]:
+        """A head and an excerpt after it, in as few lines of the width as have all of the words.
+
+        The excerpt begins a line of its own if the rest of the head's line is short, and goes on
+        in others if the words fill more than one.
+        """
+        text, room = self._text, width - columns(head)
+        size = stop - start + _BRACKETS
+        if not self._is_plain:
+            size = columns(f"[{visible(text[start:stop])}]")
+        others = len(text) - (stop - start)
+        if size + _BESIDE <= room or size + others <= room:
+            return [head + self.line(start, stop, room)]
+        lines = wrap(head, width, _INDENT)
+        if size <= width:
+            return [*lines, self.line(start, stop, width)]
+        before, after = _CUT if start else "", _CUT if stop < len(text) else ""
+        words = f"{before}[{visible(text[start:stop])}]{after}"
+        return [*lines, *wrap(words, width, _INDENT)]
 
 
 def excerpt(text: str, start: int, stop: int, width: int) -> str:
-    """A line of a text: the words from one place to another in brackets, and words around them.
-
-    Where words are left out stands an ellipsis, also within the brackets if they are too long.
-    """
-    words = f"[{_both_ends(visible(text[start:stop]), width - 2)}]"
-    room = width - columns(words)
-    before, after = visible(text[:start]), visible(text[stop:])
-    front = ending(before, max(room // 2, room - columns(after)))
-    return front + words + opening(after, room - columns(front))
+    """A line of a text that is looked at once; `Excerpts.line` says what it is."""
+    return Excerpts(text).line(start, stop, width)
 
 
 def excerpt_lines(head: str, text: str, start: int, stop: int, width: int) -> list[str]:
-    """A head and an excerpt after it, in as few lines of the width as have all of the words.
-
-    The excerpt begins a line of its own if the rest of the head's line is short, and goes on in
-    others if the words fill more than one.
-    """
-    words = f"[{visible(text[start:stop])}]"
-    size, room = columns(words), width - columns(head)
-    beside = min(_BESIDE, len(text) - (stop - start))
-    if size + beside <= room:
-        return [head + excerpt(text, start, stop, room)]
-    lines = wrap(head, width, _INDENT)
-    if size <= width:
-        return [*lines, excerpt(text, start, stop, width)]
-    before, after = _CUT if start else "", _CUT if stop < len(text) else ""
-    return [*lines, *wrap(before + words + after, width, _INDENT)]
+    """Lines of a text that is looked at once; `Excerpts.lines` says what they are."""
+    return Excerpts(text).lines(head, start, stop, width)
 
 
 def opening(text: str, width: int) -> str:
     """The first words of a text, in a line of a width."""
     size_of = measure(text)
+    if size_of is len:
+        return _opening(text, 0, width)
     if size_of(text) <= width:
         return text
-    if size_of is len and width > 0:
-        # each character is a sequence of one column
-        blank = max(text.rfind(each, 1, width) for each in BLANKS)
-        if blank < 0 and text[0] in BLANKS:
-            # no word is cut if another one ends before it
-            return (text[0] if width > 1 else "") + _CUT
-        return text[: blank if blank > 0 else width - 1] + _CUT
     return "".join(_fitting(sequences(text), width, size_of))
 
 
 def ending(text: str, width: int) -> str:
     """The last words of a text, in a line of a width."""
     size_of = measure(text)
+    if size_of is len:
+        return _ending(text, len(text), width)
     if size_of(text) <= width:
         return text
-    if size_of is len and width > 0:
-        front = len(text) - width
-        blanks = (text.find(each, front, -1) for each in BLANKS)
-        blank = min((each for each in blanks if each >= 0), default=-1)
-        if blank < 0 and text[-1] in BLANKS:
-            return _CUT + (text[-1] if width > 1 else "")
-        return _CUT + text[(front if blank < 0 else blank) + 1 :]
     return "".join(reversed(_fitting(sequences(text)[::-1], width, size_of)))
+
+
+def _opening(text: str, start: int, width: int) -> str:
+    """The first words from a place on, where each character is a sequence of one column."""
+    stop = start + width
+    if len(text) <= stop:
+        return text[start:]
+    if width <= 0:
+        return ""
+    blank = text.rfind(" ", start + 1, stop)
+    empty = text.rfind(EMPTY_CELL, start + 1, stop)
+    if empty > blank:
+        blank = empty
+    if blank >= 0:
+        return text[start:blank] + _CUT
+    if text[start] in BLANKS:
+        # no word is cut if another one ends before it
+        return (text[start] if width > 1 else "") + _CUT
+    return text[start : stop - 1] + _CUT
+
+
+def _ending(text: str, stop: int, width: int) -> str:
+    """The last words up to a place, where each character is a sequence of one column."""
+    front = stop - width
+    if front <= 0:
+        return text[:stop]
+    if width <= 0:
+        return ""
+    if blank := _BLANK.search(text, front, stop - 1):
+        return _CUT + text[blank.end() : stop]
+    if text[stop - 1] in BLANKS:
+        return _CUT + (text[stop - 1] if width > 1 else "")
+    return _CUT + text[front + 1 : stop]
+
+
+def _in_brackets(text: str, start: int, stop: int, width: int) -> str:
+    """Words in brackets and those around them, whatever is shown of their characters."""
+    words = f"[{_both_ends(visible(text[start:stop]), width - 2)}]"
+    room = width - columns(words)
+    before, after = visible(text[:start]), visible(text[stop:])
+    front = ending(before, max(room // 2, room - columns(after)))
+    return front + words + opening(after, room - columns(front))
 
 
 def _both_ends(text: str, width: int) -> str:

@@ -7,7 +7,7 @@ to the one before it. The places between sequences are the seams of a text.
 
 import re
 import unicodedata
-from collections.abc import Iterator
+from collections.abc import Iterator, Sequence
 from functools import lru_cache
 
 from braildesk.text import limits
@@ -37,9 +37,11 @@ def belongs(before: str, character: str) -> bool:
     return len(unicodedata.normalize("NFC", before + character)) < 2
 
 
-def seams(text: str) -> list[int]:
+def seams(text: str) -> Sequence[int]:
     """The places of a text where no sequence is cut, its front and its end among them."""
-    places = list(range(len(text) + 1))
+    places = range(len(text) + 1)
+    if text.isascii():
+        return places
     lates = (late.start() for late in _LATE.finditer(text, 1))
     joined = {place for place in lates if belongs(text[place - 1], text[place])}
     return [place for place in places if place not in joined] if joined else places

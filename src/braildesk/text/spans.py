@@ -1,13 +1,12 @@
 """Where words stand in a print, and the words around them."""
 
-from collections.abc import Callable
-from dataclasses import dataclass
+from collections.abc import Callable, Mapping
+from typing import NamedTuple
 
 from braildesk.text.sequences import composed, seams, sequences
 
 
-@dataclass(frozen=True)
-class Span:
+class Span(NamedTuple):
     """The places of a text from the start up to but not including the stop."""
 
     start: int
@@ -34,23 +33,34 @@ def find_spans(text: str, sought: str, form: Form = composed) -> tuple[Span, ...
     wanted, whole = form(sought), form(text)
     if not wanted or wanted not in whole:
         return ()
-    stored = _places(text, whole, form)
+    size, stored = len(wanted), _places(text, whole, form)
+    starts = _starts(whole, wanted)
+    if stored is None:
+        return tuple([Span(start, start + size) for start in starts])
+    return tuple(
+        Span(stored[start], stored[start + size])
+        for start in starts
+        if start in stored and start + size in stored
+    )
+
+
+def _starts(text: str, sought: str) -> list[int]:
+    """Where a text stands in another, also where those places overlap."""
     found = []
-    start = whole.find(wanted)
+    start = text.find(sought)
     while start >= 0:
-        stop = start + len(wanted)
-        if start in stored and stop in stored:
-            found.append(Span(stored[start], stored[stop]))
-        start = whole.find(wanted, start + 1)
-    return tuple(found)
+        found.append(start)
+        start = text.find(sought, start + 1)
+    return found
 
 
-def _places(text: str, whole: str, form: Form) -> dict[int, int] | range:
-    """For each seam of a text its place in the whole form, with the same place of the text as it is."""
-    found = seams(text)
-    if len(whole) == len(text) < len(found):
-        # each character is a sequence of its own, and its form too
-        return range(len(found))
+def _places(text: str, whole: str, form: Form) -> Mapping[int, int] | None:
+    """For each seam of a text its place in the whole form, with the same place of the text as it is.
+
+    Nothing if each character is a sequence of its own and so is its form, so that both are the same.
+    """
+    if len(whole) == len(text) < len(seams(text)):
+        return None
     places = {0: 0}
     here = there = 0
     for piece in sequences(text):

@@ -22,14 +22,16 @@ _IDEOGRAPHS = (range(0xFA6E, 0xFB00), range(0x20000, 0x2FFFE), range(0x30000, 0x
 
 def columns(text: str) -> int:
     """How many columns of a terminal a text takes."""
-    if _NARROW.fullmatch(text):
+    # the first is far quicker, and texts of ASCII are many
+    if text.isascii() and text.isprintable() or _NARROW.fullmatch(text):
         return len(text)
     return sum(map(_columns_of, text))
 
 
 def measure(text: str) -> Callable[[str], int]:
     """What gives the columns that a part of a text takes."""
-    return len if _NARROW.fullmatch(text) else columns
+    is_plain = text.isascii() and text.isprintable()
+    return len if is_plain or _NARROW.fullmatch(text) else columns
 
 
 def wrap(text: str, width: int, indent: str = "") -> list[str]:

@@ -4,7 +4,7 @@ from collections.abc import Callable, Iterator, Sequence
 
 from braildesk.desk.find import Hit, Kind, Tally, alike, unlike
 from braildesk.text.cells import Notation
-from braildesk.text.excerpt import excerpt_lines
+from braildesk.text.excerpt import Excerpts
 from braildesk.text.spans import Span, find_spans
 
 from scribe.words.paragraph import quoted
@@ -40,9 +40,10 @@ def word_lines(
 
     It is said where that is on the pages, if this was asked for.
     """
+    title, excerpts = _title(hit), Excerpts(hit.text)
     for place in hit.places:
-        head = f"{_title(hit)}{where(place.start)}, character {place.start + 1}: "
-        yield from excerpt_lines(head, hit.text, place.start, place.stop, width)
+        head = f"{title}{where(place.start)}, character {place.start + 1}: "
+        yield from excerpts.lines(head, place.start, place.stop, width)
 
 
 def cell_lines(
@@ -57,12 +58,13 @@ def cell_lines(
 
     There are more of them if the cells or the words need them.
     """
+    title = _title(hit)
+    brailles, prints = Excerpts(cells.write(hit.text)), Excerpts(text)
     for place, origin in zip(hit.places, origins):
-        head = f"{_title(hit)}{where(place.start)}, cell {place.start + 1}: "
-        braille = cells.write(hit.text)
-        yield from excerpt_lines(head, braille, place.start, place.stop, width)
+        head = f"{title}{where(place.start)}, cell {place.start + 1}: "
+        yield from brailles.lines(head, place.start, place.stop, width)
         head = f"  character {origin.start + 1}: "
-        yield from excerpt_lines(head, text, origin.start, origin.stop, width)
+        yield from prints.lines(head, origin.start, origin.stop, width)
 
 
 def found_summary(text: str, tally: Tally, others: Tally, offer: str) -> str:
