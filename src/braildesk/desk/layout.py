@@ -7,7 +7,7 @@ paragraph from 0.
 from bisect import bisect_left, bisect_right
 from collections.abc import Iterable, Iterator, Sequence
 from dataclasses import dataclass
-from itertools import accumulate, chain, repeat
+from itertools import accumulate, chain, islice, repeat, takewhile
 
 from braildesk import Paragraph, Session, Style
 from braildesk.desk.readings import brailles
@@ -16,6 +16,8 @@ from braildesk.text.cells import EMPTY_CELL, braille_ascii
 _BODY_INDENT = 2
 _HEADING_INDENT = 4
 _DIGITS = str.maketrans("1234567890", "ABCDEFGHIJ")
+# how many paragraphs are asked for at once if not all may be needed
+_BATCH = 64
 
 #: Cells of a paragraph, from the first one up to but not including another one.
 Span = tuple[int, int]
@@ -151,9 +153,19 @@ class Layout:
         return b"".join(map(self.embossed, range(1, self.pages + 1)))
 
 
-def lay_out(sections: Iterable[Section], page_size: PageSize) -> Layout:
-    """Puts the words of a volume's paragraphs on lines, and the lines on pages."""
-    return Layout(page_size, tuple(placed(sections, page_size)))
+def lay_out(
+    sections: Iterable[Section], page_size: PageSize, last: int | None = None
+) -> Layout:
+    """Puts the words of a volume's paragraphs on lines, and the lines on pages.
+
+    No more than the last page that is wanted is laid out, if one is said, and the paragraphs that
+    begin on it or before.
+    """
+    found = placed(sections, page_size)
+    if last is not None:
+        stop = last * page_size.text_lines
+        found = takewhile(lambda each: each.lines.start < stop, found)
+    return Layout(page_size, tuple(found))
 
 
 def placed(sections: Iterable[Section], page_size: PageSize) -> Iterator[Placed]:
@@ -202,11 +214,16 @@ def _broken(words: str, first: int, later: int) -> list[Span]:
 
 @dataclass(frozen=True)
 class Volume:
-    """A volume: its number, its paragraphs, and their pages."""
+    """A volume: its number, its paragraphs, and their pages, maybe no more than the first of them."""
 
     number: int
     paragraphs: tuple[Paragraph, ...]
     layout: Layout
+
+    @property
+    def is_whole(self) -> bool:
+        """Whether all its pages are laid out."""
+        return len(self.layout.placed) == len(self.paragraphs)
 
     @property
     def brailles(self) -> dict[int, str]:
@@ -228,10 +245,15 @@ def parted(book: Sequence[Paragraph]) -> list[list[Paragraph]]:
 
 
 def volume(
-    session: Session, number: int, paragraphs: Sequence[Paragraph], page_size: PageSize
+    session: Session,
+    number: int,
+    paragraphs: Sequence[Paragraph],
+    page_size: PageSize,
+    last: int | None = None,
 ) -> Volume:
-    """A volume of a book, laid out."""
-    layout = lay_out(sections(session, paragraphs), page_size)
+    """A volume of a book, laid out up to the last page that is wanted, if one is said."""
+    some = sections if last is None else _some_sections
+    layout = lay_out(some(session, paragraphs), page_size, last)
     return Volume(number, tuple(paragraphs), layout)
 
 
@@ -239,3 +261,12 @@ def sections(session: Session, paragraphs: Sequence[Paragraph]) -> Iterator[Sect
     """Paragraphs with their braille, asked ahead."""
     for paragraph, cells in zip(paragraphs, brailles(session, paragraphs)):
         yield Section(paragraph.id, paragraph.style is Style.HEADING, cells)
+
+
+def _some_sections(
+    session: Session, paragraphs: Sequence[Paragraph]
+) -> Iterator[Section]:
+    """The same in groups, so that no more is asked than needed."""
+    rest = iter(paragraphs)
+    while group := list(islice(rest, _BATCH)):
+        yield from list(sections(session, group))

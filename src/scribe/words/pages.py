@@ -54,10 +54,10 @@ def row_line(its: PrintedRow) -> str:
     )
 
 
-def volume_title(its: Volume) -> str:
+def volume_title(its: Volume, pages: int) -> str:
     """A volume, how many pages it has, and of which size."""
-    pages = counted(its.layout.pages, "page")
-    return f"Volume {its.number}: {pages} of {described(its.layout.page_size)}."
+    size = described(its.layout.page_size)
+    return f"Volume {its.number}: {counted(pages, 'page')} of {size}."
 
 
 def not_there(volumes: Sequence[int], what: str) -> str:

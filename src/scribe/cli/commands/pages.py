@@ -54,15 +54,13 @@ def answer(session: Session, arguments: Namespace, console: Console) -> None:
     """Shows what is laid out, once it was compared with what export writes of the book."""
     if arguments.line is not None and arguments.page is None:
         raise WordsRefused("Argument --line: say the page by --page.", arguments.usage)
-    volumes = laid_out(session, arguments.volume, page_size_of(arguments))
+    volumes = laid_out(session, arguments)
     parts = shown(session, volumes, arguments)
     # a book that is open is exported from a copy, and nobody else changes it meanwhile
     with snapshot(arguments.read_at) as copied:
-        for part in parts:
-            if not _is_exported(copied, part):
-                raise Stop(_otherwise(part.volume), Status.FAILED)
-    for part in parts:
-        console.show(*part.lines)
+        counts = [_pages_of(copied, part) for part in parts]
+    for part, count in zip(parts, counts):
+        console.show(volume_title(part.volume, count), *part.lines)
 
 
 @dataclass(frozen=True)
@@ -74,37 +72,46 @@ class Part:
     pages: Sequence[int]
 
 
-def _is_exported(book: Path, part: Part) -> bool:
-    """Whether export writes the pages as they were laid out of which something is shown."""
+def _pages_of(book: Path, part: Part) -> int:
+    """How many pages export writes of a volume; of these are compared those that are shown."""
     its = part.volume.layout
     width, lines = its.page_size.width, its.page_size.lines
     try:
         written = export(book, part.volume.number, width, lines)
     except NotFound:
-        return False
-    pages = written.split(b"\f")
+        raise _otherwise(part.volume) from None
     # the last one ends in a form feed too
-    return len(pages) == its.pages + 1 and all(
-        pages[page - 1] + b"\f" == its.embossed(page) for page in part.pages
-    )
+    *pages, _ = written.split(b"\f")
+    is_counted = not part.volume.is_whole or len(pages) == its.pages
+    if not is_counted or any(
+        pages[page - 1 : page] != [its.embossed(page).removesuffix(b"\f")]
+        for page in part.pages
+    ):
+        raise _otherwise(part.volume)
+    return len(pages)
 
 
-def _otherwise(its: Volume) -> str:
-    return (
+def _otherwise(its: Volume) -> Stop:
+    return Stop(
         f"The pages of volume {its.number} were laid out otherwise than export writes them, so"
-        " nothing is shown. The book is as it was."
+        " nothing is shown. The book is as it was.",
+        Status.FAILED,
     )
 
 
-def laid_out(session: Session, wanted: int | None, page_size: PageSize) -> list[Volume]:
-    """The volume that is wanted, or all of them."""
+def laid_out(session: Session, arguments: Namespace) -> list[Volume]:
+    """The volume that is wanted, or all of them, each up to the page that is wanted, if one is."""
     parts = dict(enumerate(parted(session.paragraphs()), 1))
+    wanted, page_size = arguments.volume, page_size_of(arguments)
     if not parts:
         raise Stop("The book has no volume, since it has no paragraph to show.")
     if wanted is not None and wanted not in parts:
         raise Stop(f"There is no volume {wanted}: the book has {len(parts)}.")
     numbers = parts if wanted is None else [wanted]
-    return [volume(session, each, parts[each], page_size) for each in numbers]
+    return [
+        volume(session, each, parts[each], page_size, arguments.page)
+        for each in numbers
+    ]
 
 
 def shown(session: Session, volumes: list[Volume], arguments: Namespace) -> list[Part]:
@@ -125,7 +132,7 @@ def shown(session: Session, volumes: list[Volume], arguments: Namespace) -> list
 
 def _listed(session: Session, its: Volume) -> Part:
     """A line for each paragraph: from where to where it stands, and its first words."""
-    lines = [volume_title(its)]
+    lines = []
     for placed, text in zip(its.layout.placed, prints(session, its.paragraphs)):
         where = span(its.layout.page_size, placed.lines) if placed.lines else "No line"
         words = opening(visible(text), _OPENING)
@@ -153,8 +160,8 @@ def _detailed(
     for its, rows in found:
         if rows:
             lines = map(row_line, printed(session, its, rows))
-            pages = [row.page for row in rows]
-            parts.append(Part(its, [volume_title(its), *lines], pages))
+            pages = sorted({row.page for row in rows})
+            parts.append(Part(its, list(lines), pages))
     if not parts:
         raise Stop(none)
     return parts
