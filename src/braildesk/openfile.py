@@ -76,6 +76,7 @@ class OpenFile:
             with made_beside(self.path) as made:
                 with create(made) as written:
                     copy_bytes(self._descriptor, written.fileno())
+                    os.fsync(written.fileno())
                     give_access(written.fileno(), os.fstat(self._descriptor))
                     saved = os.fstat(written.fileno())
                 if _version(made, program) < version:

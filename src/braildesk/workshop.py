@@ -135,7 +135,7 @@ def give_access(file: int, like: os.stat_result) -> None:
 
 
 def copy_bytes(source: int, target: int) -> None:
-    """Copies a file to an empty one, with its holes, and has it on the disk."""
+    """Copies a file to an empty one, with its holes. Who keeps it has to have it on the disk."""
     size = os.fstat(source).st_size
     place = 0
     while place < size:
@@ -151,7 +151,6 @@ def copy_bytes(source: int, target: int) -> None:
         ):
             place += os.pwrite(target, data, place)
     os.ftruncate(target, size)
-    os.fsync(target)
 
 
 def _own_folder(parent: str) -> tuple[int, str]:
