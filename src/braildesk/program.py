@@ -323,6 +323,8 @@ def _text_at(path: str) -> bytes:
 
 def _judged(line: Line) -> Line | Refused:
     """A line that can be sent, or why it can't."""
+    if line.text.isprintable():
+        return line
     if lone := re.search("[\ud800-\udfff]", line.text):
         return refused_as(Refusal(Code.NO_REQUEST, line, place=lone.start()))
     if "\n" in line.text:

@@ -2,6 +2,7 @@
 
 from collections.abc import Iterator, Sequence
 from dataclasses import dataclass, replace
+from itertools import count
 from typing import Any
 
 from braildesk import After, Paragraph, Style, Table
@@ -92,15 +93,14 @@ class Intake:
         A new paragraph has the next number. Each request makes the next version, so that each
         paragraph goes after the one before it, and none is typed after one that was refused.
         """
-        for count, each in enumerate(self._in_order()):
-            yield replace(each, expect=self.version + count)
-
-    def _in_order(self) -> Iterator[Command[Any]]:
-        yield from self.lacking
-        after = self.after
+        versions = count(self.version)
+        for each in self.lacking:
+            yield replace(each, expect=next(versions))
+        after, table = self.after, self.table.name
         for number, passage in enumerate(self.passages, start=self.there + 1):
-            yield Type(after, self.table.name, passage.text)
-            yield from settings(passage, number)
+            yield Type(after, table, passage.text, expect=next(versions))
+            for each in settings(passage, number):
+                yield replace(each, expect=next(versions))
             if after != "end":
                 after = number
 
@@ -142,9 +142,9 @@ def parted_at(
     passages: Sequence[Passage], line: int
 ) -> tuple[tuple[Passage, ...], tuple[Passage, ...]]:
     """The paragraphs of a text before a line, and those from it on; `LineWithin` and `NoLine`."""
-    for count, passage in enumerate(passages):
+    for place, passage in enumerate(passages):
         if passage.first_line >= line:
-            return tuple(passages[:count]), tuple(passages[count:])
+            return tuple(passages[:place]), tuple(passages[place:])
         if passage.last_line >= line:
             raise LineWithin(line, passage)
     raise NoLine(line)

@@ -50,19 +50,20 @@ def faults(passages: Sequence[Passage], table: Table) -> list[TextFault]:
     characters = set(whole)
     barred = {each for each in characters if unicodedata.category(each) == "Cc"}
     others = sorted(characters - barred)
-    lacking = _refused(others, translate(table, others))
+    lines = [each for each in passages if not _is_faulty(each, barred)]
+    # the table is read once for the characters and for the lines
+    answers = translate(table, [*others, *(each.text for each in lines)])
+    lacking = _refused(others, answers)
     unfit = barred | lacking
     # if nothing is unfit, as in most texts, none is looked at a second time
     counts = Counter(whole) if unfit else Counter[str]()
-    sound = [each for each in passages if not _is_faulty(each, unfit)]
-    answers = translate(table, [each.text for each in sound])
     found = [
         *_of_characters(passages, barred, lambda each: Barred(each, counts[each])),
         *_of_characters(
             passages, lacking, lambda each: Lacking(each, counts[each], table.name)
         ),
         *(_too_long(each) for each in passages if _is_too_long(each)),
-        *_of_lines(sound, answers),
+        *_of_lines(lines, answers[len(others) :], lacking),
     ]
     return sorted(found, key=lambda fault: fault.position)
 
@@ -112,9 +113,9 @@ def _too_long(passage: Passage) -> TextFault:
 
 
 def _of_lines(
-    passages: Sequence[Passage], answers: Sequence[str | Refused]
+    passages: Sequence[Passage], answers: Sequence[str | Refused], lacking: set[str]
 ) -> Iterator[TextFault]:
-    """What the table refuses of whole paragraphs, which is none but what was found above."""
+    """What the table refuses of whole paragraphs but those of characters that it lacks: nothing."""
     for passage, answer in zip(passages, answers):
-        if isinstance(answer, Refused):
+        if isinstance(answer, Refused) and not _is_faulty(passage, lacking):
             yield TextFault(passage.position(answer.place or 0), answer, passage)
