@@ -10,16 +10,20 @@ from pathlib import Path
 import pytest
 
 from braildesk.desk.contracted import manuscript_at
-from braildesk.desk.documents import kinds, pandoc, read_document
+from braildesk.desk.documents import kinds, pandoc
 from braildesk.desk.documents.contents import missing
-from braildesk.desk.documents.kinds import Kind, NoDocument, WhyNot, kind_of
-from braildesk.desk.documents.pandoc import (
+from braildesk.desk.documents.document import read_document
+from braildesk.desk.documents.kinds import (
     BrokenOff,
+    Kind,
     NoConverter,
+    NoDocument,
     NotConverted,
-    office,
-    tree,
+    NotRead,
+    WhyNot,
+    kind_of,
 )
+from braildesk.desk.documents.pandoc import office, tree
 from braildesk.desk.documents.reading import (
     Loss,
     Lost,
@@ -29,7 +33,7 @@ from braildesk.desk.documents.reading import (
     Reading,
     short_enough,
 )
-from braildesk.desk.documents.tree import Node, NotRead, document
+from braildesk.desk.documents.tree import Node, document
 from braildesk.desk.manuscripts import read_manuscript
 from braildesk.desk.replacements import Replacer
 
@@ -617,7 +621,7 @@ def test_a_program_that_takes_too_long_is_given_up(
 
 
 READS = """
-from braildesk.desk.documents import read_document
+from braildesk.desk.documents.document import read_document
 from braildesk.desk.documents.kinds import Kind
 read_document(b"a", Kind.MARKDOWN)
 """

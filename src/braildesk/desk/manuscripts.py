@@ -6,7 +6,6 @@ from itertools import takewhile
 from pathlib import Path
 
 from braildesk import Session, Style
-from braildesk.desk.documents import read_document
 from braildesk.desk.documents.kinds import Kind, is_container, kind_of
 from braildesk.desk.documents.reading import Manuscript, Part, Reading
 from braildesk.desk.manuscript import DocumentPassage, Line, Passage, Position, passages
@@ -39,6 +38,9 @@ def read_manuscript(
 def manuscript_of(data: bytes, kind: Kind, reading: Reading) -> Manuscript:
     """The paragraphs of the bytes of a document or of a text; raises `UnreadableText`."""
     if kind.is_document:
+        # imported here, since a text needs nothing of what reads documents
+        from braildesk.desk.documents.document import read_document
+
         return read_document(data, kind, reading)
     texts = (text for each in passages(data, by_lines=False) for text in _texts(each))
     return Manuscript(kind, tuple(Part(text) for text in texts if text))
@@ -64,6 +66,9 @@ def taken(data: bytes, by_lines: bool, how: How) -> Taken:
     if not kind.is_document:
         found = replacer.passages(passages(data, by_lines))
         return Taken(found, replacer.counts)
+    # imported here, since a text needs nothing of what reads documents
+    from braildesk.desk.documents.document import read_document
+
     document = read_document(data, kind, how.reading)
     document = replace(document, parts=replacer.parts(document.parts))
     return Taken(_passages_of(document, how.volumes), replacer.counts, document)

@@ -6,9 +6,14 @@ from dataclasses import replace
 from pathlib import Path
 
 from braildesk import Displaced, Lost, Refused
-from braildesk.desk.documents.kinds import NoDocument, WhyNot
-from braildesk.desk.documents.pandoc import BrokenOff, NoConverter, NotConverted
-from braildesk.desk.documents.tree import NotRead
+from braildesk.desk.documents.kinds import (
+    BrokenOff,
+    NoConverter,
+    NoDocument,
+    NotConverted,
+    NotRead,
+    WhyNot,
+)
 from braildesk.desk.drafts import NotKept
 from braildesk.desk.earlier import (
     AllThere,

@@ -51,6 +51,38 @@ class NoDocument(UnreadableText):
         self.why = why
 
 
+class NoConverter(UnreadableText):
+    """The program that reads a kind of document isn't installed."""
+
+    def __init__(self, kind: Kind, name: str, package: str) -> None:
+        super().__init__(kind, name, package)
+        self.kind = kind
+        #: The program, and Debian's package of it.
+        self.name = name
+        self.package = package
+
+
+class NotConverted(UnreadableText):
+    """A document that a program can't read, with what it said of that, if it did."""
+
+    def __init__(self, name: str, said: str) -> None:
+        super().__init__(name, said)
+        self.name = name
+        self.said = said
+
+
+class BrokenOff(UnreadableText):
+    """A program takes more time or memory for a document than for any book."""
+
+    def __init__(self, name: str) -> None:
+        super().__init__(name)
+        self.name = name
+
+
+class NotRead(UnreadableText):
+    """What pandoc makes of a document isn't what is known of it, or is too deep."""
+
+
 #: How many bytes of the text of a container are read at most, unpacked.
 MOST_BYTES = 256 << 20
 #: Pictures, sounds and fonts, which aren't unpacked.

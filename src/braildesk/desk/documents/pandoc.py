@@ -19,8 +19,11 @@ from zipfile import ZipFile
 
 from braildesk.confined import Limits, confined
 from braildesk.desk.documents.kinds import (
+    BrokenOff,
     Kind,
+    NoConverter,
     NoDocument,
+    NotConverted,
     WhyNot,
     is_media,
     part_of,
@@ -38,34 +41,6 @@ _LIMITS = Limits(memory=4 << 30, seconds=_SECONDS, written=_TREE_BYTES)
 _FROM = {Kind.EPUB: "epub-epub_html_exts-raw_html"}
 _TITLE_PAGE = re.compile(rb"""(epub:type\s*=\s*["'][^"']*)titlepage""")
 _OFFICE = ("soffice", "libreoffice")
-
-
-class NoConverter(UnreadableText):
-    """The program that reads a kind of document isn't installed."""
-
-    def __init__(self, kind: Kind, name: str, package: str) -> None:
-        super().__init__(kind, name, package)
-        self.kind = kind
-        #: The program, and Debian's package of it.
-        self.name = name
-        self.package = package
-
-
-class NotConverted(UnreadableText):
-    """A document that a program can't read, with what it said of that, if it did."""
-
-    def __init__(self, name: str, said: str) -> None:
-        super().__init__(name, said)
-        self.name = name
-        self.said = said
-
-
-class BrokenOff(UnreadableText):
-    """A program takes more time or memory for a document than for any book."""
-
-    def __init__(self, name: str) -> None:
-        super().__init__(name)
-        self.name = name
 
 
 def tree(data: bytes, kind: Kind) -> dict[str, Any]:

@@ -9,8 +9,8 @@ from collections.abc import Iterable, Iterator, Sequence
 from dataclasses import dataclass, field, replace
 from typing import Any
 
+from braildesk.desk.documents.kinds import NotRead
 from braildesk.desk.documents.reading import Loss, Lost, Part, Reading, plain
-from braildesk.desk.manuscript import UnreadableText
 from braildesk.text.sequences import composed
 
 #: A node of pandoc's tree: a dictionary with its kind as ``t`` and its contents as ``c``.
@@ -43,10 +43,6 @@ FAULTS = (
     ValueError,
     RecursionError,
 )
-
-
-class NotRead(UnreadableText):
-    """A tree isn't one of those that pandoc makes, or is too deep."""
 
 
 def document(

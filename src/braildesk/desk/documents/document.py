@@ -1,0 +1,106 @@
+"""Manuscripts as publishers send them, read as the paragraphs of a book.
+
+Documents are read by pandoc (`pandoc`, `tree`, `notes`). What it leaves out without a sign is found by
+comparing the words of its paragraphs with those that the file itself has (`contents`).
+
+RTF and DOC are turned into DOCX by LibreOffice first: pandoc loses print of the one without a word, and
+doesn't read the other. ODT is where pandoc loses words of it, as the heads of tables, if fewer are
+lost so: the text boxes that LibreOffice makes of frames are lost in their turn.
+"""
+
+import re
+from dataclasses import replace
+
+from braildesk.desk.documents import contents, pandoc
+from braildesk.desk.documents.contents import Contents
+from braildesk.desk.documents.kinds import Kind, NotRead
+from braildesk.desk.documents.notes import with_notes
+from braildesk.desk.documents.reading import (
+    Loss,
+    Lost,
+    Manuscript,
+    Part,
+    Reading,
+    short_enough,
+)
+from braildesk.desk.documents.tree import FAULTS, document
+from braildesk.desk.manuscript import UnreadableText, decoded
+from braildesk.text import limits
+
+#: Where a page of HTML says in what it is encoded; else its front does, or it is of an older system.
+_CHARSET = re.compile(rb"(?:charset|encoding)\s*=\s*[\"']?([A-Za-z0-9_.-]+)")
+_FRONT = 1024
+_MARKS = ((b"\xff\xfe", "utf-16"), (b"\xfe\xff", "utf-16"), (b"", "utf-8-sig"))
+#: The kinds whose title, and what else is said about the whole, is a part of the print.
+_WITH_FRONT = (Kind.DOCX, Kind.ODT, Kind.MARKDOWN)
+
+
+def read_document(data: bytes, kind: Kind, reading: Reading = Reading()) -> Manuscript:
+    """The manuscript that the bytes of a document are; raises `UnreadableText`."""
+    if kind in (Kind.RTF, Kind.DOC):
+        data = pandoc.as_docx(data, kind)
+        own = contents.contents_of(data, Kind.DOCX)
+        return replace(_read(data, Kind.DOCX, own, reading), kind=kind)
+    if kind in (Kind.MARKDOWN, Kind.HTML):
+        data = _characters(data, kind).encode()
+    own = contents.contents_of(data, kind)
+    found = _read(data, kind, own, reading)
+    if kind is Kind.ODT and found.missing and pandoc.office():
+        return min(found, _by_docx(data, own, reading, found), key=_words_missing)
+    return found
+
+
+def _by_docx(
+    data: bytes, own: Contents, reading: Reading, otherwise: Manuscript
+) -> Manuscript:
+    """A document in ODT as it is read from the DOCX that LibreOffice makes of it."""
+    try:
+        made = pandoc.as_docx(data, Kind.ODT)
+        return replace(_read(made, Kind.DOCX, own, reading), kind=Kind.ODT)
+    except UnreadableText:
+        return otherwise
+
+
+def _words_missing(manuscript: Manuscript) -> int:
+    return sum(len(each.words.split()) for each in manuscript.missing)
+
+
+def _read(data: bytes, kind: Kind, own: Contents, reading: Reading) -> Manuscript:
+    """What pandoc reads, compared with what the file has."""
+    readable = pandoc.with_title_pages(data) if kind is Kind.EPUB else data
+    tree = pandoc.tree(readable, kind)
+    try:
+        noted = with_notes(tree)
+    except FAULTS as fault:
+        raise NotRead from fault
+    found = document(noted, reading, with_front=kind in _WITH_FRONT)
+    missing = contents.missing(own.passages, [part.text for part in found.parts])
+    parts = tuple(each for part in found.parts for each in short_enough(part))
+    losses = (*found.losses, *_too_long(found.parts), *own.losses)
+    return Manuscript(kind, parts, losses, tuple(missing))
+
+
+def _characters(data: bytes, kind: Kind) -> str:
+    """The characters of a document without a container: in UTF-8, or as a page says or is read.
+
+    pandoc takes what isn't UTF-8 for Latin 1, with a warning.
+    """
+    names = [next(name for mark, name in _MARKS if data.startswith(mark))]
+    if kind is Kind.HTML:
+        said = _CHARSET.search(data[:_FRONT])
+        names = [*([said[1].decode()] if said else []), *names, "cp1252"]
+    for name in names:
+        try:
+            return data.decode(name)
+        except (UnicodeDecodeError, LookupError):
+            continue
+    return decoded(data)
+
+
+def _too_long(parts: tuple[Part, ...]) -> list[Loss]:
+    """The paragraphs that are parted, each by its first words."""
+    return [
+        Loss(Lost.LENGTH, "", part.text[:60].rpartition(" ")[0])
+        for part in parts
+        if len(part.text) > limits.PRINT_CHARACTERS
+    ]
