@@ -7,9 +7,8 @@ import os
 import select
 from collections import deque
 from collections.abc import Sequence
-from dataclasses import dataclass
 from subprocess import PIPE, Popen
-from typing import IO
+from typing import IO, NamedTuple
 
 from braildesk.protocol.replies import Reader, Reply
 
@@ -20,8 +19,7 @@ _WHOLE = select.PIPE_BUF
 _READ = 1 << 16
 
 
-@dataclass(frozen=True, slots=True)
-class Ending:
+class Ending(NamedTuple):
     """How the program of a session ended."""
 
     #: Its exit status, or the number of a signal with a minus before it.

@@ -56,7 +56,9 @@ HELP = "help/{}/gnome-help/*.page"
 QUESTIONS = "doc/debian/FAQ/{}.html"
 KEPT = Path(__file__).with_suffix(".tsv")
 COLUMNS = "made_for text words right within paragraphs held_back lines seconds".split()
-PAGE = Path(__file__).resolve().parents[2] / "src/braildesk/tables/convert/contracted.md"
+PAGE = (
+    Path(__file__).resolve().parents[2] / "src/braildesk/tables/convert/contracted.md"
+)
 BEGIN = "<!-- tests/tables/contracted.sh writes the tables from here -->\n"
 END = "<!-- to here -->\n"
 OWN = """\

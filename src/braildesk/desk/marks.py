@@ -1,6 +1,7 @@
 """Marks: on words of a paragraph, and all those of a book."""
 
-from dataclasses import dataclass
+from typing import NamedTuple
+
 
 from braildesk import Mark, Session
 from braildesk.desk import Problem
@@ -10,8 +11,7 @@ from braildesk.protocol.requests import Marks
 from braildesk.text.spans import Span
 
 
-@dataclass(frozen=True)
-class MarkOfBook:
+class MarkOfBook(NamedTuple):
     """A mark, and the number and the print of the paragraph in which it is."""
 
     mark: Mark
@@ -45,8 +45,7 @@ def _in_order(session: Session) -> list[MarkOfBook]:
     ]
 
 
-@dataclass(frozen=True)
-class NextMark:
+class NextMark(NamedTuple):
     """The open mark that comes next, if there is one, and how many others are open."""
 
     mark: MarkOfBook | None
@@ -75,8 +74,7 @@ def next_open(session: Session, after: int | None) -> NextMark:
     return NextMark(found[0], len(found) - 1, not later)
 
 
-@dataclass(frozen=True)
-class MarkedWords:
+class MarkedWords(NamedTuple):
     """A mark that was put on words, where these stand in the print, and the version since then."""
 
     version: int

@@ -1,6 +1,7 @@
 """The place of words in a paragraph, the cells that they have, and the words that cells stand for."""
 
-from dataclasses import dataclass
+from typing import NamedTuple
+
 
 from braildesk import Session
 from braildesk.desk import Problem
@@ -36,8 +37,7 @@ class ManyPlaces(Problem):
         self.nth = nth
 
 
-@dataclass(frozen=True)
-class Words:
+class Words(NamedTuple):
     """Words that stand in a paragraph: which, and in which of their places, counted from 1."""
 
     paragraph: int

@@ -1,7 +1,7 @@
 """Ranges of paragraphs, in the order of the book, and of pages: those from one to another."""
 
 from collections.abc import Sequence
-from dataclasses import dataclass
+from typing import NamedTuple
 
 from braildesk import Paragraph
 from braildesk.desk import Problem
@@ -25,8 +25,7 @@ class BackwardRange(Problem):
         self.last = last
 
 
-@dataclass(frozen=True)
-class ParagraphRange:
+class ParagraphRange(NamedTuple):
     """From the first paragraph to the last; the front and the end of the book if there is none."""
 
     first: int | None = None
@@ -62,8 +61,7 @@ class NoPage(Problem):
         self.count = count
 
 
-@dataclass(frozen=True)
-class PageRange:
+class PageRange(NamedTuple):
     """Pages of a volume from one to another; from the first one or to the last if none is said."""
 
     first: int | None

@@ -1,8 +1,7 @@
 """What a book says of many of its paragraphs, asked ahead of the replies."""
 
 from collections.abc import Callable, Iterable, Iterator, Sequence
-from dataclasses import dataclass
-from typing import Any, TypeVar
+from typing import Any, NamedTuple, TypeVar
 
 from braildesk import Mark, Paragraph, Refused, Session
 from braildesk.protocol.requests import Braille, Marks, Print, Request
@@ -10,8 +9,7 @@ from braildesk.protocol.requests import Braille, Marks, Print, Request
 Answer = TypeVar("Answer")
 
 
-@dataclass(frozen=True)
-class ParagraphReading:
+class ParagraphReading(NamedTuple):
     """A paragraph with its print, its braille and its marks."""
 
     paragraph: Paragraph

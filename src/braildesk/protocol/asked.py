@@ -5,22 +5,20 @@ Where the program finds the file of a book, its log and another program's journa
 
 import os
 from dataclasses import dataclass
-from typing import Any
+from typing import Any, NamedTuple
 
 from braildesk.protocol.requests import Request
 from braildesk.protocol.sentences import Why
 
 
-@dataclass(frozen=True, slots=True)
-class Line:
+class Line(NamedTuple):
     """A line of print that was to be translated."""
 
     table: str
     text: str
 
 
-@dataclass(frozen=True, slots=True)
-class Pages:
+class Pages(NamedTuple):
     """A volume of a book that was to be written as pages."""
 
     path: str
@@ -29,23 +27,20 @@ class Pages:
     lines: int
 
 
-@dataclass(frozen=True, slots=True)
-class TableFile:
+class TableFile(NamedTuple):
     """The file of a table, with its text if that could be read."""
 
     path: str
     text: bytes = b""
 
 
-@dataclass(frozen=True, slots=True)
-class BookFile:
+class BookFile(NamedTuple):
     """The file of a book."""
 
     path: str
 
 
-@dataclass(frozen=True, slots=True)
-class NewBook:
+class NewBook(NamedTuple):
     """The file of a book that was to be made."""
 
     path: str

@@ -36,7 +36,7 @@ class Unwritable(ValueError):
         return f"a request can't be written ({self.code})"
 
 
-@dataclass(frozen=True)
+@dataclass(frozen=True, eq=False)
 class Field(ABC):
     """A kind of field."""
 
@@ -65,7 +65,7 @@ class Field(ABC):
         return str(value)
 
 
-@dataclass(frozen=True)
+@dataclass(frozen=True, eq=False)
 class Number(Field):
     """A number from 0 on, in decimal digits."""
 
@@ -83,7 +83,7 @@ class Number(Field):
         return int(word)
 
 
-@dataclass(frozen=True)
+@dataclass(frozen=True, eq=False)
 class Anchor(Number):
     """Where a paragraph is put: the front or the end, or after the one of a number."""
 
@@ -100,7 +100,7 @@ class Anchor(Number):
         return word if word in self.words else super().read(word)
 
 
-@dataclass(frozen=True)
+@dataclass(frozen=True, eq=False)
 class Choice(Field):
     """One of a few words."""
 
@@ -128,7 +128,7 @@ class Choice(Field):
         return next(said for _, meant, said in self.choices if meant == value)
 
 
-@dataclass(frozen=True)
+@dataclass(frozen=True, eq=False)
 class Name(Field):
     """A name, which is one or more characters that aren't blanks."""
 
@@ -146,7 +146,7 @@ class Name(Field):
         return plain(value)
 
 
-@dataclass(frozen=True)
+@dataclass(frozen=True, eq=False)
 class Text(Field):
     """A text or a note."""
 
@@ -154,6 +154,9 @@ class Text(Field):
     is_rest = True
 
     def write(self, value: str) -> str:
+        if value.isprintable():
+            # so that nothing that is barred is in it
+            return value
         if lone := _SURROGATE.search(value):
             raise Unwritable(Code.NO_REQUEST, lone.start())
         if barred := _BARRED.search(value):
@@ -167,7 +170,7 @@ class Text(Field):
         return shortened(value)
 
 
-@dataclass(frozen=True)
+@dataclass(frozen=True, eq=False)
 class Lines(Field):
     """How many lines the text of a table has, which follow the line of the request."""
 

@@ -1,11 +1,11 @@
 """Replies of a session, read from the bytes that come."""
 
 from collections import deque
-from dataclasses import dataclass
+from collections.abc import Iterator
+from typing import NamedTuple
 
 
-@dataclass(frozen=True, slots=True)
-class Reply:
+class Reply(NamedTuple):
     """One reply: what it shows, and the word and the numbers of the line that ends it."""
 
     lines: tuple[str, ...]
@@ -34,9 +34,11 @@ class Reader:
 
     def feed(self, data: bytes) -> None:
         """Takes the next bytes."""
-        *lines, self._rest = (self._rest + data).split(b"\n")
-        for line in lines:
-            self._take(line)
+        whole, end, rest = (self._rest + data).rpartition(b"\n")
+        self._rest = rest
+        if end:
+            for line in _decoded(whole):
+                self._take(line)
 
     @property
     def has_reply(self) -> bool:
@@ -47,17 +49,28 @@ class Reader:
         """The next reply that is there whole."""
         return self._replies.popleft() if self._replies else None
 
-    def _take(self, line: bytes) -> None:
+    def _take(self, text: str) -> None:
+        if text.startswith("| "):
+            self._lines.append(text[2:])
+            return
+        word, *numbers = text.split(" ")
         try:
-            text = line.decode()
-            if text.startswith("| "):
-                self._lines.append(text[2:])
-                return
-            word, *numbers = text.split(" ")
             reply = Reply(tuple(self._lines), word, tuple(map(int, numbers)))
         except ValueError:
-            raise Unreadable(line) from None
+            raise Unreadable(text.encode()) from None
         if word not in ("ok", "no", "end") or not numbers:
-            raise Unreadable(line)
+            raise Unreadable(text.encode())
         self._lines = []
         self._replies.append(reply)
+
+
+def _decoded(lines: bytes) -> Iterator[str]:
+    """Lines as characters. The one that isn't UTF-8 is given up, once those before it were given."""
+    try:
+        yield from lines.decode().split("\n")
+    except UnicodeDecodeError:
+        for line in lines.split(b"\n"):
+            try:
+                yield line.decode()
+            except UnicodeDecodeError:
+                raise Unreadable(line) from None

@@ -56,7 +56,7 @@ Switch = Annotated[
 ]
 
 
-@dataclass(frozen=True)
+@dataclass(frozen=True, eq=False)
 class Request(ABC, Generic[Answer]):
     """What is asked of a book."""
 
@@ -64,6 +64,13 @@ class Request(ABC, Generic[Answer]):
     name: ClassVar[str]
     #: One of its lines.
     example: ClassVar[str]
+
+    # once for all requests, since each is made as a class whenever a command is run
+    def __eq__(self, other: object) -> bool:
+        return type(other) is type(self) and vars(other) == vars(self)
+
+    def __hash__(self) -> int:
+        return hash((type(self), *vars(self).values()))
 
     @property
     @abstractmethod
@@ -104,7 +111,7 @@ class Request(ABC, Generic[Answer]):
         return line + b"\n"
 
 
-@dataclass(frozen=True)
+@dataclass(frozen=True, eq=False)
 class Command(Request[Answer]):
     """A request that makes a version of the book."""
 
@@ -127,14 +134,14 @@ class Command(Request[Answer]):
         )
 
 
-@dataclass(frozen=True)
+@dataclass(frozen=True, eq=False)
 class OfParagraph:
     """What names a paragraph."""
 
     paragraph: Para
 
 
-@dataclass(frozen=True)
+@dataclass(frozen=True, eq=False)
 class Table(Command[Done]):
     """Adds the table whose text is the next LINES lines, or replaces its text."""
 
@@ -168,7 +175,7 @@ class TableHead:
         return Table(self.table, text, expect=self.expect)
 
 
-@dataclass(frozen=True)
+@dataclass(frozen=True, eq=False)
 class Supply(Command[Done]):
     """Adds the supplied table, uncontracted English, under a name."""
 
@@ -179,7 +186,7 @@ class Supply(Command[Done]):
     table: NewTable
 
 
-@dataclass(frozen=True)
+@dataclass(frozen=True, eq=False)
 class Type(Command[Typed]):
     """Types a new paragraph with a table. AFTER is front, end, or the number of a paragraph."""
 
@@ -192,7 +199,7 @@ class Type(Command[Typed]):
     text: Words
 
 
-@dataclass(frozen=True)
+@dataclass(frozen=True, eq=False)
 class Correct(OfParagraph, Command[Corrected]):
     """Puts TEXT in place of COUNT characters from place START on, counted from 0."""
 
@@ -205,7 +212,7 @@ class Correct(OfParagraph, Command[Corrected]):
     text: Words
 
 
-@dataclass(frozen=True)
+@dataclass(frozen=True, eq=False)
 class CorrectBy(Correct):
     """Does the same, and keeps the name of the proofreader."""
 
@@ -214,7 +221,7 @@ class CorrectBy(Correct):
     who: Who = field(kw_only=True)
 
 
-@dataclass(frozen=True)
+@dataclass(frozen=True, eq=False)
 class Undo(OfParagraph, Command[Corrected]):
     """Takes back the newest correction of a paragraph that is in force."""
 
@@ -224,7 +231,7 @@ class Undo(OfParagraph, Command[Corrected]):
     result = answers.CORRECTED
 
 
-@dataclass(frozen=True)
+@dataclass(frozen=True, eq=False)
 class Mark(OfParagraph, Command[Marked]):
     """Puts a mark on COUNT cells from cell CELL on, counted from 0."""
 
@@ -237,7 +244,7 @@ class Mark(OfParagraph, Command[Marked]):
     note: Note = ""
 
 
-@dataclass(frozen=True)
+@dataclass(frozen=True, eq=False)
 class Resolve(Command[Done]):
     """Says that a mark is dealt with."""
 
@@ -248,7 +255,7 @@ class Resolve(Command[Done]):
     mark: MarkNumber
 
 
-@dataclass(frozen=True)
+@dataclass(frozen=True, eq=False)
 class Strike(OfParagraph, Command[Done]):
     """Takes a paragraph out of the volumes."""
 
@@ -258,7 +265,7 @@ class Strike(OfParagraph, Command[Done]):
     result = answers.DONE
 
 
-@dataclass(frozen=True)
+@dataclass(frozen=True, eq=False)
 class Restore(OfParagraph, Command[Done]):
     """Puts a struck paragraph back into the volumes."""
 
@@ -268,7 +275,7 @@ class Restore(OfParagraph, Command[Done]):
     result = answers.DONE
 
 
-@dataclass(frozen=True)
+@dataclass(frozen=True, eq=False)
 class Style(OfParagraph, Command[Done]):
     """Gives a paragraph a style: body or heading."""
 
@@ -279,7 +286,7 @@ class Style(OfParagraph, Command[Done]):
     style: StyleWord
 
 
-@dataclass(frozen=True)
+@dataclass(frozen=True, eq=False)
 class Volume(OfParagraph, Command[Done]):
     """Says whether a paragraph begins a volume: on or off."""
 
@@ -290,7 +297,7 @@ class Volume(OfParagraph, Command[Done]):
     begins: Switch
 
 
-@dataclass(frozen=True)
+@dataclass(frozen=True, eq=False)
 class Retable(OfParagraph, Command[Done]):
     """Gives a paragraph another table."""
 
@@ -301,7 +308,7 @@ class Retable(OfParagraph, Command[Done]):
     table: KnownTable
 
 
-@dataclass(frozen=True)
+@dataclass(frozen=True, eq=False)
 class Move(OfParagraph, Command[Done]):
     """Puts a paragraph elsewhere. AFTER is front, end, or the number of a paragraph."""
 
@@ -348,7 +355,7 @@ class Marks(OfParagraph, Request[tuple[values.Mark, ...]]):
     result = answers.MARKS
 
 
-@dataclass(frozen=True)
+@dataclass(frozen=True, eq=False)
 class Where(OfParagraph, Request[int]):
     """Shows the first cell made for a place of the print, both counted from 0."""
 
@@ -358,7 +365,7 @@ class Where(OfParagraph, Request[int]):
     place: Place
 
 
-@dataclass(frozen=True)
+@dataclass(frozen=True, eq=False)
 class Whence(OfParagraph, Request[int]):
     """Shows the first place that a cell was made from, both counted from 0."""
 

@@ -3,8 +3,9 @@
 from argparse import ArgumentParser, ArgumentTypeError, Namespace
 from collections.abc import Callable, Iterator
 from contextlib import contextmanager, suppress
-from dataclasses import dataclass, replace
+from dataclasses import replace
 from pathlib import Path
+from typing import NamedTuple
 
 from braildesk import CannotOpen, Lost, Refused, Session, Why, check
 from braildesk.desk import USUAL_WAIT
@@ -24,8 +25,7 @@ from scribe.words.status import Interrupted, Status, Stop, stopped_by
 Outcome = MarkOfBook | Status | None
 
 
-@dataclass(frozen=True)
-class BookCommand:
+class BookCommand(NamedTuple):
     """A command whose words mean the same at a shell and at the prompt of `talk`."""
 
     name: str

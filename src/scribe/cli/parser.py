@@ -2,9 +2,9 @@
 
 import argparse
 from collections.abc import Callable, Sequence
-from dataclasses import dataclass, replace
+from dataclasses import replace
 from pathlib import Path
-from typing import Any, NoReturn, TypeVar, cast
+from typing import Any, NamedTuple, NoReturn, TypeVar, cast
 
 from braildesk.desk import USUAL_WAIT
 from braildesk.desk.ranges import ParagraphRange
@@ -66,8 +66,7 @@ class _Version(argparse.Action):
         raise TextAsked(f"{parser.prog} {version()}")
 
 
-@dataclass(frozen=True)
-class Asked:
+class Asked(NamedTuple):
     """A word that has to be there. A prompt asks for it if it is missing."""
 
     action: argparse.Action

@@ -2,7 +2,7 @@
 
 import re
 from collections.abc import Callable, Iterator
-from dataclasses import dataclass
+from typing import NamedTuple
 
 from braildesk.desk.readings import ParagraphReading
 from braildesk.text.cells import EMPTY_CELL, Notation
@@ -15,8 +15,7 @@ from scribe.words.paragraph import mark_line, title
 _INDENT = "  "
 
 
-@dataclass(frozen=True)
-class View:
+class View(NamedTuple):
     """What is shown of paragraphs."""
 
     width: int
