@@ -1,5 +1,6 @@
 """How much work a command is: what it imports, how often the program is started, what is asked."""
 
+import os
 import subprocess
 import sys
 from collections.abc import Iterator
@@ -23,7 +24,7 @@ COUNT = 600
 #: What each paragraph of the book has, once.
 WORDS = "far away"
 #: How many of our modules are imported, and how many in all, at most.
-MODULES = {"--help": (24, 130), "show": (56, 184), "marks": (54, 178)}
+MODULES = {"--help": (24, 126), "show": (52, 170), "marks": (51, 170)}
 #: Modules that take as long as all of a short command, and are needed by few.
 DEAR = {
     "braildesk.desk.drafts",
@@ -104,7 +105,7 @@ def long(long_once: Path, tmp_path: Path) -> Path:
     return path
 
 
-def run(*words: str | Path) -> list[str]:
+def run(*words: str | int | Path) -> list[str]:
     """The lines that a command shows, which has to end well."""
     shown, said = StringIO(), StringIO()
     console = Console(BytesIO(), shown, said)
@@ -112,10 +113,8 @@ def run(*words: str | Path) -> list[str]:
     return shown.getvalue().splitlines()
 
 
-@pytest.mark.parametrize("words", [["--help"], ["show"], ["marks"]])
-def test_a_short_command_imports_what_it_needs(moon: Path, words: list[str]) -> None:
-    if words != ["--help"]:
-        words = [*words, str(moon)]
+def imported(moon: Path, *words: str) -> set[str]:
+    """The modules that a command imports."""
     done = subprocess.run(
         [sys.executable, "-c", IMPORTED, *words],
         # nothing that other tests left there is asked about
@@ -123,13 +122,31 @@ def test_a_short_command_imports_what_it_needs(moon: Path, words: list[str]) -> 
         capture_output=True,
         check=True,
     )
-    found = set(done.stderr.decode().splitlines()[-1].split())
+    return set(done.stderr.decode().splitlines()[-1].split())
+
+
+@pytest.mark.parametrize("words", [["--help"], ["show"], ["marks"]])
+def test_a_short_command_imports_what_it_needs(moon: Path, words: list[str]) -> None:
+    if words != ["--help"]:
+        words = [*words, str(moon)]
+    found = imported(moon, *words)
     assert not DEAR & found
     own = {each for each in found if each.split(".")[0] in ("braildesk", "scribe")}
     most_own, most = MODULES[words[0]]
     assert len(own) <= most_own and len(found) <= most, sorted(found)
     others = {f"scribe.cli.commands.{module}" for module, _ in COMMANDS.values()}
     assert others & found <= {f"scribe.cli.commands.{words[0]}"}
+
+
+def test_an_import_of_a_text_imports_nothing_that_reads_documents(moon: Path) -> None:
+    text = moon.with_name("text.txt")
+    text.write_text("The sun is farther away.\n")
+    found = imported(moon, "import", str(moon), str(text))
+    documents = {each for each in found if each.startswith("braildesk.desk.documents.")}
+    assert documents == {
+        "braildesk.desk.documents.kinds",
+        "braildesk.desk.documents.reading",
+    }
 
 
 #: Each command with its words after the book, and the requests that it sends: a version with each
@@ -167,16 +184,34 @@ def test_a_command_opens_the_book_once_and_asks_each_thing_once(
     assert work.names == wanted
 
 
-def test_a_page_is_shown_with_an_export_and_the_print_of_its_own_paragraphs(
-    long: Path, work: Work
+@pytest.mark.parametrize("page, asked", [(1, 64), (20, 256), (50, COUNT)])
+def test_a_page_is_shown_with_an_export_and_what_stands_on_it_and_before(
+    long: Path, work: Work, page: int, asked: int
 ) -> None:
-    lines = run("pages", long, "--page", "1")
+    lines = run("pages", long, "--page", page)
     assert len(lines) == 1 + 24
     # the session, and the export with which the page is compared
     assert work.started == 2
-    assert work.names.count("braille") == COUNT
-    # each of these paragraphs takes two lines
+    # each of these paragraphs takes two lines, and their cells are asked for in groups
     assert work.names.count("print") == 12
+    assert work.names.count("braille") == asked
+
+
+def test_a_copy_that_nobody_keeps_is_not_waited_for_until_it_is_on_the_disk(
+    long: Path, monkeypatch: pytest.MonkeyPatch
+) -> None:
+    synced: list[int] = []
+    monkeypatch.setattr(os, "fsync", synced.append)
+    run("pages", long, "--page", 1)
+    assert not synced
+    run("copy", long, long.with_name("copy.braildesk"))
+    assert synced
+
+
+def test_the_number_of_pages_is_said_though_no_more_are_laid_out(long: Path) -> None:
+    title, *_ = run("pages", long)
+    for page in (1, 20, 50):
+        assert run("pages", long, "--page", page)[0] == title
 
 
 def test_an_import_opens_the_book_twice_and_sends_each_paragraph_once(
@@ -188,8 +223,8 @@ def test_an_import_opens_the_book_twice_and_sends_each_paragraph_once(
     run("import", long, text, "--lines")
     assert work.names.count("type") == count
     assert len(work.asked) <= count + 10
-    # two sessions, and the program once for the characters of the text and once for its lines
-    assert work.started <= 4
+    # two sessions, and the program once for the characters and the lines of the text
+    assert work.started == 3
 
 
 def test_the_screen_opens_a_book_once(long: Path, sit: Sit, work: Work) -> None:
