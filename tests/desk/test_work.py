@@ -24,7 +24,7 @@ COUNT = 600
 #: What each paragraph of the book has, once.
 WORDS = "far away"
 #: How many of our modules are imported, and how many in all, at most.
-MODULES = {"--help": (24, 126), "show": (52, 170), "marks": (51, 170)}
+MODULES = {"--help": (24, 126), "show": (50, 170), "marks": (51, 170)}
 #: Modules that take as long as all of a short command, and are needed by few.
 DEAR = {
     "braildesk.desk.drafts",

@@ -5,11 +5,10 @@ from collections.abc import Callable, Iterator
 from contextlib import contextmanager, suppress
 from dataclasses import replace
 from pathlib import Path
-from typing import NamedTuple
+from typing import TYPE_CHECKING, NamedTuple, TypeAlias
 
 from braildesk import CannotOpen, Lost, Refused, Session, Why, check
 from braildesk.desk import USUAL_WAIT
-from braildesk.desk.marks import MarkOfBook
 from braildesk.desk.places import ManyPlaces
 from braildesk.protocol.asked import BookFile
 from braildesk.refusals import refused_as
@@ -21,8 +20,11 @@ from scribe.words.console import Console
 from scribe.words.paragraph import quoted
 from scribe.words.status import Interrupted, Status, Stop, stopped_by
 
+if TYPE_CHECKING:
+    from braildesk.desk.marks import MarkOfBook
+
 #: The mark that a person deals with from now on, or how a command ends that isn't just done.
-Outcome = MarkOfBook | Status | None
+Outcome: TypeAlias = "MarkOfBook | Status | None"
 
 
 class BookCommand(NamedTuple):

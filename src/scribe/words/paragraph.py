@@ -1,12 +1,15 @@
 """A paragraph and its marks in words."""
 
 from collections.abc import Callable, Sequence
+from typing import TYPE_CHECKING
 
 from braildesk import Mark, Paragraph, Style
-from braildesk.desk.marks import MarkOfBook, NextMark
 from braildesk.text.characters import visible
 from braildesk.text.excerpt import excerpt, opening
 from braildesk.text.wrapping import columns, wrap
+
+if TYPE_CHECKING:
+    from braildesk.desk.marks import MarkOfBook, NextMark
 
 _WORDS = 40
 #: The fewest columns of a line that show words after what is said of them.
@@ -41,7 +44,7 @@ def mark_line(
     return f"{line}: {visible(mark.note)}" if mark.note else line + "."
 
 
-def marks_summary(marks: Sequence[MarkOfBook], whose: str = "The book") -> str:
+def marks_summary(marks: "Sequence[MarkOfBook]", whose: str = "The book") -> str:
     """How many marks a book or a paragraph has, in a sentence."""
     resolved = sum(each.mark.resolved for each in marks)
     opened = len(marks) - resolved
@@ -56,7 +59,7 @@ def marks_summary(marks: Sequence[MarkOfBook], whose: str = "The book") -> str:
     return f"{whose} has {' and '.join(kinds)} {word}."
 
 
-def next_summary(found: NextMark) -> str:
+def next_summary(found: "NextMark") -> str:
     """What is said after the next open mark: how many others are open."""
     if found.mark is None:
         return "The book has no open mark."
