@@ -609,9 +609,10 @@ def test_a_program_that_takes_too_long_is_given_up(
     programs: Path, monkeypatch: pytest.MonkeyPatch
 ) -> None:
     program(programs, "pandoc", "exec sleep 60")
-    monkeypatch.setattr(pandoc, "_SECONDS", 0.3)
-    with pytest.raises(BrokenOff):
-        read_document(b"a", Kind.MARKDOWN)
+    with monkeypatch.context() as patched:
+        patched.setattr(pandoc, "_SECONDS", 0.3)
+        with pytest.raises(BrokenOff):
+            read_document(b"a", Kind.MARKDOWN)
     program(programs, "pandoc", "kill -KILL $$")
     with pytest.raises(BrokenOff):
         read_document(b"a", Kind.MARKDOWN)
