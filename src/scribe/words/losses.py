@@ -37,6 +37,10 @@ _SAID = {
         "1 piece in the language of another program is left out",
         "{} pieces in the language of another program are left out",
     ),
+    Lost.NOTE: (
+        "1 number of a note is typed whose note isn't found where it leads",
+        "{} numbers of notes are typed whose notes aren't found where they lead",
+    ),
     Lost.HIDDEN: (
         "1 piece of text that is hidden in the document is typed too",
         "{} pieces of text that are hidden in the document are typed too",

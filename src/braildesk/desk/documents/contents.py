@@ -17,11 +17,13 @@ from xml.etree import ElementTree
 from xml.etree.ElementTree import Element
 
 from braildesk.desk.documents.kinds import Kind, part_of, unpacked
+from braildesk.desk.documents.notes import BACK
 from braildesk.desk.documents.reading import Loss, Lost, Missing, plain
 
 #: How many characters of a table of contents are shown.
 _CONTENTS = 60
 _WORD = re.compile(r"\w+(?:[’'\u2010\u2011-]\w+)*")
+_NUMBERED = re.compile(r"(.*[^\W\d_])(\d{1,4})")
 #: How many words before and after missing ones are shown.
 _NEIGHBOURS = 4
 
@@ -90,7 +92,9 @@ def missing(passages: Iterable[str], texts: Iterable[str]) -> list[Missing]:
     rest = _Rest(left)
     unseen = [words for words in others if not rest.take(words)]
     there = Counter(word for word in rest.words if word is not None)
-    return [found for words in unseen for found in _missing(words, there)]
+    return [
+        found for words in unseen for found in _missing(_parted(words, there), there)
+    ]
 
 
 class _Rest:
@@ -115,6 +119,15 @@ class _Rest:
                 self.words[place : place + len(words)] = [None] * len(words)
                 return True
         return not words
+
+
+def _parted(words: Iterable[str], there: Counter[str]) -> list[str]:
+    """Some words, of which those that aren't there are parted from the number of a note after them."""
+    parted: list[str] = []
+    for word in words:
+        found = None if there[word] else _NUMBERED.fullmatch(word)
+        parted += found.groups() if found else [word]
+    return parted
 
 
 def _missing(words: Sequence[str], there: Counter[str]) -> Iterator[Missing]:
@@ -320,6 +333,8 @@ class _Html(HTMLParser):
         self.lists: list[str] = [""]
         self._silent = 0
         self._in_list = False
+        #: The element that leads back from a note, and how many of its name are open in it.
+        self._back, self._open = "", 0
 
     @property
     def passages(self) -> list[str]:
@@ -331,6 +346,9 @@ class _Html(HTMLParser):
         types = (dict(attrs).get("epub:type") or "").split()
         if tag == "nav" and not self._LISTS.isdisjoint(types):
             self._in_list = True
+        self._open += tag == self._back
+        if not self._back and tag in ("a", "span") and _is_back(dict(attrs)):
+            self._back, self._open = tag, 1
         self._part(tag)
 
     def handle_startendtag(self, tag: str, attrs: list[tuple[str, str | None]]) -> None:
@@ -340,10 +358,13 @@ class _Html(HTMLParser):
     def handle_endtag(self, tag: str) -> None:
         self._silent = max(self._silent - (tag in self._SILENT), 0)
         self._in_list = self._in_list and tag != "nav"
+        self._open -= tag == self._back
+        if not self._open:
+            self._back = ""
         self._part(tag)
 
     def handle_data(self, data: str) -> None:
-        if not self._silent:
+        if not self._silent and not self._back:
             texts = self.lists if self._in_list else self.texts
             texts[-1] += data
 
@@ -351,6 +372,13 @@ class _Html(HTMLParser):
         if tag not in self._INLINE:
             self.texts.append("")
             self.lists.append("\n")
+            self._back, self._open = "", 0
+
+
+def _is_back(attributes: dict[str, str | None]) -> bool:
+    """Whether an element leads from a note back to its number, so that its text is no print."""
+    said = (attributes.get(name) or "" for name in ("class", "role", "epub:type"))
+    return not BACK.isdisjoint(" ".join(said).split())
 
 
 def _page_of(data: bytes) -> _Html:

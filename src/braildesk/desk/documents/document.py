@@ -1,6 +1,6 @@
 """Manuscripts as publishers send them, read as the paragraphs of a book.
 
-Documents are read by pandoc (`pandoc`, `tree`, `notes`). What it leaves out without a sign is found by
+Documents are read by pandoc (`pages`, `pandoc`, `tree`, `notes`). What it leaves out without a sign is found by
 comparing the words of its paragraphs with those that the file itself has (`contents`).
 
 RTF and DOC are turned into DOCX by LibreOffice first: pandoc loses print of the one without a word, and
@@ -11,7 +11,7 @@ lost so: the text boxes that LibreOffice makes of frames are lost in their turn.
 import re
 from dataclasses import replace
 
-from braildesk.desk.documents import contents, pandoc
+from braildesk.desk.documents import contents, pages, pandoc
 from braildesk.desk.documents.contents import Contents
 from braildesk.desk.documents.kinds import Kind, NotRead
 from braildesk.desk.documents.notes import with_notes
@@ -67,8 +67,7 @@ def _words_missing(manuscript: Manuscript) -> int:
 
 def _read(data: bytes, kind: Kind, own: Contents, reading: Reading) -> Manuscript:
     """What pandoc reads, compared with what the file has."""
-    readable = pandoc.with_title_pages(data) if kind is Kind.EPUB else data
-    tree = pandoc.tree(readable, kind)
+    tree = pandoc.tree(_readable(data, kind), kind)
     try:
         noted = with_notes(tree)
     except FAULTS as fault:
@@ -78,6 +77,13 @@ def _read(data: bytes, kind: Kind, own: Contents, reading: Reading) -> Manuscrip
     parts = tuple(each for part in found.parts for each in short_enough(part))
     losses = (*found.losses, *_too_long(found.parts), *own.losses)
     return Manuscript(kind, parts, losses, tuple(missing))
+
+
+def _readable(data: bytes, kind: Kind) -> bytes:
+    """A document as pandoc reads all of it."""
+    if kind is Kind.EPUB:
+        return pages.readable_book(data)
+    return pages.readable_page(data) if kind is Kind.HTML else data
 
 
 def _characters(data: bytes, kind: Kind) -> str:

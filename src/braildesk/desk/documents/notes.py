@@ -1,44 +1,117 @@
-"""Notes of pages of HTML, which are links to paragraphs at the end, made notes of the tree.
+"""Notes of pages of HTML, which are links to paragraphs elsewhere, made notes of the tree.
 
-A link is a note's number if it is said to be one (by its class or role) and the target is in the
-document. The paragraphs of the note are taken from where they stand, with the link back left out.
+A link is the number of a note if it is said to be one (by its class or role), or if it has nothing
+but a number or a sign and leads to a later paragraph that begins with a link of the same. The paragraphs
+of the note are taken from where they stand, without their number and the link back. Of a number whose
+note isn't found, that is noted.
 """
 
-from collections.abc import Iterator
+import re
+from collections.abc import Iterator, Sequence
+from dataclasses import dataclass
 from typing import Any
 
-from braildesk.desk.documents.tree import Node
+from braildesk.desk.documents.tree import UNKNOWN_NOTE, Node
 
-_NUMBERS = frozenset({"footnote-ref", "noteref", "doc-noteref", "endnote-ref"})
-_BACK = frozenset({"footnote-back", "doc-backlink", "footnote-backref", "backlink"})
+_NUMBERS = frozenset(
+    "footnote-ref footnote-reference footnote noteref doc-noteref endnote-ref fnref fnanchor".split()
+)
+#: What says of a link or a piece of text that it leads from a note back to its number.
+BACK = frozenset(
+    "footnote-back fn-backref doc-backlink footnote-backref backlink".split()
+)
+#: What says of a division that it is one note.
+_NOTES = frozenset("footnote endnote note doc-footnote doc-endnote rearnote".split())
+#: What a link has that is the number of a note though nothing says so.
+_BARE = re.compile(r"\d{1,4}|[*†‡§]{1,4}")
+_MARKS = " \u00a0[](){}"
+#: How many pieces of text a number at the front of a note has at most, with its brackets.
+_PIECES = 6
+
+
+@dataclass(frozen=True)
+class _Place:
+    """Where a note stands: its blocks, the part of the tree that is it, and its first words."""
+
+    blocks: list[Node]
+    part: Any
+    front: list[Node]
 
 
 def with_notes(tree: Node) -> Node:
     """The tree with each link that is the number of a note made that note."""
     blocks = tree["blocks"]
-    links = [node for node in _nodes(blocks) if _is_number(node)]
-    if not links:
+    links = [(n, node) for n, node in enumerate(_nodes(blocks)) if _is_inner(node)]
+    wanted = {_target(link) for _, link in links}
+    asides = [node for node in _nodes(blocks) if _is_aside(node)]
+    if not wanted and not asides:
         return tree
-    wanted = {link["c"][2][0].removeprefix("#") for link in links}
-    found = {
-        identifier: node
-        for node in _nodes(blocks)
-        if node.get("t") == "Div" and (identifier := node["c"][0][0]) in wanted
+    places = dict(_places(blocks, wanted))
+    order = {name: n for n, each in enumerate(_nodes(blocks)) if (name := _name(each))}
+    numbers = {
+        id(link)
+        for n, link in links
+        if _is_number(link) or _is_bare_number(link, n, places, order)
     }
-    notes = {identifier: _blocks_of(node) for identifier, node in found.items()}
-    taken = frozenset(map(id, found.values()))
-    return {**tree, "blocks": _without(blocks, taken, notes)}
+    taken = {
+        id(places[target].part)
+        for _, link in links
+        if id(link) in numbers and (target := _target(link)) in places
+    }
+    named = {name: _aside(each) for each in asides if (name := _name(each))}
+    return {**tree, "blocks": _Taking(places, numbers, taken, named).of(blocks)}
 
 
-def _is_number(node: Node) -> bool:
-    """Whether a node is a link that is said to be the number of a note."""
-    if node.get("t") != "Link" or not node["c"][2][0].startswith("#"):
+def _is_inner(node: Node) -> bool:
+    """Whether a node is a link to another part of the document that isn't said to lead back."""
+    return (
+        node.get("t") == "Link"
+        and node["c"][2][0].startswith("#")
+        and BACK.isdisjoint(_said_of(node))
+    )
+
+
+def _is_number(link: Node) -> bool:
+    """Whether a link is said to be the number of a note."""
+    return not _NUMBERS.isdisjoint(_said_of(link))
+
+
+def _is_bare_number(
+    link: Node, position: int, places: dict[str, _Place], order: dict[str, int]
+) -> bool:
+    """Whether a link is a note's number by what it has and what it leads to."""
+    label, target = _label(link), _target(link)
+    if not _BARE.fullmatch(label) or target not in places:
         return False
-    return not _NUMBERS.isdisjoint(_said_of(node))
+    first = next(_links(places[target].front), None)
+    return order[target] > position and first is not None and _label(first) == label
+
+
+def _is_aside(node: Node) -> bool:
+    """Whether a node is a note that stands in the line itself, as AsciiDoc has it."""
+    return node.get("t") == "Span" and "footnote" in node["c"][0][1]
+
+
+def _target(link: Node) -> str:
+    target: str = link["c"][2][0]
+    return target.removeprefix("#")
+
+
+def _name(node: Node) -> str:
+    """The name by which links lead to a node; nothing where it has none."""
+    if node.get("t") not in ("Div", "Span", "Link"):
+        return ""
+    name: str = node["c"][0][0]
+    return name
+
+
+def _label(link: Node) -> str:
+    """The number of a note as it is written, without what stands around it."""
+    return "".join(_text(link["c"][1])).strip(_MARKS)
 
 
 def _said_of(node: Node) -> Iterator[str]:
-    """The classes and roles of a link."""
+    """The classes and roles of a node that has attributes."""
     _, classes, pairs = node["c"][0]
     yield from classes
     for name, value in pairs:
@@ -58,53 +131,260 @@ def _nodes(value: Any) -> Iterator[Node]:
             waiting.extend(reversed(found))
 
 
-def _blocks_of(node: Node) -> list[Node]:
-    blocks: list[Node] = _without(node["c"][1], frozenset(), {})
-    return blocks
+def _links(inlines: Sequence[Node]) -> Iterator[Node]:
+    """The links with which a text begins, before any other word."""
+    for node in _nodes(inlines):
+        if node.get("t") == "Link":
+            yield node
+        elif _is_word(node):
+            return
 
 
-def _without(value: Any, taken: frozenset[int], notes: dict[str, list[Node]]) -> Any:
-    """A part of a tree without what was taken and what was about it alone, and with its notes."""
-    if isinstance(value, dict):
-        if _is_number(value) and (note := notes.get(value["c"][2][0][1:])):
-            return {"t": "Note", "c": note}
-        if "c" not in value:
+def _is_word(node: Node) -> bool:
+    """Whether a node is text that is more than a bracket."""
+    is_text = node.get("t") in ("Str", "Code", "Math", "Image")
+    return is_text and bool("".join(_text(node)).strip(_MARKS))
+
+
+def _text(value: Any) -> Iterator[str]:
+    """The words of a part of the tree, in which a picture is a sign."""
+    for node in _nodes(value):
+        match node.get("t"):
+            case "Str":
+                yield node["c"]
+            case "Code" | "Math" | "RawInline":
+                yield node["c"][1]
+            case "Space" | "SoftBreak" | "LineBreak":
+                yield " "
+            case "Image":
+                yield "\ufffc"
+
+
+def _places(blocks: Sequence[Node], wanted: set[str]) -> Iterator[tuple[str, _Place]]:
+    """The parts of some blocks that links lead to and that may be notes, by their names."""
+    for node in blocks:
+        content = node.get("c")
+        match node["t"]:
+            case "Div":
+                yield from _division(node, wanted)
+            case "Para" | "Plain":
+                yield from _named(wanted, _Place([node], node, node["c"]))
+            case "BlockQuote":
+                yield from _places(node["c"], wanted)
+            case "OrderedList" | "BulletList" as kind:
+                for item in node["c"][1] if kind == "OrderedList" else node["c"]:
+                    yield from _places(item, wanted)
+                    yield from _named(wanted, _Place(item, item, _front(item)))
+            case "DefinitionList":
+                for entry in content or ():
+                    body = [block for each in entry[1] for block in each]
+                    yield from _places(body, wanted)
+                    yield from _named(wanted, _Place(body, entry, entry[0]))
+
+
+def _division(node: Node, wanted: set[str]) -> Iterator[tuple[str, _Place]]:
+    """The notes that a division has or is; one with a heading is a section."""
+    content = node["c"][1]
+    yield from _places(content, wanted)
+    place = _Place(content, node, _front(content))
+    if any(each["t"] == "Header" for each in content):
+        return
+    if node["c"][0][0] in wanted:
+        yield node["c"][0][0], place
+    if not _NOTES.isdisjoint(_said_of(node)):
+        yield from _named(wanted, place)
+
+
+def _named(wanted: set[str], place: _Place) -> Iterator[tuple[str, _Place]]:
+    """A place by each name that stands at its front."""
+    for node in _nodes(place.front):
+        if (name := _name(node)) in wanted and name:
+            yield name, place
+        if _is_word(node):
+            return
+
+
+def _front(blocks: Sequence[Node]) -> list[Node]:
+    """The text of the first paragraph of some blocks."""
+    for node in blocks:
+        if node["t"] in ("Para", "Plain"):
+            front: list[Node] = node["c"]
+            return front
+        if node["t"] == "Div":
+            return [{"t": "Span", "c": [node["c"][0], _front(node["c"][1])]}]
+        return []
+    return []
+
+
+class _Taking:
+    """A tree from which the notes are taken, and put where their numbers stand."""
+
+    def __init__(
+        self,
+        places: dict[str, _Place],
+        numbers: set[int],
+        taken: set[int],
+        asides: dict[str, Node],
+    ) -> None:
+        self._places = places
+        self._numbers = numbers
+        self._taken = taken
+        self._asides = asides
+
+    def of(self, value: Any) -> Any:
+        """A part of the tree without the notes that were taken from it, and with those put there."""
+        if isinstance(value, list):
+            return _without_brackets(
+                [kept for each in value for kept in self._kept(each)]
+            )
+        if not isinstance(value, dict) or "c" not in value:
             return value
-        return {**value, "c": _without(value["c"], taken, notes)}
-    if isinstance(value, list):
-        kept = [
-            _without(each, taken, notes)
-            for each in value
-            if id(each) not in taken and not _is_back(each) and not _holds(each, taken)
+        if id(value) in self._numbers:
+            return self._note(value)
+        if value["t"] == "Span" and "footnote" in value["c"][0][1]:
+            return _aside(value)
+        if value["t"] == "Span" and "footnoteref" in value["c"][0][1]:
+            return self._again(value)
+        return {**value, "c": self.of(value["c"])}
+
+    def _kept(self, value: Any) -> Iterator[Any]:
+        if self._is_gone(value):
+            return
+        match value.get("t") if isinstance(value, dict) else None:
+            case "OrderedList":
+                yield from self._list(value)
+            case "Superscript" if _is_note(inner := self.of(value["c"])):
+                yield from inner
+            case _:
+                yield self.of(value)
+
+    def _list(self, node: Node) -> Iterator[Node]:
+        """A list whose items keep their numbers where some of them are taken."""
+        (start, *form), items = node["c"]
+        if not any(id(item) in self._taken for item in items):
+            yield {**node, "c": [node["c"][0], self.of(items)]}
+            return
+        for number, item in enumerate(items, start):
+            if id(item) not in self._taken and not self._is_gone(item):
+                yield {**node, "c": [[number, *form], [self.of(item)]]}
+
+    def _is_gone(self, value: Any) -> bool:
+        """Whether a part of the tree was taken, or has nothing but what was."""
+        if id(value) in self._taken:
+            return True
+        if isinstance(value, list):
+            return bool(value) and all(map(self._is_gone, value))
+        match value.get("t") if isinstance(value, dict) else None:
+            case "OrderedList":
+                return self._is_gone(value["c"][1])
+            case "BulletList" | "DefinitionList" | "BlockQuote":
+                return self._is_gone(value["c"])
+            case "Div":
+                return self._is_gone(list(filter(_has_print, value["c"][1])))
+        return False
+
+    def _note(self, link: Node) -> Node:
+        """What stands in place of a number: the note, or the number where that isn't found."""
+        target, label = _target(link), _label(link)
+        if (place := self._places.get(target)) is None:
+            return {"t": UNKNOWN_NOTE, "c": label}
+        blocks = _without_back(_without_number(place.blocks, target, label))
+        return {"t": "Note", "c": blocks, "of": target, "label": label}
+
+    def _again(self, span: Node) -> Node:
+        """What stands in place of the number of a note that stands elsewhere in the line."""
+        link = next((each for each in _nodes(span["c"][1]) if _is_inner(each)), None)
+        if link is None:
+            return span
+        if (name := _target(link)) not in self._asides:
+            return {"t": UNKNOWN_NOTE, "c": _label(link)}
+        return {**self._asides[name], "of": name}
+
+
+def _is_note(inlines: Sequence[Node]) -> bool:
+    """Whether some text is nothing but the number of a note."""
+    return [each["t"] for each in inlines] in (["Note"], [UNKNOWN_NOTE])
+
+
+def _without_brackets(nodes: list[Any]) -> list[Any]:
+    """A text whose numbers of notes have no brackets around them, since they get some."""
+    for place in range(1, len(nodes) - 1):
+        before, node, after = nodes[place - 1 : place + 2]
+        if not isinstance(node, dict) or node.get("t") not in ("Note", UNKNOWN_NOTE):
+            continue
+        if _ends(before, "[") and _begins(after, "]"):
+            nodes[place - 1] = {"t": "Str", "c": before["c"][:-1]}
+            nodes[place + 1] = {"t": "Str", "c": after["c"][1:]}
+    return [each for each in nodes if each != {"t": "Str", "c": ""}]
+
+
+def _ends(node: Any, text: str) -> bool:
+    is_text = isinstance(node, dict) and node.get("t") == "Str"
+    return is_text and node["c"].endswith(text)
+
+
+def _begins(node: Any, text: str) -> bool:
+    is_text = isinstance(node, dict) and node.get("t") == "Str"
+    return is_text and node["c"].startswith(text)
+
+
+def _has_print(node: Node) -> bool:
+    """Whether a block is more than a line or a blank."""
+    if node["t"] in ("Para", "Plain"):
+        return any(each["t"] not in ("LineBreak", "Space") for each in node["c"])
+    return bool(node["t"] != "HorizontalRule")
+
+
+def _aside(span: Node) -> Node:
+    """A note that stands in the line, without the brackets around it."""
+    breaks = ("LineBreak", "Space", "SoftBreak")
+    inlines = [dict(each) for each in span["c"][1] if each["t"] != "LineBreak"]
+    while inlines and inlines[-1]["t"] in breaks:
+        inlines.pop()
+    if inlines and inlines[0]["t"] == inlines[-1]["t"] == "Str":
+        inlines[0]["c"] = inlines[0]["c"].removeprefix("[")
+        inlines[-1]["c"] = inlines[-1]["c"].removesuffix("]")
+    note = {"t": "Note", "c": [{"t": "Para", "c": inlines}]}
+    return {**note, "of": span["c"][0][0]} if span["c"][0][0] else note
+
+
+def _without_number(blocks: list[Node], target: str, label: str) -> list[Node]:
+    """The blocks of a note without the number with which they begin."""
+    if not blocks:
+        return blocks
+    first, *rest = blocks
+    if first["t"] == "Div":
+        attributes, inner = first["c"]
+        return [
+            {**first, "c": [attributes, _without_number(inner, target, label)]},
+            *rest,
         ]
-        return kept
+    if first["t"] not in ("Para", "Plain"):
+        return blocks
+    inlines = first["c"]
+    if inlines and inlines[0]["t"] == "Span" and inlines[0]["c"][0][0] == target:
+        inlines = [*inlines[0]["c"][1], *inlines[1:]]
+    number = re.compile(rf"[\[({{]?\s*({re.escape(label)})?\s*[\])}}]?[.:)]?")
+    for count in range(min(len(inlines), _PIECES), 0, -1):
+        if number.fullmatch("".join(_text(inlines[:count])).strip()):
+            inlines = inlines[count:]
+            break
+    return [{**first, "c": inlines}, *rest]
+
+
+def _without_back(value: Any) -> Any:
+    """A part of a note without the links that lead back to its number."""
+    if isinstance(value, list):
+        return [_without_back(each) for each in value if not _is_back(each)]
+    if isinstance(value, dict) and "c" in value:
+        return {**value, "c": _without_back(value["c"])}
     return value
 
 
 def _is_back(value: Any) -> bool:
-    return (
-        isinstance(value, dict)
-        and value.get("t") == "Link"
-        and not _BACK.isdisjoint(_said_of(value))
-    )
-
-
-def _holds(value: Any, taken: frozenset[int]) -> bool:
-    """Whether a part of a tree has nothing but what was taken, as the list of all notes."""
-    if not taken:
+    """Whether a part of a note leads back: it is said to, or is a link without a word."""
+    if not isinstance(value, dict) or value.get("t") not in ("Link", "Span"):
         return False
-    if isinstance(value, list):
-        return bool(value) and all(
-            id(each) in taken or _holds(each, taken) for each in value
-        )
-    if not isinstance(value, dict):
-        return False
-    match value.get("t"):
-        case "OrderedList":
-            return _holds(value["c"][1], taken)
-        case "BulletList":
-            return _holds(value["c"], taken)
-        case "Div":
-            inner = [each for each in value["c"][1] if each["t"] != "HorizontalRule"]
-            return _holds(inner, taken)
-    return False
+    if not BACK.isdisjoint(_said_of(value)):
+        return True
+    return _is_inner(value) and not re.search(r"\w", "".join(_text(value["c"][1])))

@@ -6,16 +6,13 @@ Both are processes of their own with limits on time and memory. pandoc opens no 
 
 import json
 import os
-import re
 import shutil
 import signal
 import subprocess
 import tempfile
 from collections.abc import Sequence
-from io import BytesIO
 from pathlib import Path
 from typing import IO, Any
-from zipfile import ZipFile
 
 from braildesk.confined import Limits, confined
 from braildesk.desk.documents.kinds import (
@@ -25,9 +22,6 @@ from braildesk.desk.documents.kinds import (
     NoDocument,
     NotConverted,
     WhyNot,
-    is_media,
-    part_of,
-    unpacked,
 )
 from braildesk.desk.manuscript import UnreadableText
 
@@ -39,7 +33,6 @@ _LIMITS = Limits(memory=4 << 30, seconds=_SECONDS, written=_TREE_BYTES)
 #: What pandoc calls a kind where it isn't the name of it alone: its own reading of notes drops numbers,
 #: and elements that it doesn't know would be no more than their tags.
 _FROM = {Kind.EPUB: "epub-epub_html_exts-raw_html"}
-_TITLE_PAGE = re.compile(rb"""(epub:type\s*=\s*["'][^"']*)titlepage""")
 _OFFICE = ("soffice", "libreoffice")
 
 
@@ -60,23 +53,6 @@ def tree(data: bytes, kind: Kind) -> dict[str, Any]:
     if not isinstance(found, dict):
         raise NotConverted("pandoc", "")
     return found
-
-
-def with_title_pages(data: bytes) -> bytes:
-    """A book in EPUB whose title pages aren't called so, since pandoc leaves those out.
-
-    It has no pictures any more, which aren't looked at.
-    """
-    with unpacked(data) as container:
-        names = [each for each in container.namelist() if not each.endswith("/")]
-        pages = {name: part_of(container, name) for name in names if not is_media(name)}
-    if not any(map(_TITLE_PAGE.search, pages.values())):
-        return data
-    made = BytesIO()
-    with ZipFile(made, "w") as other:
-        for name in names:
-            other.writestr(name, _TITLE_PAGE.sub(rb"\1front", pages.get(name, b"")))
-    return made.getvalue()
 
 
 def office() -> str | None:

@@ -36,6 +36,7 @@ class Lost(Enum):
     LEVEL = auto()
     LENGTH = auto()
     RAW = auto()
+    NOTE = auto()
     HIDDEN = auto()
     DELETED = auto()
     COMMENT = auto()

@@ -16,6 +16,9 @@ from braildesk.text.sequences import composed
 #: A node of pandoc's tree: a dictionary with its kind as ``t`` and its contents as ``c``.
 Node = dict[str, Any]
 
+#: A node that pandoc's trees don't have: the number, as a text, of a note that isn't in the document.
+UNKNOWN_NOTE = "UnknownNote"
+
 #: How many characters before and after what is lost are shown at most.
 _AROUND = 30
 #: Where a line ends.
@@ -70,7 +73,7 @@ class _Line:
     pieces: list[str] = field(default_factory=list)
     length: int = 0
     spans: list[tuple[Lost, int, int]] = field(default_factory=list)
-    notes: list[tuple[int, list[Node]]] = field(default_factory=list)
+    notes: list[tuple[str, list[Node]]] = field(default_factory=list)
 
     def add(self, text: str) -> None:
         self.pieces.append(text)
@@ -95,7 +98,9 @@ class _Reader:
     def __init__(self, reading: Reading) -> None:
         self._reading = reading
         self._count = 0
-        self._waiting: list[tuple[int, list[Node]]] = []
+        self._waiting: list[tuple[str, list[Node]]] = []
+        #: The numbers of notes to which more than one place may lead, by their names.
+        self._numbers: dict[str, str] = {}
         self.parts: list[Part] = []
         self.losses: list[Loss] = []
 
@@ -133,7 +138,7 @@ class _Reader:
         waiting, self._waiting = self._waiting, []
         for number, nodes in waiting:
             text = " ".join(self._texts_of(nodes))
-            self._put(self._bracketed(f"{number}: {text}" if text else f"{number}"))
+            self._put(self._bracketed(f"{number}: {text}" if text else number))
 
     def _bracketed(self, text: str) -> str:
         brackets = self._reading.brackets
@@ -246,6 +251,7 @@ class _Reader:
         """The paragraphs of some blocks, which aren't put; what they lose and their notes are kept."""
         inner = _Reader(replace(self._reading, notes_at_end=True))
         inner._count = self._count
+        inner._numbers = self._numbers
         inner.blocks(nodes)
         self._count = inner._count
         self.losses += inner.losses
@@ -295,15 +301,28 @@ class _Reader:
             case "Image":
                 self._picture(content, line)
             case "Note":
-                self._count += 1
-                line.add(self._bracketed(f"{self._count}"))
-                line.notes.append((self._count, content))
+                self._note(node, line)
+            case kind if kind == UNKNOWN_NOTE:
+                line.add(self._bracketed(content))
             case kind if kind in _LOST_AROUND:
                 self._inlines(content, line)
             case _:
                 raise NotRead
         if lost := _LOST_AROUND.get(node["t"]):
             line.lose(lost, since)
+
+    def _note(self, node: Node, line: _Line) -> None:
+        """Writes the number of a note, its own or the next one; the note is put the first time."""
+        number, name = node.get("label"), node.get("of")
+        known = self._numbers.get(name) if name else None
+        if not number and not known:
+            self._count += 1
+        number = number or known or f"{self._count}"
+        line.add(self._bracketed(number))
+        if known is None:
+            line.notes.append((number, node["c"]))
+        if name:
+            self._numbers.setdefault(name, number)
 
     def _link(self, content: Sequence[Any], line: _Line) -> None:
         since = line.length
@@ -336,6 +355,7 @@ _LOST_AROUND = {
     "Subscript": Lost.SUBSCRIPT,
     "Superscript": Lost.SUPERSCRIPT,
     "Math": Lost.MATHEMATICS,
+    UNKNOWN_NOTE: Lost.NOTE,
 }
 _QUOTES = {"SingleQuote": ("\u2018", "\u2019"), "DoubleQuote": ("\u201c", "\u201d")}
 

@@ -1,0 +1,39 @@
+"""Pages of HTML written so that pandoc keeps the names to which their links lead.
+
+pandoc drops the names of paragraphs and terms, and doesn't know where an aside ends. It also leaves out
+the title pages of a book in EPUB.
+"""
+
+import re
+from io import BytesIO
+from zipfile import ZipFile
+
+from braildesk.desk.documents.kinds import is_media, part_of, unpacked
+
+_TITLE_PAGE = re.compile(rb"""(epub:type\s*=\s*["'][^"']*)titlepage""")
+_ASIDE = re.compile(rb"<(/?)aside\b", re.IGNORECASE)
+_NAMED = re.compile(
+    rb"""<(?:p|dt)\s(?:[^<>]*\s)?id\s*=\s*(["'])([^"'<>]*)\1[^<>]*(?<!/)>""",
+    re.IGNORECASE,
+)
+
+
+def readable_page(page: bytes) -> bytes:
+    """A page whose asides are divisions, and whose paragraphs and terms have their names inside."""
+    return _NAMED.sub(rb'\g<0><span id="\2"></span>', _ASIDE.sub(rb"<\1div", page))
+
+
+def readable_book(data: bytes) -> bytes:
+    """A book in EPUB of such pages, whose title pages aren't called so.
+
+    It has no pictures any more, which aren't looked at.
+    """
+    with unpacked(data) as container:
+        names = [each for each in container.namelist() if not each.endswith("/")]
+        pages = {name: part_of(container, name) for name in names if not is_media(name)}
+    made = BytesIO()
+    with ZipFile(made, "w") as other:
+        for name in names:
+            page = _TITLE_PAGE.sub(rb"\1front", pages.get(name, b""))
+            other.writestr(name, readable_page(page))
+    return made.getvalue()

@@ -1,0 +1,126 @@
+"""Notes of pages of HTML, as the programs that make such pages write them."""
+
+from dataclasses import dataclass
+from itertools import takewhile
+
+import pytest
+
+from braildesk.desk.documents.reading import Lost, Manuscript
+from braildesk.desk.manuscripts import read_manuscript
+
+
+@dataclass(frozen=True)
+class Case:
+    """A way in which a page has notes, and the paragraphs that come of it."""
+
+    name: str
+    page: str
+    texts: tuple[str, ...]
+
+
+CASES = (
+    Case(
+        "Sphinx",
+        '<p>Far.<a class="footnote-reference brackets" href="#s2" id="s1" role="doc-noteref">'
+        '<span class="fn-bracket">[</span>1<span class="fn-bracket">]</span></a> Near.</p>'
+        '<p>After it.</p><aside class="footnote-list brackets">'
+        '<aside class="footnote brackets" id="s2" role="note"><span class="label">'
+        '<span class="fn-bracket">[</span><a role="doc-backlink" href="#s1">1</a>'
+        '<span class="fn-bracket">]</span></span><p>Very.</p><p>Indeed.</p></aside></aside>'
+        "<p>The rest.</p>",
+        ("Far.[1] Near.", "[1: Very. Indeed.]", "After it.", "The rest."),
+    ),
+    Case(
+        "older Sphinx, with a note to which two numbers lead",
+        '<p>Far <a class="footnote-reference brackets" href="#d7" id="d5">4</a>, so'
+        ' far <a class="footnote-reference brackets" href="#d7" id="d6">4</a>.</p>'
+        '<p>And near <a class="footnote-reference brackets" href="#d8" id="d9">5</a>.</p>'
+        '<dl class="footnote brackets"><dt class="label" id="d7"><span class="brackets">4</span>'
+        '<span class="fn-backref">(<a href="#d5">1</a>,<a href="#d6">2</a>)</span></dt>'
+        '<dd><p>Very.</p></dd><dt class="label" id="d8"><span class="brackets">'
+        '<a class="fn-backref" href="#d9">5</a></span></dt><dd><p><code>Quite</code> so.</p>'
+        "</dd></dl>",
+        ("Far [4], so far [4].", "[4: Very.]", "And near [5].", "[5: Quite so.]"),
+    ),
+    Case(
+        "DocBook",
+        '<p>Far.<a href="#ftn.b1" class="footnote" name="b1"><sup class="footnote">[1]</sup></a>'
+        '</p><div class="footnotes"><br /><hr /><div id="ftn.b1" class="footnote"><p>'
+        '<a href="#b1" class="para"><sup class="para">[1] </sup></a> see the Moon</p></div></div>',
+        ("Far.[1]", "[1: see the Moon]"),
+    ),
+    Case(
+        "AsciiDoc",
+        '<p>Far <span class="footnote" id="_footnote_a"><br />[<em>Very</em> far.]<br /></span>,'
+        ' and far<span class="footnoteref"><br /><a href="#_footnote_a">[a]</a><br /></span>.</p>',
+        ("Far [1], and far[1].", "[1: Very far.]"),
+    ),
+    Case(
+        "Asciidoctor",
+        '<p>Far<sup class="footnote">[<a id="_footnoteref_1" class="footnote"'
+        ' href="#_footnotedef_1" title="View footnote.">1</a>]</sup>.</p><div id="footnotes"><hr />'
+        '<div class="footnote" id="_footnotedef_1"><a href="#_footnoteref_1">1</a>. Very.</div>'
+        "</div>",
+        ("Far[1].", "[1: Very.]"),
+    ),
+    Case(
+        "EPUB",
+        '<p>Far<a epub:type="noteref" href="#e9">9</a>.</p>'
+        '<aside epub:type="footnote" id="e9"><p>9. Very.</p></aside>',
+        ("Far[9].", "[9: Very.]"),
+    ),
+    Case(
+        "Project Gutenberg",
+        '<p>Far.<a id="FNanchor_1" href="#Footnote_1" class="fnanchor">[A]</a></p>'
+        '<div class="footnote"><p><a id="Footnote_1" href="#FNanchor_1"><span class="label">[A]'
+        "</span></a> Very.</p><p>Indeed.</p></div>",
+        ("Far.[A]", "[A: Very. Indeed.]"),
+    ),
+    Case(
+        "numbers of which nothing says that they are notes",
+        '<p>Far<sup><a href="#n1" id="m1">1</a></sup> or near<a href="#n3" id="m3">*</a>.</p>'
+        '<ol><li id="n1"><a href="#m1">1</a> Very. <a href="#m1">↩</a></li><li>Two</li>'
+        '<li>Three</li></ol><p id="n3"><a href="#m3">*</a> Quite.</p>',
+        ("Far[1] or near[*].", "[1: Very.]", "[*: Quite.]", "2. Two", "3. Three"),
+    ),
+    Case(
+        "numbers that lead to parts of the book",
+        '<p>See <a href="#c1">1</a> and <a href="#c2">2</a>.</p>'
+        '<p id="c1">1 moon</p><div id="c2"><p><a href="#c1">2</a> moons</p><h2>A part</h2></div>',
+        ("See 1 and 2.", "1 moon", "2 moons", "A part"),
+    ),
+    Case(
+        "a number without its note",
+        '<p>Far<a role="doc-noteref" href="#nowhere">7</a>.</p>',
+        ("Far[7].",),
+    ),
+)
+
+
+@pytest.fixture(scope="module")
+def found(tmp_path_factory: pytest.TempPathFactory) -> Manuscript:
+    """A page with all these notes, which is read once."""
+    path = tmp_path_factory.mktemp("notes") / "moon.html"
+    cases = "".join(f"<h1>{case.name}</h1>{case.page}" for case in CASES)
+    path.write_text(f"<html><body>{cases}</body></html>", encoding="utf-8")
+    return read_manuscript(path)
+
+
+@pytest.mark.parametrize("case", CASES, ids=[case.name for case in CASES])
+def test_a_note_stands_in_brackets_after_its_paragraph(
+    found: Manuscript, case: Case
+) -> None:
+    texts = found.texts
+    after = found.parts[texts.index(case.name) + 1 :]
+    section = takewhile(lambda part: part.level != 1, after)
+    assert tuple(part.text for part in section) == case.texts
+
+
+def test_no_word_of_the_notes_is_lost_and_a_note_that_is_not_there_is_noted(
+    found: Manuscript,
+) -> None:
+    assert [each.words for each in found.missing] == ["a"]
+    assert [each.around for each in found.losses if each.what is Lost.NOTE] == [
+        "Far[7]."
+    ]
+    assert all(each.what is not Lost.SUPERSCRIPT for each in found.losses)
