@@ -10,6 +10,7 @@ import os
 import time
 from collections.abc import Iterator
 from contextlib import ExitStack, contextmanager
+from dataclasses import replace
 from os import fspath
 from pathlib import Path
 from typing import BinaryIO
@@ -19,7 +20,8 @@ from braildesk.opening import is_log
 from braildesk.program import StrPath
 from braildesk.protocol.asked import BookFile, log_path
 from braildesk.protocol.sentences import Why
-from braildesk.refusals import Failed, cannot_open
+from braildesk.refusals import Failed, Refused, cannot_open, refused_as
+from braildesk.session import Session
 from braildesk.workshop import give_access, made_for_a_while, open_made
 
 #: How long a file stays as it is before it is copied, so that a later change shows in its times.
@@ -45,6 +47,19 @@ def snapshot(path: StrPath) -> Iterator[Path]:
         except OSError as error:
             raise _not_copied(book, error) from error
         yield copied
+
+
+@contextmanager
+def copied_session(path: StrPath) -> Iterator[tuple[Session, Path]]:
+    """A session with a copy of a book, and where that is; what is refused names the book itself."""
+    with snapshot(path) as copied:
+        try:
+            session = Session(copied)
+        except Refused as refusal:
+            book = BookFile(fspath(path))
+            raise refused_as(replace(refusal.refusal, asked=book)) from None
+        with session:
+            yield session, copied
 
 
 def _copy(book: BookFile, copied: Path) -> None:

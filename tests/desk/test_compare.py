@@ -1,5 +1,6 @@
 """`scribe compare`: the print of a book beside a manuscript, word by word."""
 
+import shutil
 from pathlib import Path
 
 import pytest
@@ -98,6 +99,22 @@ def test_a_book_is_compared_with_another_book(moon: Path) -> None:
         "Paragraph 2, character 5: “Tide”, in the manuscript “Tides”\n"
     )
     assert ran.said == "1 place of 1 paragraph differs.\n"
+
+
+def test_a_book_that_another_program_has_open_is_compared_as_it_was_kept(
+    moon: Path,
+) -> None:
+    shutil.copy(moon, moon.parent / "other.braildesk")
+    with Session(moon) as session:
+        session.correct(1, 4, 4, "sun")
+        ran = scribe("compare", "other.braildesk", moon.name, folder=moon.parent)
+        version = session.last_version
+    assert ran == Ran(
+        0,
+        "Paragraph 1, character 5: “moon”, in the manuscript “sun”\n",
+        f"Another program has {moon.name} open. This is what it had kept a moment ago, at version"
+        f" {version}.\n1 place of 1 paragraph differs.\n",
+    )
 
 
 def test_a_talk_compares_by_the_same_word(moon: Path) -> None:

@@ -9,7 +9,6 @@ from pathlib import Path
 
 import pytest
 
-from braildesk.desk.contracted import manuscript_at
 from braildesk.desk.documents import kinds, pandoc
 from braildesk.desk.documents.contents import missing
 from braildesk.desk.documents.document import read_document
@@ -652,4 +651,4 @@ def test_a_table_is_made_for_the_words_of_a_document(tmp_path: Path) -> None:
     path = docx(
         tmp_path / "moon.docx", paragraph(run("The moon")) + paragraph(run("far"))
     )
-    assert manuscript_at(path).paragraphs == ["The moon", "far"]
+    assert read_manuscript(path).texts == ["The moon", "far"]

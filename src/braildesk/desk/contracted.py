@@ -1,22 +1,16 @@
-"""What a table is made with for a manuscript: its paragraphs, a list of words, and what was kept."""
+"""What a table is made with for a manuscript: a list of words, and what was kept."""
 
 from pathlib import Path
 
-from braildesk.desk.manuscripts import read_manuscript
 from braildesk.desk.own_folder import OwnFolder, cache_folder
 from braildesk.tables.convert.addition import read_addition
 from braildesk.tables.convert.shipped import shipped_table
-from braildesk.tables.convert.tailoring import Manuscript, Means, Report
+from braildesk.tables.convert.tailoring import Means, Report
 from braildesk.tables.convert.word_list import WordList
 from braildesk.tables.convert.words import installed_words
 
 FOLDER = "contractions"
 """The folder, within what can be made again, of the rules that were learned from lists."""
-
-
-def manuscript_at(path: Path, wait: float = 0.0) -> Manuscript:
-    """The manuscript in a file: a document, a text or a book."""
-    return Manuscript(path.name, read_manuscript(path, wait=wait).texts)
 
 
 def means_for(

@@ -5,7 +5,7 @@ from dataclasses import dataclass, replace
 from itertools import takewhile
 from pathlib import Path
 
-from braildesk import Session, Style
+from braildesk import CannotOpen, Session, Style, Why
 from braildesk.desk.documents.kinds import Kind, is_container, kind_of
 from braildesk.desk.documents.reading import Manuscript, Part, Reading
 from braildesk.desk.manuscript import DocumentPassage, Line, Passage, Position, passages
@@ -117,12 +117,27 @@ def _is_book(path: Path) -> bool:
 
 
 def _of_book(path: Path, wait: float) -> Manuscript:
-    with Session(path, timeout=wait) as session:
-        book = [each for each in session.paragraphs() if not each.struck]
-        parts = tuple(
-            Part(text, 1 if each.style is Style.HEADING else None)
-            for each, text in zip(book, prints(session, book))
-        )
+    """A book, or what it had kept a moment ago where another program has it open."""
+    try:
+        session = Session(path, timeout=wait)
+    except CannotOpen as refusal:
+        if refusal.why is not Why.IN_USE:
+            raise
+        # imported here, since few books are open
+        from braildesk.snapshot import copied_session
+
+        with copied_session(path) as (session, _):
+            return replace(_of_session(session), kept_at=session.last_version)
+    with session:
+        return _of_session(session)
+
+
+def _of_session(session: Session) -> Manuscript:
+    book = [each for each in session.paragraphs() if not each.struck]
+    parts = tuple(
+        Part(text, 1 if each.style is Style.HEADING else None)
+        for each, text in zip(book, prints(session, book))
+    )
     return Manuscript(Kind.BOOK, parts)
 
 

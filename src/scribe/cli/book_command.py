@@ -3,15 +3,12 @@
 from argparse import ArgumentParser, ArgumentTypeError, Namespace
 from collections.abc import Callable, Iterator
 from contextlib import contextmanager, suppress
-from dataclasses import replace
 from pathlib import Path
 from typing import TYPE_CHECKING, NamedTuple, TypeAlias
 
-from braildesk import CannotOpen, Lost, Refused, Session, Why, check
+from braildesk import CannotOpen, Lost, Session, Why, check
 from braildesk.desk import USUAL_WAIT
 from braildesk.desk.places import ManyPlaces
-from braildesk.protocol.asked import BookFile
-from braildesk.refusals import refused_as
 from braildesk.text.excerpt import excerpt_lines
 from braildesk.text.spans import Span
 
@@ -113,23 +110,14 @@ def looked_at(arguments: Namespace, console: Console) -> Iterator[tuple[Session,
         if refusal.why is not Why.IN_USE:
             raise
         # imported here, since few commands meet an open book
-        from braildesk.snapshot import snapshot
+        from braildesk.snapshot import copied_session
 
-        with snapshot(arguments.file) as copied, _opened(arguments, copied) as session:
+        with copied_session(arguments.file) as (session, copied):
             console.say(as_kept(arguments.file, session.last_version))
             yield session, copied
         return
     with session:
         yield session, arguments.file
-
-
-def _opened(arguments: Namespace, copied: Path) -> Session:
-    """A session with a copy, which is called as the book if it is refused."""
-    try:
-        return Session(copied)
-    except Refused as refusal:
-        asked = BookFile(str(arguments.file))
-        raise refused_as(replace(refusal.refusal, asked=asked)) from None
 
 
 def as_kept(book: Path, version: int) -> str:

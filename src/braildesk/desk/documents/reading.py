@@ -102,6 +102,8 @@ class Manuscript:
     losses: tuple[Loss, ...] = ()
     #: The words of the file that aren't in any paragraph.
     missing: tuple[Missing, ...] = ()
+    #: Of a book that another program has open, the version at which it was read.
+    kept_at: int | None = None
 
     @property
     def texts(self) -> list[str]:

@@ -3,8 +3,9 @@
 from argparse import ArgumentParser, Namespace
 from pathlib import Path
 
-from braildesk.desk.contracted import manuscript_at, means_for
+from braildesk.desk.contracted import means_for
 from braildesk.desk.manuscript import UnreadableText
+from braildesk.desk.manuscripts import read_manuscript
 from braildesk.desk.whole_file import MayNotLast, write_whole
 from braildesk.tables.convert import manuscript_report, report
 from braildesk.tables.convert.addition import BadAddition
@@ -21,6 +22,7 @@ from braildesk.tables.convert.shipped import Measured, measured_tables, shipped_
 from braildesk.tables.convert.source import NoTable
 from braildesk.tables.convert.tailoring import Manuscript, tailor
 
+from scribe.cli.book_command import as_kept
 from scribe.cli.parser import Subparsers, command_parser, readable
 from scribe.words.console import Console
 from scribe.words.import_text import unreadable
@@ -146,7 +148,7 @@ def run(arguments: Namespace, console: Console) -> Status:
 
 def _for_manuscript(table: Path, arguments: Namespace, console: Console) -> Status:
     """Makes a table for a manuscript, and says what it is worth."""
-    manuscript = _manuscript(arguments.manuscript)
+    manuscript = _manuscript(arguments.manuscript, console)
     means = means_for(table, arguments.words, console.progress, arguments.add)
     tailored = tailor(table, manuscript, means)
     console.say(manuscript_report.NOT_CERTIFIED, *manuscript_report.said_of(tailored))
@@ -157,16 +159,18 @@ def _for_manuscript(table: Path, arguments: Namespace, console: Console) -> Stat
     return _written(text, arguments.file, console)
 
 
-def _manuscript(path: Path) -> Manuscript:
+def _manuscript(path: Path, console: Console) -> Manuscript:
     try:
-        found = manuscript_at(path)
+        found = read_manuscript(path)
     except UnreadableText as cause:
         raise Stop(f"{path} {unreadable(cause)}.") from cause
     except OSError as cause:
         raise Stop(f"{path} can't be read: {cause.strerror}.") from cause
-    if not found.paragraphs:
+    if not found.texts:
         raise Stop(f"{path} has no paragraph, so there is nothing to make a table for.")
-    return found
+    if found.kept_at is not None:
+        console.say(as_kept(path, found.kept_at))
+    return Manuscript(path.name, found.texts)
 
 
 def listed(language: str | None = None) -> list[str]:

@@ -8,7 +8,7 @@ from braildesk.desk.documents.reading import Reading
 from braildesk.desk.manuscript import UnreadableText
 from braildesk.desk.manuscripts import read_manuscript
 
-from scribe.cli.book_command import BookCommand
+from scribe.cli.book_command import BookCommand, as_kept
 from scribe.cli.parser import Parser, add_width
 from scribe.words.compare import Count, left_out
 from scribe.words.console import Console
@@ -45,6 +45,8 @@ def answer(session: Session, arguments: Namespace, console: Console) -> None:
     except UnreadableText as fault:
         why = unreadable(fault).replace(", and import it again", "")
         raise Stop(f"{path} {why}. Nothing was compared.") from fault
+    if manuscript.kept_at is not None:
+        console.say(as_kept(path, manuscript.kept_at))
     count = Count()
     for lines in count.lines(compare(session, manuscript.texts), console.columns):
         console.show(*lines)
