@@ -1,6 +1,7 @@
 """Documents as publishers send them: their paragraphs, and all that is lost of them."""
 
 import os
+import resource
 import subprocess
 import sys
 import time
@@ -618,6 +619,39 @@ def test_a_program_that_takes_too_long_is_given_up(
     program(programs, "pandoc", "echo none")
     with pytest.raises(NotConverted):
         read_document(b"a", Kind.MARKDOWN)
+
+
+#: A document of 100,000 words takes 4 seconds, nearly all of a processor, where nothing else runs. The
+#: processor's seconds are counted, since those of the clock are other programs' too; where processors
+#: share their caches they are up to half as many again.
+SECONDS = 7.5
+
+
+def of_processor() -> float:
+    """The seconds of a processor that this process has taken, and those that it waited for."""
+    kinds = (resource.RUSAGE_SELF, resource.RUSAGE_CHILDREN)
+    return sum(used.ru_utime + used.ru_stime for used in map(resource.getrusage, kinds))
+
+
+def test_a_document_of_a_hundred_thousand_words_is_read_in_five_seconds(
+    tmp_path: Path,
+) -> None:
+    words = [f"{a}{b}ly" for a in ("sea", "moon", "tide") for b in range(70)]
+    body, wanted = "", []
+    for n in range(5_000):
+        text = " ".join(words[(7 * n + k * (3 * k + n)) % 210] for k in range(20))
+        # each other paragraph has a note, so that it doesn't read as in the file
+        nth = n // 2 + 1
+        noted = run(text) + (note(nth) if n % 2 == 0 else "")
+        body += paragraph(noted)
+        its = [f"{text}[{nth}]", f"[{nth}: Nearly.]"] if n % 2 == 0 else [text]
+        wanted += its
+    notes = [(nth, "Nearly.") for nth in range(1, 2_501)]
+    path = docx(tmp_path / "long.docx", body, notes)
+    began = of_processor()
+    found = read_manuscript(path)
+    assert of_processor() - began < SECONDS
+    assert found.texts == wanted and not found.missing
 
 
 READS = """
