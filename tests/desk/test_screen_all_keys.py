@@ -115,6 +115,21 @@ j
 k
 c-down
 c-up
+P
+n
+P
+c
+'ea' enter
+'oo' enter
+?
+escape
+y
+a
+escape
+V
+v
+'1' enter
+escape
 """.strip().split(
     "\n"
 )

@@ -216,6 +216,51 @@ CHAPTER = [
 ]
 
 
+#: In the list of the places of a word, the first is changed and the other is left.
+PLACES = [
+    Heard(
+        "enter",
+        {
+            2: "2 places of “The”, to be “Our”. Lines 1",
+            3: "to 5 of 5.",
+            4: "Place 1 of 2, paragraph 1:",
+            5: "[The] moon is far away.",
+            6: "After: [Our] moon is far away.",
+            7: "Place 2 of 2, paragraph 2: [The] Tides",
+            8: "After: [Our] Tides",
+            9: "",
+            12: "y changes it  n leaves it  a all  ?…",
+        },
+        (),
+        (4, 1),
+    ),
+    Heard(
+        "y",
+        {
+            1: "last kept: a correction of paragraph 1",
+            4: "Place 1 of 2, changed, paragraph 1:",
+            5: "[Our] moon is far away.",
+            6: "Before: [The] moon is far away.",
+            11: "Paragraph 1 is changed. 1 more place.",
+        },
+        (7,),
+        (7, 1),
+    ),
+    Heard(
+        "n",
+        {
+            3: "to 6 of 6.",
+            7: "Place 2 of 2, left, paragraph 2:",
+            8: "[The] Tides",
+            9: "After: [Our] Tides",
+            11: "It stays as it is. No more places.",
+        },
+        (),
+        (7, 1),
+    ),
+]
+
+
 @pytest.fixture
 def marked(moon: Path) -> Path:
     """The book with a second mark, at version 8."""
@@ -257,6 +302,13 @@ def test_a_chapter_is_typed_and_each_paragraph_is_heard(marked: Path, sit: Sit) 
         check(sat, each)
     assert [each.id for each in sat.state.book] == [1, 4, 5, 2, 3]
     assert sat.desk.drafts.waiting() is None
+
+
+def test_places_are_heard_as_they_are_changed_and_left(marked: Path, sit: Sit) -> None:
+    sat = sit(marked, size=Size(40, 12))
+    sat.press("c", *"The", "enter", *"Our")
+    for each in PLACES:
+        check(sat, each)
 
 
 def test_a_quiet_screen_draws_one_row_for_each_character_that_is_typed(

@@ -91,6 +91,37 @@ def test_enter_goes_to_the_mark_of_the_line_and_it_is_in_hand(
     assert sat.state.pages and sat.state.pages.title.startswith("No open marks, 3")
 
 
+def test_page_and_line_of_what_is_gone_to_are_said_where_that_is_wanted(
+    tides: Path, sit: Sit, monkeypatch: pytest.MonkeyPatch
+) -> None:
+    sat = sit(tides)
+    sat.press("n")
+    assert sat.state.message == ""
+    sat.press("P")
+    assert sat.state.message == (
+        "Now n, N, / and * say the page and line to which they go."
+    )
+    sat.press("n")
+    assert sat.state.message == "Volume 2, page 1 line 2."
+    sat.press("/", *"The Moon", "enter")
+    assert sat.state.message == (
+        "“The Moon” isn't further on; this is the first in the book. Volume 1, page 1 line 1."
+    )
+    sat.press("/", *"nowhere", "enter")
+    assert sat.state.message == "“nowhere” isn't in the print of the book."
+    # a long volume is laid out beside the screen, once
+    monkeypatch.setattr(pagelook, "_MANY", 0)
+    sat.press("s", "s", "N")
+    assert sat.state.message == "Please wait." and sat.state.away
+    sat.state = sat.desk.away(sat.state, lambda _: None)
+    assert sat.state.message == (
+        "No open mark up to the front of the book: this is the last in it. Volume 2, page 1"
+        " line 2."
+    )
+    sat.press("P", "n")
+    assert "page" not in sat.state.message
+
+
 def test_the_headings_are_listed_with_their_pages_and_gone_to(
     tides: Path, sit: Sit
 ) -> None:

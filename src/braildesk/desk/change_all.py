@@ -1,8 +1,9 @@
 """Words that are replaced wherever they stand, place by place and by the smallest corrections."""
 
 import unicodedata
-from collections.abc import Callable, Iterator, Sequence
-from dataclasses import dataclass
+from collections.abc import Callable, Iterable, Iterator, Sequence
+from dataclasses import dataclass, replace
+from itertools import groupby
 
 from braildesk import Paragraph, Refused, Session
 from braildesk.desk.change import Change, SameWords, change_place
@@ -107,6 +108,51 @@ def change_all(
     texts = list(prints(session, its))
     for paragraph, text in zip(its, texts):
         yield from _change_in(session, paragraph.id, text, wanted, is_wanted)
+
+
+def change_proposed(
+    session: Session, found: Iterable[Proposal], by: str | None = None
+) -> Iterator[Change | NotChanged | Passed]:
+    """Changes places that were proposed, in the book's order, and gives what became of each.
+
+    Each is a correction of its own, which is kept before the next one is made.
+    """
+    for _, its in groupby(found, key=lambda each: each.paragraph):
+        left = list(its)
+        while left:
+            proposal = left.pop(0)
+            if proposal.after[0] == proposal.text:
+                yield Passed(proposal)
+                continue
+            number, text, place = proposal.paragraph, proposal.text, proposal.place
+            try:
+                change = change_place(session, number, text, place, proposal.new, by)
+            except Refused as refused:
+                yield NotChanged(proposal, refused)
+                continue
+            left = moved_by(change, left)
+            yield change
+
+
+def moved_by(change: Change, found: Iterable[Proposal]) -> list[Proposal]:
+    """Places that were proposed as they are after one of their paragraphs was changed."""
+    by = len(change.now) - len(change.before)
+    return [
+        (
+            each
+            if each.paragraph != change.paragraph
+            else replace(
+                each,
+                text=change.now,
+                place=(
+                    Span(each.place.start + by, each.place.stop + by)
+                    if each.place.start >= change.went.stop
+                    else each.place
+                ),
+            )
+        )
+        for each in found
+    ]
 
 
 def _change_in(

@@ -3,7 +3,9 @@
 from dataclasses import dataclass
 from pathlib import Path
 
-from braildesk import After
+from braildesk import After, Paragraph
+from braildesk.desk.change import Change
+from braildesk.desk.change_all import Proposal, Replacement
 from braildesk.desk.earlier import Way
 from braildesk.desk.import_note import ImportNote
 from braildesk.desk.layout import PageSize
@@ -53,6 +55,70 @@ class ToPage:
     page: int
     line: int = 1
     volume: int | None = None
+
+
+@dataclass(frozen=True)
+class SayPage:
+    """Says the page and line of the cursor's words, after what has to be said anyway."""
+
+    said: str = ""
+
+
+#: What needs the pages of volumes.
+ByPages = ShowPage | ListMarks | ListHeadings | ToPage | SayPage
+
+
+@dataclass(frozen=True)
+class FindPlaces:
+    """Looks at the places where words stand that others may come in place of."""
+
+    wanted: Replacement
+
+
+@dataclass(frozen=True)
+class Place:
+    """A place where words stand that are to be changed, and what became of it."""
+
+    proposal: Proposal
+    change: Change | None = None
+    is_left: bool = False
+
+    @property
+    def is_open(self) -> bool:
+        """Whether it was neither changed nor left as it is."""
+        return self.change is None and not self.is_left
+
+
+@dataclass(frozen=True)
+class ChangePlaces:
+    """Changes the places of a list that are open, or one of them, counted from 0."""
+
+    wanted: Replacement
+    places: tuple[Place, ...]
+    nth: int | None = None
+
+    @property
+    def open_places(self) -> tuple[Proposal, ...]:
+        """The places that were neither changed nor left as they are."""
+        return tuple(each.proposal for each in self.places if each.is_open)
+
+
+@dataclass(frozen=True)
+class ListVolumes:
+    """Looks at the volumes with their pages, or at others of which none has more pages."""
+
+    most: int | None = None
+
+
+@dataclass(frozen=True)
+class SetVolumes:
+    """Sets where volumes begin: at each paragraph, or not there any more."""
+
+    changed: tuple[tuple[Paragraph, bool], ...] = ()
+
+
+#: What concerns the whole book.
+OfWholeBook = FindPlaces | ChangePlaces | ListVolumes | SetVolumes
 
 
 @dataclass(frozen=True)
@@ -148,10 +214,8 @@ Action = (
     ToFound
     | ToMark
     | ShowHistory
-    | ShowPage
-    | ListMarks
-    | ListHeadings
-    | ToPage
+    | ByPages
+    | OfWholeBook
     | GiveTable
     | TypeAll
     | GoOn

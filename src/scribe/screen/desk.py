@@ -29,17 +29,19 @@ from braildesk.desk.readings import ParagraphReading, answers
 from braildesk.desk.tables import table_request
 from braildesk.desk.unfinished import NotSeen, Unfinished
 from braildesk.protocol.requests import Command, Request
-from braildesk.text.cells import braille_patterns
 from braildesk.text.characters import visible
 from braildesk.text.excerpt import opening
 from braildesk.text.sequences import composed
 from braildesk.text.spans import Span
 
-from scribe.screen import finding, keys, lists, pager
+from scribe.screen import by_pages, finding, keys, whole_book
 from scribe.screen.actions import (
     Action,
     BringBack,
+    ByPages,
+    ChangePlaces,
     ExportTo,
+    FindPlaces,
     GiveTable,
     GiveUp,
     GoOn,
@@ -47,10 +49,14 @@ from scribe.screen.actions import (
     LeaveImport,
     ListHeadings,
     ListMarks,
+    ListVolumes,
+    OfWholeBook,
     OpenAgain,
     PutBy,
     PutOff,
     Quit,
+    SayPage,
+    SetVolumes,
     ShowHistory,
     ShowPage,
     TakeBack,
@@ -62,7 +68,6 @@ from scribe.screen.actions import (
 from scribe.screen.background import done_in_background, question_about
 from scribe.screen.field import Cut, Field, Purpose
 from scribe.screen.in_hand import left_here, with_mark_in_hand
-from scribe.screen.keys import Step
 from scribe.screen.state import (
     Opening,
     Pages,
@@ -70,6 +75,7 @@ from scribe.screen.state import (
     Question,
     Size,
     State,
+    Step,
     at_paragraph,
     commands_between,
     done_by_one_key,
@@ -240,8 +246,10 @@ class Desk:
         state = replace(state, away=None, message="")
         if isinstance(action, TakeBack):
             return self._all_taken_back(state, report)
-        if isinstance(action, ShowPage | ListMarks | ListHeadings | ToPage):
+        if isinstance(action, ShowPage | ListMarks | ListHeadings | ToPage | SayPage):
             return self._laid_out(state, action, report)
+        if isinstance(action, FindPlaces | ChangePlaces | ListVolumes | SetVolumes):
+            return self._done_in_whole(state, action, report)
         try:
             self._session.close()
             ending = done_in_background(self.path, action, report, self._check)
@@ -721,17 +729,23 @@ class Desk:
             case Quit():
                 return replace(state, is_over=True)
             case ToFound():
-                return finding.to_found(self._session, state, action)
+                found = finding.to_found(self._session, state, action)
+                return self._with_page_said(state, found)
             case ToMark():
-                return finding.to_mark(self._session, state, action)
+                found = finding.to_mark(self._session, state, action)
+                return self._with_page_said(state, found)
             case ShowHistory():
                 assert state.paragraph is not None
                 number = state.paragraph.id
                 lines = shown(self._session, requests.History(number))
                 title = f"History of paragraph {number}."
                 return replace(state, pages=Pages(title, tuple(lines)))
-            case ShowPage() | ListMarks() | ListHeadings() | ToPage():
+            case ShowPage() | ListMarks() | ListHeadings() | ToPage() | SayPage():
                 return self._by_pages(state, action)
+            case FindPlaces() | ChangePlaces() | ListVolumes() | SetVolumes():
+                if whole_book.takes_long(state, action):
+                    return replace(state, away=action, message="Please wait.")
+                return whole_book.done(self._session, state, action, lambda *_: None)
             case GiveTable():
                 return self._with_table(state, action.name)
             case TypeAll():
@@ -815,69 +829,30 @@ class Desk:
         fault = self._unsent.put_by(draft_of_pasted(state, text))
         return state.saying(f"{_PASTED} {fault}".rstrip())
 
-    def _by_pages(
-        self, state: State, action: ShowPage | ListMarks | ListHeadings | ToPage
-    ) -> State:
+    def _with_page_said(self, before: State, found: State) -> State:
+        """What was gone to, with its page and line where these are said."""
+        here = (before.chosen, before.place, before.pane)
+        is_there = (found.chosen, found.place, found.pane) == here
+        is_held = found.in_hand is not None and found.in_hand != before.in_hand
+        if not found.says_pages or is_there and not is_held:
+            return found
+        return self._by_pages(self.refreshed(found), SayPage(found.message))
+
+    def _by_pages(self, state: State, action: ByPages) -> State:
         """What needs the pages of volumes, and is done aside if these are long."""
-        volumes = self._volumes_for(state, action)
+        volumes = by_pages.volumes_for(state, action)
         if not volumes:
-            return state.saying(_no_volume(state, action))
+            return by_pages.without_volume(state, action)
         if not self._layouts.are_soon(volumes):
             return replace(state, away=action, message="Please wait.")
-        return self._with_pages(state, action, lambda *_: None)
-
-    def _volumes_for(
-        self, state: State, action: ShowPage | ListMarks | ListHeadings | ToPage
-    ) -> tuple[pagelook.Volume, ...]:
-        """The volumes whose pages are needed, which aren't laid out yet."""
-        if isinstance(action, ListMarks | ListHeadings):
-            return lists.volumes_of(state)
-        if isinstance(action, ToPage) and action.volume is not None:
-            volumes = lists.volumes_of(state)
-            return volumes[action.volume - 1 : action.volume] if action.volume else ()
-        assert state.paragraph is not None
-        book, version, its = state.book, state.version, state.paragraph
-        found = pagelook.volume_of(book, version, state.page_size, its)
-        return () if found is None else (found,)
-
-    def _with_pages(
-        self,
-        state: State,
-        action: ShowPage | ListMarks | ListHeadings | ToPage,
-        tell: Callable[[int, int], None],
-    ) -> State:
-        """What is shown by the pages of volumes, or gone to."""
-        match action:
-            case ListMarks():
-                return lists.marks_list(self._session, state, self._layouts, tell)
-            case ListHeadings():
-                return lists.headings_list(self._session, state, self._layouts, tell)
-        (volume,) = self._volumes_for(state, action)
-        laid = self._layouts.lay(self._session, volume, tell)
-        if isinstance(action, ToPage):
-            return lists.at_page(self._session, state, action, laid)
-        return self._to_page(state, laid)
-
-    def _to_page(self, state: State, laid: pagelook.Volume) -> State:
-        """The page of the cursor's words, of a volume that is laid out."""
-        its, here = state.paragraph, state.highlighted
-        assert its is not None and here is not None
-        is_cell = state.pane is Pane.CELLS
-        says = f"{'cell' if is_cell else 'character'} {state.place + 1}"
-        sought = pagelook.Sought(its, here.cells.start, says)
-        found = pagelook.page_of(self._session, laid, sought)
-        if found.line is None:
-            return state.saying(found.title)
-        lines = found.lines
-        if not state.is_ascii:
-            lines = tuple(map(braille_patterns, lines))
-        pages = pager.at_line(Pages(found.title, lines), state.size, found.line)
-        return replace(state, pages=pages)
+        return by_pages.shown(
+            self._session, self._layouts, state, action, lambda *_: None
+        )
 
     def _laid_out(
         self,
         state: State,
-        action: ShowPage | ListMarks | ListHeadings | ToPage,
+        action: ByPages,
         report: Callable[[str], None],
     ) -> State:
         """Lays out the volumes that an action needs, and does it."""
@@ -887,11 +862,32 @@ class Desk:
             report(f"{done:,} of {count:,} paragraphs are laid out.")
 
         try:
-            return self._drawn(self._with_pages(state, action, tell))
+            found = by_pages.shown(self._session, self._layouts, state, action, tell)
+            return self._drawn(found)
         except (Lost, Refused) as failed:
             return self._after_failure(state, failed)
         except Interrupted:
             return state
+
+    def _done_in_whole(
+        self, state: State, action: OfWholeBook, report: Callable[[str], None]
+    ) -> State:
+        """Does what concerns the whole book, and takes long."""
+
+        def tell(done: int, count: int) -> None:
+            self._check()
+            report(f"{done:,} of {count:,} done.")
+
+        try:
+            with in_sentences():
+                state = whole_book.done(self._session, state, action, tell)
+        except Stop as stop:
+            state = state.saying(stop.sentence)
+        except (Lost, Refused) as failed:
+            return self._after_failure(state, failed)
+        except Interrupted:
+            return state
+        return self._drawn(state)
 
     def _with_table(self, state: State, name: str) -> State:
         """Puts an installed table into the book if it has none of that name, then gives it."""
@@ -964,19 +960,6 @@ def preview_of(state: State, typed: Field) -> tuple[str, str, str]:
     if typed.purpose is Purpose.EDIT and state.paragraph:
         table = state.paragraph.table
     return table or "", typed.text, keys.print_of(state, typed)
-
-
-def _no_volume(
-    state: State, action: ShowPage | ListMarks | ListHeadings | ToPage
-) -> str:
-    """What is said if no volume is there whose pages are asked for."""
-    count = len(lists.volumes_of(state))
-    if isinstance(action, ToPage) and action.volume is not None and count:
-        return f"There is no volume {action.volume}: the book has {count}."
-    if not count or isinstance(action, ListMarks | ListHeadings):
-        return "All paragraphs are struck, so the book has no pages."
-    assert state.paragraph is not None
-    return f"Paragraph {state.paragraph.id} is struck, so it is on no page."
 
 
 def _amount(saved: Draft) -> str:

@@ -15,6 +15,7 @@ from braildesk.text.wrapping import columns, wrap
 from scribe.screen import pager
 from scribe.screen.body import body
 from scribe.words.encoding import has
+from scribe.screen.actions import ChangePlaces, SetVolumes
 from scribe.screen.field import Field, Purpose
 from scribe.screen.lines import Area, CHOSEN, HEAD, Line, PLAIN, Run, filled, shown
 from scribe.screen.state import Pages, Pane, Question, Size, State
@@ -33,6 +34,9 @@ PROMPTS = {
     Purpose.SIZE: "Cells and lines: ",
     Purpose.FOLDER: "Export to the folder: ",
     Purpose.TEXT_FILE: "Import the text file: ",
+    Purpose.OLD: "Words that go: ",
+    Purpose.NEW: "What comes: ",
+    Purpose.PAGES: "Pages of a volume: ",
 }
 
 
@@ -247,6 +251,12 @@ def _hint(state: State) -> str:
     if state.anchor is not None and not state.pages:
         return "m marks these cells  Left, Right choose more  Space gives them up"
     if state.pages:
+        match state.pages.offer:
+            case ChangePlaces():
+                return "y changes it  n leaves it  a all  ? keys  Escape goes back"
+            case SetVolumes(changed=changed):
+                front = "y sets them" if changed else "v proposes others"
+                return f"{front}  ? keys  Escape goes back  Enter goes there"
         front = "Enter goes there  " if state.pages.targets else ""
         return f"{front}Escape goes back  Up, Down, Page Up, Page Down look further"
     return HINT

@@ -20,6 +20,9 @@ class Purpose(Enum):
     SIZE = auto()
     FOLDER = auto()
     TEXT_FILE = auto()
+    OLD = auto()
+    NEW = auto()
+    PAGES = auto()
 
     @property
     def is_print(self) -> bool:

@@ -38,7 +38,7 @@ def with_mark_in_hand(state: State, before: State) -> State:
     if state.reading.paragraph.id != before.reading.paragraph.id:
         return state
     old = {mark.id: mark.touched for mark in before.reading.marks}
-    touched = [m for m in state.reading.marks if m.touched and old.get(m.id) is False]
+    fresh = [m for m in state.reading.marks if m.touched and old.get(m.id) is False]
     put = [mark for mark in state.reading.marks if mark.id not in old]
     begun = None
     if before.typed is not None and before.typed.purpose is Purpose.EDIT:
@@ -47,10 +47,10 @@ def with_mark_in_hand(state: State, before: State) -> State:
         state = holding(state, begun.id)
     elif put:
         state = holding(state, put[-1].id)
-    elif touched and not set(touched) & set(state.marks_here):
-        state = holding(state, touched[0].id)
-    others = [mark for mark in touched if mark not in state.marks_here]
-    return state.saying(_touched(others)) if others else state
+    elif fresh and not set(fresh) & set(state.marks_here):
+        state = holding(state, fresh[0].id)
+    others = [mark for mark in fresh if mark not in state.marks_here]
+    return state.saying(touched(others)) if others else state
 
 
 def left_here(state: State) -> State:
@@ -70,8 +70,11 @@ def holding(state: State, mark: int) -> State:
     return replace(state, in_hand=held)
 
 
-def _touched(marks: list[Mark]) -> str:
+def touched(marks: list[Mark]) -> str:
+    """What is said of marks that were touched elsewhere; nothing if there are none."""
     numbers = [str(mark.id) for mark in marks]
+    if not numbers:
+        return ""
     if len(numbers) == 1:
         return f"This touched mark {numbers[0]}."
     return f"This touched the marks {', '.join(numbers[:-1])} and {numbers[-1]}."

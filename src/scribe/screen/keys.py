@@ -3,26 +3,28 @@
 import re
 from collections.abc import Callable, Sequence
 from dataclasses import dataclass, replace
-from typing import Any
 
 from braildesk import After, Paragraph, Style, requests
+from braildesk.desk.change_all import Replacement
 from braildesk.desk.correction import replaced, smallest_correction
-from braildesk.protocol.requests import Command
 from braildesk.text import limits
 from braildesk.text.characters import control_refused
 from braildesk.text.sequences import composed, seams
 
-from scribe.screen import pager
+from scribe.screen import pager, whole_book
 from scribe.screen.actions import (
     Action,
     BringBack,
+    ChangePlaces,
     ExportTo,
+    FindPlaces,
     GiveTable,
     GiveUp,
     GoOn,
     ImportFrom,
     ListHeadings,
     ListMarks,
+    ListVolumes,
     OpenAgain,
     PutBy,
     PutOff,
@@ -38,7 +40,19 @@ from scribe.screen.actions import (
 from scribe.screen.field import Cut, Field, Purpose
 from scribe.screen.lines import beside
 from scribe.screen.lists import at_target
-from scribe.screen.state import Pages, Pane, Question, State, draft_of
+from scribe.screen.moves import (
+    along,
+    by_lists,
+    by_paragraphs,
+    by_row,
+    by_word,
+    no_further,
+    no_line,
+    other_pane,
+    to_end,
+    to_end_of_book,
+)
+from scribe.screen.state import Pages, Pane, Question, State, Step, draft_of
 from scribe.words.pages import NoSize, described, typed_page_size
 from scribe.words.paragraph import quoted
 from scribe.words.typed import typed_path
@@ -54,7 +68,10 @@ _DOTS = (
     "Dot 7 is under marked cells, dot 8 under those of the cursor. d takes both away."
 )
 _QUIET = "Now without the list, and without braille while you type. z brings them back."
+_PAGES_SAID = "Now n, N, / and * say the page and line to which they go."
 _NO_DOTS = "Braille ASCII has no dots 7 and 8: a shows the cells as Unicode characters."
+_OF_OLD = "Each place is shown before it is changed."
+_OF_NEW = "Enter alone takes the words out. The places are shown before."
 _OF_GOING = "A paragraph's number, or page 6 line 9, or words to find."
 # a page of a volume, and a line of it, as people say it
 _PAGE = re.compile(
@@ -118,14 +135,6 @@ KEYS_OF_LIST = (
 )
 
 
-@dataclass(frozen=True)
-class Step:
-    """What a key asks for: the state after it, and a command or an action that goes with it."""
-
-    state: State
-    asked: Command[Any] | Action | None = None
-
-
 def step(state: State, key: str) -> Step:
     """What a key asks for in a state. A key is a character, or the name of another key."""
     if _is_cut(key):
@@ -140,6 +149,9 @@ def step(state: State, key: str) -> Step:
     if key in _ASKS_FOR_KEYS and not state.is_lost:
         return Step(_with_help(state))
     if state.pages:
+        found, asked = whole_book.asked_by(state, state.pages, key)
+        if asked is not None or found is not state:
+            return Step(found, asked)
         return Step(_looking(state, state.pages, key))
     if state.typed:
         return _typing(state, state.typed, key)
@@ -321,7 +333,7 @@ def _typing(state: State, typed: Field, key: str) -> Step:
 def _on_other_line(state: State, typed: Field, by: int) -> State:
     place = beside(typed.text, state.size.columns, typed.place, by)
     if place is None:
-        return state.saying(_no_line(by))
+        return state.saying(no_line(by))
     return replace(state, typed=replace(typed, place=place))
 
 
@@ -360,6 +372,10 @@ def _with_help(state: State) -> State:
 
 def keys_of(state: State) -> tuple[str, tuple[str, ...]]:
     """What is being done, and its keys."""
+    if state.pages and isinstance(state.pages.offer, ChangePlaces):
+        return "in the list of places", whole_book.KEYS_OF_PLACES
+    if state.pages and state.pages.offer is not None:
+        return "in the list of volumes", whole_book.KEYS_OF_VOLUMES
     if state.pages:
         return "while looking", KEYS_OF_LIST if state.pages.targets else KEYS_OF_PAGES
     if state.typed is not None:
@@ -406,8 +422,9 @@ def entered(state: State, typed: Field) -> Step:
     if typed.purpose.is_new:
         return Step(state.saying(_NOT_ADDED))
     # blanks may be looked for
-    is_looked_for = typed.purpose is Purpose.WORDS and typed.text
-    if not (typed.text.strip() or is_looked_for):
+    is_looked_for = typed.purpose in (Purpose.WORDS, Purpose.OLD) and typed.text
+    # and nothing may come in place of words
+    if not (typed.text.strip() or is_looked_for or typed.purpose is Purpose.NEW):
         return Step(state.saying("Nothing was typed, so nothing is done."))
     return _answering(state, typed)
 
@@ -422,6 +439,14 @@ def _answering(state: State, typed: Field) -> Step:
             return Step(replace(state, sought=typed.text), ToFound(typed.text))
         case Purpose.SIZE:
             return Step(_with_sheet(state, typed))
+        case Purpose.OLD:
+            state = replace(state, gone=typed.text, typed=Field(Purpose.NEW))
+            return Step(state.saying(_OF_NEW))
+        case Purpose.NEW:
+            wanted = Replacement(state.gone, typed.text, by=state.by)
+            return Step(state, FindPlaces(wanted))
+        case Purpose.PAGES:
+            return Step(*whole_book.pages_typed(state, typed.text))
         case Purpose.FOLDER:
             return Step(state, ExportTo(typed_path(typed.text), state.page_size))
     place: After = state.paragraph.id if state.paragraph else "end"
@@ -568,115 +593,9 @@ def _no_table(state: State) -> str:
     return f"The book {what}. t chooses one."
 
 
-def _moved(by: int) -> Callable[[State], Step]:
-    return lambda state: _to_paragraph(state, state.chosen + by)
-
-
-def _paged(by: int) -> Callable[[State], Step]:
-    return lambda state: _to_paragraph(state, state.chosen + by * state.list_lines)
-
-
-def _to_paragraph(state: State, place: int) -> Step:
-    """To the paragraph at a place of the book, or to the last one before that place."""
-    within = max(0, min(place, len(state.book) - 1))
-    if within == state.chosen != place:
-        return Step(state.saying(_no_further(place < 0)))
-    return Step(state.at(within))
-
-
-def _to_end_of_book(state: State, is_back: bool) -> Step:
-    moved = state.at(0 if is_back else len(state.book))
-    if (moved.chosen, moved.place) == (state.chosen, state.place):
-        return Step(state.saying(_no_further(is_back)))
-    return Step(moved)
-
-
-def _no_further(is_back: bool) -> str:
-    return f"It is the {'first' if is_back else 'last'} paragraph of the book."
-
-
-def _placed(state: State, place: int, is_back: bool) -> Step:
-    """The cursor at a place of the paragraph, or what is said if it stands there already."""
-    if place != state.place:
-        return Step(replace(state, place=place, highlighted=None))
-    where = "front" if is_back else "end"
-    said = f"This is the {where} of the paragraph."
-    return Step(state.saying(said if _text(state) else "The paragraph is empty."))
-
-
-def _by_row(by: int) -> Callable[[State], Step]:
-    """To the line of the paragraph before or after, as it stands on the screen."""
-
-    def moved(state: State) -> Step:
-        text = _text(state)
-        place = beside(text, state.size.columns, state.place, by)
-        if place is None:
-            return Step(state.saying(_no_line(by)))
-        return _placed(state, min(place, max(0, len(text) - 1)), by < 0)
-
-    return moved
-
-
-def _no_line(by: int) -> str:
-    return f"This is the {'first' if by < 0 else 'last'} line of the paragraph."
-
-
-def _along(state: State, is_back: bool) -> Step:
-    """To the character or the cell beside; cells are single, and characters are sequences."""
-    text = _text(state)
-    places = seams(text) if state.pane is Pane.PRINT else list(range(len(text)))
-    others = [n for n in places if n < len(text)]
-    nearer = [n for n in others if (n < state.place if is_back else n > state.place)]
-    place = (max(nearer) if is_back else min(nearer)) if nearer else state.place
-    return _placed(state, place, is_back)
-
-
-def _to_end(state: State, is_back: bool) -> Step:
-    text = _text(state)
-    last = seams(text)[-2] if text and state.pane is Pane.PRINT else len(text) - 1
-    return _placed(state, 0 if is_back else max(0, last), is_back)
-
-
-def _by_word(state: State, is_back: bool) -> Step:
-    text = _text(state).replace("\u2800", " ")
-    if state.anchor is not None and state.pane is Pane.CELLS and not is_back:
-        return _placed(state, _word_end(text, state.place), is_back)
-    moved = Field(Purpose.EDIT, text, state.place).moved(
-        "c-left" if is_back else "c-right"
-    )
-    assert moved is not None
-    return _placed(state, min(moved.place, max(0, len(text) - 1)), is_back)
-
-
-def _word_end(text: str, place: int) -> int:
-    """The last place of the word, or of the next one if this is the last place already."""
-    rest = text[place + 1 :]
-    if not rest.strip(" "):
-        return place
-    stop = text.find(" ", place + 1 + len(rest) - len(rest.lstrip(" ")))
-    return (len(text) if stop < 0 else stop) - 1
-
-
-def _text(state: State) -> str:
-    if state.reading is None:
-        return ""
-    return state.reading.text if state.pane is Pane.PRINT else state.reading.braille
-
-
-def _other_pane(state: State) -> Step:
-    pane = Pane.CELLS if state.pane is Pane.PRINT else Pane.PRINT
-    place = 0
-    if state.highlighted:
-        highlighted = (
-            state.highlighted.cells if pane is Pane.CELLS else state.highlighted.words
-        )
-        place = highlighted.start
-    return Step(replace(state, pane=pane, place=place, anchor=None, highlighted=None))
-
-
 def _choose_cells(state: State) -> Step:
     if state.pane is Pane.PRINT:
-        state = _other_pane(state).state
+        state = other_pane(state).state
         return Step(replace(state, anchor=state.place))
     if state.anchor is not None:
         return Step(replace(state, anchor=None))
@@ -755,7 +674,7 @@ def _carried(by: int) -> Callable[[State], Step]:
     def moved(state: State) -> Step:
         place = state.chosen + by
         if not 0 <= place < len(state.book):
-            return Step(state.saying(_no_further(by < 0)))
+            return Step(state.saying(no_further(by < 0)))
         before = place - 1 if by < 0 else place
         where_to: After = state.book[before].id if before >= 0 else "front"
         number = _chosen(state).id
@@ -788,6 +707,13 @@ def _dots(state: State) -> Step:
         return Step(state.saying(_NO_DOTS))
     has_dots = not state.has_dots
     return Step(replace(state, has_dots=has_dots).saying(_DOTS if has_dots else ""))
+
+
+def _pages_said(state: State) -> Step:
+    """Has the keys that go to marks and words say their page and line, or not any more."""
+    says_pages = not state.says_pages
+    said = _PAGES_SAID if says_pages else "Now without page and line."
+    return Step(replace(state, says_pages=says_pages).saying(said))
 
 
 def _quiet(state: State) -> Step:
@@ -832,33 +758,33 @@ NAMES = {
     " ": "Space",
 }
 KEYS = {
-    "up": Bound("to the paragraph before", _moved(-1)),
-    "down": Bound("to the paragraph after", _moved(1)),
-    "left": Bound("to the character or cell before", lambda s: _along(s, True)),
-    "right": Bound("to the character or cell after", lambda s: _along(s, False)),
-    "c-left": Bound("to the word before", lambda s: _by_word(s, True)),
+    "up": Bound("to the paragraph before", by_paragraphs(-1)),
+    "down": Bound("to the paragraph after", by_paragraphs(1)),
+    "left": Bound("to the character or cell before", lambda s: along(s, True)),
+    "right": Bound("to the character or cell after", lambda s: along(s, False)),
+    "c-left": Bound("to the word before", lambda s: by_word(s, True)),
     "c-right": Bound(
         "to the word after; in a choice of cells, to the end of a word",
-        lambda s: _by_word(s, False),
+        lambda s: by_word(s, False),
     ),
     **dict.fromkeys(
-        ("k", "c-up"), Bound("to the line before in the paragraph", _by_row(-1))
+        ("k", "c-up"), Bound("to the line before in the paragraph", by_row(-1))
     ),
     **dict.fromkeys(
-        ("j", "c-down"), Bound("to the line after in the paragraph", _by_row(1))
+        ("j", "c-down"), Bound("to the line after in the paragraph", by_row(1))
     ),
-    "home": Bound("to the front of the paragraph", lambda s: _to_end(s, True)),
-    "end": Bound("to the end of the paragraph", lambda s: _to_end(s, False)),
-    "pageup": Bound("a list of paragraphs back", _paged(-1)),
-    "pagedown": Bound("a list of paragraphs on", _paged(1)),
-    "c-home": Bound("to the first paragraph", lambda s: _to_end_of_book(s, True)),
-    "c-end": Bound("to the last paragraph", lambda s: _to_end_of_book(s, False)),
+    "home": Bound("to the front of the paragraph", lambda s: to_end(s, True)),
+    "end": Bound("to the end of the paragraph", lambda s: to_end(s, False)),
+    "pageup": Bound("a list of paragraphs back", by_lists(-1)),
+    "pagedown": Bound("a list of paragraphs on", by_lists(1)),
+    "c-home": Bound("to the first paragraph", lambda s: to_end_of_book(s, True)),
+    "c-end": Bound("to the last paragraph", lambda s: to_end_of_book(s, False)),
     "g": Bound(
         "goes to a paragraph by its number, to a page and line, or to words",
         _typed_for(Purpose.NUMBER, _OF_GOING),
     ),
     "H": Bound("the headings with their pages; Enter goes to one", _headings),
-    "tab": Bound("from the print to the cells, and back", _other_pane),
+    "tab": Bound("from the print to the cells, and back", other_pane),
     "a": Bound("cells in Braille ASCII, or as Unicode characters", _ascii, False),
     "d": Bound("dots 7 and 8 under marked cells and the cursor, or not", _dots, False),
     "z": Bound("a quiet screen, without list and preview, or not", _quiet, False),
@@ -877,12 +803,25 @@ KEYS = {
     "s": Bound("strikes the paragraph, or restores it", _strike),
     "b": Bound("makes it a heading, or body text", _style),
     "v": Bound("has it begin a volume, or not", _volume),
+    "V": Bound(
+        "the volumes with their pages, and proposes others",
+        lambda s: Step(s, ListVolumes()),
+    ),
     "t": Bound("gives it a table", _table, False),
     "a-up": Bound("moves the paragraph up", _carried(-1)),
     "a-down": Bound("moves the paragraph down", _carried(1)),
     "/": Bound("finds words, or cells while on the cells", _typed_for(Purpose.WORDS)),
     "*": Bound("finds the same again", _again),
+    "c": Bound(
+        "changes words wherever they stand, all at once or place by place",
+        _typed_for(Purpose.OLD, _OF_OLD),
+    ),
     "p": Bound("the page on which these words stand", lambda s: Step(s, ShowPage())),
+    "P": Bound(
+        "says the page and line of marks and words that are gone to, or not",
+        _pages_said,
+        False,
+    ),
     "w": Bound("the size of pages, for p and x", _size, False),
     "x": Bound("exports all volumes to a folder", _folder),
     "i": Bound("imports a text file", _new(Purpose.TEXT_FILE, _OF_IMPORT), False),

@@ -158,6 +158,21 @@ def at_target(state: State, target: Target) -> State:
     return state if target.mark is None else holding(state, target.mark)
 
 
+def page_said(session: Session, state: State, laid: Volume) -> str:
+    """The page and line of the cursor's words in a volume that is laid out, as a sentence."""
+    its, here = state.paragraph, state.highlighted
+    assert its is not None and here is not None
+    lines = laid.lines[laid.paragraphs.index(its)] if laid.lines else range(0)
+    if not lines:
+        return laid.fault or "It is on no page."
+    (section,) = sections(session, [its])
+    number = line_of(laid, section, lines, here.cells.start)
+    page, line = laid.page_size.place(number)
+    if len(volumes_of(state)) == 1:
+        return f"Page {page} line {line}."
+    return f"Volume {laid.number}, page {page} line {line}."
+
+
 def at_page(session: Session, state: State, action: ToPage, laid: Volume) -> State:
     """The state with the cursor on the first word of a line of a page, or what is said of it."""
     if laid.fault:

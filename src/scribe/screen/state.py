@@ -3,24 +3,26 @@
 from collections.abc import Mapping
 from dataclasses import dataclass, field, replace
 from enum import Enum, auto
+from typing import Any
 
 from braildesk import Mark, Paragraph, Style, limits
 from braildesk.desk.draft import Aim, Draft
 from braildesk.desk.highlighting import Highlighted
 from braildesk.desk.layout import PageSize
 from braildesk.desk.readings import ParagraphReading
-from braildesk.protocol.requests import Resolve
+from braildesk.protocol.requests import Command, Resolve
 from braildesk.text.spans import Span
 
 from scribe.screen.actions import (
+    Action,
+    ByPages,
+    ChangePlaces,
     ExportTo,
     ImportFrom,
     LeaveImport,
-    ListHeadings,
-    ListMarks,
-    ShowPage,
+    OfWholeBook,
+    SetVolumes,
     TakeBack,
-    ToPage,
 )
 from scribe.screen.field import Cut, Field, Purpose
 from scribe.words.deeds import Deed, together, typed
@@ -74,11 +76,15 @@ HEAD_LINE = -1
 
 @dataclass(frozen=True)
 class Target:
-    """A place in the print of a paragraph to which a line of a list leads, and a mark there."""
+    """A place in the print of a paragraph to which a line of a list leads, and a mark there.
+
+    Where several lines are about one entry of the list, its number is said, counted from 0.
+    """
 
     paragraph: int
     place: int = 0
     mark: int | None = None
+    nth: int | None = None
 
 
 @dataclass(frozen=True)
@@ -95,6 +101,8 @@ class Pages:
     place: int = HEAD_LINE
     #: Where Enter goes from each of the lines, if this is a list to go by.
     targets: tuple[Target, ...] = ()
+    #: What the list offers to be done with what is on it.
+    offer: ChangePlaces | SetVolumes | None = None
     #: What was looked at before, to which Escape goes back.
     under: "Pages | None" = None
 
@@ -138,6 +146,8 @@ class State:
     has_dots: bool = False
     #: Whether neither the list of paragraphs nor the braille of what is typed is shown.
     is_quiet: bool = False
+    #: Whether the page and line are said of marks and words that are gone to.
+    says_pages: bool = False
     #: The encoding of the terminal.
     encoding: str = "utf-8"
     #: The size of the pages that are looked at and exported.
@@ -166,6 +176,8 @@ class State:
     #: What was looked for last, and whether words that are only like it are found too.
     sought: str = ""
     finds_alike: bool = False
+    #: The words that go, while those are typed that come in their place.
+    gone: str = ""
     #: The table of a new paragraph if no paragraph is chosen.
     table: str | None = None
     #: What keys did in this session and didn't take back, the newest last.
@@ -177,16 +189,7 @@ class State:
     #: The session with the book ended by itself.
     is_lost: bool = False
     #: What is going on beside the screen.
-    away: (
-        ExportTo
-        | ImportFrom
-        | ShowPage
-        | ListMarks
-        | ListHeadings
-        | ToPage
-        | TakeBack
-        | None
-    ) = None
+    away: (ExportTo | ImportFrom | ByPages | TakeBack | OfWholeBook | None) = None
     is_over: bool = False
 
     @property
@@ -299,6 +302,14 @@ class State:
         return replace(
             self, chosen=chosen, top=top, place=place, anchor=None, highlighted=None
         )
+
+
+@dataclass(frozen=True)
+class Step:
+    """What a key asks for: the state after it, and a command or an action that goes with it."""
+
+    state: State
+    asked: Command[Any] | Action | None = None
 
 
 def _stands_on(mark: Mark, words: Span, last: int) -> bool:

@@ -38,25 +38,38 @@ class Count:
     ) -> Iterator[list[str]]:
         """The lines of each place that was changed, as it is counted."""
         for each in found:
-            match each:
-                case Change():
-                    self.changed += 1
-                    self._paragraphs.add(each.paragraph)
-                    yield changed_lines(each, width)
-                case NotChanged():
-                    self.refused.append(each)
-                case Passed():
-                    self.passed += 1
+            self.add(each)
+            if isinstance(each, Change):
+                yield changed_lines(each, width)
+
+    def add(self, each: Change | NotChanged | Passed) -> None:
+        """Counts what became of a place."""
+        match each:
+            case Change():
+                self.changed += 1
+                self._paragraphs.add(each.paragraph)
+            case NotChanged():
+                self.refused.append(each)
+            case Passed():
+                self.passed += 1
 
     def sentences(self, version: int) -> Iterator[str]:
         """Which places were refused and why, and how many were changed."""
+        yield from self.refusals()
+        yield from self.totals(version)
+
+    def refusals(self) -> Iterator[str]:
+        """Which places were refused, and why."""
         for each in self.refused:
             place = each.proposal
             yield (
                 f"Refused in paragraph {place.paragraph}, character"
                 f" {place.place.start + 1}: {each.refused.sentence}"
             )
-        yield self._changed()
+
+    def totals(self, version: int) -> Iterator[str]:
+        """How many places were changed, and how many stay as before."""
+        yield self.changed_in_words()
         if self.refused:
             was, stays = (
                 ("was", "stays") if len(self.refused) == 1 else ("were", "stay")
@@ -68,7 +81,8 @@ class Count:
             yield f"{counted(self.passed, 'place')} {stays} as before."
         yield at_version(version)
 
-    def _changed(self) -> str:
+    def changed_in_words(self) -> str:
+        """How many places were changed."""
         old, new = quoted(self.wanted.old), quoted(self.wanted.new)
         by = f"replaced by {new}" if self.wanted.new else "taken out"
         if not self.changed:
@@ -126,9 +140,12 @@ def stopped_after(changed: int, places: int, version: int) -> str:
     )
 
 
-def proposal_lines(found: Proposal, nth: int, count: int, width: int) -> list[str]:
-    """A place as it is and as it would be."""
-    head, after = f"Place {nth} of {count}, paragraph {found.paragraph}: ", "After: "
+def proposal_lines(
+    found: Proposal, nth: int, count: int, width: int, what: str = ""
+) -> list[str]:
+    """A place as it is and as it would be, after what is said of it."""
+    head = f"Place {nth} of {count}{what}, paragraph {found.paragraph}: "
+    after = "After: "
     now, came = found.after
     place = found.place
     return [

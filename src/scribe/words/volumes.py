@@ -38,14 +38,16 @@ def summary(volumes: Sequence[Planned], page_size: PageSize) -> str:
     return f"{count}, {counted(pages, 'page')} of {described(page_size)}."
 
 
-def to_set(changed: Sequence[tuple[Paragraph, bool]]) -> Iterator[str]:
-    """What --set would do."""
+def to_set(
+    changed: Sequence[tuple[Paragraph, bool]], how: str = "--set does it"
+) -> Iterator[str]:
+    """What would be set, and how it is."""
     if not changed:
         yield "The volumes begin there already."
         return
     for begins, what in ((True, "would begin a volume"), (False, "would begin none")):
         if numbers := [each.id for each, on in changed if on is begins]:
-            yield f"{numbered(numbers)} {what}; --set does it."
+            yield f"{numbered(numbers)} {what}; {how}."
 
 
 def was_set(changed: Sequence[tuple[Paragraph, bool]], version: int) -> Iterator[str]:

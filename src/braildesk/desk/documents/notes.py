@@ -98,7 +98,7 @@ def _target(link: Node) -> str:
 
 
 def _name(node: Node) -> str:
-    """The name by which links lead to a node; nothing where it has none."""
+    """The name by which links lead to a node; nothing if it has none."""
     if node.get("t") not in ("Div", "Span", "Link"):
         return ""
     name: str = node["c"][0][0]
@@ -284,7 +284,7 @@ class _Taking:
         return False
 
     def _note(self, link: Node) -> Node:
-        """What stands in place of a number: the note, or the number where that isn't found."""
+        """What stands in place of a number: the note, or the number if that isn't found."""
         target, label = _target(link), _label(link)
         if (place := self._places.get(target)) is None:
             return {"t": UNKNOWN_NOTE, "c": label}

@@ -1,0 +1,318 @@
+"""What concerns the whole book: words that are changed wherever they stand, and its volumes.
+
+Both are lists that are looked at first, and change the book only by a key in them.
+"""
+
+from collections.abc import Callable
+from dataclasses import replace
+from typing import Any
+
+from braildesk import Mark, Refused, Session, requests
+from braildesk.desk.change import Change, change_place
+from braildesk.desk.change_all import (
+    Replacement,
+    change_proposed,
+    moved_by,
+    proposals,
+)
+from braildesk.desk.volume_plan import (
+    as_they_are,
+    planned,
+    set_volumes,
+    shown_lines,
+    to_be_set,
+)
+
+from braildesk.protocol.requests import Command
+from braildesk.text.excerpt import excerpt_lines
+
+from scribe.screen import pager
+from scribe.screen.actions import (
+    ChangePlaces,
+    FindPlaces,
+    ListVolumes,
+    OfWholeBook,
+    Place,
+    SetVolumes,
+)
+from scribe.screen.field import Field, Purpose
+from scribe.screen.in_hand import touched
+from scribe.screen.state import Pages, State, Target
+from scribe.words.change_all import Count, nowhere, proposal_lines
+from scribe.words.deeds import Deed
+from scribe.words.paragraph import counted, quoted
+from scribe.words.status import Interrupted
+from scribe.words.volumes import summary, to_set, volume_lines, was_set
+
+# a book of so many characters is read in a moment
+_MANY = 250_000
+# so many commands are done in a moment
+_FEW = 20
+_OF_CAPITALS = "These have other capitals, which the new words take."
+_STOPPED = "The rest stays as it was."
+_NOT_A_NUMBER = "That is no number of pages, such as 80."
+_OF_PAGES = "None has more pages, and they begin at headings where that can be."
+_STAY = "The other places stay as they are."
+
+KEYS_OF_PLACES = (
+    "y: changes this place",
+    "n: leaves this place as it is",
+    "a: changes all places that are listed",
+    "w: whole words alone, or parts of words too",
+    "c: with other capitals too, or not",
+    "Enter: goes there",
+    "Escape, q: go back; the other places stay as they are",
+)
+KEYS_OF_VOLUMES = (
+    "v: proposes volumes of at most so many pages",
+    "y: sets the volumes that are proposed",
+    "Enter: goes to the first paragraph of a volume",
+    "Escape, q: go back",
+)
+
+#: Says how far the work has come.
+Report = Callable[[int, int], None]
+
+
+def asked_by(state: State, pages: Pages, key: str) -> tuple[State, OfWholeBook | None]:
+    """What a key asks for in a list of places or volumes; the same state where it isn't one of its."""
+    match pages.offer:
+        case ChangePlaces() as offer:
+            return _of_places(state, pages, offer, key)
+        case SetVolumes() as offer if key == "y" and offer.changed:
+            return state, offer
+        case SetVolumes() if key == "v":
+            field = Field(Purpose.PAGES)
+            return replace(state, pages=None, typed=field).saying(_OF_PAGES), None
+    return state, None
+
+
+def _of_places(
+    state: State, pages: Pages, offer: ChangePlaces, key: str
+) -> tuple[State, OfWholeBook | None]:
+    wanted = offer.wanted
+    match key:
+        case "a" if offer.open_places:
+            return state, offer
+        case "w":
+            other = not wanted.is_of_words
+            return state, FindPlaces(replace(wanted, is_of_words=other))
+        case "c":
+            other = not wanted.is_of_any_case
+            return state, FindPlaces(replace(wanted, is_of_any_case=other))
+        case "escape" | "q" if offer.open_places:
+            return replace(state, pages=pages.under).saying(_STAY), None
+    target = pager.target(pages, state.size)
+    nth = target.nth if target else None
+    if nth is None or key not in ("y", "n"):
+        return state, None
+    if offer.places[nth].change is not None:
+        return state.saying("This place is changed already. u takes that back."), None
+    if key == "y":
+        return state, replace(offer, nth=nth)
+    left = replace(offer.places[nth], is_left=True)
+    places = (*offer.places[:nth], left, *offer.places[nth + 1 :])
+    return (
+        _on_next(state, replace(offer, places=places), nth, "It stays as it is."),
+        None,
+    )
+
+
+def pages_typed(state: State, text: str) -> tuple[State, OfWholeBook | None]:
+    """What a number asks for that was typed as the most pages of a volume."""
+    word = text.strip()
+    if not (word.isascii() and word.isdigit() and 0 < len(word) < 7 and int(word)):
+        typed = Field(Purpose.PAGES, text, len(text))
+        return replace(state, typed=typed).saying(_NOT_A_NUMBER), None
+    return state, ListVolumes(int(word))
+
+
+def takes_long(state: State, action: OfWholeBook) -> bool:
+    """Whether something isn't done in a moment."""
+    match action:
+        case ChangePlaces(nth=nth):
+            return nth is None and len(action.open_places) > _FEW
+        case SetVolumes(changed=changed) if len(changed) > _FEW:
+            return True
+    return sum(each.length for each in state.book) > _MANY
+
+
+def done(session: Session, state: State, action: OfWholeBook, tell: Report) -> State:
+    """The state after something was looked for in the whole book, or was changed in it."""
+    match action:
+        case FindPlaces():
+            return _found(session, state, action.wanted)
+        case ChangePlaces(nth=None):
+            return _all_changed(session, state, action, tell)
+        case ChangePlaces(nth=nth):
+            return _one_changed(session, state, action, nth or 0)
+        case ListVolumes():
+            return _volumes(session, state, action.most)
+        case SetVolumes():
+            return _volumes_set(session, state, action, tell)
+
+
+def _found(session: Session, state: State, wanted: Replacement) -> State:
+    """The list of the places where words stand, also with other capitals if there are no others."""
+    found, said = proposals(session, wanted), ""
+    if not found and not (wanted.is_of_any_case or state.pages):
+        found = proposals(session, replace(wanted, is_of_any_case=True))
+        if found:
+            wanted, said = replace(wanted, is_of_any_case=True), _OF_CAPITALS
+    if not found:
+        return state.saying(nowhere(session, wanted, "."))
+    offer = ChangePlaces(wanted, tuple(map(Place, found)))
+    return _listed(state, offer, 0).saying(said)
+
+
+def _listed(state: State, offer: ChangePlaces, nth: int) -> State:
+    """The state in which places are looked at, as they are and as they would be, the cursor on one."""
+    wanted, count = offer.wanted, len(offer.places)
+    lines: list[str] = []
+    targets: list[Target] = []
+    fronts: list[int] = []
+    for number, each in enumerate(offer.places, 1):
+        fronts.append(len(lines))
+        lines += _lines_of(each, number, count, state.size.columns)
+        its = each.proposal
+        target = Target(its.paragraph, its.place.start, nth=number - 1)
+        targets += [target] * (len(lines) - len(targets))
+    new = f"to be {quoted(wanted.new)}" if wanted.new else "to be taken out"
+    how = ", as whole words" if wanted.is_of_words else ""
+    how += ", whatever the capitals" if wanted.is_of_any_case else ""
+    title = f"{counted(count, 'place')} of {quoted(wanted.old)}{how}, {new}."
+    pages = Pages(title, tuple(lines), targets=tuple(targets), offer=offer)
+    return replace(state, pages=pager.at_line(pages, state.size, fronts[nth]))
+
+
+def _lines_of(its: Place, nth: int, count: int, width: int) -> list[str]:
+    """A place as it is and as it would be, or as it is now and as it was before."""
+    if its.change is None:
+        what = ", left" if its.is_left else ""
+        return proposal_lines(its.proposal, nth, count, width, what)
+    now, was = its.proposal, its.change
+    head = f"Place {nth} of {count}, changed, paragraph {now.paragraph}: "
+    return [
+        *excerpt_lines(head, now.text, now.place.start, now.place.stop, width),
+        *excerpt_lines("Before: ", was.before, was.went.start, was.went.stop, width),
+    ]
+
+
+def _on_next(state: State, offer: ChangePlaces, nth: int, said: str) -> State:
+    """The list with the cursor on the next place that is open, and how many are."""
+    opened = [n for n, each in enumerate(offer.places) if each.is_open]
+    after = next((n for n in opened if n > nth), opened[0] if opened else nth)
+    count = {0: "No more places.", 1: "1 more place."}.get(
+        len(opened), f"{len(opened):,} more places."
+    )
+    listed = _listed(state, replace(offer, nth=None), after)
+    return listed.saying(f"{said} {count}")
+
+
+def _one_changed(
+    session: Session, state: State, offer: ChangePlaces, nth: int
+) -> State:
+    """Changes one of the places, and goes on with the next one that is open."""
+    its = offer.places[nth].proposal
+    if its.after[0] == its.text:
+        return state.saying("The print there would stay the same.")
+    number, text, by = its.paragraph, its.text, offer.wanted.by
+    try:
+        change = change_place(session, number, text, its.place, its.new, by)
+    except Refused as refused:
+        return state.saying(refused.sentence)
+    deed = Deed(f"paragraph {number} was corrected", (requests.Undo(number),))
+    kept = f"kept: a correction of paragraph {number}"
+    state = _changed(session, state, deed, kept)
+    moved = moved_by(change, (each.proposal for each in offer.places))
+    places = [replace(p, proposal=m) for p, m in zip(offer.places, moved)]
+    came = replace(moved[nth], place=change.came)
+    places[nth] = Place(came, change)
+    said = f"Paragraph {number} is changed. {touched(list(change.touched))}".rstrip()
+    return _on_next(state, replace(offer, places=tuple(places)), nth, said)
+
+
+def _all_changed(
+    session: Session, state: State, offer: ChangePlaces, tell: Report
+) -> State:
+    """Changes all places that are listed, and says which were refused and why."""
+    count, places = Count(offer.wanted), offer.open_places
+    marks: list[Mark] = []
+    back: list[Command[Any]] = []
+    said = ""
+    try:
+        for nth, each in enumerate(
+            change_proposed(session, places, offer.wanted.by), 1
+        ):
+            count.add(each)
+            if isinstance(each, Change):
+                marks += each.touched
+                back.append(requests.Undo(each.paragraph))
+            tell(nth, len(places))
+    except Interrupted:
+        said = _STOPPED
+    if back:
+        what = count.changed_in_words().removesuffix(".")
+        deed = Deed(what, tuple(reversed(back)))
+        kept = f"kept: {counted(len(back), 'correction')}"
+        state = _changed(session, state, deed, kept)
+    lines = [*count.totals(state.version), *count.refusals()]
+    lines += filter(None, (said, touched(marks)))
+    return replace(state, pages=Pages("Changed.", tuple(lines)))
+
+
+def _changed(session: Session, state: State, deed: Deed, kept: str) -> State:
+    """The state after the book was changed in more places than the chosen paragraph."""
+    return replace(
+        state,
+        version=session.last_version,
+        book=session.paragraphs(),
+        openings={},
+        reading=None,
+        highlighted=None,
+        deeds=(*state.deeds, deed),
+        kept=kept,
+    )
+
+
+def _volumes(session: Session, state: State, most: int | None) -> State:
+    """The list of the volumes as they are, or as they would be with so many pages at most."""
+    size = state.page_size
+    book, lines = shown_lines(session, state.book, size)
+    if not book:
+        return state.saying("All paragraphs are struck, so the book has no volume.")
+    volumes = as_they_are(book, lines, size)
+    title, changed, front = summary(volumes, size), [], []
+    if most is not None:
+        volumes = planned(lines, size, most)
+        title = f"Proposed: {summary(volumes, size)}"
+        changed = to_be_set(book, volumes)
+        front = list(to_set(changed, "y sets it"))
+    firsts = [Target(book[each.paragraphs.start].id) for each in volumes]
+    listed = Pages(
+        title,
+        (*front, *volume_lines(session, book, volumes)),
+        targets=(*([Target(book[0].id)] * len(front)), *firsts),
+        offer=SetVolumes(tuple(changed)),
+    )
+    return replace(state, pages=listed)
+
+
+def _volumes_set(
+    session: Session, state: State, action: SetVolumes, tell: Report
+) -> State:
+    """Sets where volumes begin, as it was proposed, and shows them."""
+    kept = []
+    try:
+        for paragraph in set_volumes(session, action.changed):
+            kept.append(paragraph)
+            tell(len(kept), len(action.changed))
+    except Interrupted:
+        pass
+    back = tuple(requests.Volume(its.id, its.begins_volume) for its in reversed(kept))
+    count = counted(len(kept), "paragraph")
+    deed = Deed(f"volumes were set at {count}", back)
+    state = _changed(session, state, deed, f"kept: volumes set at {count}")
+    said = was_set(action.changed[: len(kept)], state.version)
+    state = _volumes(session, state, None)
+    return state.saying(" ".join(said))

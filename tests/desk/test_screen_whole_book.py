@@ -1,0 +1,290 @@
+"""What concerns the whole book on the screen: words that are changed everywhere, and its volumes."""
+
+from dataclasses import replace
+from pathlib import Path
+
+import pytest
+
+import braildesk
+from braildesk import Session
+from braildesk.desk.layout import PageSize
+
+from scribe.screen import whole_book
+from sitting import Sat, Sit
+from terminal import Open
+
+TIDES = "The tide comes, and the Tide goes; no tideway is as it was."
+
+
+@pytest.fixture
+def tides(book: Path) -> Path:
+    """A book in which the tide stands in three paragraphs, once with a capital and once in a word."""
+    with Session(book) as session:
+        for text in ("The tide", TIDES, "A struck page", "The end"):
+            session.add_paragraph("end", "en", text)
+        session.strike(3)
+        session.add_mark(2, 5, 4, "which?")
+    return book
+
+
+def asked(sat: Sat, old: str, new: str) -> None:
+    """Asks for words and for what comes in their place."""
+    sat.press("c", *old, "enter", *new, "enter")
+
+
+def prints(book: Path) -> list[str]:
+    """The prints of a book's first two paragraphs."""
+    with Session(book) as session:
+        return [session.print_of(1), session.print_of(2)]
+
+
+def test_each_place_is_shown_before_and_after_and_nothing_is_changed_yet(
+    tides: Path, sit: Sit
+) -> None:
+    sat = sit(tides)
+    sat.press("c")
+    assert sat.lines[-1].rstrip() == "Words that go:"
+    assert sat.state.message == "Each place is shown before it is changed."
+    sat.press(*"tide", "enter")
+    assert sat.lines[-1].rstrip() == "What comes:"
+    version = sat.state.version
+    sat.press(*"flood", "enter")
+    pages = sat.state.pages
+    assert pages is not None
+    assert pages.title == "3 places of “tide”, to be “flood”."
+    assert pages.lines == (
+        "Place 1 of 3, paragraph 1: The [tide]",
+        "After: The [flood]",
+        "Place 2 of 3, paragraph 2: The [tide] comes, and the Tide goes; no tideway is…",
+        "After: The [flood] comes, and the Tide goes; no tideway is as it was.",
+        "Place 3 of 3, paragraph 2: …comes, and the Tide goes; no [tide]way is as it was.",
+        "After: The tide comes, and the Tide goes; no [flood]way is as it was.",
+    )
+    assert sat.lines[-1].startswith("y changes it  n leaves it  a all  ? keys")
+    sat.press("escape")
+    assert sat.state.pages is None and sat.state.version == version
+    assert sat.state.message == "The other places stay as they are."
+
+
+def test_all_places_are_changed_by_one_key_and_taken_back_by_one(
+    tides: Path, sit: Sit
+) -> None:
+    sat = sit(tides, by="anna")
+    asked(sat, "tide", "flood")
+    sat.press("a")
+    pages = sat.state.pages
+    assert pages is not None and pages.lines == (
+        "“tide” was replaced by “flood” in 3 places of 2 paragraphs.",
+        f"The book is at version {sat.state.version}.",
+        "This touched mark 1.",
+    )
+    assert sat.state.kept == "kept: 3 corrections"
+    sat.press("escape")
+    assert "The flood" in "\n".join(sat.lines)
+    sat.press("u")
+    assert sat.state.question is not None
+    assert sat.state.question.sentence == (
+        "The last key did this: “tide” was replaced by “flood” in 3 places of 2 paragraphs."
+        " Shall all of it be taken back?"
+    )
+    sat.press("y")
+    sat.state = sat.desk.away(sat.state, lambda _: None)
+    sat.desk.close()
+    assert prints(tides) == ["The tide", TIDES]
+    with Session(tides) as session:
+        assert [each.who for each in session.history_of(2)][:2] == ["anna", "anna"]
+
+
+def test_places_are_changed_and_left_one_by_one(tides: Path, sit: Sit) -> None:
+    sat = sit(tides)
+    asked(sat, "tide", "flood")
+    sat.press("down", "n")
+    assert sat.state.message == "It stays as it is. 2 more places."
+    sat.press("y")
+    assert sat.state.message == (
+        "Paragraph 2 is changed. This touched mark 1. 1 more place."
+    )
+    assert sat.state.pages and sat.state.pages.lines == (
+        "Place 1 of 3, left, paragraph 1: The [tide]",
+        "After: The [flood]",
+        "Place 2 of 3, changed, paragraph 2: The [flood] comes, and the Tide goes; no…",
+        "Before: The [tide] comes, and the Tide goes; no tideway is as it was.",
+        "Place 3 of 3, paragraph 2: …comes, and the Tide goes; no [tide]way is as it was.",
+        "After: The flood comes, and the Tide goes; no [flood]way is as it was.",
+    )
+    # the cursor is on the one that is left, and a place is changed once
+    sat.press("y")
+    assert sat.state.message == "Paragraph 2 is changed. No more places."
+    version = sat.state.version
+    sat.press("y", "a")
+    assert sat.state.version == version
+    sat.press("escape", "u")
+    assert sat.state.message == "Taken back: paragraph 2 was corrected."
+    sat.desk.close()
+    assert prints(tides) == ["The tide", TIDES.replace("The tide", "The flood")]
+
+
+def test_words_that_stand_side_by_side_are_taken_out_one_by_one(
+    book: Path, sit: Sit
+) -> None:
+    with Session(book) as session:
+        session.add_paragraph("end", "en", "ababab.")
+    sat = sit(book)
+    asked(sat, "ab", "")
+    sat.press("down", "y", "y", "y")
+    assert sat.state.message == "Paragraph 1 is changed. No more places."
+    sat.desk.close()
+    with Session(book) as session:
+        assert session.print_of(1) == "."
+
+
+def test_whole_words_and_other_capitals_are_chosen_in_the_list(
+    tides: Path, sit: Sit
+) -> None:
+    sat = sit(tides)
+    asked(sat, "tide", "flood")
+    sat.press("w")
+    assert sat.state.pages
+    assert sat.state.pages.title == "2 places of “tide”, as whole words, to be “flood”."
+    sat.press("c")
+    assert sat.state.pages.title == (
+        "3 places of “tide”, as whole words, whatever the capitals, to be “flood”."
+    )
+    sat.press("w", "a", "escape")
+    sat.desk.close()
+    assert prints(tides)[1] == (
+        "The flood comes, and the Flood goes; no floodway is as it was."
+    )
+
+
+def test_words_that_stand_nowhere_are_said_and_those_with_other_capitals_are_shown(
+    tides: Path, sit: Sit
+) -> None:
+    sat = sit(tides)
+    asked(sat, "ebb", "flood")
+    assert sat.state.pages is None
+    assert sat.state.message == "“ebb” isn't in the book. Nothing was changed."
+    asked(sat, "THE END", "the rest")
+    assert sat.state.message == ("These have other capitals, which the new words take.")
+    asked_for = sat.state.pages
+    assert asked_for and asked_for.lines[1] == "After: [The rest]"
+    sat.press("escape")
+    asked(sat, "tide", "tide")
+    assert sat.state.pages is None and "the same" in sat.state.message
+
+
+def test_what_the_book_refuses_stays_and_is_said_with_the_reason(
+    tides: Path, sit: Sit
+) -> None:
+    sat = sit(tides)
+    asked(sat, "tide", "tide☃")
+    sat.press("down", "y")
+    assert "has no cells for “☃”" in sat.state.message
+    assert sat.state.pages and len(sat.state.pages.lines) == 6
+    sat.press("a")
+    lines = sat.state.pages.lines
+    assert lines[:2] == (
+        "“tide” was replaced by “tide☃” nowhere.",
+        "3 places were refused and stay as before.",
+    )
+    assert lines[3].startswith(
+        "Refused in paragraph 1, character 5: The table of paragraph 1 has no"
+    )
+    assert sat.state.deeds == ()
+
+
+def test_many_places_are_changed_beside_the_screen(
+    tides: Path, sit: Sit, monkeypatch: pytest.MonkeyPatch
+) -> None:
+    monkeypatch.setattr(whole_book, "_FEW", 2)
+    sat = sit(tides)
+    asked(sat, "tide", "flood")
+    sat.press("a")
+    assert sat.state.message == "Please wait." and sat.state.away
+    said: list[str] = []
+    sat.state = sat.desk.away(sat.state, said.append)
+    assert said == [f"{n} of 3 done." for n in (1, 2, 3)]
+    assert sat.state.pages and sat.state.pages.title == "Changed."
+
+
+@pytest.fixture
+def chapters(book: Path) -> Path:
+    """A book of one volume with three chapters, each of a heading and a paragraph."""
+    with Session(book) as session:
+        for name in ("The Moon", "The Tides", "The End"):
+            number = session.add_paragraph("end", "en", name).id
+            session.set_style(number, "heading")
+            session.add_paragraph("end", "en", "The sea comes up and goes. " * 20)
+    return book
+
+
+def test_volumes_are_listed_with_their_pages_and_gone_to(
+    chapters: Path, sit: Sit
+) -> None:
+    count = braildesk.export(chapters, 1, 28, 8).count(b"\f")
+    sat = sit(chapters)
+    sat.state = replace(sat.state, page_size=PageSize(28, 8))
+    sat.press("c-end", "V")
+    pages = sat.state.pages
+    assert pages is not None
+    assert pages.title == f"1 volume, {count} pages of 8 lines of 28 cells."
+    assert pages.lines == (
+        f"Volume 1: {count} pages, from paragraph 1, heading: The Moon",
+    )
+    sat.press("down", "enter")
+    assert (sat.state.chosen, sat.state.pages) == (0, None)
+
+
+def test_volumes_are_proposed_set_and_taken_back(chapters: Path, sit: Sit) -> None:
+    sat = sit(chapters)
+    sat.state = replace(sat.state, page_size=PageSize(28, 8))
+    sat.press("V", "v")
+    assert sat.lines[-1].rstrip() == "Pages of a volume:"
+    sat.press(*"0", "enter")
+    assert sat.state.message == "That is no number of pages, such as 80."
+    sat.press("backspace", *"4", "enter")
+    pages = sat.state.pages
+    assert pages is not None
+    assert pages.title == "Proposed: 3 volumes, 12 pages of 8 lines of 28 cells."
+    assert pages.lines == (
+        "Paragraphs 3 and 5 would begin a volume; y sets it.",
+        "Volume 1: 4 pages, from paragraph 1, heading: The Moon",
+        "Volume 2: 4 pages, from paragraph 3, heading: The Tides",
+        "Volume 3: 4 pages, from paragraph 5, heading: The End",
+    )
+    assert not any(each.begins_volume for each in sat.state.book)
+    sat.press("y")
+    assert sat.state.message == (
+        f"Paragraphs 3 and 5 begin a volume now. The book is at version {sat.state.version}."
+    )
+    assert sat.state.pages and sat.state.pages.title.startswith("3 volumes, 12 pages")
+    assert [each.id for each in sat.state.book if each.begins_volume] == [3, 5]
+    sat.press("escape", "u", "y")
+    sat.state = sat.desk.away(sat.state, lambda _: None)
+    assert not any(each.begins_volume for each in sat.state.book)
+
+
+def test_a_paragraph_that_no_volume_can_have_is_said(chapters: Path, sit: Sit) -> None:
+    sat = sit(chapters)
+    sat.state = replace(sat.state, page_size=PageSize(28, 8))
+    sat.press("V", "v", *"1", "enter")
+    assert sat.state.pages is None
+    assert sat.state.message.startswith("Paragraph 2 has ")
+    assert sat.state.message.endswith("Nothing was changed.")
+
+
+def test_words_are_changed_on_a_small_terminal_as_they_are_heard(
+    tides: Path, at: Open
+) -> None:
+    screen = at(tides, 40, 12)
+    screen.keys("c", "tide", "enter", "flood", "enter")
+    lines = screen.wait("3 places of")
+    assert lines[1].startswith("3 places of “tide”, to be “flood”.")
+    assert lines[-1].startswith("y changes it  n leaves it  a all")
+    screen.keys("down", "y")
+    screen.wait("Paragraph 1 is changed. 2 more places.")
+    screen.keys("a")
+    screen.wait("Changed. Lines 1 to")
+    screen.keys("escape", "q")
+    assert screen.ended() == 0
+    assert prints(tides)[1].count("flood") == 2
