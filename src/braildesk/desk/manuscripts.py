@@ -117,7 +117,7 @@ def _is_book(path: Path) -> bool:
 
 
 def _of_book(path: Path, wait: float) -> Manuscript:
-    """A book, or what it had kept a moment ago where another program has it open."""
+    """A book, or what it had kept a moment ago if another program has it open."""
     try:
         session = Session(path, timeout=wait)
     except CannotOpen as refusal:

@@ -75,7 +75,7 @@ Report = Callable[[int, int], None]
 
 
 def asked_by(state: State, pages: Pages, key: str) -> tuple[State, OfWholeBook | None]:
-    """What a key asks for in a list of places or volumes; the same state where it isn't one of its."""
+    """What a key asks for in a list of places or volumes; the same state if it isn't one of its."""
     match pages.offer:
         case ChangePlaces() as offer:
             return _of_places(state, pages, offer, key)
