@@ -9,6 +9,7 @@ from braildesk import Mark, Paragraph, Style, requests
 from braildesk.desk.highlighting import Highlighted
 from braildesk.desk.layout import PageSize
 from braildesk.desk.readings import ParagraphReading
+from braildesk.text.sequences import parted
 from braildesk.text.spans import Span
 
 from scribe.screen.actions import (
@@ -33,7 +34,7 @@ from scribe.screen.actions import (
     TypeAll,
 )
 from scribe.screen.field import Field, Purpose
-from scribe.screen.keys import KEYS, keys_of, parted, pasted, step
+from scribe.screen.keys import KEYS, keys_of, pasted, step
 from scribe.screen.lines import rows
 from scribe.screen.state import Opening, Pages, Pane, Question, Size, State, Target
 

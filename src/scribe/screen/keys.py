@@ -1,6 +1,5 @@
 """What each key asks for: a function from the state to the state after it, and what goes with it."""
 
-import re
 from collections.abc import Callable, Sequence
 from dataclasses import dataclass, replace
 
@@ -9,7 +8,7 @@ from braildesk.desk.change_all import Replacement
 from braildesk.desk.correction import replaced, smallest_correction
 from braildesk.text import limits
 from braildesk.text.characters import control_refused
-from braildesk.text.sequences import composed, seams
+from braildesk.text.sequences import composed, parted
 
 from scribe.screen import pager, whole_book
 from scribe.screen.actions import (
@@ -53,6 +52,7 @@ from scribe.screen.moves import (
     to_end_of_book,
 )
 from scribe.screen.state import Pages, Pane, Question, State, Step, draft_of
+from scribe.words.pagelook import wanted_line
 from scribe.words.pages import NoSize, described, typed_page_size
 from scribe.words.paragraph import quoted
 from scribe.words.typed import typed_path
@@ -73,12 +73,6 @@ _NO_DOTS = "Braille ASCII has no dots 7 and 8: a shows the cells as Unicode char
 _OF_OLD = "Each place is shown before it is changed."
 _OF_NEW = "Enter alone takes the words out. The places are shown before."
 _OF_GOING = "A paragraph's number, or page 6 line 9, or words to find."
-# a page of a volume, and a line of it, as people say it
-_PAGE = re.compile(
-    r"(?:v(?:ol(?:ume)?)?\.? *(\d{1,9})[ ,]+)?p(?:age)?\.? *(\d{1,9})"
-    r"(?:[ ,]+l(?:ine)?\.? *(\d{1,9}))?",
-    re.IGNORECASE,
-)
 # what is said before it is done, since the book keeps it
 _OF_MARK = "The book keeps each mark: r resolves it, and nothing takes it out."
 _OF_TABLE = "A table that the book lacks is put into it, and stays there."
@@ -86,7 +80,6 @@ _OF_IMPORT = "The book keeps what is imported. u strikes it, and nothing takes i
 
 
 _MOST = limits.PRINT_CHARACTERS
-_SENTENCE = re.compile(r"[.!?\u2026][\u201d\u2019\u00bb\"')\]]*\s+")
 _AS_IT_WAS = "Given up. The book is as it was."
 _NOT_ADDED = "This paragraph was empty, and wasn't added."
 _STAYS_TYPED = "It stays as it is typed. Enter asks again."
@@ -350,17 +343,6 @@ def about_length(state: State, typed: Field) -> Question | None:
     return Question(sentence, parts=(first, rest))
 
 
-def parted(text: str, most: int) -> tuple[str, str]:
-    """A text in two, the first no longer than so many characters: at a sentence, or at a blank."""
-    front = text[:most]
-    ends = [found.end() for found in _SENTENCE.finditer(front)]
-    blank = front.rfind(" ") + 1
-    seam = max(each for each in seams(text) if each <= most)
-    # a sentence that ends far from there would leave a short paragraph
-    place = ends[-1] if ends and ends[-1] > most // 2 else blank or seam
-    return text[:place].rstrip(), text[place:].lstrip()
-
-
 def _with_help(state: State) -> State:
     """The state in which the keys of what is being done are looked at, one a line."""
     under = state.pages
@@ -499,14 +481,10 @@ def _going(state: State, words: str) -> Step:
     asked = words.strip()
     if asked.isascii() and asked.isdigit():
         return Step(_at_number(state, asked.lstrip("0") or "0"))
-    found = _PAGE.fullmatch(asked)
-    if found is None:
+    wanted = wanted_line(asked)
+    if wanted is None:
         return Step(replace(state, sought=words), ToFound(words))
-    volume, page, line = found.groups()
-    return Step(
-        state,
-        ToPage(int(page), int(line or 1), None if volume is None else int(volume)),
-    )
+    return Step(state, ToPage(wanted.page, wanted.line, wanted.volume))
 
 
 def _at_number(state: State, word: str) -> State:

@@ -4,14 +4,12 @@ from collections.abc import Callable, Iterator, Sequence
 from dataclasses import replace
 
 from braildesk import Paragraph, Session, Style
-from braildesk.desk.layout import sections, spans_of
+from braildesk.desk.layout import sections
 from braildesk.desk.marks import MarkOfBook, all_marks
-from braildesk.desk.places import words_of
 from braildesk.desk.readings import answers, prints
 from braildesk.protocol.requests import Where
 from braildesk.text.characters import visible
 from braildesk.text.excerpt import opening
-from braildesk.text.spans import Span
 
 from scribe.screen import pager
 from scribe.screen.actions import ToPage
@@ -19,7 +17,6 @@ from scribe.screen.in_hand import holding
 from scribe.screen.state import Pages, Pane, State, Target
 from scribe.words import pagelook
 from scribe.words.pagelook import Layouts, Volume, line_of
-from scribe.words.pages import described
 from scribe.words.paragraph import mark_line
 
 # a heading is named by so many columns of its words
@@ -175,27 +172,9 @@ def page_said(session: Session, state: State, laid: Volume) -> str:
 
 def at_page(session: Session, state: State, action: ToPage, laid: Volume) -> State:
     """The state with the cursor on the first word of a line of a page, or what is said of it."""
-    if laid.fault:
-        return state.saying(laid.fault)
-    size, number = laid.page_size, (action.page - 1) * laid.page_size.text_lines
-    last = max((lines.stop for lines in laid.lines), default=0)
-    pages = -(-last // size.text_lines)
-    if not 1 <= action.page <= pages:
-        count = "1 page" if pages == 1 else f"{pages:,} pages"
-        said = f"Volume {laid.number} has {count} of {described(size)}."
-        return state.saying(f"{said} The cursor stays where it is.")
-    wanted = number + action.line - 1
-    found = [
-        (its, lines)
-        for its, lines in zip(laid.paragraphs, laid.lines)
-        if wanted in lines
-    ]
-    if not found or not 1 <= action.line <= size.text_lines:
-        said = f"Page {action.page} has nothing on line {action.line}."
-        return state.saying(f"{said} The cursor stays where it is.")
-    ((its, lines),) = found
-    (section,) = sections(session, [its])
-    cells = Span(*spans_of(section, size.width)[wanted - lines.start])
-    text = session.print_of(its.id)
-    place = words_of(session, its.id, cells, text, section.braille).start
-    return at_target(state, Target(its.id, place))
+    try:
+        number, place = pagelook.start_of(session, laid, action.page, action.line)
+    except pagelook.NotThere as fault:
+        stays = "" if laid.fault else " The cursor stays where it is."
+        return state.saying(f"{fault.sentence}{stays}")
+    return at_target(state, Target(number, place))

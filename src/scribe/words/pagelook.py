@@ -1,5 +1,6 @@
 """Volumes as they will be embossed: the page of the cursor's words, and the way to a page."""
 
+import re
 from collections.abc import Callable, Sequence
 from dataclasses import dataclass, replace
 
@@ -14,7 +15,9 @@ from braildesk.desk.layout import (
     sections,
     spans_of,
 )
+from braildesk.desk.places import words_of
 from braildesk.text.cells import braille_ascii
+from braildesk.text.spans import Span
 
 from scribe.words.pages import described
 
@@ -22,6 +25,12 @@ from scribe.words.pages import described
 _MANY = 250_000
 # after how many paragraphs it is said how far the layout has come
 _PACE = 2_000
+# a page of a volume, and a line of it, as people say it
+_LINE = re.compile(
+    r"(?:v(?:ol(?:ume)?)?\.? *(\d{1,9})[ ,]+)?p(?:age)?\.? *(\d{1,9})"
+    r"(?:[ ,]+l(?:ine)?\.? *(\d{1,9}))?",
+    re.IGNORECASE,
+)
 
 
 @dataclass(frozen=True)
@@ -43,6 +52,23 @@ class Sought:
     paragraph: Paragraph
     cell: int
     says: str
+
+
+@dataclass(frozen=True)
+class WantedLine:
+    """A line of a page, of a volume if one is named; counted from 1."""
+
+    page: int
+    line: int = 1
+    volume: int | None = None
+
+
+class NotThere(ValueError):
+    """A page or a line isn't there, with the sentence that says so."""
+
+    def __init__(self, sentence: str) -> None:
+        super().__init__(sentence)
+        self.sentence = sentence
 
 
 @dataclass(frozen=True)
@@ -154,6 +180,42 @@ def page_of(session: Session, volume: Volume, sought: Sought) -> Page:
         f" {line + 1}, of {described(page_size)}."
     )
     return Page(title, tuple(_lines_of(session, volume, page)), line)
+
+
+def wanted_line(words: str) -> WantedLine | None:
+    """The line that words name, as in page 6 line 9; none where they name none."""
+    found = _LINE.fullmatch(words.strip())
+    if found is None:
+        return None
+    volume, page, line = found.groups()
+    return WantedLine(
+        int(page), int(line or 1), None if volume is None else int(volume)
+    )
+
+
+def start_of(session: Session, volume: Volume, page: int, line: int) -> tuple[int, int]:
+    """The paragraph and the character at which a line begins; raises `NotThere`."""
+    if volume.fault:
+        raise NotThere(volume.fault)
+    size = volume.page_size
+    last = max((lines.stop for lines in volume.lines), default=0)
+    pages = -(-last // size.text_lines)
+    if not 1 <= page <= pages:
+        count = "1 page" if pages == 1 else f"{pages:,} pages"
+        raise NotThere(f"Volume {volume.number} has {count} of {described(size)}.")
+    wanted = (page - 1) * size.text_lines + line - 1
+    found = [
+        (its, lines)
+        for its, lines in zip(volume.paragraphs, volume.lines)
+        if wanted in lines
+    ]
+    if not found or not 1 <= line <= size.text_lines:
+        raise NotThere(f"Page {page} has nothing on line {line}.")
+    ((its, lines),) = found
+    (section,) = sections(session, [its])
+    cells = Span(*spans_of(section, size.width)[wanted - lines.start])
+    text = session.print_of(its.id)
+    return its.id, words_of(session, its.id, cells, text, section.braille).start
 
 
 def line_of(volume: Volume, section: Section, lines: range, cell: int) -> int:
