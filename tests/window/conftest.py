@@ -1,12 +1,21 @@
 """What the tests of the window share: books, and windows that are closed at the end."""
 
-from collections.abc import Callable, Iterator
+import os
+from collections.abc import Callable, Iterator, Sequence
 from pathlib import Path
+from tempfile import TemporaryDirectory
 
 import pytest
 
+from PyQt6.QtWidgets import QApplication
+
 from braildesk import Session, new_book
+from braildesk.desk.layout import PageSize
 from braildesk.protocol.requests import Mark, Supply, Type
+
+from scribe.window import dialogs
+from scribe.window.actions import Actions
+from scribe.window.desk import Desk
 
 from reader import Reader
 
@@ -44,13 +53,68 @@ def at() -> Iterator[Open]:
     """Opens a book in a window, and kills it at the end if it is still there."""
     readers: list[Reader] = []
 
-    def opened(book: Path, *words: str, is_waited_for: bool = True) -> Reader:
-        readers.append(Reader(book, *words))
+    def opened(
+        book: Path,
+        *words: str,
+        is_waited_for: bool = True,
+        under: Sequence[str] = (),
+        **settings: str,
+    ) -> Reader:
+        readers.append(Reader(book, *words, under=under, **settings))
         return readers[-1].opened() if is_waited_for else readers[-1]
 
     yield opened
     for reader in readers:
         reader.kill()
+
+
+@pytest.fixture(scope="session")
+def application() -> QApplication:
+    """The one application of these tests."""
+    found = QApplication.instance()
+    return found if isinstance(found, QApplication) else QApplication([])
+
+
+@pytest.fixture
+def desk(application: QApplication, moon: Path) -> Iterator[Desk]:
+    """The book, at work in a window that nobody sees."""
+    found = Desk(moon, None, 0.0, PageSize())
+    found.acts = Actions(found).by_name
+    found.begin()
+    yield found
+    found.close()
+
+
+@pytest.fixture
+def asked(monkeypatch: pytest.MonkeyPatch) -> dict[str, int]:
+    """Which answer is given to a question of a title; and reports aren't waited for."""
+    answers: dict[str, int] = {}
+
+    def choice(over: object, title: str, said: str, given: Sequence[str]) -> int:
+        return answers[title]
+
+    monkeypatch.setattr(dialogs, "choice", choice)
+    monkeypatch.setattr(dialogs, "report", lambda over, title, lines: None)
+    return answers
+
+
+@pytest.fixture(scope="session")
+def long_book() -> Iterator[Path]:
+    """A book with as many paragraphs as a book may have.
+
+    Each is kept before the next one, which takes a disk minutes and a disk of memory seconds.
+    """
+    memory = "/dev/shm" if os.access("/dev/shm", os.W_OK) else None
+    with TemporaryDirectory(prefix="scribe-long-", dir=memory) as folder:
+        path = Path(folder, "long.braildesk")
+        new_book(path, holding=[Supply("en")])
+        with Session(path) as session:
+            for _ in session.each(
+                Type("end", "en", f"Paragraph number {number} of the moon.")
+                for number in range(1, 20_001)
+            ):
+                pass
+        yield path
 
 
 def prints(book: Path) -> list[str]:

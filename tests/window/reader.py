@@ -4,7 +4,7 @@ import os
 import subprocess
 import sys
 import time
-from collections.abc import Callable, Iterator
+from collections.abc import Callable, Iterator, Sequence
 from pathlib import Path
 from typing import Any, TypeVar
 
@@ -12,6 +12,10 @@ import gi  # type: ignore[import]
 
 gi.require_version("Atspi", "2.0")
 from gi.repository import Atspi, GLib  # type: ignore[import]  # noqa: E402
+
+# a window answers late on a machine that has other work; the bus gives up after 0.8 seconds by itself
+_ANSWER_MILLISECONDS = 60_000
+Atspi.set_timeout(_ANSWER_MILLISECONDS, _ANSWER_MILLISECONDS)
 
 Found = TypeVar("Found")
 #: A part of a window, as the bus has it; there are no types of it.
@@ -33,10 +37,13 @@ _KEYS = {
 }
 _MASKS = {"Shift": 1 << 0, "Ctrl": 1 << 2, "Alt": 1 << 3}
 # how long a state is waited for; a test that holds never waits so long
-_PATIENCE_SECONDS = 120.0
+_PATIENCE_SECONDS = float(os.environ.get("PATIENCE", "120"))
 _PACE_SECONDS = 0.02
 # the roles of parts that a window has from its front to its end, by names that stay
 _LASTING = ("text", "table")
+
+#: States of parts.
+EDITABLE, FOCUSABLE = Atspi.StateType.EDITABLE, Atspi.StateType.FOCUSABLE
 
 
 class Missed(AssertionError):
@@ -46,9 +53,11 @@ class Missed(AssertionError):
 class Reader:
     """A window of scribe, its tree on the accessibility bus, and a keyboard."""
 
-    def __init__(self, book: Path, *words: str, **settings: str) -> None:
+    def __init__(
+        self, book: Path, *words: str, under: Sequence[str] = (), **settings: str
+    ) -> None:
         self.program = subprocess.Popen(
-            [sys.executable, "-m", "scribe", "window", str(book), *words],
+            [*under, sys.executable, "-m", "scribe", "window", str(book), *words],
             env={**os.environ, **settings},
             stdout=subprocess.PIPE,
             stderr=subprocess.PIPE,
@@ -122,6 +131,16 @@ class Reader:
             self._lasting[role, name] = its
         return its
 
+    def first(self, role: str, top: Part) -> Part:
+        """The first part within another one that has a role."""
+
+        def found() -> Part:
+            roles = (each for each in all_within(top) if each.get_role_name() == role)
+            return next(roles, None)
+
+        its: Part = self.until(f"a {role}", found)
+        return its
+
     def text(self, name: str) -> str:
         """The text of a field."""
         return text_of(self.part("text", name))
@@ -161,7 +180,15 @@ class Reader:
 
     def cell(self, row: int) -> str:
         """How a paragraph is read in the table."""
-        return str(self.row(row).get_name())
+        number, kind, marks, words = self.cells(row)
+        flags = ", ".join(filter(None, (f"{number} {kind}", marks)))
+        return f"{flags}: {words}"
+
+    def cells(self, row: int) -> list[str]:
+        """What is in each cell of a row of the table."""
+        table, count = self.part("table", "Paragraphs"), 4
+        its = (Atspi.Table.get_accessible_at(table, row, n) for n in range(count))
+        return [str(each.get_name()) for each in its]
 
     def lists(self, row: int, words: str) -> None:
         """Waits until a paragraph is read so in the table."""
@@ -211,6 +238,29 @@ class Reader:
         at = Atspi.Component.get_extents(part, Atspi.CoordType.SCREEN)
         x, y = at.x + at.width // 2, at.y + at.height // 2
         Atspi.generate_mouse_event(x, y, "b1c")
+
+    def choose(self, menu: str, item: str) -> None:
+        """Clicks on a menu with the mouse, and on an item of it."""
+        self.click_at(self.shown("menu item", menu))
+        self.click_at(self.shown("menu item", item))
+
+    def click_on(self, name: str, place: int) -> None:
+        """Clicks with the mouse before a character of a field."""
+        x, y = self._at(name, place)
+        Atspi.generate_mouse_event(x, y, "b1c")
+
+    def drag_over(self, name: str, start: int, stop: int) -> None:
+        """Selects characters of a field with the mouse."""
+        for place, what in ((start, "b1p"), (stop, "abs"), (stop, "b1r")):
+            x, y = self._at(name, place)
+            Atspi.generate_mouse_event(x, y, what)
+            _let_events_come()
+
+    def _at(self, name: str, place: int) -> tuple[int, int]:
+        """Where the front of a character of a field is seen."""
+        field, screen = self.part("text", name), Atspi.CoordType.SCREEN
+        its = Atspi.Text.get_character_extents(field, place, screen)
+        return its.x + 1, its.y + its.height // 2
 
     def shown(self, role: str, name: str) -> Part:
         """A part, once it is seen."""

@@ -12,7 +12,7 @@ from braildesk.desk.search import Spot
 from braildesk.protocol.requests import Command
 from braildesk.text.spans import Span
 
-from scribe.window.book import NotAll, NothingToTakeBack, OpenBook
+from scribe.window.book import Done, NotAll, NothingToTakeBack, OpenBook
 
 
 @pytest.fixture
@@ -127,3 +127,43 @@ def test_nothing_is_taken_back_after_another_program_changed_the_book(
     book.imported(before)
     with pytest.raises(NothingToTakeBack):
         book.taken_back(lambda *_: None)
+
+
+@pytest.mark.parametrize(
+    "command",
+    [
+        requests.Correct(2, 6, 0, "o"),
+        requests.CorrectBy(2, 0, 3, "A", who="anna"),
+        requests.Strike(2),
+        requests.Style(2, Style.HEADING),
+        requests.Volume(2, True),
+        requests.Mark(2, 1, 2, "why?"),
+        requests.Move(2, "end"),
+        requests.Type(1, "en", "One."),
+    ],
+)
+def test_what_is_known_of_the_book_is_what_it_has(
+    book: OpenBook, command: Command[Any]
+) -> None:
+    done = book.done(command)
+    session = book.session
+    assert done.contents.paragraphs == session.paragraphs()
+    assert done.contents.version == session.last_version == 6
+    # and once that was taken back
+    done = book.taken_back(lambda *_: None)
+    assert done.contents.paragraphs == session.paragraphs()
+
+
+def test_what_is_known_after_a_table_a_restoring_and_an_undo_is_what_the_book_has(
+    book: OpenBook,
+) -> None:
+    book.done(requests.Correct(2, 6, 0, "o"))
+    acts: list[Callable[[], Done]] = [
+        lambda: book.done(requests.Undo(2)),
+        lambda: book.with_table(2, "ueb"),
+        lambda: book.done(requests.Strike(2)),
+        lambda: book.done(requests.Restore(2)),
+        lambda: book.done(requests.Resolve(1)),
+    ]
+    for act in acts:
+        assert act().contents.paragraphs == book.session.paragraphs()

@@ -1,7 +1,7 @@
 """What comes into a window otherwise than by keys: lines that are pasted, and files that are dropped."""
 
 import time
-from collections.abc import Callable, Iterator, Sequence
+from collections.abc import Callable
 from pathlib import Path
 
 import pytest
@@ -13,40 +13,7 @@ from braildesk.desk.drafts import Drafts
 from braildesk.desk.layout import PageSize
 
 from scribe.window import dialogs
-from scribe.window.actions import Actions
 from scribe.window.desk import Desk
-
-Answer = Callable[[int], None]
-
-
-@pytest.fixture(scope="module")
-def application() -> QApplication:
-    """The one application of these tests."""
-    found = QApplication.instance()
-    return found if isinstance(found, QApplication) else QApplication([])
-
-
-@pytest.fixture
-def desk(application: QApplication, moon: Path) -> Iterator[Desk]:
-    """The book, at work in a window that nobody sees."""
-    found = Desk(moon, None, 0.0, PageSize())
-    found.acts = Actions(found).by_name
-    found.begin()
-    yield found
-    found.close()
-
-
-@pytest.fixture
-def asked(monkeypatch: pytest.MonkeyPatch) -> dict[str, int]:
-    """Which answer is given to a question of a title; and reports aren't waited for."""
-    answers: dict[str, int] = {}
-
-    def choice(over: object, title: str, said: str, given: Sequence[str]) -> int:
-        return answers[title]
-
-    monkeypatch.setattr(dialogs, "choice", choice)
-    monkeypatch.setattr(dialogs, "report", lambda over, title, lines: None)
-    return answers
 
 
 def _paste(desk: Desk, text: str) -> None:

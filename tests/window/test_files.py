@@ -5,18 +5,13 @@ from pathlib import Path
 from braildesk import Session
 
 from conftest import Open, prints
-from reader import Part, Reader, all_within
+from reader import Reader, all_within
 
 
 def _name(window: Reader, title: str, path: Path, button: str) -> None:
     """Gives a dialog of files the path of one, and clicks on its button."""
     dialog = window.dialog(title)
-    field: Part = window.until(
-        "the name of the file",
-        lambda: next(
-            (e for e in all_within(dialog) if e.get_role_name() == "text"), None
-        ),
-    )
+    field = window.first("text", dialog)
     window.insert_in(field, str(path))
     window.click(window.part("push button", button, dialog))
 
@@ -42,7 +37,16 @@ def test_a_text_is_imported_and_taken_back(
     _close(window, "Import", said)
     window.reads("Message", said)
     window.lists(1, "4 body: One.")
+    # much is taken back only if that is meant
     window.press("u")
+    window.dialog("Take back")
+    window.press("Escape")
+    window.no_dialog()
+    window.reads("Message", "Nothing was taken back.")
+    window.press("u")
+    window.dialog("Take back")
+    window.press("Return")
+    window.no_dialog()
     window.says("Taken back: 2 paragraphs were imported, 4 to 5.")
     window.lists(2, "5 body, struck: Two.")
     window.press("Ctrl+q")
@@ -70,7 +74,7 @@ def test_the_volumes_are_exported_as_they_are_shown(
     field = window.part("text", "Page")
     window.until("the page", lambda: window.text_in(field).startswith(page))
     window.press("Ctrl+e")
-    _name(window, "Export, pages of 6 lines of 20 cells", folder, "Choose")
+    _name(window, "Export, pages of 6 lines of 20 cells", folder, "OK")
     _close(window, "Export", "moon-1.brf: volume 1, 1 page, 50 cells with dots.")
     first = (folder / "moon-1.brf").read_bytes().split(b"\r\n")[:2]
     assert first == [b"  ,THE ,MOON", b"  ,THE MON IS FAR"]

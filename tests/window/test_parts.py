@@ -30,6 +30,11 @@ def test_all_parts_have_names_and_take_the_focus_in_their_order(
     ):
         window.press(key)
         window.focus(role, name)
+    for key, name in (("F5", "Paragraphs"), ("F8", "Braille")):
+        window.press(key)
+        window.focus("table" if key == "F5" else "text", name)
+        window.press("Return")
+        window.focus("text", "Print")
     nameless = [
         each.get_role_name()
         for each in all_within(window.top)

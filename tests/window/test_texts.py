@@ -1,14 +1,9 @@
 """Texts of other scripts, characters of two units of Qt, cells of eight dots, and long ones."""
 
-import os
-from collections.abc import Iterator
 from pathlib import Path
-from tempfile import TemporaryDirectory
-
-import pytest
 
 from braildesk import Session, new_book
-from braildesk.protocol.requests import Supply, Table, Type
+from braildesk.protocol.requests import Table, Type
 
 from conftest import Open
 
@@ -75,31 +70,14 @@ def test_the_longest_paragraph_is_typed_in_and_no_longer_one(
     window.reads("Place", "The end, after 4,000 characters.")
     window.type("b")
     window.press("Return")
-    window.focus("text", "Message")
-    window.says("would have over 4,000 characters")
+    # whether it goes on in a new paragraph
+    window.dialog("A long paragraph")
     window.press("Escape")
+    window.no_dialog()
+    window.reads("Message", "It stays as it is typed. Enter asks again.")
     window.focus("text", "Print")
     window.press("BackSpace")
     window.reads("Place", "The end, after 4,000 characters.")
-
-
-@pytest.fixture(scope="module")
-def long_book() -> Iterator[Path]:
-    """A book with as many paragraphs as a book may have.
-
-    Each is kept before the next one, which takes a disk minutes and a disk of memory seconds.
-    """
-    memory = "/dev/shm" if os.access("/dev/shm", os.W_OK) else None
-    with TemporaryDirectory(prefix="scribe-long-", dir=memory) as folder:
-        path = Path(folder, "long.braildesk")
-        new_book(path, holding=[Supply("en")])
-        with Session(path) as session:
-            for _ in session.each(
-                Type("end", "en", f"Paragraph number {number} of the moon.")
-                for number in range(1, 20_001)
-            ):
-                pass
-        yield path
 
 
 def test_a_book_of_20_000_paragraphs_takes_little_memory(

@@ -3,13 +3,21 @@
 All of it runs in the thread that opened the session. Nothing here knows a window.
 """
 
-from collections.abc import Callable, Sequence
+from collections.abc import Callable, Iterator, Sequence
 from dataclasses import dataclass, replace
 from pathlib import Path
 from typing import Any
 
 from braildesk import Displaced, Lost, Paragraph, Refused, Session, requests
 from braildesk.desk import search
+from braildesk.desk.change import Change
+from braildesk.desk.change_all import (
+    NotChanged,
+    Passed,
+    Proposal,
+    Replacement,
+    change_all,
+)
 from braildesk.desk.correction import smallest_correction
 from braildesk.desk.draft import Aim, Draft
 from braildesk.desk.find import alike
@@ -31,8 +39,11 @@ from braildesk.text.spans import Span
 
 from scribe.words import deeds, pagelook
 from scribe.words.aftermath import opened_again
+from scribe.words.change_all import Count
 from scribe.words.deeds import Deed, kept
+from scribe.words.paragraph import counted, quoted
 from scribe.words.preview import Tables
+from scribe.words.status import Stop
 
 # the first words of a listed paragraph
 _WORDS = 120
@@ -80,6 +91,14 @@ class Done:
     paragraph: int | None
 
 
+@dataclass(frozen=True)
+class Chosen:
+    """Which places of words are changed, from the first one on, and whether the rest are."""
+
+    places: tuple[bool, ...]
+    is_of_rest: bool
+
+
 class NotAll(Exception):
     """Some commands were carried out, and then one was refused or the work was stopped."""
 
@@ -112,6 +131,16 @@ class OpenBook:
     def session(self) -> Session:
         """The session."""
         return self._session
+
+    @property
+    def by(self) -> str | None:
+        """The name that corrections keep."""
+        return self._by
+
+    @property
+    def last_deed(self) -> Deed | None:
+        """What was done last in this window."""
+        return self._deeds[-1] if self._deeds else None
 
     @property
     def pid(self) -> int:
@@ -225,11 +254,16 @@ class OpenBook:
         answer = self._sent(command, deed)
         return replace(self._after(command, answer), paragraph=its.paragraph.id)
 
-    def with_table(self, paragraph: int | None, name: str) -> Done:
-        """Gives a paragraph a table, which is put into the book where it isn't there."""
+    def with_table(
+        self, paragraph: int | None, name: str, path: Path | None = None
+    ) -> Done:
+        """Gives a paragraph a table, which is put into the book where it isn't there.
+
+        It may be that of a file. What the book makes of its text is for the book to say.
+        """
         done = None
-        if name not in self.tables.names:
-            request = table_request(name, None)
+        if name not in self.tables.names or path is not None:
+            request = table_request(name, path)
             text = request.text if isinstance(request, requests.Table) else None
             answer = self._sent(request)
             self.tables.put(name, text)
@@ -267,6 +301,56 @@ class OpenBook:
             raise NotAll(done, cause)
         assert last is not None
         return self._after(*last)
+
+    def all_done(
+        self, commands: Sequence[Command[Any]], what: str, go_on: Callable[[int], bool]
+    ) -> Done:
+        """Carries out commands that are taken back together; raises `NotAll`."""
+        before = self._deeds
+        try:
+            for count, command in enumerate(commands):
+                if not go_on(count):
+                    raise NotAll(count, KeyboardInterrupt())
+                try:
+                    self._sent(command)
+                except Refused as refused:
+                    raise NotAll(count, refused) from refused
+        finally:
+            self._gather(before, what)
+        return Done(self.contents(), f"kept: {what}", None)
+
+    def changed_all(
+        self,
+        wanted: Replacement,
+        chosen: Chosen,
+        go_on: Callable[[int], bool],
+        width: int,
+    ) -> tuple[list[str], list[str]]:
+        """Changes places of words, and gives what is said of all of them, and lines of each."""
+        count, lines, places = Count(wanted), [], iter(chosen.places)
+        backs: list[Command[Any]] = []
+
+        def is_wanted(found: Proposal) -> bool:
+            return go_on(count.changed) and next(places, chosen.is_of_rest)
+
+        def noted(
+            found: Iterator[Change | NotChanged | Passed],
+        ) -> Iterator[Change | NotChanged | Passed]:
+            for each in found:
+                if isinstance(each, Change):
+                    backs.insert(0, requests.Undo(each.paragraph))
+                yield each
+
+        for its in count.lines(
+            noted(change_all(self._session, wanted, is_wanted)), width
+        ):
+            lines += its
+        if backs:
+            what = (
+                f"{quoted(wanted.old)} was replaced in {counted(len(backs), 'place')}"
+            )
+            self._deeds = (*self._deeds, Deed(what, tuple(backs)))
+        return list(count.sentences(self._session.last_version)), lines
 
     def taken_back(self, report: Callable[[int, int], None]) -> Done:
         """Takes back what was done last in this window.
@@ -353,6 +437,45 @@ class OpenBook:
             self._laid = pagelook.laid_out(self._session, volume, lambda *_: None)
         return pagelook.page_of(self._session, self._laid, sought)
 
+    def line(
+        self,
+        contents: Contents,
+        page_size: PageSize,
+        wanted: pagelook.WantedLine,
+        here: Paragraph,
+        say: Callable[[str], None],
+        is_stopped: Callable[[], bool],
+    ) -> tuple[int, int]:
+        """The paragraph and the character at which a line of a page begins.
+
+        Raises `Stop` where it isn't there.
+        """
+        book, version = contents.paragraphs, contents.version
+        volumes = pagelook.volumes_of(book, version, page_size)
+        number = wanted.volume
+        if number is None:
+            volume = next((v for v in volumes if here in v.paragraphs), None)
+            if volume is None:
+                raise Stop(f"Paragraph {here.id} is struck, so it is on no page.")
+        elif 1 <= number <= len(volumes):
+            volume = volumes[number - 1]
+        else:
+            raise Stop(f"There is no volume {number}: the book has {len(volumes)}.")
+
+        def report(done: int, count: int) -> None:
+            say(f"{done:,} of {count:,} paragraphs are laid out.")
+            if is_stopped():
+                raise Stop("The pages aren't laid out. The caret stays where it was.")
+
+        if self._laid is None or not self._laid.is_of(volume):
+            self._laid = pagelook.laid_out(self._session, volume, report)
+        try:
+            return pagelook.start_of(
+                self._session, self._laid, wanted.page, wanted.line
+            )
+        except pagelook.NotThere as fault:
+            raise Stop(f"{fault.sentence} The caret stays where it was.") from fault
+
     def where_kept(self, contents: Contents, draft: Draft) -> str:
         """Where a text that waits, or its first line, is in the book, in words; or nothing.
 
@@ -376,6 +499,13 @@ class OpenBook:
         text = composed(draft.first_line)
         is_there = composed(self._session.print_of(number)) == text
         return f"{how} {number}" if is_there else ""
+
+    def _gather(self, before: tuple[Deed, ...], what: str) -> None:
+        """Makes one deed, in words, of those since then."""
+        deeds_since = reversed(self._deeds[len(before) :])
+        backs = tuple(command for each in deeds_since for command in each.back)
+        if backs:
+            self._deeds = (*before, Deed(what, backs))
 
     def _with(self, session: Session) -> Contents:
         self._session = session
@@ -403,4 +533,41 @@ class OpenBook:
         number = getattr(command, "paragraph", None)
         if isinstance(command, requests.Type):
             number = answer.id
-        return Done(self.contents(), kept(command, answer), number)
+        return Done(self._contents_after(command), kept(command, answer), number)
+
+    def _contents_after(self, command: Command[Any]) -> Contents:
+        """The book after a command that was kept.
+
+        A long book takes a while to list, so it isn't listed where one paragraph alone is another.
+        """
+        places = [
+            place
+            for place, each in enumerate(self._known)
+            if each.id == getattr(command, "paragraph", None)
+        ]
+        its = self._known[places[0]] if places else None
+        now = None if its is None else self._changed(its, command)
+        if now is None:
+            return self.contents()
+        before, (place,) = self._known, places
+        self._known = (*before[:place], now, *before[place + 1 :])
+        return Contents(self._session.last_version, self._known, self.tables.names)
+
+    def _changed(self, its: Paragraph, command: Command[Any]) -> Paragraph | None:
+        """A paragraph after a command; none where more than it may be another."""
+        match command:
+            case requests.Correct() | requests.Undo():
+                return replace(its, length=len(self._session.print_of(its.id)))
+            case requests.Mark():
+                return its
+            case requests.Strike():
+                return replace(its, struck=True)
+            case requests.Restore():
+                return replace(its, struck=False)
+            case requests.Style():
+                return replace(its, style=command.style)
+            case requests.Volume():
+                return replace(its, begins_volume=command.begins)
+            case requests.Retable():
+                return replace(its, table=command.table)
+        return None

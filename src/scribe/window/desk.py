@@ -4,7 +4,7 @@ import os
 from collections.abc import Callable, Iterator, Sequence
 from concurrent.futures import Future
 from contextlib import contextmanager, suppress
-from dataclasses import dataclass
+from dataclasses import dataclass, replace
 from functools import partial
 from pathlib import Path
 from typing import TypeVar
@@ -13,9 +13,9 @@ from PyQt6.QtCore import QModelIndex, QSocketNotifier, QTimer
 from PyQt6.QtWidgets import QWidget
 from PyQt6.sip import voidptr
 
-from braildesk import After, DeskError, Lost, Mark, Refused, requests
+from braildesk import After, DeskError, Lost, Mark, Paragraph, Refused, requests
 from braildesk.desk.draft import Aim, Draft
-from braildesk.desk.drafts import Drafts, NotKept
+from braildesk.desk.drafts import Drafts, LeftAt, NotKept
 from braildesk.desk.highlighting import Highlighted
 from braildesk.desk.layout import PageSize
 from braildesk.protocol.requests import Command
@@ -38,7 +38,9 @@ from scribe.words.preview import Preview
 from scribe.words.status import Stop, in_sentences
 
 Result = TypeVar("Result")
-_EMPTY = "The book has no paragraph yet. Ctrl+Enter begins one."
+#: What is said where an action needs a paragraph, and where that has to be one that isn't struck.
+NO_PARAGRAPH = "The book has no paragraph yet. Ctrl+Enter begins one."
+STRUCK = "is struck. Ctrl+D restores it, so that it can be changed."
 _CLOSED = "The book is closed: Open the book again, in the menu Book, opens it."
 
 
@@ -73,6 +75,7 @@ class Desk:
         #: The book can't be worked on, since its session ended and none could be opened.
         self.is_closed = False
         self.acts: dict[str, Callable[[], None]] = {}
+        self._left: LeftAt | None = None
         self._light: Highlighted | None = None
         self._preview: Preview | None = None
         self._is_showing = self._is_acting = False
@@ -100,16 +103,21 @@ class Desk:
         for field in (window.message, window.here, window.marks, window.cells):
             field.left.connect(self.go_back)
         window.message.entered.connect(self.go_back)
+        # Enter is where the print is typed, as on the screen
+        window.table.activated.connect(lambda _: self.act("to_print"))
+        window.cells.entered.connect(lambda: self.act("to_print"))
 
     def begin(self) -> None:
         """Opens the book and shows it; raises what the client raises."""
         self.contents = self.work.result(self.book.opened)
         self.watch()
         self.show(self.contents, None)
+        self._go_where_left()
 
     def close(self) -> None:
         """Ends the session and the threads, once what is typed was kept as what waits."""
         self.unwatch()
+        self.keep_place()
         self.aside.stop()
         try:
             if not self.is_closed:
@@ -117,6 +125,30 @@ class Desk:
         finally:
             self.work.stop()
             self.ahead.stop()
+
+    def _go_where_left(self) -> None:
+        """Goes to the place at which the book was left, if that is there still."""
+        self._left = left = self.drafts.left_at()
+        row = self.contents.place(left.paragraph) if left is not None else None
+        if left is None or row is None or (row, left.place) == (0, 0):
+            return
+        self.choose(row)
+        if not left.is_in_cells:
+            self.window.print.put_caret(min(left.place, len(self.window.print.text)))
+        elif self.reading is not None:
+            light = self.asked(partial(self.book.by_cell, self.reading, left.place))
+            self.window.print.put_caret(light.words.start)
+        self.say("The book is open where it was left.")
+
+    def keep_place(self) -> None:
+        """Keeps where the book is left, so that it opens there again, here and in a terminal."""
+        if self.number is None or self.new is not None:
+            return
+        in_cells = self.window.cells.hasFocus()
+        place = self.window.cells.place if in_cells else self.window.print.place
+        before = self._left or LeftAt(self.number, 0)
+        now = replace(before, paragraph=self.number, place=place, is_in_cells=in_cells)
+        self.aside.result(lambda: self.drafts.leave_at(now), is_first=False)
 
     # what is done, and what becomes of failures
 
@@ -161,19 +193,20 @@ class Desk:
 
     def say(self, sentence: str) -> None:
         """Has something stand in the message."""
-        self.window.message.show_text(visible(sentence))
+        self.window.tell(visible(sentence))
 
     def refuse(self, sentence: str) -> None:
         """Has something stand in the message, which takes the focus, so that it is heard."""
         message = self.window.message
         if visible(sentence) == message.text:
             sentence = f"Again: {sentence}"
-        self.say(sentence)
         focused = self.window.focusWidget()
         if focused is not None and focused is not message:
             self._came_from = focused
-        message.put_caret(0)
+        # a screen reader that hears of the text or the caret first says nothing of the message
         message.setFocus()
+        self.say(sentence)
+        message.put_caret(0)
 
     def go_to(self, field: QWidget) -> None:
         """Gives a part of the window the focus; Escape goes back."""
@@ -191,6 +224,12 @@ class Desk:
     def number(self) -> int | None:
         """The number of the chosen paragraph."""
         return self.reading.its.paragraph.id if self.reading else None
+
+    @property
+    def chosen(self) -> Paragraph:
+        """The chosen paragraph, of a book that has one."""
+        assert self.reading is not None
+        return self.reading.its.paragraph
 
     @property
     def place(self) -> int:
@@ -243,12 +282,13 @@ class Desk:
         window.print.setReadOnly(reading is None or reading.its.paragraph.struck)
         head = "&Print"
         if reading is None:
-            self.say(_EMPTY)
+            self.say(NO_PARAGRAPH)
         else:
             its = reading.its.paragraph
             struck = "; restore it to type in it" if its.struck else ""
             head = f"{title(its, True)}{struck}"
         window.print_label.setText(head)
+        window.print.describe(title(reading.its.paragraph, False) if reading else "")
         text = reading.its.text if reading else ""
         marks = reading.its.marks if reading else ()
         self._is_showing = True
@@ -469,7 +509,9 @@ class Desk:
             try:
                 found.result()
             except NotKept as fault:
-                self.say(not_kept(fault))
+                # what the book has by now need not wait
+                if draft is not None and self.is_typed():
+                    self.say(not_kept(fault))
 
         self.aside.latest("draft", lambda: self.unsent.keep(draft), look)
 
@@ -540,10 +582,26 @@ class Desk:
             self.show_done(done)
         return True
 
+    def settled(self) -> int:
+        """The number of the chosen paragraph, once what was typed is kept."""
+        if not self.settle():
+            raise Stop(self.window.message.text)
+        if self.number is None:
+            raise Stop(NO_PARAGRAPH)
+        return self.number
+
     def _typed_new(self, new: New, text: str) -> Done:
         after = self.after(new)
         command = requests.Type(after, new.table, composed(text))
         return self.asked(lambda: self.book.done(command))
+
+    def table_of_new(self) -> str:
+        """The table of a new paragraph: that of the chosen one, or else the book's first."""
+        if self.reading is not None:
+            return self.reading.its.paragraph.table
+        if not self.contents.tables:
+            raise Stop("The book has no table yet. Ctrl+L puts one into it.")
+        return self.contents.tables[0]
 
     def after(self, new: New) -> After:
         """Where a new paragraph goes."""
@@ -566,6 +624,8 @@ class Desk:
             way = "after" if new.aim is Aim.AFTER else "before"
             where = f"{way} paragraph {new.paragraph}"
         said = f"A new paragraph {where}, table {new.table}"
+        window.print.describe(said)
+        window.print.setFocus()
         window.print_label.setText(said)
         window.print.setReadOnly(False)
         self._is_showing = True
@@ -578,7 +638,6 @@ class Desk:
         if text:
             window.print.textCursor().insertText(text)
         self._unlinked()
-        window.print.setFocus()
 
     def leave_new(self) -> None:
         """Goes back to the paragraph beside which nothing was typed."""

@@ -8,12 +8,17 @@ from pathlib import Path
 from typing import TypeVar
 
 from PyQt6.QtCore import QEventLoop, Qt, QTimer
+from PyQt6.QtGui import QFont
 from PyQt6.QtWidgets import (
+    QCheckBox,
     QDialog,
     QDialogButtonBox,
     QFileDialog,
+    QFontDialog,
+    QFormLayout,
     QInputDialog,
     QLabel,
+    QLineEdit,
     QMessageBox,
     QPushButton,
     QVBoxLayout,
@@ -24,6 +29,9 @@ from scribe.window.fields import Field
 from scribe.window.worker import Worker
 
 Result = TypeVar("Result")
+#: Says how far something is that takes long; and whether it is to end.
+Say = Callable[[str], None]
+IsStopped = Callable[[], bool]
 # when a dialog of progress is shown, and how often what it says is looked at
 _SHOWN_AFTER_SECONDS = 0.4
 _PACE_MILLISECONDS = 100
@@ -91,44 +99,135 @@ def one_of(
     return name if is_given else None
 
 
-def report(over: QWidget, title: str, lines: Sequence[str]) -> None:
-    """Shows lines that can be read one by one, until it is closed."""
+def fields(
+    over: QWidget,
+    title: str,
+    asked: Sequence[str],
+    first: Sequence[str],
+    checks: Sequence[str],
+) -> tuple[list[str], list[bool]] | None:
+    """Asks for several lines, and whether some things hold; none where it is given up."""
     dialog = QDialog(over)
     dialog.setWindowTitle(title)
-    dialog.resize(640, 400)
-    field = Field(title, True)
-    field.setPlainText("\n".join(lines))
-    column = QVBoxLayout(dialog)
-    column.addWidget(field)
-    buttons = QDialogButtonBox(QDialogButtonBox.StandardButton.Close)
+    dialog.resize(480, dialog.height())
+    form = QFormLayout(dialog)
+    form.setRowWrapPolicy(QFormLayout.RowWrapPolicy.WrapAllRows)
+    lines = [QLineEdit(text) for text in first]
+    for words, line in zip(asked, lines):
+        form.addRow(words, line)
+    boxes = [QCheckBox(words) for words in checks]
+    for box in boxes:
+        form.addRow(box)
+    kinds = QDialogButtonBox.StandardButton
+    buttons = QDialogButtonBox(kinds.Ok | kinds.Cancel)
+    buttons.accepted.connect(dialog.accept)
     buttons.rejected.connect(dialog.reject)
-    column.addWidget(buttons)
-    field.entered.connect(dialog.accept)
-    field.left.connect(dialog.reject)
-    field.setFocus()
+    form.addRow(buttons)
+    lines[0].selectAll()
     with _back_to(over, dialog):
-        dialog.exec()
+        is_given = dialog.exec()
+    if not is_given:
+        return None
+    return [line.text() for line in lines], [box.isChecked() for box in boxes]
 
 
-def file_to_read(over: QWidget, title: str, kinds: str) -> Path | None:
-    """Asks for a file that is there."""
+def report(over: QWidget, title: str, lines: Sequence[str]) -> None:
+    """Shows lines that can be read one by one, until it is closed."""
+    _Lines(over, title, lines, None).read()
+
+
+def line_of(over: QWidget, title: str, lines: Sequence[str], first: int) -> int | None:
+    """Shows lines that can be read one by one, and gives the place of the one that is gone to.
+
+    The caret stands on the first one to be read; none is gone to where it is closed.
+    """
+    return _Lines(over, title, lines, first).read()
+
+
+def font(over: QWidget, title: str, now: QFont) -> QFont | None:
+    """Asks for a font; none where it is given up."""
     with _back_to(over):
-        name, _ = QFileDialog.getOpenFileName(over, title, "", kinds)
+        found, is_given = QFontDialog.getFont(now, over, title)
+    return found if is_given else None
+
+
+def file_to_read(over: QWidget, title: str, beside: Path, kinds: str) -> Path | None:
+    """Asks for a file that is there, beside another one to begin with."""
+    folder = str(beside.absolute().parent)
+    with _back_to(over):
+        name, _ = QFileDialog.getOpenFileName(over, title, folder, kinds)
     return Path(name) if name else None
 
 
-def folder(over: QWidget, title: str) -> Path | None:
-    """Asks for a folder."""
-    with _back_to(over):
-        name = QFileDialog.getExistingDirectory(over, title)
-    return Path(name) if name else None
+def folder(over: QWidget, title: str, asked: str, first: str) -> str | None:
+    """Asks for the path of a folder, which may be typed or looked for."""
+    dialog = QDialog(over)
+    dialog.setWindowTitle(title)
+    dialog.resize(560, dialog.height())
+    line, label = QLineEdit(first), QLabel(asked)
+    label.setBuddy(line)
+    line.selectAll()
+
+    def look() -> None:
+        found = QFileDialog.getExistingDirectory(dialog, title, line.text())
+        dialog.activateWindow()
+        if found:
+            line.setText(found)
+
+    kinds = QDialogButtonBox.StandardButton
+    buttons = QDialogButtonBox(kinds.Ok | kinds.Cancel)
+    browse = QPushButton("&Look for a folder…")
+    browse.setAutoDefault(False)
+    browse.clicked.connect(look)
+    buttons.addButton(browse, QDialogButtonBox.ButtonRole.ActionRole)
+    buttons.accepted.connect(dialog.accept)
+    buttons.rejected.connect(dialog.reject)
+    column = QVBoxLayout(dialog)
+    for part in (label, line, buttons):
+        column.addWidget(part)
+    with _back_to(over, dialog):
+        return line.text() if dialog.exec() else None
 
 
-def file_to_write(over: QWidget, title: str, first: str) -> Path | None:
+def file_to_write(over: QWidget, title: str, first: Path) -> Path | None:
     """Asks for a file that is written; that an older one goes is asked there."""
     with _back_to(over):
-        name, _ = QFileDialog.getSaveFileName(over, title, first)
+        name, _ = QFileDialog.getSaveFileName(over, title, str(first))
     return Path(name) if name else None
+
+
+class _Lines(QDialog):
+    """Lines that are read, and perhaps one of them is gone to by Enter or a double click."""
+
+    def __init__(
+        self, over: QWidget, title: str, lines: Sequence[str], first: int | None
+    ) -> None:
+        super().__init__(over)
+        self._over = over
+        self.setWindowTitle(title)
+        self.resize(640, 400)
+        self._field = Field(title, True)
+        self._field.setPlainText("\n".join(lines))
+        column = QVBoxLayout(self)
+        column.addWidget(self._field)
+        buttons = QDialogButtonBox(QDialogButtonBox.StandardButton.Close)
+        buttons.rejected.connect(self.reject)
+        if first is not None:
+            role = QDialogButtonBox.ButtonRole.AcceptRole
+            buttons.addButton("&Go there", role)
+            buttons.accepted.connect(self.accept)
+            self._field.doubled.connect(self.accept)
+            self._field.put_caret(sum(len(line) + 1 for line in lines[:first]))
+        column.addWidget(buttons)
+        self._field.entered.connect(self.accept)
+        self._field.left.connect(self.reject)
+        self._field.setFocus()
+
+    def read(self) -> int | None:
+        """Shows them, and gives the line of the caret where that is gone to."""
+        with _back_to(self._over, self):
+            is_given = self.exec()
+        return self._field.textCursor().blockNumber() if is_given else None
 
 
 class _Progress(QDialog):
@@ -164,7 +263,7 @@ def long(
     over: QWidget,
     worker: Worker,
     title: str,
-    act: Callable[[Callable[[str], None], Callable[[], bool]], Result],
+    act: Callable[[Say, IsStopped], Result],
 ) -> Result:
     """What comes of something that takes long, with its progress shown, and a button that ends it.
 

@@ -8,9 +8,11 @@ from collections.abc import Callable, Sequence
 
 from PyQt6.QtCore import QEvent, QMimeData, Qt, pyqtSignal
 from PyQt6.QtGui import (
+    QFocusEvent,
     QFont,
     QKeyEvent,
     QKeySequence,
+    QMouseEvent,
     QPalette,
     QTextCharFormat,
     QTextCursor,
@@ -50,9 +52,12 @@ class Field(QPlainTextEdit):
     #: Enter was pressed; or Escape.
     entered = pyqtSignal()
     left = pyqtSignal()
+    #: A word was clicked on twice.
+    doubled = pyqtSignal()
 
     def __init__(self, name: str, is_read_only: bool) -> None:
         super().__init__()
+        self._described = ""
         self.setAccessibleName(name)
         self.setTabChangesFocus(True)
         self.setReadOnly(is_read_only)
@@ -60,6 +65,17 @@ class Field(QPlainTextEdit):
             keys = Qt.TextInteractionFlag.TextSelectableByKeyboard
             mouse = Qt.TextInteractionFlag.TextSelectableByMouse
             self.setTextInteractionFlags(keys | mouse)
+
+    def describe(self, said: str) -> None:
+        """Has a screen reader say what this is, each time it takes the focus."""
+        self._described = said
+        self.setAccessibleDescription(said)
+
+    def focusOutEvent(self, event: QFocusEvent | None) -> None:
+        """What was said once isn't said again when this takes the focus."""
+        if event is not None:
+            super().focusOutEvent(event)
+            self.setAccessibleDescription(self._described)
 
     @property
     def text(self) -> str:
@@ -136,6 +152,12 @@ class Field(QPlainTextEdit):
             self.left.emit()
         else:
             super().keyPressEvent(event)
+
+    def mouseDoubleClickEvent(self, event: QMouseEvent | None) -> None:
+        """Says that a word was clicked on twice."""
+        if event is not None:
+            super().mouseDoubleClickEvent(event)
+            self.doubled.emit()
 
 
 class Print(Field):

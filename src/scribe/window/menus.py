@@ -32,9 +32,11 @@ MENUS: Mapping[str, tuple[Item | None, ...]] = {
         Item("import_text", "&Import a text…", "Ctrl+I", "i"),
         Item("export", "E&xport the volumes…", "Ctrl+E", "x"),
         Item("proof", "Write a &proof…", "Ctrl+Shift+E"),
-        Item("page_size", "Page &size…", "", "w"),
+        Item("page_size", "Page &size…", "Ctrl+Shift+P", "w"),
+        Item("volumes", "&Volumes…", "Ctrl+Shift+L", "V"),
+        Item("part", "Par&t into volumes…", "Ctrl+Shift+V"),
         None,
-        Item("open_again", "Open the book &again"),
+        Item("open_again", "Open the book &again", "Ctrl+O"),
         Item("leave", "&Quit", "Ctrl+Q", "q"),
     ),
     "&Edit": (
@@ -50,6 +52,7 @@ MENUS: Mapping[str, tuple[Item | None, ...]] = {
         Item("find", "&Find…", "Ctrl+F", "/"),
         Item("find_next", "Find ne&xt", "F3", "*"),
         Item("change", "&Change words…", "Ctrl+H"),
+        Item("change_all", "Change &everywhere…", "Ctrl+Shift+H", "C"),
     ),
     "&Paragraph": (
         Item("new_after", "&New paragraph after", "Ctrl+Return", "o"),
@@ -63,12 +66,14 @@ MENUS: Mapping[str, tuple[Item | None, ...]] = {
         Item("move_down", "Move &down", "Alt+Down"),
         None,
         Item("history", "H&istory…", "Ctrl+Y", "h"),
-        Item("go_to", "&Go to a paragraph…", "Ctrl+G", "g"),
+        Item("go_to", "&Go to…", "Ctrl+G", "g"),
+        Item("headings", "All hea&dings…", "Ctrl+Shift+T", "H"),
     ),
     "&Marks": (
         Item("mark", "&Mark what is selected…", "Ctrl+M", "m"),
         Item("next_mark", "&Next open mark", "F4", "n"),
         Item("last_mark", "&Open mark before", "Shift+F4", "N"),
+        Item("all_marks", "&All marks…", "Ctrl+Shift+M", "M"),
         Item("resolve", "&Resolve the mark", "Ctrl+R", "r"),
     ),
     "&View": (
@@ -81,7 +86,7 @@ MENUS: Mapping[str, tuple[Item | None, ...]] = {
         Item("notation", "Braille &ASCII or Unicode", "F9", "a"),
         Item("larger", "&Larger", "Ctrl++"),
         Item("smaller", "&Smaller", "Ctrl+-"),
-        Item("fonts", "&Font of the braille…"),
+        Item("fonts", "&Font of the braille…", "Ctrl+Shift+F"),
     ),
     "&Help": (Item("keys", "&Keys", "F1", "?"),),
 }

@@ -3,8 +3,8 @@
 from collections.abc import Callable, Sequence
 from typing import Any
 
-from PyQt6.QtCore import QAbstractTableModel, QModelIndex, Qt
-from PyQt6.QtGui import QKeyEvent
+from PyQt6.QtCore import QAbstractTableModel, QModelIndex, Qt, QTimer
+from PyQt6.QtGui import QFocusEvent, QKeyEvent
 from PyQt6.QtWidgets import QAbstractItemView, QTableView
 
 from braildesk import Paragraph, Style
@@ -13,7 +13,7 @@ from braildesk.text.characters import visible
 from scribe.window.book import Opening
 
 _COLUMNS = ("Number", "Kind", "Open marks", "First words")
-#: The column on which the cursor stands, whose cell a screen reader reads.
+#: The column on which the cursor stands. A screen reader reads the row, cell by cell.
 WORDS = len(_COLUMNS) - 1
 # what is above and below the words of a row, in pixels
 _ROW_MARGIN = 8
@@ -48,8 +48,6 @@ class Paragraphs(QAbstractTableModel):
         if not index.isValid():
             return None
         its, column = self._book[index.row()], index.column()
-        if role == Qt.ItemDataRole.AccessibleTextRole and column == WORDS:
-            return self.described(index.row())
         if role != Qt.ItemDataRole.DisplayRole:
             return None
         if column < 2:
@@ -60,16 +58,6 @@ class Paragraphs(QAbstractTableModel):
             return ""
         return (_marks(found), visible(found.words))[column - 2]
 
-    def described(self, row: int) -> str:
-        """A paragraph in words, as a screen reader reads it."""
-        its = self._book[row]
-        found = self._openings.get(its.id)
-        if found is None:
-            self._read(row)
-            return f"{its.id} {kind(its)}"
-        parts = (f"{its.id} {kind(its)}", _marks(found))
-        return f"{', '.join(filter(None, parts))}: {visible(found.words)}"
-
     def show(self, book: tuple[Paragraph, ...], changed: int | None = None) -> None:
         """Shows a book, of which one paragraph may read otherwise than before."""
         before, self._asked = self._book, set()
@@ -79,7 +67,12 @@ class Paragraphs(QAbstractTableModel):
         if old == new:
             self._book = book
             pairs = enumerate(zip(before, book))
-            rows = [n for n, (was, its) in pairs if was != its or its.id == changed]
+            rows = [
+                n
+                for n, (was, its) in pairs
+                # most of them are the same, which is seen soonest so
+                if its.id == changed or was is not its and was != its
+            ]
             for row in rows:
                 self._tell(row, row)
         elif len(new) == len(old) + 1 and (place := _only_new(old, new)) is not None:
@@ -138,6 +131,16 @@ class Table(QTableView):
         header.setHighlightSections(False)
         numbers.hide()
         numbers.setDefaultSectionSize(self.fontMetrics().lineSpacing() + _ROW_MARGIN)
+
+    def focusInEvent(self, event: QFocusEvent | None) -> None:
+        """Tells a screen reader of the chosen row too, and not of the table alone."""
+        if event is not None:
+            super().focusInEvent(event)
+            QTimer.singleShot(0, self._tell_of_row)
+
+    def _tell_of_row(self) -> None:
+        if self.hasFocus():
+            self.currentChanged(self.currentIndex(), self.currentIndex())
 
     def keyPressEvent(self, event: QKeyEvent | None) -> None:
         """Has a letter do what its action does, and look for nothing."""

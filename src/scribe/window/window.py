@@ -109,6 +109,13 @@ class Window(QMainWindow):
             column.addWidget(part)
         return whole
 
+    def tell(self, sentence: str) -> None:
+        """Shows something in the message. A screen reader says it too where a text takes the focus."""
+        self.message.show_text(sentence)
+        focused = self.focusWidget()
+        if isinstance(focused, Field) and focused is not self.message:
+            focused.setAccessibleDescription(sentence)
+
     def choose(self, row: int) -> None:
         """Chooses a paragraph in the table."""
         index = self.model.index(row, WORDS)

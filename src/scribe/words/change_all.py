@@ -155,12 +155,17 @@ def proposal_lines(
 
 
 def would_change(wanted: Replacement, found: Iterable[Proposal]) -> str:
+    """How many places would be changed, where none is."""
+    return f"{how_many(wanted, found)} Nothing was changed."
+
+
+def how_many(wanted: Replacement, found: Iterable[Proposal]) -> str:
     """How many places would be changed."""
     numbers = [each.paragraph for each in found]
     places, paragraphs = counted(len(numbers), "place"), len({*numbers})
     return (
         f"{quoted(wanted.old)} would be changed in {places} of"
-        f" {counted(paragraphs, 'paragraph')}. Nothing was changed."
+        f" {counted(paragraphs, 'paragraph')}."
     )
 
 

@@ -45,9 +45,15 @@ def to_set(
     if not changed:
         yield "The volumes begin there already."
         return
+    for line in to_begin(changed):
+        yield f"{line.removesuffix('.')}; {how}."
+
+
+def to_begin(changed: Sequence[tuple[Paragraph, bool]]) -> Iterator[str]:
+    """Which paragraphs would begin a volume, and which none."""
     for begins, what in ((True, "would begin a volume"), (False, "would begin none")):
         if numbers := [each.id for each, on in changed if on is begins]:
-            yield f"{numbered(numbers)} {what}; {how}."
+            yield f"{numbered(numbers)} {what}."
 
 
 def was_set(changed: Sequence[tuple[Paragraph, bool]], version: int) -> Iterator[str]:

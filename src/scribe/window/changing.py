@@ -1,0 +1,132 @@
+"""Words that come in the place of others, at the caret or wherever they stand."""
+
+from collections.abc import Sequence
+from functools import partial
+
+from braildesk.desk.change_all import Proposal, Replacement, proposals
+from braildesk.desk.correction import replaced
+
+from scribe.window import dialogs
+from scribe.window.book import Chosen
+from scribe.window.desk import Desk
+from scribe.window.dialogs import IsStopped, Say
+from scribe.window.finding import Finding
+from scribe.words.change_all import how_many, nowhere, proposal_lines
+from scribe.words.paragraph import quoted
+from scribe.words.status import Stop
+
+_TITLE = "Change everywhere"
+_ASKED = ("&Words that go:", "What comes in their &place; nothing takes them out:")
+_CHECKS = ("Only wh&ole words", "Whatever the &capitals, which are kept")
+_NOTHING = "Nothing was changed."
+_OF_ALL = ("Change &all", "Ask at each &place", "&Cancel")
+_OF_A_PLACE = ("&Change", "&Leave", "Change all the &rest", "&Stop here")
+# so many columns a place has where it is shown
+_WIDTH = 72
+
+
+class Changing:
+    """What is put in place of words that are looked for."""
+
+    def __init__(self, desk: Desk, finding: Finding) -> None:
+        self.desk = desk
+        self._finding = finding
+
+    def change(self) -> None:
+        """Puts other words in place of those at the caret that were looked for."""
+        desk, finding = self.desk, self._finding
+        if not desk.settle():
+            return
+        sought = dialogs.text(
+            desk.window, "Change words", "Words that go:", finding.sought
+        )
+        if not sought:
+            return
+        finding.seek(sought)
+        if finding.found_here() is None:
+            finding.to_next(False)
+        place, reading = finding.found_here(), desk.reading
+        if place is None or reading is None:
+            return
+        text = reading.its.text
+        desk.window.print.select(place)
+        words = quoted(text[place.start : place.stop])
+        asked = f"What comes in place of {words} in paragraph {desk.number}:"
+        new = dialogs.text(desk.window, "Change words", asked)
+        if new is None:
+            desk.window.print.put_caret(place.start)
+            return
+        whole = replaced(text, place.start, place.stop, new)
+        done = desk.asked(partial(desk.book.corrected, reading, whole))
+        if done is None:
+            raise Stop(f"The new words are the same as the old. {_NOTHING}")
+        desk.show_done(done)
+
+    def change_all(self) -> None:
+        """Puts other words in place of some wherever they stand, at once or place by place."""
+        desk = self.desk
+        desk.settled()
+        first = (self._finding.sought, "")
+        answer = dialogs.fields(desk.window, _TITLE, _ASKED, first, _CHECKS)
+        if answer is None:
+            return
+        (old, new), (is_of_words, is_of_any_case) = answer
+        if not old:
+            raise Stop(f"No words were typed that go. {_NOTHING}")
+        self._finding.seek(old)
+        wanted = Replacement(old, new, is_of_words, is_of_any_case, by=desk.book.by)
+        found = self._found(wanted)
+        chosen = self._chosen(wanted, found)
+        if chosen is None:
+            desk.say(_NOTHING)
+            return
+        self._do(wanted, chosen, len(found))
+
+    def _found(self, wanted: Replacement) -> Sequence[Proposal]:
+        """The places where the words stand."""
+        desk = self.desk
+
+        def look(say: Say, is_stopped: IsStopped) -> Sequence[Proposal]:
+            session = desk.book.session
+            found = proposals(session, wanted)
+            if not found:
+                raise Stop(nowhere(session, wanted, ""))
+            return found
+
+        return dialogs.long(desk.window, desk.work, _TITLE, look)
+
+    def _chosen(self, wanted: Replacement, found: Sequence[Proposal]) -> Chosen | None:
+        """Which places are changed; none where that is given up."""
+        window, count = self.desk.window, len(found)
+        front = "\n".join(proposal_lines(found[0], 1, count, _WIDTH))
+        asked = f"{how_many(wanted, found)} The first one:\n\n{front}"
+        answer = dialogs.choice(window, _TITLE, asked, _OF_ALL)
+        if answer == 2:
+            return None
+        if answer == 0:
+            return Chosen((), True)
+        wanted_places: list[bool] = []
+        for nth, each in enumerate(found, 1):
+            lines = "\n".join(proposal_lines(each, nth, count, _WIDTH))
+            answer = dialogs.choice(window, _TITLE, lines, _OF_A_PLACE)
+            if answer >= 2:
+                return Chosen(tuple(wanted_places), answer == 2)
+            wanted_places.append(answer == 0)
+        return Chosen(tuple(wanted_places), False)
+
+    def _do(self, wanted: Replacement, chosen: Chosen, places: int) -> None:
+        """Changes the places, and reports what became of them."""
+        desk = self.desk
+
+        def act(say: Say, is_stopped: IsStopped) -> tuple[list[str], list[str]]:
+            def go_on(changed: int) -> bool:
+                say(f"{changed:,} of {places:,} places are changed.")
+                return not is_stopped()
+
+            return desk.book.changed_all(wanted, chosen, go_on, _WIDTH)
+
+        sentences, lines = dialogs.long(desk.window, desk.work, _TITLE, act)
+        desk.window.model.all_unread()
+        desk.show(desk.asked(desk.book.contents), None)
+        desk.say(" ".join(sentences))
+        dialogs.report(desk.window, _TITLE, [*sentences, *lines])

@@ -1,0 +1,184 @@
+"""Texts that come into the book at work, and the volumes and proofs that go out of it."""
+
+import signal
+from collections.abc import Callable
+from dataclasses import replace
+from io import BytesIO
+from pathlib import Path
+
+from braildesk import After, DeskError
+from braildesk.desk import USUAL_WAIT
+from braildesk.desk.earlier import Undecided, Way
+from braildesk.desk.export import Job
+from braildesk.desk.import_text import Import
+from braildesk.desk.proof import proof_pages
+from braildesk.desk.whole_file import Access, write_whole
+
+from scribe.window import dialogs
+from scribe.window.book import Contents
+from scribe.window.desk import Desk
+from scribe.window.dialogs import IsStopped, Say
+from scribe.words.console import Console, Heard
+from scribe.words.export import export_in_words
+from scribe.words.status import in_sentences
+from scribe.words.import_text import import_in_words, question
+from scribe.words.pages import described
+from scribe.words.proof_html import Proof
+from scribe.words.status import Interrupted, Stop
+from scribe.words.typed import typed_path
+
+_TEXTS = "Texts (*.txt);;All files (*)"
+_ASKED = "The &folder to which the volumes go, which is made if it isn't there:"
+_PAGES = "pages"
+
+
+class Files:
+    """What is imported, exported and proofed, by dialogs."""
+
+    def __init__(self, desk: Desk) -> None:
+        self.desk = desk
+        self._folder: Path | None = None
+
+    def import_text(self) -> None:
+        """Asks for a text, and types its paragraphs after the chosen one."""
+        desk = self.desk
+        path = dialogs.file_to_read(desk.window, "Import a text", desk.path, _TEXTS)
+        if path is not None:
+            self.imported(path)
+
+    def export(self) -> None:
+        """Asks for a folder, and writes the volumes there."""
+        desk = self.desk
+        if not desk.settle():
+            return
+        title = f"Export, pages of {described(desk.page_size)}"
+        first = str(self._folder or desk.path.absolute().parent / _PAGES)
+        typed = dialogs.folder(desk.window, title, _ASKED, first)
+        if typed is None:
+            return
+        if not typed.strip():
+            raise Stop("No folder was typed, so nothing was exported.")
+        folder = desk.path.absolute().parent / typed_path(typed)
+        self._folder = folder
+        job = Job(desk.path, folder, desk.page_size, USUAL_WAIT)
+        self._aside("Export", lambda console: export_in_words(job, console))
+
+    def proof(self) -> None:
+        """Asks for a file, and writes a proof there."""
+        desk = self.desk
+        if not desk.settle():
+            return
+        name = desk.path.name.removesuffix(".braildesk")
+        first = desk.path.absolute().with_name(f"{name}.html")
+        path = dialogs.file_to_write(desk.window, "Write a proof", first)
+        if path is None:
+            return
+        page_size = desk.page_size
+        proof = Proof(title=name, page_size=page_size)
+
+        file = path
+
+        def act(say: Say, is_stopped: IsStopped) -> int:
+            pages = []
+            for page in proof_pages(desk.book.session, page_size):
+                if is_stopped():
+                    raise Stop("The proof was stopped. Nothing was written.")
+                pages.append(page)
+                say(f"{len(pages):,} pages are laid out.")
+            if not pages:
+                raise Stop("The book has no page, so no proof was written.")
+            text = "".join(proof.html(pages)).encode()
+            with in_sentences():
+                write_whole(file, text, Access.of(desk.path))
+            return len(pages)
+
+        count = dialogs.long(desk.window, desk.work, "Proof", act)
+        desk.say(f"{path}: {count:,} {'page' if count == 1 else 'pages'}.")
+
+    def imported(self, path: Path, way: Way = Way.ASK) -> None:
+        """Types the paragraphs of a text after the chosen one."""
+        desk = self.desk
+        if not desk.settle():
+            return
+        after: After = desk.number if desk.number is not None else "end"
+        table = desk.table_of_new()
+        job = Import(
+            desk.path, path, table=table, after=after, way=way, wait=USUAL_WAIT
+        )
+        if way is Way.GO_ON:
+            job = replace(job, table=None, after="end")
+        try:
+            self._aside("Import", lambda console: import_in_words(job, console))
+        except Undecided as undecided:
+            self.decide(path, undecided)
+
+    def decide(self, path: Path, undecided: Undecided) -> None:
+        """Asks what is done about an earlier import of a text."""
+        desk, note = self.desk, undecided.note
+        answers = (
+            ["&Yes", "&No"]
+            if note is None
+            else ["&Yes", "Leave the &rest out", "&Later"]
+        )
+        answer = dialogs.choice(desk.window, "Import", question(undecided), answers)
+        if answer == 0:
+            self.imported(path, undecided.way)
+        elif note is not None and answer == 1:
+            desk.drafts.end_import(note)
+            desk.say(
+                f"The rest of {note.name} is left out. What is in the book stays there."
+            )
+
+    def _aside(self, title: str, act: Callable[[Console], object]) -> None:
+        """Does something with the session closed, and shows what was said of it."""
+        desk = self.desk
+        before = desk.contents
+        problems: list[Undecided] = []
+        desk.unwatch()
+
+        def whole(say: Say, is_stopped: IsStopped) -> tuple[Contents, tuple[str, ...]]:
+            def check() -> None:
+                if is_stopped():
+                    raise Interrupted(signal.SIGINT)
+
+            shown_lines, said = Heard(say), Heard(say)
+            console = Console(BytesIO(), shown_lines, said, check)
+            desk.book.close()
+            _told(act, console, problems)
+            lines = (
+                *shown_lines.getvalue().splitlines(),
+                *said.getvalue().splitlines(),
+            )
+            return desk.book.imported(before), lines
+
+        try:
+            contents, lines = dialogs.long(desk.window, desk.work, title, whole)
+        except DeskError:
+            desk.is_closed = True
+            raise
+        desk.watch()
+        desk.window.model.all_unread()
+        desk.show(contents, None)
+        if problems:
+            raise problems[0]
+        desk.say(lines[-1] if lines else f"{title}: done.")
+        dialogs.report(desk.window, title, lines)
+
+
+def _told(
+    act: Callable[[Console], object], console: Console, problems: list[Undecided]
+) -> None:
+    """Does something, and has what came of it said; what a person has to decide is put aside."""
+    try:
+        with in_sentences():
+            try:
+                act(console)
+            except Undecided as undecided:
+                problems.append(undecided)
+    except Stop as stop:
+        console.say(*stop.lines)
+    except DeskError as failed:
+        console.say(failed.sentence)
+    except Interrupted:
+        # it was said what became of it
+        pass

@@ -1,0 +1,113 @@
+"""Words and cells that are looked for."""
+
+from braildesk.desk import search
+from braildesk.desk.find import alike
+from braildesk.text.cells import NotCells
+from braildesk.text.characters import code_and_name
+from braildesk.text.sequences import composed
+from braildesk.text.spans import Span, find_spans
+
+from scribe.window import dialogs
+from scribe.window.desk import NO_PARAGRAPH, Desk
+from scribe.words.paragraph import quoted
+from scribe.words.status import Stop
+
+
+class Finding:
+    """What is looked for in the book at work."""
+
+    def __init__(self, desk: Desk) -> None:
+        self.desk = desk
+        #: What was looked for last.
+        self.sought = ""
+        self._finds_alike = False
+
+    def find(self) -> None:
+        """Asks for words, or for cells where the focus is on cells, and goes to the next."""
+        desk = self.desk
+        is_cells = desk.window.cells.hasFocus()
+        if not desk.settle():
+            return
+        selected = desk.window.print.textCursor().selectedText()
+        first = self.sought if is_cells else selected or self.sought
+        asked = "Cells, in Braille ASCII or Unicode:" if is_cells else "Words:"
+        sought = dialogs.text(desk.window, "Find", asked, first)
+        if sought:
+            self.look_for(sought, is_cells)
+
+    def look_for(self, sought: str, is_cells: bool) -> None:
+        """Goes to the next place of words or cells."""
+        self.seek(sought)
+        self.to_next(is_cells)
+
+    def seek(self, sought: str) -> None:
+        """Has words or cells be what is looked for from now on."""
+        self.sought, self._finds_alike = sought, False
+
+    def find_next(self) -> None:
+        """Goes to the next place of what was looked for."""
+        is_cells = self.desk.window.cells.hasFocus()
+        if not self.sought:
+            self.find()
+        elif self.desk.settle():
+            self.to_next(is_cells)
+
+    def to_next(self, is_cells: bool) -> None:
+        """Goes to the next place of what is looked for."""
+        desk, sought, is_alike = self.desk, self.sought, self._finds_alike
+        here = search.Spot(max(0, desk.row), self._place(is_cells))
+        contents = desk.contents
+        if not contents.paragraphs:
+            raise Stop(NO_PARAGRAPH)
+        if is_cells:
+            try:
+                found = desk.asked(lambda: desk.book.next_cells(contents, here, sought))
+            except NotCells as fault:
+                what = code_and_name(str(fault))
+                raise Stop(f"{what} is no cell in Braille ASCII or Unicode.") from fault
+        else:
+            found = desk.asked(
+                lambda: desk.book.next_words(contents, here, sought, is_alike)
+            )
+        if found is None and not is_cells and not is_alike:
+            found = desk.asked(
+                lambda: desk.book.next_words(contents, here, sought, True)
+            )
+            self._finds_alike = found is not None
+        if found is None:
+            raise Stop(f"{quoted(sought)} stands nowhere in the book.")
+        self._at_found(found, is_cells)
+
+    def _place(self, is_cells: bool) -> int:
+        window = self.desk.window
+        return window.cells.place if is_cells else window.print.place
+
+    def _at_found(self, found: search.Found, is_cells: bool) -> None:
+        desk, spot = self.desk, found.spot
+        if not is_cells:
+            # a screen reader that hears of the caret first says nothing of the print
+            desk.window.print.setFocus()
+        desk.choose(spot.chosen)
+        if is_cells:
+            desk.window.cells.put_caret(spot.place)
+        else:
+            desk.window.print.put_caret(spot.place)
+            if (words := self.found_here()) is not None:
+                desk.window.print.select(words)
+        said = f"Paragraph {desk.number}, {'cell' if is_cells else 'character'} {spot.place + 1}."
+        if found.is_same:
+            said = f"{quoted(self.sought)} stands nowhere else in the book."
+        elif found.is_around:
+            said = f"{said} This is the first in the book: there is none further on."
+        elif self._finds_alike and not is_cells:
+            said = f"{said} It stands there otherwise than as it was typed."
+        desk.say(said)
+
+    def found_here(self) -> Span | None:
+        """The words that were looked for, where the caret stands on them."""
+        reading, place = self.desk.reading, self.desk.window.print.place
+        if reading is None:
+            return None
+        form = alike if self._finds_alike else composed
+        spans = find_spans(reading.its.text, self.sought, form)
+        return next((each for each in spans if each.start == place), None)

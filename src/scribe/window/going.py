@@ -1,0 +1,125 @@
+"""Ways to a place of the book at work: by what is typed, by its headings, and by its marks."""
+
+from functools import partial
+
+from PyQt6.QtWidgets import QWidget
+
+from braildesk import Style
+from braildesk.desk.marks import MarkOfBook, all_marks
+from braildesk.desk.page_places import PageMap
+from braildesk.desk.readings import prints
+from braildesk.text.characters import visible
+from braildesk.text.excerpt import opening
+
+from scribe.window import dialogs
+from scribe.window.desk import Desk
+from scribe.window.dialogs import IsStopped, Say
+from scribe.window.finding import Finding
+from scribe.words import pagelook
+from scribe.words.pages import page_place
+from scribe.words.paragraph import counted, mark_line, marks_summary
+from scribe.words.status import Stop
+
+_ASKED = "A paragraph's number, or page 6 line 9, or words to find:"
+# a heading is named by so many columns of its words
+_WORDS = 60
+
+
+class Going:
+    """The ways to a place of the book."""
+
+    def __init__(self, desk: Desk, finding: Finding) -> None:
+        self.desk = desk
+        self._finding = finding
+
+    def go_to(self) -> None:
+        """Asks for a paragraph, a line of a page, or words, and goes there."""
+        desk = self.desk
+        if not desk.settle():
+            return
+        typed = dialogs.text(desk.window, "Go to", _ASKED)
+        word = (typed or "").strip()
+        wanted = pagelook.wanted_line(word)
+        if not typed or not word:
+            return
+        if word.isascii() and word.isdigit():
+            self._to(int(word), 0, desk.window.table)
+        elif wanted is not None:
+            self._to_line(wanted)
+        else:
+            self._finding.look_for(typed, False)
+
+    def _to(self, number: int, place: int, part: QWidget) -> None:
+        """Goes to a character of a paragraph, in a part of the window."""
+        row = self.desk.contents.place(number)
+        if row is None:
+            raise Stop(f"There is no paragraph {number} in the book.")
+        # a screen reader that hears of the caret first says nothing of the part
+        part.setFocus()
+        self.desk.choose(row, place)
+
+    def _to_line(self, wanted: pagelook.WantedLine) -> None:
+        """Goes to the first word of a line of a page."""
+        desk = self.desk
+        desk.settled()
+        look = partial(
+            desk.book.line, desk.contents, desk.page_size, wanted, desk.chosen
+        )
+        found, place = dialogs.long(desk.window, desk.work, "Go to a page", look)
+        self._to(found, place, desk.window.print)
+
+    def headings(self) -> None:
+        """Lists the headings, each with its page, and goes to one."""
+        desk = self.desk
+        desk.settled()
+        book = desk.contents.paragraphs
+        found = [each for each in book if each.style is Style.HEADING]
+        if not found:
+            raise Stop("The book has no headings. Ctrl+T makes one of a paragraph.")
+
+        def look(say: Say, is_stopped: IsStopped) -> list[str]:
+            session = desk.book.session
+            pages = PageMap(session, desk.page_size)
+            return [
+                f"{opening(visible(text), _WORDS)}, {page_place(pages.of_cell(its.id, 0))},"
+                f" paragraph {its.id}"
+                for its, text in zip(found, prints(session, found))
+            ]
+
+        lines = dialogs.long(desk.window, desk.work, "Headings", look)
+        title = f"Headings: {counted(len(found), 'heading')}"
+        before = [n for n, e in enumerate(found) if book.index(e) <= desk.row]
+        first = before[-1] if before else 0
+        line = dialogs.line_of(desk.window, title, lines, first)
+        if line is not None:
+            self._to(found[line].id, 0, desk.window.table)
+
+    def all_marks(self) -> None:
+        """Lists the marks, the open ones first, each with its page, and goes to one."""
+        desk = self.desk
+        desk.settled()
+
+        def look(say: Say, is_stopped: IsStopped) -> tuple[list[MarkOfBook], list[str]]:
+            session = desk.book.session
+            marks, pages = all_marks(session), PageMap(session, desk.page_size)
+            return marks, [_line(each, pages) for each in marks]
+
+        marks, lines = dialogs.long(desk.window, desk.work, "Marks", look)
+        if not marks:
+            raise Stop(marks_summary(marks))
+        held = [n for n, each in enumerate(marks) if each.mark.id == desk.in_hand]
+        line = dialogs.line_of(desk.window, "All marks", lines, held[0] if held else 0)
+        if line is None:
+            return
+        its = marks[line]
+        last = max(0, len(its.text) - 1)
+        place = max(0, min(its.mark.start, last))
+        self._to(its.paragraph, place, desk.window.print)
+        desk.in_hand = its.mark.id
+        desk.link()
+        desk.say(mark_line(its.mark, its.text))
+
+
+def _line(its: MarkOfBook, pages: PageMap) -> str:
+    place = pages.of_character(its.paragraph, its.mark.start, its.text)
+    return mark_line(its.mark, its.text, its.paragraph, page_place(place))

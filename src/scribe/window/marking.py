@@ -1,0 +1,121 @@
+"""The marks of the book at work."""
+
+from functools import partial
+
+from braildesk import requests
+from braildesk.desk import search
+from braildesk.desk.draft import Aim, Draft
+from braildesk.text.spans import Span
+
+from scribe.window import dialogs
+from scribe.window.desk import STRUCK, Desk
+from scribe.words.paragraph import mark_line, quoted
+from scribe.words.status import Stop
+
+
+class Marking:
+    """Marks are put, gone to and resolved."""
+
+    def __init__(self, desk: Desk) -> None:
+        self.desk = desk
+
+    def mark(self) -> None:
+        """Puts a mark on what is selected, or on what the caret stands on, with a note."""
+        desk, window = self.desk, self.desk.window
+        on_cells = window.cells.hasFocus()
+        cells, words = window.cells.selected, window.print.selected
+        number = self.desk.settled()
+        if self.desk.chosen.struck:
+            raise Stop(f"Paragraph {number} {STRUCK}")
+        if not on_cells and words.stop > words.start:
+            cells = desk.asked(lambda: desk.book.cells_of(number, words))
+        elif not on_cells or cells.stop <= cells.start:
+            cells = self._cells_here()
+        if cells.stop <= cells.start:
+            raise Stop("Nothing stands here that a mark could be put on.")
+        self.noted(cells, "")
+
+    def _cells_here(self) -> Span:
+        desk, reading = self.desk, self.desk.reading
+        assert reading is not None
+        place = desk.window.print.place
+        return desk.asked(partial(desk.book.by_character, reading, place)).cells
+
+    def noted(self, cells: Span, note: str) -> None:
+        """Asks for the note of a mark on cells, which waits while it is typed."""
+        desk, reading = self.desk, self.desk.reading
+        assert reading is not None
+        its, version = reading.its, desk.contents.version
+        number, table = its.paragraph.id, its.paragraph.table
+
+        def typed(text: str) -> None:
+            draft = Draft(Aim.NOTE, number, table, its.text, text, cells, version)
+            desk.keep_draft(draft if text else None)
+
+        words = desk.asked(partial(desk.book.words_of, reading, cells))
+        asked = f"The note of a mark on {quoted(words)}, {cells.counted('cell')}:"
+        found = dialogs.text(
+            desk.window, f"Mark in paragraph {number}", asked, note, typed
+        )
+        if found is None:
+            desk.keep_draft(None)
+            return
+        desk.wait_for_draft()
+        count = cells.stop - cells.start
+        desk.do(requests.Mark(number, cells.start, count, found))
+        desk.keep_draft(None)
+        put = desk.reading.its.marks if desk.reading else ()
+        desk.in_hand = put[-1].id if put else None
+        desk.link()
+
+    def next_mark(self) -> None:
+        """Goes to the next open mark."""
+        self._to_mark(False)
+
+    def last_mark(self) -> None:
+        """Goes to the open mark before."""
+        self._to_mark(True)
+
+    def _to_mark(self, is_back: bool) -> None:
+        desk = self.desk
+        if not desk.settle():
+            return
+        here = search.Spot(max(0, desk.row), desk.place, desk.in_hand or 0)
+        contents = desk.contents
+        found = None
+        if contents.paragraphs:
+            found = desk.asked(lambda: desk.book.next_mark(contents, here, is_back))
+        if found is None:
+            raise Stop("The book has no open marks.")
+        # a screen reader that hears of the caret first says nothing of the print
+        desk.window.print.setFocus()
+        desk.choose(found.spot.chosen)
+        desk.in_hand = found.spot.mark
+        desk.window.print.put_caret(found.spot.place)
+        desk.link()
+        said = ""
+        if found.is_same:
+            said = "The book has no other open mark. "
+        elif found.is_around:
+            said = (
+                "This is the last in the book. "
+                if is_back
+                else "This is the first in the book. "
+            )
+        its = desk.reading.its if desk.reading else None
+        marks = its.marks if its else ()
+        lines = [mark_line(m, its.text) for m in marks if its and m.id == desk.in_hand]
+        desk.say(said + " ".join(lines))
+
+    def resolve(self) -> None:
+        """Resolves the mark in hand, or the first open one at the caret."""
+        desk = self.desk
+        self.desk.settled()
+        marks = [mark for mark in desk.marks_here() if not mark.resolved]
+        reading = desk.reading
+        if not marks or reading is None:
+            raise Stop("There is no open mark here. F4 goes to the next one.")
+        mark = marks[0].id
+        desk.show_done(desk.asked(partial(desk.book.resolved, reading, mark)))
+        desk.in_hand = None
+        desk.link()

@@ -1,0 +1,81 @@
+"""What waits from before a book was opened: a text that was typed, and imports that were cut short."""
+
+from pathlib import Path
+
+from braildesk.desk.draft import Draft
+from braildesk.desk.drafts import NotKept
+from braildesk.desk.earlier import PartIsThere, to_go_on
+from braildesk.desk.unfinished import NotSeen, Unfinished
+
+from scribe.window import dialogs
+from scribe.window.desk import Desk
+from scribe.window.files import Files
+from scribe.window.typed import Typed
+from scribe.words.drafts import not_kept, what_for
+from scribe.words.import_text import came_to, not_seen
+from scribe.words.paragraph import quoted
+
+
+class Offers:
+    """Asks about what waits, at the opening."""
+
+    def __init__(self, desk: Desk, typed: Typed, files: Files) -> None:
+        self.desk = desk
+        self._typed = typed
+        self._files = files
+
+    def offer(self) -> None:
+        """Asks about a text that waits from before, and about imports that were cut short."""
+        desk = self.desk
+        try:
+            desk.aside.result(desk.drafts.take_in)
+            desk.aside.result(desk.unsent.read)
+        except NotKept as fault:
+            desk.say(not_kept(fault))
+        waiting = desk.unsent.waiting
+        if waiting is not None:
+            self._offer_text(waiting)
+        contents = desk.contents
+        found = desk.asked(
+            lambda: to_go_on(desk.drafts, desk.book.session, contents.paragraphs)
+        )
+        for each in found:
+            match each:
+                case Unfinished():
+                    desk.say(came_to(each))
+                    self._files.decide(Path(each.note.text), PartIsThere(each))
+                case NotSeen():
+                    desk.say(not_seen(each))
+                case NotKept():
+                    desk.say(not_kept(each))
+
+    def _offer_text(self, waiting: Draft) -> None:
+        desk = self.desk
+        contents = desk.contents
+        where = desk.asked(lambda: desk.book.where_kept(contents, waiting))
+        if where:
+            rest = waiting.after_first_line(desk.number or 0)
+            if rest is None:
+                desk.keep_draft(None)
+                desk.say(
+                    f"What was typed last is in the book, {where}: {quoted(waiting.text)}."
+                )
+                return
+            waiting = rest
+        asked = (
+            f"{what_for(waiting)} was typed and isn't in the book: {quoted(waiting.joined)}."
+            " Shall it be typed further?"
+        )
+        answers = ("&Type it further", "&Give it up", "&Later")
+        answer = dialogs.choice(desk.window, "Unsent text", asked, answers)
+        if answer == 0:
+            self._typed.type_further(waiting)
+        elif answer == 1:
+            desk.aside.result(lambda: desk.unsent.put_by(waiting), False)
+            desk.keep_draft(None)
+            desk.say("Given up. The book is as it was. Ctrl+B brings it back.")
+        else:
+            desk.unsent.put_off()
+            desk.say(
+                "The text waits for the next opening. Ctrl+B asks about it before."
+            )

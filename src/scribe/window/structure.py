@@ -1,0 +1,109 @@
+"""The paragraphs of the book at work: what they are, where they stand, and by which table."""
+
+from functools import partial
+
+from braildesk import After, Style, requests
+from braildesk.desk.draft import Aim
+from braildesk.desk.tables import SUPPLIED, table_names
+
+from scribe.window import dialogs
+from scribe.window.desk import STRUCK, Desk, New
+from scribe.words.replies import shown
+from scribe.words.status import Stop
+
+_FROM_A_FILE = "From a file…"
+_TABLES = "Tables (*.utb);;All files (*)"
+
+
+class Structure:
+    """What is done with whole paragraphs."""
+
+    def __init__(self, desk: Desk) -> None:
+        self.desk = desk
+
+    def new_after(self) -> None:
+        """Begins a paragraph after the chosen one."""
+        self._begin(Aim.AFTER)
+
+    def new_before(self) -> None:
+        """Begins a paragraph before the chosen one."""
+        self._begin(Aim.BEFORE)
+
+    def _begin(self, aim: Aim) -> None:
+        desk = self.desk
+        if desk.settle():
+            desk.begin_new(New(aim, desk.number, desk.table_of_new()))
+
+    def strike(self) -> None:
+        """Strikes the chosen paragraph, or restores it."""
+        number = self.desk.settled()
+        is_struck = self.desk.chosen.struck
+        self.desk.do(requests.Restore(number) if is_struck else requests.Strike(number))
+
+    def heading(self) -> None:
+        """Makes the chosen paragraph a heading, or body text."""
+        number = self.desk.settled()
+        is_heading = self.desk.chosen.style is Style.HEADING
+        style = Style.BODY if is_heading else Style.HEADING
+        self.desk.do(requests.Style(number, style))
+
+    def volume(self) -> None:
+        """Has the chosen paragraph begin a volume, or not."""
+        number = self.desk.settled()
+        begins = not self.desk.chosen.begins_volume
+        self.desk.do(requests.Volume(number, begins))
+
+    def table(self) -> None:
+        """Asks for a table, and gives it to the chosen paragraph."""
+        desk = self.desk
+        if not desk.settle():
+            return
+        its = desk.reading.its.paragraph if desk.reading else None
+        if its is not None and its.struck:
+            raise Stop(f"Paragraph {its.id} {STRUCK}")
+        there = list(desk.contents.tables)
+        others = [n for n in (SUPPLIED, *table_names()) if n not in there]
+        names = [*there, *others, _FROM_A_FILE]
+        first = names.index(its.table) if its else 0
+        where = f"paragraph {its.id}" if its else "new paragraphs"
+        name = dialogs.one_of(
+            desk.window, "Table", f"The table of {where}:", names, first
+        )
+        path = None
+        if name == _FROM_A_FILE:
+            path = dialogs.file_to_read(
+                desk.window, "A table from a file", desk.path, _TABLES
+            )
+            name = path.stem if path is not None else None
+        if name is not None and (its is None or name != its.table or path is not None):
+            number = its.id if its else None
+            book = desk.book
+            desk.show_done(desk.asked(partial(book.with_table, number, name, path)))
+
+    def move_up(self) -> None:
+        """Moves the chosen paragraph before the one before it."""
+        self._move(-1)
+
+    def move_down(self) -> None:
+        """Moves the chosen paragraph after the one after it."""
+        self._move(1)
+
+    def _move(self, by: int) -> None:
+        number = self.desk.settled()
+        book, row = self.desk.contents.paragraphs, self.desk.row
+        if by > 0:
+            if row + 1 >= len(book):
+                raise Stop(f"Paragraph {number} is the last of the book.")
+            self.desk.do(requests.Move(number, book[row + 1].id))
+            return
+        if row == 0:
+            raise Stop(f"Paragraph {number} is the first of the book.")
+        after: After = book[row - 2].id if row > 1 else "front"
+        self.desk.do(requests.Move(number, after))
+
+    def history(self) -> None:
+        """Shows the corrections of the chosen paragraph."""
+        desk, number = self.desk, self.desk.settled()
+        asked = requests.History(number)
+        lines = desk.asked(lambda: shown(desk.book.session, asked))
+        dialogs.report(desk.window, f"History of paragraph {number}", lines)

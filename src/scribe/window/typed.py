@@ -1,0 +1,281 @@
+"""What is typed: it is kept, given up, brought back and taken back, also where it has many lines."""
+
+import signal
+from collections.abc import Callable, Sequence
+from dataclasses import replace
+from typing import Any
+
+from braildesk import After, Refused, requests
+from braildesk.desk.draft import Aim, Draft
+from braildesk.protocol.requests import Command
+from braildesk.text import limits
+from braildesk.text.sequences import composed, parted
+from braildesk.text.spans import Span
+
+from scribe.window import dialogs
+from scribe.window.book import Done, NotAll, NothingToTakeBack, Reading
+from scribe.window.desk import Desk, New
+from scribe.window.dialogs import IsStopped, Say
+from scribe.words.drafts import what_for
+from scribe.words.paragraph import quoted
+from scribe.words.status import Interrupted, Stop
+
+
+class Typed:
+    """What becomes of what is typed."""
+
+    def __init__(self, desk: Desk, noted: Callable[[Span, str], None]) -> None:
+        self.desk = desk
+        self._noted = noted
+
+    def take_back(self) -> None:
+        """Takes back what was typed last, or else what was done last."""
+        desk = self.desk
+        document = desk.window.print.document()
+        assert document is not None
+        if (desk.is_typed() or desk.new) and document.isUndoAvailable():
+            desk.window.print.undo()
+            return
+        if not desk.settle() or not self._is_taken_back():
+            return
+
+        def act(say: Say, is_stopped: IsStopped) -> Done:
+            def report(done: int, count: int) -> None:
+                say(f"{done:,} of {count:,} done.")
+                if is_stopped():
+                    raise Interrupted(signal.SIGINT)
+
+            return desk.book.taken_back(report)
+
+        try:
+            desk.show_done(dialogs.long(desk.window, desk.work, "Take back", act))
+            desk.window.model.all_unread()
+        except NothingToTakeBack:
+            desk.refuse(
+                "Nothing that was done in this window is left to take back. Ctrl+Shift+Z takes"
+                " back the newest correction of the paragraph."
+            )
+
+    def _is_taken_back(self) -> bool:
+        """Whether what was done last is taken back: of much it is asked first."""
+        desk, deed = self.desk, self.desk.book.last_deed
+        if deed is None or len(deed.back) < 2:
+            return True
+        asked = f"The last action did this: {deed.what}. Shall all of it be taken back?"
+        answer = dialogs.choice(desk.window, "Take back", asked, ("&Yes", "&No"))
+        if answer:
+            desk.say("Nothing was taken back.")
+        return answer == 0
+
+    def keep(self) -> None:
+        """Keeps what is typed; after a new paragraph another one is begun."""
+        if self._is_parted():
+            return
+        desk, new = self.desk, self.desk.new
+        if new is None and not desk.is_typed():
+            desk.say("The print reads as before, so there is nothing to keep.")
+            return
+        is_empty = not desk.typed_text()
+        if desk.settle() and new is not None and not is_empty:
+            desk.begin_new(New(Aim.AFTER, desk.number, desk.table_of_new()))
+
+    def _is_parted(self) -> bool:
+        """Whether what is typed is too long for a paragraph, and was typed as several."""
+        desk, text, most = self.desk, self.desk.typed_text(), limits.PRINT_CHARACTERS
+        if not desk.is_typed() or len(composed(text)) <= most:
+            return False
+        lines, rest = [], text
+        while rest:
+            first, rest = parted(rest, most)
+            lines.append(first)
+        asked = (
+            f"A paragraph has at most {most:,} characters, and this one has {len(text):,}."
+            f" Shall it go on in a new paragraph from {quoted(lines[1])} on?"
+        )
+        answers = ("&Yes", "&No")
+        if dialogs.choice(desk.window, "A long paragraph", asked, answers):
+            desk.say("It stays as it is typed. Enter asks again.")
+        else:
+            self.typed_lines(lines)
+            desk.window.print.put_caret(len(desk.window.print.text))
+        desk.window.print.setFocus()
+        return True
+
+    def undo_here(self) -> None:
+        """Takes back the newest correction of the chosen paragraph, whoever made it."""
+        number = self.desk.settled()
+        self.desk.do(requests.Undo(number))
+
+    def give_up(self) -> None:
+        """Gives up what is typed, which can be brought back."""
+        desk = self.desk
+        draft, focused = desk.draft(), desk.window.focusWidget()
+        if draft is None and desk.new is not None:
+            desk.leave_new()
+            desk.say("No paragraph was typed.")
+            return
+        if draft is None:
+            desk.show_reading(desk.window.print.place)
+            if focused is not desk.window.print:
+                desk.go_back()
+            return
+        fault = ""
+        if draft is not None:
+            kept = draft
+            fault = desk.aside.result(lambda: desk.unsent.put_by(kept), False)
+        desk.keep_draft(None)
+        desk.new = None
+        desk.show_reading(0)
+        desk.say(
+            f"Given up. The book is as it was. {fault or 'Ctrl+B brings it back.'}"
+        )
+
+    def bring_back(self) -> None:
+        """Asks which text that was given up is typed further."""
+        desk = self.desk
+        if not desk.settle():
+            return
+        texts = desk.aside.result(desk.unsent.texts, False)
+        if not texts:
+            raise Stop("No text was given up in this book.")
+        names = [
+            f"{n}. {what_for(t)}: {quoted(t.joined)}" for n, t in enumerate(texts, 1)
+        ]
+        asked = "Which text shall be typed further?"
+        name = dialogs.one_of(desk.window, "Bring back a text", asked, names, 0)
+        if name is not None:
+            draft = texts[names.index(name)]
+            desk.aside.result(lambda: desk.unsent.take_up(draft, draft.text), False)
+            self.type_further(draft)
+
+    def type_further(self, draft: Draft) -> None:
+        """Has a text be typed further that waits or was given up."""
+        desk = self.desk
+        row = desk.contents.place(draft.paragraph)
+        if row is not None:
+            desk.choose(row)
+        if draft.aim is Aim.NOTE and row is not None:
+            self._noted(draft.cells or Span(0, 1), draft.text)
+            return
+        lines = draft.text.split("\n")
+        is_edit = draft.aim is Aim.EDIT and row is not None
+        its = desk.reading.its.paragraph if desk.reading else None
+        if is_edit and its is not None and not its.struck:
+            desk.window.print.setFocus()
+            desk.window.print.selectAll()
+            desk.window.print.textCursor().insertText(lines[0])
+        else:
+            aim = draft.aim if draft.aim.is_new else Aim.AFTER
+            table = draft.table if draft.table in desk.contents.tables else None
+            new = New(aim, desk.number, table or desk.table_of_new())
+            desk.begin_new(new, lines[0])
+        if len(lines) > 1:
+            self.typed_lines(lines)
+
+    def pasted(self, lines: Sequence[str]) -> None:
+        """Asks what lines are that were pasted where the caret is."""
+        desk, field = self.desk, self.desk.window.print
+        if field.isReadOnly():
+            return
+        table = desk.table_of_typed() or ""
+        tables = desk.book.tables
+        fault = desk.ahead.result(lambda: tables.first_fault(table, lines))
+        asked = f"{len(lines):,} lines were pasted. Are they paragraphs?"
+        answers = ("&Paragraphs", "&One paragraph", "&Neither")
+        said = f"{fault} {asked}".strip()
+        answer = dialogs.choice(desk.window, "Pasted lines", said, answers)
+        if answer == 1:
+            field.textCursor().insertText(" ".join(lines))
+        elif answer == 0:
+            field.textCursor().insertText(lines[0])
+            self.typed_lines([desk.typed_text(), *lines[1:]])
+
+    def typed_lines(self, lines: Sequence[str]) -> None:
+        """Types paragraphs: the first is what is typed, the others come after it."""
+        desk = self.desk
+        draft, reading, new = desk.draft(), desk.reading, desk.new
+        table = desk.table_of_typed() or desk.table_of_new()
+        if draft is not None:
+            desk.keep_draft(replace(draft, text="\n".join(lines)))
+            desk.wait_for_draft()
+        number = desk.number
+        commands: list[Callable[[int | None], Command[Any]]] = []
+        rest = list(lines)
+        if new is not None:
+            after = desk.after(new)
+            commands.append(
+                lambda newest: requests.Type(after, table, composed(lines[0]))
+            )
+            rest = rest[1:]
+        else:
+            rest = rest[1:]
+            if reading is not None:
+                self._corrected_first(reading, lines, table)
+        for line in rest:
+            commands.append(_typed_after(number, table, line))
+        self._typed_all(commands, lines, table)
+
+    def _corrected_first(
+        self, reading: Reading, lines: Sequence[str], table: str
+    ) -> None:
+        """Makes the chosen paragraph the first of some lines; of a refusal no line is lost."""
+        desk = self.desk
+        try:
+            done = desk.asked(lambda: desk.book.corrected(reading, lines[0]))
+        except Refused:
+            self._put_by(lines[1:], table)
+            raise
+        if done is not None:
+            desk.show_done(done)
+
+    def _put_by(self, lines: Sequence[str], table: str) -> None:
+        """Keeps lines that weren't typed, so that they can be brought back."""
+        desk, text = self.desk, "\n".join(lines)
+        version = desk.contents.version
+        draft = Draft(Aim.AFTER, desk.number, table, "", text, None, version)
+        desk.aside.result(lambda: desk.unsent.put_by(draft), False)
+
+    def _typed_all(
+        self,
+        commands: Sequence[Callable[[int | None], Command[Any]]],
+        lines: Sequence[str],
+        table: str,
+    ) -> None:
+        desk = self.desk
+
+        def act(say: Say, is_stopped: IsStopped) -> Done:
+            def report(done: int) -> None:
+                say(f"{done:,} of {len(commands):,} paragraphs are typed.")
+                if is_stopped():
+                    raise Interrupted(signal.SIGINT)
+
+            return desk.book.typed_all(commands, report)
+
+        try:
+            done = dialogs.long(desk.window, desk.work, "Paragraphs", act)
+        except NotAll as part:
+            left = lines[len(lines) - len(commands) + part.done :]
+            desk.new = None
+            desk.show(desk.asked(desk.book.contents), None)
+            self._put_by(left, table)
+            desk.keep_draft(None)
+            why = getattr(part.cause, "sentence", "Stopped.")
+            raise Stop(
+                f"{part.done:,} typed. {why} The others can be brought back: Ctrl+B."
+            ) from part
+        desk.keep_draft(None)
+        desk.new = None
+        desk.show_done(done)
+
+
+def _typed_after(
+    number: int | None, table: str, line: str
+) -> Callable[[int | None], Command[Any]]:
+    """A new paragraph after the one that was typed last, or after another one."""
+
+    def command(newest: int | None) -> Command[Any]:
+        before = newest if newest is not None else number
+        after: After = "end" if before is None else before
+        return requests.Type(after, table, composed(line))
+
+    return command

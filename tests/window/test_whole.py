@@ -1,0 +1,312 @@
+"""Words that are changed in the whole book, its volumes, and the ways to a place, without a window seen."""
+
+from collections.abc import Sequence
+from pathlib import Path
+from typing import Any
+
+import pytest
+from PyQt6.QtGui import QFont
+
+from braildesk import Style, requests
+from braildesk.desk.layout import PageSize
+
+from scribe.window import dialogs
+from scribe.window.desk import Desk
+
+Answers = dict[str, Any]
+
+
+@pytest.fixture
+def given(monkeypatch: pytest.MonkeyPatch) -> Answers:
+    """What is answered to each kind of dialog, and under "said" what was asked and reported."""
+    answers: Answers = {"said": [], "choices": []}
+
+    def choice(over: object, title: str, said: str, names: Sequence[str]) -> int:
+        answers["said"].append(said)
+        return int(answers["choices"].pop(0))
+
+    def line_of(over: object, title: str, lines: Sequence[str], first: int) -> Any:
+        answers["said"] += [title, *lines]
+        return answers["line"]
+
+    def report(over: object, title: str, lines: Sequence[str]) -> None:
+        answers["said"] += lines
+
+    monkeypatch.setattr(dialogs, "choice", choice)
+    monkeypatch.setattr(dialogs, "line_of", line_of)
+    monkeypatch.setattr(dialogs, "report", report)
+    monkeypatch.setattr(dialogs, "text", lambda *_: answers["text"])
+    monkeypatch.setattr(dialogs, "one_of", lambda *_: answers["one_of"])
+    monkeypatch.setattr(dialogs, "font", lambda *_: answers["font"])
+    monkeypatch.setattr(dialogs, "file_to_read", lambda *_: answers["file"])
+    monkeypatch.setattr(dialogs, "fields", lambda *_: answers["fields"])
+    return answers
+
+
+def prints_of(desk: Desk) -> list[str]:
+    """The prints of the book at work."""
+    session, book = desk.book.session, desk.asked(desk.book.contents).paragraphs
+
+    def prints() -> list[str]:
+        return [session.print_of(each.id) for each in book]
+
+    return desk.asked(prints)
+
+
+def test_words_are_changed_everywhere_and_that_is_taken_back(
+    desk: Desk, given: Answers
+) -> None:
+    given["fields"] = ["a", "one"], [True, False]
+    given["choices"] = [0]
+    desk.act("change_all")
+    assert given["said"][0].startswith(
+        "“a” would be changed in 1 place of 1 paragraph. The first one:\n\nPlace 1 of 1"
+    )
+    assert prints_of(desk)[2] == "Twice one day the sea comes up."
+    said = (
+        "“a” was replaced by “one” in 1 place of 1 paragraph. The book is at version 6."
+    )
+    assert desk.window.message.text == said
+    assert desk.window.print.text == "The Moon"
+    desk.act("take_back")
+    assert prints_of(desk)[2] == "Twice a day the sea comes up."
+    assert desk.window.message.text == "Taken back: “a” was replaced in 1 place."
+
+
+def test_each_place_is_asked_about_and_the_rest_stay(
+    desk: Desk, given: Answers
+) -> None:
+    given["fields"] = ["o", "u"], [False, False]
+    # all places one by one: the first isn't changed, the second is, and there it is stopped
+    given["choices"] = [1, 1, 0, 3]
+    desk.act("change_all")
+    assert prints_of(desk)[:2] == ["The Moun", "The mon is far away."]
+    assert desk.window.message.text.startswith("“o” was replaced by “u” in 1 place")
+    assert "3 places stay as before." in desk.window.message.text
+
+
+def test_places_that_are_refused_are_said_and_stay(desk: Desk, given: Answers) -> None:
+    given["fields"] = ["moon", "#"], [False, True]
+    given["choices"] = [0]
+    desk.act("change_all")
+    assert prints_of(desk)[0] == "The Moon"
+    assert (
+        "Refused in paragraph 1, character 5: The table of paragraph 1 has no cells"
+        in (desk.window.message.text)
+    )
+
+
+@pytest.mark.parametrize(
+    "fields, said",
+    [
+        (["sun", "x"], "“sun” isn't in the book."),
+        (
+            ["Moon", "Moon"],
+            "The new words are the same as the old. Nothing was changed.",
+        ),
+        (["", "x"], "No words were typed that go. Nothing was changed."),
+    ],
+)
+def test_what_changes_nothing_is_said(
+    desk: Desk, given: Answers, fields: list[str], said: str
+) -> None:
+    given["fields"] = fields, [False, False]
+    desk.act("change_all")
+    assert desk.window.message.text.startswith(said)
+    assert prints_of(desk)[0] == "The Moon"
+
+
+def test_what_is_given_up_changes_nothing(desk: Desk, given: Answers) -> None:
+    given["fields"] = None
+    desk.act("change_all")
+    assert desk.window.message.text == ""
+    given["fields"] = ["o", "u"], [False, False]
+    given["choices"] = [2]
+    desk.act("change_all")
+    assert desk.window.message.text == "Nothing was changed."
+
+
+def test_the_book_is_parted_into_volumes(desk: Desk, given: Answers) -> None:
+    desk.page_size = PageSize(10, 4)
+    for number in (1, 3):
+        desk.do(requests.Style(number, Style.HEADING))
+    given["text"], given["choices"] = "2", [0]
+    desk.act("part")
+    assert given["said"][0].endswith(
+        "Paragraph 3 would begin a volume.\nShall they begin there?"
+    )
+    assert desk.window.message.text == "Kept: 1 beginning of volumes set."
+    assert [each.begins_volume for each in desk.contents.paragraphs][2]
+    given["line"] = 1
+    desk.act("volumes")
+    assert given["said"][1:] == [
+        "Volumes: 2 volumes, 4 pages of 4 lines of 10 cells.",
+        "Volume 1: 2 pages, from paragraph 1, heading: The Moon",
+        "Volume 2: 2 pages, from paragraph 3, heading: Twice a day the sea comes up.",
+    ]
+    assert desk.number == 3
+    given["choices"] = [0]
+    desk.act("part")
+    assert desk.window.message.text.startswith("The volumes begin there already: 2 vol")
+    desk.act("take_back")
+    assert desk.window.message.text == "Taken back: 1 beginning of volumes set."
+
+
+@pytest.mark.parametrize("typed", ["", "0", "many", "-1"])
+def test_what_is_no_count_of_pages_is_said(
+    desk: Desk, given: Answers, typed: str
+) -> None:
+    given["text"] = typed
+    desk.act("part")
+    said = "A volume has at least 1 page: type how many, as in 80."
+    assert desk.window.message.text == said
+
+
+def test_a_volume_that_cannot_be_so_short_is_said(desk: Desk, given: Answers) -> None:
+    desk.page_size = PageSize(10, 2)
+    given["text"] = "1"
+    desk.act("part")
+    assert "no volume of at most 1 page can have it" in desk.window.message.text
+
+
+@pytest.mark.parametrize(
+    "typed, number, place, said",
+    [
+        ("3", 3, 0, ""),
+        ("page 1 line 2", 1, 4, ""),
+        ("v1 p1 l3", 2, 0, ""),
+        ("sea", 3, 16, "Paragraph 3, character 17."),
+        ("9", 1, 0, "There is no paragraph 9 in the book."),
+        (
+            "page 9",
+            1,
+            0,
+            "Volume 1 has 2 pages of 6 lines of 10 cells. The caret stays",
+        ),
+        ("page 2 line 5", 1, 0, "Page 2 has nothing on line 5. The caret stays where"),
+        ("volume 2 page 1", 1, 0, "There is no volume 2: the book has 1."),
+    ],
+)
+def test_a_place_is_gone_to(
+    desk: Desk, given: Answers, typed: str, number: int, place: int, said: str
+) -> None:
+    desk.page_size = PageSize(10, 6)
+    given["text"] = typed
+    desk.act("go_to")
+    assert (desk.number, desk.window.print.place) == (number, place)
+    assert desk.window.message.text.startswith(said)
+
+
+def test_headings_and_marks_are_gone_to_by_their_lists(
+    desk: Desk, given: Answers
+) -> None:
+    desk.do(requests.Style(3, Style.HEADING))
+    given["line"] = 0
+    desk.act("headings")
+    assert given["said"] == [
+        "Headings: 1 heading",
+        "Twice a day the sea comes up., volume 1, page 1, line 4, paragraph 3",
+    ]
+    assert desk.number == 3
+    given["said"].clear()
+    desk.act("all_marks")
+    assert given["said"] == [
+        "All marks",
+        "Mark 1, open, volume 1, page 1, line 2, paragraph 2, on “mon”: spelled so?",
+    ]
+    assert (desk.number, desk.window.print.place, desk.in_hand) == (2, 4, 1)
+    assert desk.window.message.text == "Mark 1, open, on “mon”: spelled so?"
+
+
+def test_a_text_that_is_too_long_goes_on_in_a_new_paragraph(
+    desk: Desk, given: Answers
+) -> None:
+    desk.act("new_after")
+    desk.window.print.insertPlainText("Far away. " * 450)
+    given["choices"] = [1]
+    desk.act("keep")
+    assert "A paragraph has at most 4,000 characters, and this one has 4,500" in (
+        given["said"][0]
+    )
+    assert desk.window.message.text == "It stays as it is typed. Enter asks again."
+    assert desk.is_typed()
+    given["choices"] = [0]
+    desk.act("keep")
+    assert [len(each) for each in prints_of(desk)[:3]] == [8, 3999, 499]
+    assert not desk.is_typed()
+
+
+def test_the_book_opens_where_it_was_left(desk: Desk, moon: Path) -> None:
+    desk.choose(2, 5)
+    desk.keep_place()
+    desk.unwatch()
+    desk.asked(desk.book.close)
+    desk.is_closed = True
+    again = Desk(moon, None, 0.0, PageSize())
+    again.begin()
+    try:
+        assert (again.number, again.window.print.place) == (3, 5)
+        assert again.window.message.text == "The book is open where it was left."
+    finally:
+        again.close()
+
+
+def test_the_font_of_the_braille_is_chosen_and_remembered(
+    desk: Desk, given: Answers, moon: Path
+) -> None:
+    given["font"] = None
+    desk.act("fonts")
+    assert desk.window.message.text == ""
+    given["font"] = QFont("DejaVu Sans", 31)
+    desk.act("fonts")
+    assert desk.window.message.text == "Braille is in DejaVu Sans, 31 points."
+    desk.window.remember()
+    again = Desk(moon, None, 0.0, PageSize())
+    again.is_closed = True
+    its = again.window.cells.font()
+    assert (its.family(), its.pointSize()) == ("DejaVu Sans", 31)
+    again.close()
+
+
+def test_a_table_is_given_and_taken_back(desk: Desk, given: Answers) -> None:
+    given["one_of"] = "ueb"
+    desk.act("table")
+    assert desk.window.message.text == "Kept: paragraph 1 with table ueb."
+    assert desk.contents.tables == ("en", "ueb")
+    assert desk.contents.paragraphs[0].table == "ueb"
+    assert desk.window.print_label.text() == "Paragraph 1, body, table ueb"
+    desk.act("take_back")
+    assert desk.contents.paragraphs[0].table == "en"
+
+
+@pytest.mark.parametrize(
+    "text, said",
+    [
+        ("letter a 1\nletter b 12\n", "The table own has no cells for"),
+        ("nonsense\n", "Line 1 of the table own is refused"),
+        (None, "own.utb"),
+    ],
+)
+def test_a_table_of_a_file_that_is_no_good_changes_nothing(
+    desk: Desk, given: Answers, tmp_path: Path, text: str | None, said: str
+) -> None:
+    given["one_of"], given["file"] = "From a file…", tmp_path / "own.utb"
+    if text is not None:
+        given["file"].write_text(text)
+    desk.act("table")
+    assert said in desk.window.message.text
+    assert desk.window.cells.text == "⠠⠞⠓⠑⠀⠠⠍⠕⠕⠝"
+    assert desk.contents.paragraphs[0].table == "en"
+
+
+def test_a_table_of_a_file_is_put_into_the_book_and_given(
+    desk: Desk, given: Answers, tmp_path: Path
+) -> None:
+    signs = "".join(f"letter {each} 1\n" for each in "TheMoon")
+    given["one_of"], given["file"] = "From a file…", tmp_path / "own.utb"
+    given["file"].write_text(
+        "space \\s 0\n" + "".join(sorted({*signs.splitlines(True)}))
+    )
+    desk.act("table")
+    assert desk.window.message.text == "Kept: paragraph 1 with table own."
+    assert desk.window.cells.text == "⠁⠁⠁⠀⠁⠁⠁⠁"
