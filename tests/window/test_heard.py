@@ -1,0 +1,117 @@
+"""What a screen reader says, by Orca's own log, beside what the window gives to the bus.
+
+`orca.txt` was written by `orca.sh` while the steps of `steps.py` were done. Here they are done again, and
+what Orca had to say of each part is put together from the bus.
+"""
+
+from pathlib import Path
+
+import pytest
+
+from conftest import Open
+from reader import EDITABLE, FOCUSABLE, Part, Reader, all_within, has, text_of
+from steps import STEPS
+
+FIXTURE = Path(__file__).with_name("orca.txt")
+
+
+def _said() -> dict[str, list[str]]:
+    """What Orca said at each step."""
+    parts = FIXTURE.read_text(encoding="utf-8").strip().split("\n\n")
+    named = (part.split("\n") for part in parts)
+    return {lines[0].removeprefix("# "): lines[1:] for lines in named}
+
+
+SAID = _said()
+
+
+def _ended(text: str) -> str:
+    """A text with the stop that Orca puts after what has none."""
+    return text if text.endswith((".", "?", "!", ":")) else f"{text}."
+
+
+def _row(window: Reader, row: int) -> list[str]:
+    """A row of the table, cell by cell; an empty one isn't spoken."""
+    return [_ended(cell) for cell in window.cells(row) if cell]
+
+
+def _table(window: Reader) -> list[str]:
+    columns = len(window.cells(0))
+    return ["Paragraphs.", f"table with {window.rows()} rows {columns} columns"]
+
+
+def _field(part: Part) -> list[str]:
+    """A field that takes the focus: what it is, its text, and its description."""
+    kind = "text" if has(part, EDITABLE) else "read only text"
+    found = [f"{part.get_name()} {kind}.", _ended(text_of(part))]
+    about = part.get_description()
+    return [*found, _ended(about)] if about else found
+
+
+@pytest.fixture
+def window(moon: Path, at: Open) -> Reader:
+    """The book of the steps, in a window that has just been opened."""
+    found = at(moon, "--by", "anna")
+    found.focus("table", "Paragraphs")
+    found.lists(1, "2 body, 1 open mark: The mon is far away.")
+    return found
+
+
+def test_each_step_is_in_the_log() -> None:
+    assert list(SAID) == ["opening", *STEPS]
+
+
+def test_at_the_opening(window: Reader) -> None:
+    frame = f"{window.top.get_name()} frame."
+    assert SAID["opening"] == [frame, *_table(window), *_row(window, 0)]
+
+
+def test_at_a_move(window: Reader) -> None:
+    window.press("Down")
+    window.reads("Print", "The mon is far away.")
+    assert SAID["a move to the next paragraph"] == _row(window, 1)
+
+
+def test_at_a_mark_at_a_correction_and_at_a_refusal(window: Reader) -> None:
+    window.press("Down", "F4")
+    window.focus("text", "Print")
+    field, message = (window.part("text", name) for name in ("Print", "Message"))
+    # what was found is said with the print that takes the focus
+    window.until("the mark", lambda: str(field.get_description()) == text_of(message))
+    window.says("Mark 1")
+    assert SAID["to the next open mark"] == _field(field)
+    window.press("Right")
+    window.caret("Print", 5)
+    window.type("o")
+    window.reads("Print", "The moon is far away.")
+    window.press("Return")
+    window.says("Kept")
+    # Orca speaks of no change where the focus is, so that F6 reads it
+    assert SAID["Enter keeps it"] == ["return"]
+    window.press("F6")
+    window.focus("text", "Message")
+    assert SAID["F6 to the message"] == _field(message)
+    window.press("Escape")
+    window.focus("text", "Print")
+    assert SAID["Escape back to the print"] == ["escape", *_field(field)]
+    window.press("Ctrl+r", "End")
+    window.says("resolved")
+    window.type("#")
+    window.reads("Print", "The moon is far away.#")
+    window.press("Return")
+    window.focus("text", "Message")
+    window.says("The table of paragraph 2 has no cells")
+    assert SAID["Enter is refused"] == ["return", *_field(message)]
+
+
+def test_a_new_paragraph_is_said_to_be_one(window: Reader) -> None:
+    window.press("Ctrl+Return")
+    window.focus("text", "Print")
+    about = window.part("text", "Print").get_description()
+    assert about == "A new paragraph after paragraph 1, table en"
+    assert SAID["a new paragraph"] == ["Print text.", _ended(about.replace("1", "3"))]
+
+
+def test_nothing_that_takes_the_focus_is_without_a_name(window: Reader) -> None:
+    parts = (each for each in all_within(window.top) if has(each, FOCUSABLE))
+    assert [each.get_role_name() for each in parts if not each.get_name()] == []
