@@ -28,8 +28,8 @@ marked = [requests.Style(1, Style.HEADING), requests.Mark(2, 13, 8, "how far?")]
 new_book(book, holding=[requests.Supply("en"), *typed, *marked])
 application = QApplication([])
 desk = Desk(book, None, 0.0, PageSize(30, 12))
-desk.acts = Actions(desk).all
-desk.open()
+desk.acts = Actions(desk).by_name
+desk.begin()
 desk.window.resize(1100, 680)
 desk.window.show()
 desk.act("page")
