@@ -64,7 +64,7 @@ test:
 trials:
 	RT='$(RT)' EVERY=23 tests/trials/trials.sh
 # scripts tests/FOLDER/NAME.sh over the built program, which run side by side, those that take longest first
-SCRIPTS := desk bring_real instructions kill memory stops package limits ueb prove tutorial client rows paths sentences
+SCRIPTS := desk bring_real instructions kill memory stops window package limits ueb prove tutorial client rows paths sentences
 runs: $(SCRIPTS:%=run-%)
 run-tutorial run-client: run-%:
 	tests/program/$*.sh $(PROGRAM)
@@ -76,7 +76,7 @@ attacks:
 	RT='$(RT)' JOBS=$(JOBS) tests/trials/attacks.sh
 
 bench: $(PROGRAM)
-	for name in translate tables reading pages rows session rebuild keep desk; do bench/$$name/$$name.sh || exit 1; done
+	for name in translate tables reading pages rows session rebuild keep desk window; do bench/$$name/$$name.sh || exit 1; done
 
 clean:
 	rm -rf build crates/*/out

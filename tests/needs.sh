@@ -39,9 +39,6 @@ module    pip             python3-pip
 louis     lou_translate   liblouis-bin liblouis-data
 command   pandoc          pandoc
 module    PyQt6           python3-pyqt6
-'
-# What the tests of the window need besides, which the gate leaves out.
-window='
 module    gi              python3-gi
 atspi     atspi           gir1.2-atspi-2.0 at-spi2-core
 command   xvfb-run        xvfb
@@ -51,7 +48,6 @@ font      dejavu          fonts-dejavu-core
 '
 needed=$gate
 [ ! -d src ] || needed=$gate$tools
-[ $# -eq 0 ] || needed=$needed$window
 
 is_there() { # HOW NAME
     case $1 in

@@ -71,7 +71,11 @@ class Reader:
         """What is found, as soon as it is."""
         end = time.monotonic() + _PATIENCE_SECONDS
         while True:
-            there = found()
+            try:
+                there = found()
+            except GLib.Error:
+                # a part that went while it was looked at
+                there = None
             if there:
                 return there
             if time.monotonic() > end:
