@@ -1,10 +1,11 @@
 -- The fields of a line, taken off one after another.
-use Rattle.std.proofs.Common.{◌≡◌, ℕ, ◌<◌, Bool, true, false, not, List, [], ◌∷◌, length, refl, sym, ap, ◌∙◌, arith, IsTrue, cond, eqb, Bor}
+use Rattle.std.proofs.Common.{◌≡◌, ℕ, ◌<◌, Bool, true, false, not, List, [], ◌∷◌, length, refl, sym, ap, ◌∙◌, arith, cond, eqb, Bor}
 use Rattle.std.specs.Prelude.{Option, Some, None, is_some, unwrap_or}
 use Rattle.std.specs.List.{position_or_len, before_first, after_first, onto_first}
 use Rattle.std.proofs.lemmas.List.Splits.{slice_split_none, slice_split_first, join_with_byte-slice_split}
 use Rattle.std.proofs.lemmas.List.Sums.{fails_before_first}
 use Rattle.desk_line.specs.Fields.{fields_of, fields_in_rest, line_of_fields}
+use Rattle.desk_line.specs.Reading.{is_end}
 
 -- a line with a blank
 pub fields-at-blank : (line field rest : List ℕ) → position_or_len (λ b. eqb b 32) line < length line
@@ -32,12 +33,16 @@ has-field [] e = cc
 has-field (b ∷ line) e = cons-some (eqb b 32) b (fields_of line) e
 
 -- whether fields are left
+end-of : (fields : List (List ℕ)) → (fields ≡ [] → ⊥) → is_end fields ≡ false
+end-of [] some = absurd (some refl)
+end-of (field ∷ fields) some = refl
+
 pub none-left : (rest : Option (Bor (List ℕ))) (fields : List (List ℕ)) (r : Bool) → fields_in_rest rest ≡ fields → is_some rest ≡ not r
-    → (IsTrue r → fields ≡ []) × (fields ≡ [] → IsTrue r)
-none-left None fields true e b = (λ _. sym e, λ _. refl)
+    → r ≡ is_end fields
+none-left None fields true e b = ap is_end e
 none-left None fields false e b = absurd cc
 none-left (Some line) fields true e b = absurd cc
-none-left (Some line) fields false e b = (λ f. absurd cc, λ f. absurd (has-field line.now (e ∙ f)))
+none-left (Some line) fields false e b = sym (end-of fields (λ f. has-field line.now (e ∙ f)))
 
 -- the fields that are left, joined
 pub rest-joined : (rest : Option (Bor (List ℕ))) (other : Bor (List ℕ)) → other.now ≡ [] → (unwrap_or rest other).now ≡ line_of_fields (fields_in_rest rest)

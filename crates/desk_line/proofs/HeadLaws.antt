@@ -1,23 +1,20 @@
 -- What is read of a head line is what it says, and what it says is read.
-use Rattle.std.proofs.Common.{◌≡◌, ℕ, ◌&&◌, eqb, leb, List, [], ◌∷◌, length, Option, Some, None, option_map, codes, refl, sym, ap, ◌∙◌, ◌⊎◌, inl, inr}
+use Rattle.std.proofs.Common.{◌≡◌, ℕ, ◌&&◌, eqb, leb, List, [], ◌∷◌, length, Option, Some, None, option_map, refl, sym, ap, ◌∙◌, ◌⊎◌, inl, inr}
 use Rattle.std.specs.Str.{is_utf8}
 use Rattle.std.proofs.lemmas.Bool.{leb-true, and_parts, eqb-true, cond-false, cases_Bool}
 use Rattle.std.proofs.lemmas.Str.{IsUtf8-from_is_utf8}
 use Rattle.desk_line.specs.declared.head.Head.{Head}
 use Rattle.desk_line.specs.declared.head.Head.TheVariants.{Do, Ask}
 use Rattle.desk_line.specs.declared.directive.Directive.{Directive}
-use Rattle.desk_line.specs.declared.request.Query.{Query}
 use Rattle.desk_line.specs.Fields.{fields_of}
 use Rattle.desk_line.specs.Commands.{SaysDirective}
-use Rattle.desk_line.specs.Head.{Expects, nothing, expected, Says, does, asks, SaysQuery, print, braille, history, marks, where_is, whence, list, version}
+use Rattle.desk_line.specs.Head.{Expects, nothing, expected, Says, does, asks}
 use Rattle.desk_ends.specs.Limits.{most_line_bytes}
 use Rattle.desk_line.specs.Lines.{CanBeHead}
-use Rattle.desk_line.specs.Reading.{number_in, numbered_directive, paragraph_in, directive_by, directive_in, query_in, or_else, command_in, head_in, head_of}
-use Rattle.desk_line.proofs.FieldParts.{made-of-both, none-after}
+use Rattle.desk_line.specs.Reading.{number_in, directive_by, directive_in, query_in, or_else, command_in, head_in, head_of}
 use Rattle.desk_line.proofs.HeadLines.{head-of-text, some-none, unfound}
-use Rattle.desk_line.proofs.OperandLaws.{chosen, taken, mapped, number-read, number-found}
-use Rattle.desk_line.proofs.CommandLaws.{directive-read, directive-read-by, directive-found}
-use Rattle.desk_line.proofs.QueryLaws.{query-read, query-found, query-none}
+use Rattle.desk_line.proofs.OperandLaws.{chosen, made-of-both, taken, mapped, number-read, number-found}
+use Rattle.desk_line.proofs.CommandLaws.{asked-unsaid, directive-read, directive-read-by, directive-found, query-read, query-found}
 
 else-read : {A : Type 0} (p q : Option A) (z : A) → or_else p q ≡ Some z → (p ≡ Some z) ⊎ ((p ≡ None) × (q ≡ Some z))
 else-read None q z e = inr (refl, e)
@@ -63,26 +60,14 @@ head-read line head e =
 
 -- ---- what is said is read
 
--- the fields of a query give no command
-asked-unsaid : (fields : List (List ℕ)) (query : Query) → SaysQuery fields query → directive_in fields ≡ None
-unfolding directive_in
-asked-unsaid fields query (print number id n e is) = ap directive_in e ∙ none-after (numbered_directive (codes "print")) (paragraph_in (number ∷ [])) (λ x. refl)
-asked-unsaid fields query (braille number id n e is) = ap directive_in e ∙ none-after (numbered_directive (codes "braille")) (paragraph_in (number ∷ [])) (λ x. refl)
-asked-unsaid fields query (history number id n e is) = ap directive_in e ∙ none-after (numbered_directive (codes "history")) (paragraph_in (number ∷ [])) (λ x. refl)
-asked-unsaid fields query (marks number id n e is) = ap directive_in e ∙ none-after (numbered_directive (codes "marks")) (paragraph_in (number ∷ [])) (λ x. refl)
-asked-unsaid fields query (where_is number at id place n m e is) = ap directive_in e
-asked-unsaid fields query (whence number at id cell n m e is) = ap directive_in e
-asked-unsaid fields query (list e is) = ap directive_in e
-asked-unsaid fields query (version e is) = ap directive_in e
-
 no-query : (fields : List (List ℕ)) (directive : Directive) → directive_in fields ≡ Some directive → query_in fields ≡ None
 no-query fields directive found =
-    unfound (query_in fields) (λ query e. some-none directive (directive_in fields) found (asked-unsaid fields query (query-read fields query e)))
+    unfound (query_in fields) (λ query e. some-none directive (directive_in fields) found (asked-unsaid fields query e))
 
 -- no command's word begins with an at sign
 signed-unsaid : (word : List ℕ) (fields : List (List ℕ)) → directive_in ((64 ∷ word) ∷ fields) ≡ None
 unfolding directive_in
-signed-unsaid word fields = none-after (numbered_directive (64 ∷ word)) (paragraph_in fields) (λ x. refl)
+signed-unsaid word fields = refl
 
 no-version : (fields : List (List ℕ)) (directive : Directive) → directive_in fields ≡ Some directive
     → command_in fields ≡ option_map (λ directive. Do directive None) (directive_in fields)
@@ -98,7 +83,8 @@ no-version ((b ∷ word) ∷ fields) directive e =
 
 -- after a version stands no query
 no-query-expected : (number : List ℕ) (command : List (List ℕ)) → query_in ((64 ∷ number) ∷ command) ≡ None
-no-query-expected number command = query-none (64 ∷ number) command refl refl refl (λ id. refl)
+unfolding query_in
+no-query-expected number command = refl
 
 command-found : (fields : List (List ℕ)) (expect : Option ℕ) (command : List (List ℕ)) (directive : Directive)
     → Expects fields expect command → SaysDirective command directive → head_in fields ≡ Some (Do directive expect)

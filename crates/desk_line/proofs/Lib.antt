@@ -3,10 +3,9 @@ mod DigitValues
 pub mod LackedBytes
 mod FieldLists
 pub mod HeadLines
-pub mod FieldParts
 pub mod WrittenFields
+pub mod GrammarLaws
 pub mod CommandLaws
-pub mod QueryLaws
 pub mod HeadLaws
 pub mod LineLists
 pub mod OperandLaws

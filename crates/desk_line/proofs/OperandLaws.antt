@@ -3,7 +3,7 @@ use Rattle.std.proofs.Common.{◌≡◌, ℕ, ◌<◌, ◌≤◌, Bool, true, fa
 use Rattle.std.specs.Option.{option_and_then}
 use Rattle.std.specs.List.{list_all}
 use Rattle.std.specs.Char.{is_ascii_digit, digit_value}
-use Rattle.std.specs.Str.{bytes_eq}
+use Rattle.std.specs.Str.{bytes_eq, chars}
 use Rattle.std.specs.Str.Parse.{AllDigits, digits_value}
 use Rattle.std.proofs.lemmas.Bool.{lt-ltb, ltb-true, le-leb, leb-true, and_parts, and_from, cond-true, cond-false, cases_Bool}
 use Rattle.std.proofs.lemmas.Slice.Eq.{bytes_eq-Decides}
@@ -16,7 +16,7 @@ use Rattle.desk_command.specs.declared.style.Style.{Style}
 use Rattle.desk_command.specs.declared.style.Style.TheVariants.{Body, Heading}
 use Rattle.desk_line.specs.Fields.{IsName, IsNumber, IsAnchor, front, end, after, IsStyle, body, heading, IsFlag, on, off}
 use Rattle.desk_line.specs.Limits.{most_digits, most_number}
-use Rattle.desk_line.specs.Reading.{name_in, number_in, small_number, count_in, few_lines, anchor_in, style_in, flag_in}
+use Rattle.desk_line.specs.Reading.{of_both, name_in, number_in, small_number, count_in, few_lines, anchor_in, style_in, flag_in}
 use Rattle.desk_line.proofs.DigitValues.{digit-in-range}
 use Rattle.desk_line.proofs.HeadLines.{some-is, some-none}
 
@@ -36,15 +36,6 @@ taken false x z e = absurd cc
 pub word-is : (field word : List ℕ) → bytes_eq field word ≡ true → field ≡ word
 word-is field word t = (bytes_eq-Decides field word).0 t
 
--- the word is this text, and what that gives is said; or it is another's, and so is what that gives
-pub worded : {A : Type 0} (Says : List (List ℕ) → A → Type 0) (word text : List ℕ) (fields : List (List ℕ)) (x : A) (this others : Option A)
-    → (this ≡ Some x → Says (text ∷ fields) x) → (others ≡ Some x → Says (word ∷ fields) x) → cond (bytes_eq word text) this others ≡ Some x → Says (word ∷ fields) x
-worded Says word text fields x this others f g e =
-    elim (chosen (bytes_eq word text) this others (Some x) e) [
-      | inl p ↦ subst (λ (w : List ℕ). Says (w ∷ fields) x) (sym (word-is word text p.0)) (f p.1)
-      | inr p ↦ g p.1
-    ]
-
 -- one of two words, each of which stands for a value
 one-of-two : {A : Type 0} (field this that : List ℕ) (x y z : A) → cond (bytes_eq field this) (Some x) (cond (bytes_eq field that) (Some y) None) ≡ Some z
     → ((field ≡ this) × (z ≡ x)) ⊎ ((field ≡ that) × (z ≡ y))
@@ -63,15 +54,22 @@ pub followed : {A B : Type 0} (f : A → Option B) (o : Option A) (z : B) → op
 followed f None z e = absurd cc
 followed f (Some x) z e = (x, refl, e)
 
+-- both of what two give
+pub made-of-both : {A B C : Type 0} (make : A → B → C) (p : Option A) (q : Option B) (z : C) → of_both make p q ≡ Some z
+    → (x : A) × (y : B) × (p ≡ Some x) × (q ≡ Some y) × (make x y ≡ z)
+made-of-both make None q z e = absurd cc
+made-of-both make (Some x) None z e = absurd cc
+made-of-both make (Some x) (Some y) z e = (x, y, refl, refl, some-is (make x y) z e)
+
 -- ---- names
 
-pub name-read : (field name : List ℕ) → name_in field ≡ Some name → IsName field × (field ≡ name)
+pub name-read : (field name : List ℕ) → name_in field ≡ Some name → IsName field × (name ≡ chars field)
 name-read [] name e = absurd cc
-name-read (b ∷ field) name e = (λ n. cc, some-is (b ∷ field) name e)
+name-read (b ∷ field) name e = (λ n. cc, sym (some-is (chars (b ∷ field)) name e))
 
-pub name-found : (field : List ℕ) → IsName field → name_in field ≡ Some field
-name-found [] h = absurd (h refl)
-name-found (b ∷ field) h = refl
+pub name-found : (field name : List ℕ) → IsName field × (name ≡ chars field) → name_in field ≡ Some name
+name-found [] name h = absurd (h.0 refl)
+name-found (b ∷ field) name h = ap Some (sym h.1)
 
 -- ---- numbers
 

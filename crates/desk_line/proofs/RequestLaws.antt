@@ -8,10 +8,8 @@ use Rattle.std.proofs.lemmas.Str.{IsUtf8-nil}
 use Rattle.louis_table.specs.Lines.{lines_of}
 use Rattle.louis_table.proofs.LineLaws.{lines_of-split}
 use Rattle.desk_line.specs.declared.head.Head.{Head}
-use Rattle.desk_command.specs.declared.command.Command.{Command}
 use Rattle.desk_line.specs.declared.head.Head.TheVariants as heads
 use Rattle.desk_line.specs.declared.request.Request.{Request}
-use Rattle.desk_line.specs.declared.request.Request.TheVariants.{Do}
 use Rattle.desk_line.specs.Head.{Says}
 use Rattle.desk_ends.specs.Limits.{most_line_bytes}
 use Rattle.desk_line.specs.Lines.{IsShort, after_first_line}

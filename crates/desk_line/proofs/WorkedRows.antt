@@ -20,10 +20,10 @@ use Rattle.desk_line.specs.declared.request.Query.TheVariants as queries
 use Rattle.desk_line.specs.declared.request.Request.{Request}
 use Rattle.desk_line.specs.declared.request.Request.TheVariants as requests
 use Rattle.desk_line.specs.Fields.{IsNumber, end, fields_of}
-use Rattle.desk_line.specs.Commands.{SaysDirective, correct, correct_by, correction_of, form, form_fields, strike, supply, table, type_in}
-use Rattle.desk_line.specs.Head.{Says, asks, does, expected, nothing, version}
+use Rattle.desk_line.specs.Commands.{SaysDirective, form, form_fields}
+use Rattle.desk_line.specs.Head.{Says, asks, does, expected, nothing}
 use Rattle.desk_line.specs.Lines.{CanBeHead}
-use Rattle.desk_line.specs.Reading.{head_in, head_of, query_in, directive_in, number_in, count_in, anchor_in, with_two, with_two_and_text}
+use Rattle.desk_line.specs.Reading.{head_in, head_of, query_in, directive_in, first_of, number_in, count_in, anchor_in}
 use Rattle.desk_line.specs.Answers.{Replies, asked, no_request}
 use Rattle.desk_line.specs.Reply.{IsReply, entry_line, list_line, mark_line, no_paragraph, refusal_line, refused as refused_query, shown, shown_line, shown_text, version as shows_version}
 use Rattle.desk_line.specs.Request.{IsWhole, Reads, Requests, Takes, WholeRequests, last, said, unsaid, whole}
@@ -68,58 +68,62 @@ strike-a-paragraph : Says (codes "strike 1") (heads.Do (Whole (commands.Strike 1
 unfolding encode_utf8
 strike-a-paragraph =
     does None (fields_of (codes "strike 1")) (Whole (commands.Strike 1)) (text-of-line (codes "strike 1") (lit≤ tt) refl refl) (nothing refl refl)
-    (strike (codes "1") 1 one-is-a-number refl refl) refl
+    (codes "1", [], 1, refl, one-is-a-number, (refl, refl)) refl
 
 strike-at-a-version : Says (codes "@9 strike 1") (heads.Do (Whole (commands.Strike 1)) (Some 9))
 unfolding encode_utf8
 strike-at-a-version =
     does (Some 9) (codes "strike" ∷ codes "1" ∷ []) (Whole (commands.Strike 1)) (text-of-line (codes "@9 strike 1") (lit≤ tt) refl refl)
-    (expected (codes "9") 9 nine-is-a-number refl refl) (strike (codes "1") 1 one-is-a-number refl refl) refl
+    (expected (codes "9") 9 nine-is-a-number refl refl) (codes "1", [], 1, refl, one-is-a-number, (refl, refl)) refl
 
 supplied-table : SaysDirective (fields_of (codes "supply en")) (Whole (commands.Table (chars (codes "en")) EN.now))
-supplied-table = supply (codes "en") (λ n. cc) refl refl
+supplied-table = (codes "en", [], chars (codes "en"), refl, (λ n. cc, refl), (refl, refl))
 
 -- an empty text, with the blank before it or without
 typed-nothing : SaysDirective (fields_of (codes "type end en")) (Whole (commands.TypeIn End (chars (codes "en")) (chars [])))
-typed-nothing = type_in (codes "end") (codes "en") [] End (end refl refl) (λ n. cc) refl refl
+typed-nothing = (codes "end", codes "en" ∷ [], End, refl, end refl refl, (codes "en", [], chars (codes "en"), refl, (λ n. cc, refl), refl))
 
 typed-nothing-after-a-blank : SaysDirective (fields_of (codes "type end en ")) (Whole (commands.TypeIn End (chars (codes "en")) (chars [])))
-typed-nothing-after-a-blank = type_in (codes "end") (codes "en") ([] ∷ []) End (end refl refl) (λ n. cc) refl refl
+typed-nothing-after-a-blank = (codes "end", codes "en" ∷ [] ∷ [], End, refl, end refl refl, (codes "en", [] ∷ [], chars (codes "en"), refl, (λ n. cc, refl), refl))
 
 -- a correction by nothing, without the blank before it, and one by a proofreader, whose text keeps its blanks
-erased : SaysDirective (fields_of (codes "correct 1 0 9")) (Whole (correction_of (record { paragraph = 1; start = 0; count = 9; text = [] }) []))
-erased =
-    correct (codes "1" ∷ codes "0" ∷ codes "9" ∷ []) (record { paragraph = 1; start = 0; count = 9; text = [] })
-    (record {
-      number = codes "1";
-      first = codes "0";
-      size = codes "9";
-      rest = [];
-      are = refl;
-      paragraph = one-is-a-number;
-      start = zero-is-a-number;
-      count = nine-is-a-number;
-      text = refl;
-    }) refl refl
+erased : SaysDirective (fields_of (codes "correct 1 0 9")) (Whole (commands.Correct 1 0 9 (chars []) []))
+erased = (
+  codes "1",
+  codes "0" ∷ codes "9" ∷ [],
+  1,
+  refl,
+  one-is-a-number,
+  (codes "0", codes "9" ∷ [], 0, refl, zero-is-a-number, (codes "9", [], 9, refl, nine-is-a-number, refl)),
+)
 
-corrected-by-ann : SaysDirective (fields_of (codes "correct-by Ann 1 0 9  a")) (Whole (correction_of (record { paragraph = 1; start = 0; count = 9; text = codes " a" }) (codes "Ann")))
-corrected-by-ann =
-    correct_by (codes "Ann") (codes "1" ∷ codes "0" ∷ codes "9" ∷ [] ∷ codes "a" ∷ []) (record { paragraph = 1; start = 0; count = 9; text = codes " a" })
-    (λ n. cc) (record {
-      number = codes "1";
-      first = codes "0";
-      size = codes "9";
-      rest = [] ∷ codes "a" ∷ [];
-      are = refl;
-      paragraph = one-is-a-number;
-      start = zero-is-a-number;
-      count = nine-is-a-number;
-      text = refl;
-    }) refl refl
+corrected-by-ann : SaysDirective (fields_of (codes "correct-by Ann 1 0 9  a")) (Whole (commands.Correct 1 0 9 (chars (codes " a")) (chars (codes "Ann"))))
+corrected-by-ann = (
+  codes "Ann",
+  codes "1" ∷ codes "0" ∷ codes "9" ∷ [] ∷ codes "a" ∷ [],
+  chars (codes "Ann"),
+  refl,
+  (λ n. cc, refl),
+  (
+    codes "1",
+    codes "0" ∷ codes "9" ∷ [] ∷ codes "a" ∷ [],
+    1,
+    refl,
+    one-is-a-number,
+    (
+      codes "0",
+      codes "9" ∷ [] ∷ codes "a" ∷ [],
+      0,
+      refl,
+      zero-is-a-number,
+      (codes "9", [] ∷ codes "a" ∷ [], 9, refl, nine-is-a-number, refl),
+    ),
+  ),
+)
 
 -- a text keeps its blanks
 typed-blanks : SaysDirective (fields_of (codes "type end en  a b")) (Whole (commands.TypeIn End (chars (codes "en")) (chars (codes " a b"))))
-typed-blanks = type_in (codes "end") (codes "en") ([] ∷ codes "a" ∷ codes "b" ∷ []) End (end refl refl) (λ n. cc) refl refl
+typed-blanks = (codes "end", codes "en" ∷ [] ∷ codes "a" ∷ codes "b" ∷ [], End, refl, end refl refl, (codes "en", [] ∷ codes "a" ∷ codes "b" ∷ [], chars (codes "en"), refl, (λ n. cc, refl), refl))
 
 -- how commands are written: corrections by nobody and by Ann, and a table of two lines
 written-correction : form_fields (form (commands.Correct 1 0 9 (codes "dog") [])) ≡ codes "correct" ∷ codes "1" ∷ codes "0" ∷ codes "9" ∷ codes "dog" ∷ []
@@ -140,27 +144,27 @@ silent : (line : List ℕ) → CanBeHead line → head_in (fields_of line) ≡ N
 silent line text none head says = let e = sym none ∙ (sym (head-of-text line text.short text.utf8) ∙ head-found line head says) in cc
 
 two-blanks : (head : Head) → ¬ Says (codes "print  1") head
-unfolding encode_utf8 head_in query_in directive_in number_in
+unfolding encode_utf8 head_in query_in directive_in first_of number_in
 two-blanks = silent (codes "print  1") (text-of-line (codes "print  1") (lit≤ tt) refl refl) refl
 
 blank-at-the-end : (head : Head) → ¬ Says (codes "version ") head
-unfolding encode_utf8 head_in query_in directive_in number_in
+unfolding encode_utf8 head_in query_in directive_in first_of number_in
 blank-at-the-end = silent (codes "version ") (text-of-line (codes "version ") (lit≤ tt) refl refl) refl
 
 query-at-a-version : (head : Head) → ¬ Says (codes "@1 version") head
-unfolding encode_utf8 head_in query_in directive_in number_in
+unfolding encode_utf8 head_in query_in directive_in first_of number_in
 query-at-a-version = silent (codes "@1 version") (text-of-line (codes "@1 version") (lit≤ tt) refl refl) refl
 
 empty-name : (head : Head) → ¬ Says (codes "type end  x") head
-unfolding encode_utf8 head_in query_in directive_in with_two_and_text anchor_in
+unfolding encode_utf8 head_in query_in directive_in first_of anchor_in
 empty-name = silent (codes "type end  x") (text-of-line (codes "type end  x") (lit≤ tt) refl refl) refl
 
 empty-line : (head : Head) → ¬ Says [] head
-unfolding encode_utf8 head_in query_in directive_in
+unfolding encode_utf8 head_in query_in directive_in first_of
 empty-line = silent [] (text-of-line [] (lit≤ tt) refl refl) refl
 
 too-many-lines : (head : Head) → ¬ Says (codes "table x 20001") head
-unfolding encode_utf8 head_in query_in directive_in with_two count_in number_in
+unfolding encode_utf8 head_in query_in directive_in first_of count_in number_in
 too-many-lines = silent (codes "table x 20001") (text-of-line (codes "table x 20001") (lit≤ tt) refl refl) refl
 
 -- ---- requests
@@ -174,7 +178,7 @@ table-of-nothing = record {
   head = heads.Do (Table (chars (codes "t")) 0) None;
   lines = refl;
   says = does None (fields_of (codes "table t 0")) (Table (chars (codes "t")) 0) (text-of-line (codes "table t 0") (lit≤ tt) refl refl)
-      (nothing refl refl) (table (codes "t") (codes "0") 0 (λ n. cc) zero-is-a-number (lit≤ tt) refl refl) refl;
+      (nothing refl refl) (codes "t", codes "0" ∷ [], chars (codes "t"), refl, (λ n. cc, refl), (codes "0", [], 0, refl, (zero-is-a-number, lit≤ tt), (refl, refl))) refl;
   whole = refl;
   short = tt;
   is = refl;
@@ -187,7 +191,7 @@ asked-version = record {
   line = codes "version";
   block = [];
   lines = refl;
-  takes = said (heads.Ask queries.Version) (asks queries.Version (text-of-line (codes "version") (lit≤ tt) refl refl) (version refl refl) refl) refl;
+  takes = said (heads.Ask queries.Version) (asks queries.Version (text-of-line (codes "version") (lit≤ tt) refl refl) (refl, refl) refl) refl;
   front = codes "version";
   ends = refl;
 }
@@ -216,7 +220,7 @@ unfolding encode_utf8
 table-of-two =
     said (heads.Do (Table (chars (codes "x")) 2) None)
     (does None (fields_of (codes "table x 2")) (Table (chars (codes "x")) 2) (text-of-line (codes "table x 2") (lit≤ tt) refl refl)
-    (nothing refl refl) (table (codes "x") (codes "2") 2 (λ n. cc) two-is-a-number (lit≤ tt) refl refl) refl) refl
+    (nothing refl refl) (codes "x", codes "2" ∷ [], chars (codes "x"), refl, (λ n. cc, refl), (codes "2", [], 2, refl, (two-is-a-number, lit≤ tt), (refl, refl))) refl) refl
 
 -- it takes its lines whatever they say
 whole-table : IsWhole (codes "table x 2\nversion\na\r\n")
@@ -285,14 +289,14 @@ unfolding encode_utf8
 table-at-a-version =
     said (heads.Do (Table (chars (codes "x")) 1) (Some 9))
     (does (Some 9) (codes "table" ∷ codes "x" ∷ codes "1" ∷ []) (Table (chars (codes "x")) 1) (text-of-line (codes "@9 table x 1") (lit≤ tt) refl refl)
-    (expected (codes "9") 9 nine-is-a-number refl refl) (table (codes "x") (codes "1") 1 (λ n. cc) one-is-a-number (lit≤ tt) refl refl) refl) refl
+    (expected (codes "9") 9 nine-is-a-number refl refl) (codes "x", codes "1" ∷ [], chars (codes "x"), refl, (λ n. cc, refl), (codes "1", [], 1, refl, (one-is-a-number, lit≤ tt), (refl, refl))) refl) refl
 
 table-of-a-bad-name : Takes (codes "table T 1") 1
 unfolding encode_utf8
 table-of-a-bad-name =
     said (heads.Do (Table (chars (codes "T")) 1) None)
     (does None (fields_of (codes "table T 1")) (Table (chars (codes "T")) 1) (text-of-line (codes "table T 1") (lit≤ tt) refl refl)
-    (nothing refl refl) (table (codes "T") (codes "1") 1 (λ n. cc) one-is-a-number (lit≤ tt) refl refl) refl) refl
+    (nothing refl refl) (codes "T", codes "1" ∷ [], chars (codes "T"), refl, (λ n. cc, refl), (codes "1", [], 1, refl, (one-is-a-number, lit≤ tt), (refl, refl))) refl) refl
 
 -- of bytes after which a read failed, a line that is cut isn't a request
 none-within-a-line : (request later : List ℕ) → codes "strike" ≡ request ++ later → ¬ IsWhole request
@@ -392,7 +396,7 @@ asked-and-replied = record {
     block = [];
     head = heads.Ask queries.Version;
     lines = refl;
-    says = asks queries.Version (text-of-line (codes "version") (lit≤ tt) refl refl) (version refl refl) refl;
+    says = asks queries.Version (text-of-line (codes "version") (lit≤ tt) refl refl) (refl, refl) refl;
     whole = refl;
     short = tt;
     is = refl;

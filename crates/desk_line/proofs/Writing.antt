@@ -1,5 +1,5 @@
 -- The text of a request reads as it.
-use Rattle.std.proofs.Common.{◌≡◌, ℕ, ◌+◌, ◌-◌, false, eqb, ltb, List, [], ◌∷◌, ◌++◌, length, get_or, take, drop, Option, Some, None, codes, refl, sym, ap, subst, ◌∙◌, append_assoc, length-append, arith}
+use Rattle.std.proofs.Common.{◌≡◌, ℕ, ◌+◌, ◌-◌, false, eqb, ltb, List, [], ◌∷◌, ◌++◌, length, get_or, take, drop, Option, Some, None, refl, sym, ap, subst, ◌∙◌, append_assoc, length-append, arith}
 use Rattle.std.specs.Prelude.{decimal, map}
 use Rattle.std.specs.Io.BufRead.{ends_with_byte, strip_last}
 use Rattle.std.specs.List.{AllByRecursion, after_first}
@@ -16,57 +16,17 @@ use Rattle.louis_table.proofs.LineLaws.{pieces_of-line}
 use Rattle.desk_command.specs.declared.command.Command.{Command}
 use Rattle.desk_line.specs.declared.head.Head.{Head}
 use Rattle.desk_line.specs.declared.head.Head.TheVariants as heads
-use Rattle.desk_line.specs.declared.request.Query.{Query}
-use Rattle.desk_line.specs.declared.request.Query.TheVariants as queries
 use Rattle.desk_line.specs.declared.request.Request.{Request}
 use Rattle.desk_line.specs.declared.request.Request.TheVariants as requests
-use Rattle.desk_line.specs.Commands.{FitsForm, form, form_fields}
+use Rattle.desk_line.specs.Commands.{form, form_fields}
 use Rattle.desk_line.specs.Fields.{fields_of, line_of_fields}
-use Rattle.desk_line.specs.Head.{Expects, Says, SaysQuery, asks, braille, does, expected, history, list, marks, nothing, print, version, whence, where_is}
+use Rattle.desk_line.specs.Head.{Expects, Says, asks, does, expected, nothing}
 use Rattle.desk_line.specs.Lines.{IsShort, after_first_line}
 use Rattle.desk_line.specs.Request.{Reads, block_lines, request_of}
-use Rattle.desk_line.specs.RequestText.{CanBeWritten, IsSmallIfAny, expecting_line, head_text, query_form, request_text}
-use Rattle.desk_line.proofs.CommandLaws.{command-said}
+use Rattle.desk_line.specs.RequestText.{CanBeWritten, IsSmallIfAny, expecting_line, head_text, query_fields, query_form, request_text}
+use Rattle.desk_line.proofs.CommandLaws.{command-said, query-asked}
 use Rattle.desk_line.proofs.LackedBytes.{Lacks, one-line}
-use Rattle.desk_line.proofs.WrittenFields.{IsLine, IsPlain, line-closed, line-plain, number-closed, number-line, number-written, word-closed}
-
--- ---- queries
-
--- a query's head line asks it
-record IsAsked (query : Query) : Type 0 where
-  plain : IsPlain (line_of_fields (form_fields (query_form query)))
-  says : SaysQuery (fields_of (line_of_fields (form_fields (query_form query)))) query
-
-asked : (query : Query) (fields : List (List ℕ)) → IsLine (form_fields (query_form query)) fields → SaysQuery fields query → IsAsked query
-asked query fields line says = record { plain = line.plain; says = subst (λ (f : List (List ℕ)). SaysQuery f query) (sym line.splits) says }
-
-query-asked : (query : Query) → FitsForm (query_form query) → IsAsked query
-query-asked (queries.Print id) fits =
-    let i = fits.operands.0 in
-    asked (queries.Print id) (codes "print" ∷ decimal id ∷ []) (number-line (codes "print") refl id i) (print (decimal id) id (number-written id i) refl refl)
-query-asked (queries.Braille id) fits =
-    let i = fits.operands.0 in
-    asked (queries.Braille id) (codes "braille" ∷ decimal id ∷ []) (number-line (codes "braille") refl id i) (braille (decimal id) id (number-written id i) refl refl)
-query-asked (queries.History id) fits =
-    let i = fits.operands.0 in
-    asked (queries.History id) (codes "history" ∷ decimal id ∷ []) (number-line (codes "history") refl id i) (history (decimal id) id (number-written id i) refl refl)
-query-asked (queries.Marks id) fits =
-    let i = fits.operands.0 in
-    asked (queries.Marks id) (codes "marks" ∷ decimal id ∷ []) (number-line (codes "marks") refl id i) (marks (decimal id) id (number-written id i) refl refl)
-query-asked (queries.WhereIs id place) fits =
-    let i = fits.operands.0 in
-    let p = fits.operands.1.0 in
-    asked (queries.WhereIs id place) (codes "where" ∷ decimal id ∷ decimal place ∷ [])
-    (line-closed (codes "where" ∷ decimal id ∷ []) (decimal place) (word-closed (codes "where") refl, (number-closed id i, tt)) (number-closed place p))
-    (where_is (decimal id) (decimal place) id place (number-written id i) (number-written place p) refl refl)
-query-asked (queries.Whence id cell) fits =
-    let i = fits.operands.0 in
-    let p = fits.operands.1.0 in
-    asked (queries.Whence id cell) (codes "whence" ∷ decimal id ∷ decimal cell ∷ [])
-    (line-closed (codes "whence" ∷ decimal id ∷ []) (decimal cell) (word-closed (codes "whence") refl, (number-closed id i, tt)) (number-closed cell p))
-    (whence (decimal id) (decimal cell) id cell (number-written id i) (number-written cell p) refl refl)
-query-asked queries.List fits = asked queries.List (codes "list" ∷ []) (line-closed [] (codes "list") tt (word-closed (codes "list") refl)) (list refl refl)
-query-asked queries.Version fits = asked queries.Version (codes "version" ∷ []) (line-closed [] (codes "version") tt (word-closed (codes "version") refl)) (version refl refl)
+use Rattle.desk_line.proofs.WrittenFields.{IsPlain, line-plain, number-closed, number-written, word-closed}
 
 -- ---- expected versions
 
@@ -143,15 +103,16 @@ module _ (line text : List ℕ) (lone : Lacks 10 line) where
 
 pub request_text-reads : (request : Request) → CanBeWritten request → Reads (request_text request) request
 request_text-reads (requests.Do command expect) can =
+    let f = form command in
     let s = command-said command can.fits.0 in
     let line = head_text (requests.Do command expect) in
-    let plain = expecting-plain expect (line_of_fields (form_fields (form command))) can.fits.1 s.plain in
-    subst (Reads (request_text (requests.Do command expect))) (ap (λ (c : Command). requests.Do c expect) s.is)
-    (reads-line line (form command).block plain.lone (heads.Do s.directive expect) plain.utf8 can.short
-    (does expect (fields_of (line_of_fields (form_fields (form command)))) s.directive (record { short = can.short; utf8 = plain.utf8 })
-    (line-expects expect (line_of_fields (form_fields (form command))) can.fits.1) s.says refl)
-    s.counts can.fits.0.block)
+    let plain = expecting-plain expect (line_of_fields (form_fields f)) can.fits.1 s.plain in
+    subst (Reads (request_text (requests.Do command expect))) (ap (λ (c : Command). requests.Do c expect) f.is)
+    (reads-line line f.block plain.lone (heads.Do f.directive expect) plain.utf8 can.short
+    (does expect (fields_of (line_of_fields (form_fields f))) f.directive (record { short = can.short; utf8 = plain.utf8 })
+    (line-expects expect (line_of_fields (form_fields f)) can.fits.1) s.says refl)
+    f.counts can.fits.0.block)
 request_text-reads (requests.Ask query) can =
     let a = query-asked query can.fits in
-    reads-line (line_of_fields (form_fields (query_form query))) [] a.plain.lone (heads.Ask query) a.plain.utf8 can.short
+    reads-line (line_of_fields (query_fields (query_form query))) [] a.plain.lone (heads.Ask query) a.plain.utf8 can.short
     (asks query (record { short = can.short; utf8 = a.plain.utf8 }) a.says refl) refl tt

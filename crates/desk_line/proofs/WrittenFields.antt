@@ -1,5 +1,5 @@
 -- Fields as they are written, and the lines that they make.
-use Rattle.std.proofs.Common.{◌≡◌, ◌≢◌, ℕ, zero, suc, ◌^◌, ◌<◌, ◌≤◌, Bool, true, false, ◌&&◌, eqb, ltb, List, [], ◌∷◌, ◌++◌, codes, refl, sym, ap, ◌∙◌, arith, lit<, lit≤}
+use Rattle.std.proofs.Common.{◌≡◌, ◌≢◌, ℕ, zero, suc, ◌^◌, ◌<◌, ◌≤◌, Bool, true, false, eqb, ltb, List, [], ◌∷◌, ◌++◌, codes, refl, sym, ap, ◌∙◌, arith, lit<, lit≤}
 use Rattle.std.specs.Prelude.{decimal}
 use Rattle.std.specs.Char.{IsScalar}
 use Rattle.std.specs.List.{All, AllByRecursion, list_all}
@@ -14,8 +14,9 @@ use Rattle.desk_command.specs.declared.command.Anchor.TheVariants.{Front, End, P
 use Rattle.desk_command.specs.declared.style.Style.{Style}
 use Rattle.desk_command.specs.declared.style.Style.TheVariants.{Body, Heading}
 use Rattle.desk_command.specs.Characters.{AreCharacters}
+use Rattle.desk_line.specs.Commands.{is_visible}
 use Rattle.desk_line.specs.Fields.{IsAnchor, IsFlag, IsNumber, IsStyle, after, body, end, fields_of, front, heading, line_of_fields, off, on}
-use Rattle.desk_line.specs.Operands.{IsOneLineText, IsSmall, IsSmallAnchor, IsWord, anchor_field}
+use Rattle.desk_line.specs.Grammar.{IsOneLineText, IsSmall, IsSmallAnchor, IsWord, anchor_field}
 use Rattle.desk_line.specs.Reply.{shown_text, style_word, word_if}
 use Rattle.desk_line.proofs.LackedBytes.{Lacks, Lacks-decimal, Lacks-joined, Lacks-shown, other-byte}
 
@@ -30,10 +31,6 @@ pub record IsPlain (field : List ℕ) : Type 0 where
 pub record IsClosed (field : List ℕ) : Type 0 where
   pub plain : IsPlain field
   pub whole : Lacks 32 field
-
--- a visible character of ASCII
-abbrev is_visible : ℕ → Bool
-is_visible b = ltb 32 b && ltb b 128
 
 visible-other : (byte b : ℕ) → byte ≤ 32 → is_visible b ≡ true → eqb b byte ≡ false
 visible-other byte b low e =
@@ -173,11 +170,7 @@ line-closed fields last h l = record {
   splits = fields-closed fields last (closed-whole fields h) l.whole;
 }
 
--- a word and a number
-pub number-line : (word : List ℕ) → list_all is_visible word ≡ true → (number : ℕ) → IsSmall number → IsLine (word ∷ decimal number ∷ []) (word ∷ decimal number ∷ [])
-number-line word visible number small = line-closed (word ∷ []) (decimal number) (word-closed word visible, tt) (number-closed number small)
-
--- ---- operands
+-- ---- anchors, styles and flags
 
 pub anchor-closed : (anchor : Anchor) → IsSmallAnchor anchor → IsClosed (anchor_field anchor)
 anchor-closed Front h = word-closed (codes "front") refl

@@ -1,5 +1,6 @@
--- What a head line says: a query, by one case for each form, or a command.
-use Rattle.std.specs.Prelude.{◌≡◌, ℕ, List, [], ◌∷◌, codes, Option, Some, None}
+-- What a head line says: a query or a command.
+use Rattle.std.specs.Prelude.{◌≡◌, ℕ, if◌then◌else◌, List, [], ◌∷◌, codes, Option, Some, None}
+use Rattle.std.specs.Str.{bytes_eq}
 use Rattle.desk_line.specs.declared.head.Head.{Head}
 use Rattle.desk_line.specs.declared.head.Head.TheVariants.{Do, Ask}
 use Rattle.desk_line.specs.declared.directive.Directive.{Directive}
@@ -7,24 +8,26 @@ use Rattle.desk_line.specs.declared.request.Query.{Query}
 use Rattle.desk_line.specs.declared.request.Query.TheVariants as queries
 use Rattle.desk_line.specs.Commands.{SaysDirective}
 use Rattle.desk_line.specs.Fields.{fields_of, IsNumber}
+use Rattle.desk_line.specs.Grammar.{Gives, Grammar, Nothing, Number, Say, Then}
 use Rattle.desk_line.specs.Lines.{CanBeHead}
 
+-- what stands after a word, and what it asks
+abbrev pub query_grammar : List ℕ → Grammar Query
+query_grammar word =
+    if bytes_eq word (codes "print") then Then Number (λ id. Gives (queries.Print id))
+    else if bytes_eq word (codes "braille") then Then Number (λ id. Gives (queries.Braille id))
+    else if bytes_eq word (codes "history") then Then Number (λ id. Gives (queries.History id))
+    else if bytes_eq word (codes "marks") then Then Number (λ id. Gives (queries.Marks id))
+    else if bytes_eq word (codes "where") then Then Number (λ id. Then Number (λ place. Gives (queries.WhereIs id place)))
+    else if bytes_eq word (codes "whence") then Then Number (λ id. Then Number (λ cell. Gives (queries.Whence id cell)))
+    else if bytes_eq word (codes "list") then Gives queries.List
+    else if bytes_eq word (codes "version") then Gives queries.Version
+    else Nothing
+
 -- the fields ask this
-pub data SaysQuery (fields : List (List ℕ)) (query : Query) : Type 0 where
-  print : (number : List ℕ) (id : ℕ) → IsNumber number id
-      → fields ≡ codes "print" ∷ number ∷ [] → query ≡ queries.Print id → SaysQuery fields query
-  braille : (number : List ℕ) (id : ℕ) → IsNumber number id
-      → fields ≡ codes "braille" ∷ number ∷ [] → query ≡ queries.Braille id → SaysQuery fields query
-  history : (number : List ℕ) (id : ℕ) → IsNumber number id
-      → fields ≡ codes "history" ∷ number ∷ [] → query ≡ queries.History id → SaysQuery fields query
-  marks : (number : List ℕ) (id : ℕ) → IsNumber number id
-      → fields ≡ codes "marks" ∷ number ∷ [] → query ≡ queries.Marks id → SaysQuery fields query
-  where_is : (number at : List ℕ) (id place : ℕ) → IsNumber number id → IsNumber at place
-      → fields ≡ codes "where" ∷ number ∷ at ∷ [] → query ≡ queries.WhereIs id place → SaysQuery fields query
-  whence : (number at : List ℕ) (id cell : ℕ) → IsNumber number id → IsNumber at cell
-      → fields ≡ codes "whence" ∷ number ∷ at ∷ [] → query ≡ queries.Whence id cell → SaysQuery fields query
-  list : fields ≡ codes "list" ∷ [] → query ≡ queries.List → SaysQuery fields query
-  version : fields ≡ codes "version" ∷ [] → query ≡ queries.Version → SaysQuery fields query
+abbrev pub SaysQuery : List (List ℕ) → Query → Type 0
+SaysQuery [] query = ⊥
+SaysQuery (word ∷ fields) query = Say (query_grammar word) fields query
 
 -- before the fields of a command may stand the version that the book is expected to have, after an at sign
 pub data Expects (fields : List (List ℕ)) (expect : Option ℕ) (command : List (List ℕ)) : Type 0 where

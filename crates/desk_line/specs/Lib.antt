@@ -3,7 +3,7 @@ pub mod Lines
 pub mod Fields
 pub mod Waiting
 pub mod Reply
-pub mod Operands
+pub mod Grammar
 pub mod Commands
 pub mod Head
 pub mod Request

@@ -1,27 +1,13 @@
 //! What the head line of a command says, and the command that it makes with the lines after it.
-ghost use Rattle.desk_line.specs.Commands.{announced, correction_of, mark_of};
-ghost use Rattle.desk_line.specs.Reading.{anchor_in, count_in, directive_by, flag_in, name_in, number_in, numbered_directive, paragraph_in, span_text_in, style_in, with_one, with_one_before, with_two, with_two_and_text};
+ghost use Rattle.desk_line.specs.Commands.{announced, span};
+ghost use Rattle.desk_line.specs.Grammar.{Flag, Gives, Lines, Look, Name, Number, Place, Rest, Then};
+ghost use Rattle.desk_line.specs.Reading.{directive_by, read};
 ghost use Rattle.louis_table.specs.declared.en.TheConstants.{EN};
-ghost use Rattle.std.specs.Prelude.{◌≡◌, [], option_map};
-ghost use Rattle.std.specs.Str.{chars};
+ghost use Rattle.std.specs.Prelude.{◌≡◌, []};
 
 use super::fields::{Field, Fields};
-use super::operand::{read_anchor, read_count, read_flag, read_name, read_number, read_style};
 use desk_command::{Command, LentBytes, LentText};
 use louis_table::EN;
-
-/// A text for places of a paragraph: what is put in their place, or a note on them.
-#[derive(Drop)]
-pub(crate) struct SpanText<'a> {
-    /// The paragraph.
-    pub(crate) paragraph: u64,
-    /// The first of the places, of its print or of its cells, from 0.
-    pub(crate) start: usize,
-    /// How many places.
-    pub(crate) count: usize,
-    /// The text.
-    pub(crate) text: Field<'a>,
-}
 
 /// What the head line of a command says.
 #[derive(Drop)]
@@ -51,10 +37,18 @@ pub(crate) fn read_directive<'a>(word: &Field<'_>, fields: Fields<'a>) -> Option
         read_correct(fields)
     } else if word.is("correct-by") {
         read_correct_by(fields)
+    } else if word.is("undo") {
+        read_undo(fields)
     } else if word.is("mark") {
         read_mark(fields)
+    } else if word.is("resolve") {
+        read_resolve(fields)
+    } else if word.is("strike") {
+        read_strike(fields)
+    } else if word.is("restore") {
+        read_restore(fields)
     } else if word.is("style") {
-        read_style_directive(fields)
+        read_style(fields)
     } else if word.is("volume") {
         read_volume(fields)
     } else if word.is("retable") {
@@ -62,175 +56,190 @@ pub(crate) fn read_directive<'a>(word: &Field<'_>, fields: Fields<'a>) -> Option
     } else if word.is("move") {
         read_move(fields)
     } else {
-        let number = read_paragraph(fields)?;
-        numbered_directive(word, number)
-    }
-}
-
-/// The command that a word and one number give.
-fn numbered_directive<'a>(word: &Field<'_>, number: u64) -> Option<Directive<'a>>
-    ensures { result ≡ numbered_directive word.now number }
-{
-    if word.is("undo") {
-        Some(Directive::Whole(Command::Undo { paragraph: number }))
-    } else if word.is("resolve") {
-        Some(Directive::Whole(Command::Resolve { mark: number }))
-    } else if word.is("strike") {
-        Some(Directive::Whole(Command::Strike { paragraph: number }))
-    } else if word.is("restore") {
-        Some(Directive::Whole(Command::Restore { paragraph: number }))
-    } else {
         None
     }
 }
 
-/// The number of a paragraph, or of a mark, alone.
-pub(crate) fn read_paragraph(fields: Fields<'_>) -> Option<u64>
-    ensures { result ≡ paragraph_in fields.entry }
-{
-    read_number(fields.one()?.as_bytes())
-}
-
-#[tactic(auto, unfolding(crate::specs::Reading::with_two))]
 fn read_table(fields: Fields<'_>) -> Option<Directive<'_>>
-    ensures { result ≡ with_two name_in count_in (λ name count. Directive.Table (chars name) count) fields.entry }
+    ensures { result ≡ read (Then Name (λ name. Then Lines (λ count. Gives (Directive.Table name count))))
+        fields.entry }
 {
-    let (name, count) = fields.two()?;
-    let name = read_name(name)?;
-    let count = read_count(count.as_bytes())?;
-    Some(Directive::Table {
-        name: name.as_text(),
-        count,
-    })
+    let (name, fields) = fields.name()?;
+    let (count, fields) = fields.lines()?;
+    read_alone(Directive::Table { name, count }, fields)
 }
 
 fn read_supply(fields: Fields<'_>) -> Option<Directive<'_>>
-    ensures { result ≡ with_one name_in (λ name. Directive.Whole (Command.Table (chars name) EN.now)) fields.entry }
+    ensures { result ≡ read (Then Name (λ name. Gives (Directive.Whole (Command.Table name EN.now))))
+        fields.entry }
 {
-    let name = read_name(fields.one()?)?;
-    Some(Directive::Whole(Command::Table {
-        name: name.as_text(),
-        text: LentBytes::new(EN.as_bytes()),
-    }))
+    let (name, fields) = fields.name()?;
+    read_alone(
+        Directive::Whole(Command::Table {
+            name,
+            text: LentBytes::new(EN.as_bytes()),
+        }),
+        fields,
+    )
 }
 
-#[tactic(auto, unfolding(crate::specs::Reading::with_two_and_text))]
 fn read_type(fields: Fields<'_>) -> Option<Directive<'_>>
-    ensures { result ≡ with_two_and_text anchor_in name_in
-        (λ after name text. Directive.Whole (Command.TypeIn after (chars name) (chars text))) fields.entry }
+    ensures { result ≡ read (Then Place (λ after. Then Name (λ table.
+        Rest (λ text. Directive.Whole (Command.TypeIn after table text)))))
+        fields.entry }
 {
-    let (after, others) = fields.split()?;
-    let (table, others) = others.split()?;
-    let after = read_anchor(&after)?;
-    let table = read_name(table)?;
+    let (after, fields) = fields.place()?;
+    let (table, fields) = fields.name()?;
     Some(Directive::Whole(Command::TypeIn {
         after,
-        table: table.as_text(),
-        text: others.text().as_text(),
+        table,
+        text: fields.text(),
     }))
-}
-
-/// A paragraph, the first of its places, how many of them, and the rest of the line.
-#[tactic(auto, unfolding(crate::specs::Reading::span_text_in))]
-fn read_span_text(fields: Fields<'_>) -> Option<SpanText<'_>>
-    ensures { result ≡ span_text_in fields.entry }
-{
-    let (paragraph, others) = fields.split()?;
-    let (start, others) = others.split()?;
-    let (count, others) = others.split()?;
-    Some(SpanText {
-        paragraph: read_number(paragraph.as_bytes())?,
-        start: read_number(start.as_bytes())? as usize,
-        count: read_number(count.as_bytes())? as usize,
-        text: others.text(),
-    })
-}
-
-/// The correction of places of a paragraph.
-fn correction<'a>(span: &SpanText<'a>, who: &Field<'a>) -> Command<'a>
-    ensures { result ≡ correction_of span.now who.now }
-{
-    Command::Correct {
-        paragraph: span.paragraph,
-        start: span.start,
-        count: span.count,
-        text: span.text.as_text(),
-        who: who.as_text(),
-    }
 }
 
 fn read_correct(fields: Fields<'_>) -> Option<Directive<'_>>
-    ensures { result ≡ option_map (λ span. Directive.Whole (correction_of span [])) (span_text_in fields.entry) }
+    ensures { result ≡ read (span (λ id start count text.
+        Directive.Whole (Command.Correct id start count text [])))
+        fields.entry }
 {
-    let span = read_span_text(fields)?;
-    let who = Field::empty();
-    Some(Directive::Whole(correction(&span, &who)))
+    let (paragraph, fields) = fields.number()?;
+    let (start, fields) = fields.number()?;
+    let (count, fields) = fields.number()?;
+    Some(Directive::Whole(Command::Correct {
+        paragraph,
+        start: start as usize,
+        count: count as usize,
+        text: fields.text(),
+        who: nobody(),
+    }))
 }
 
-#[tactic(auto, unfolding(crate::specs::Reading::with_one_before))]
 fn read_correct_by(fields: Fields<'_>) -> Option<Directive<'_>>
-    ensures { result ≡ with_one_before name_in span_text_in
-        (λ who span. Directive.Whole (correction_of span who)) fields.entry }
+    ensures { result ≡ read (Then Name (λ who. span (λ id start count text.
+        Directive.Whole (Command.Correct id start count text who))))
+        fields.entry }
 {
-    let (who, others) = fields.split()?;
-    let who = read_name(who)?;
-    let span = read_span_text(others)?;
-    Some(Directive::Whole(correction(&span, &who)))
+    let (who, fields) = fields.name()?;
+    let (paragraph, fields) = fields.number()?;
+    let (start, fields) = fields.number()?;
+    let (count, fields) = fields.number()?;
+    Some(Directive::Whole(Command::Correct {
+        paragraph,
+        start: start as usize,
+        count: count as usize,
+        text: fields.text(),
+        who,
+    }))
+}
+
+fn read_undo(fields: Fields<'_>) -> Option<Directive<'_>>
+    ensures { result ≡ read (Then Number (λ id. Gives (Directive.Whole (Command.Undo id))))
+        fields.entry }
+{
+    let (paragraph, fields) = fields.number()?;
+    read_alone(Directive::Whole(Command::Undo { paragraph }), fields)
 }
 
 fn read_mark(fields: Fields<'_>) -> Option<Directive<'_>>
-    ensures { result ≡ option_map (λ span. Directive.Whole (mark_of span)) (span_text_in fields.entry) }
+    ensures { result ≡ read (span (λ id cell count note.
+        Directive.Whole (Command.Mark id cell count note)))
+        fields.entry }
 {
-    let span = read_span_text(fields)?;
+    let (paragraph, fields) = fields.number()?;
+    let (cell, fields) = fields.number()?;
+    let (count, fields) = fields.number()?;
     Some(Directive::Whole(Command::Mark {
-        paragraph: span.paragraph,
-        cell: span.start,
-        count: span.count,
-        note: span.text.as_text(),
-    }))
-}
-
-#[tactic(auto, unfolding(crate::specs::Reading::with_two))]
-fn read_style_directive(fields: Fields<'_>) -> Option<Directive<'_>>
-    ensures { result ≡ with_two number_in style_in (λ id look. Directive.Whole (Command.Style id look)) fields.entry }
-{
-    let (paragraph, style) = fields.two()?;
-    let paragraph = read_number(paragraph.as_bytes())?;
-    let style = read_style(&style)?;
-    Some(Directive::Whole(Command::Style { paragraph, style }))
-}
-
-#[tactic(auto, unfolding(crate::specs::Reading::with_two))]
-fn read_volume(fields: Fields<'_>) -> Option<Directive<'_>>
-    ensures { result ≡ with_two number_in flag_in (λ id begins. Directive.Whole (Command.Volume id begins)) fields.entry }
-{
-    let (paragraph, begins) = fields.two()?;
-    let paragraph = read_number(paragraph.as_bytes())?;
-    let begins = read_flag(&begins)?;
-    Some(Directive::Whole(Command::Volume { paragraph, begins }))
-}
-
-#[tactic(auto, unfolding(crate::specs::Reading::with_two))]
-fn read_retable(fields: Fields<'_>) -> Option<Directive<'_>>
-    ensures { result ≡ with_two number_in name_in (λ id name. Directive.Whole (Command.Retable id (chars name))) fields.entry }
-{
-    let (paragraph, table) = fields.two()?;
-    let paragraph = read_number(paragraph.as_bytes())?;
-    let table = read_name(table)?;
-    Some(Directive::Whole(Command::Retable {
         paragraph,
-        table: table.as_text(),
+        cell: cell as usize,
+        count: count as usize,
+        note: fields.text(),
     }))
 }
 
-#[tactic(auto, unfolding(crate::specs::Reading::with_two))]
-fn read_move(fields: Fields<'_>) -> Option<Directive<'_>>
-    ensures { result ≡ with_two number_in anchor_in (λ id after. Directive.Whole (Command.Move id after)) fields.entry }
+fn read_resolve(fields: Fields<'_>) -> Option<Directive<'_>>
+    ensures { result ≡ read (Then Number (λ id. Gives (Directive.Whole (Command.Resolve id))))
+        fields.entry }
 {
-    let (paragraph, after) = fields.two()?;
-    let paragraph = read_number(paragraph.as_bytes())?;
-    let after = read_anchor(&after)?;
-    Some(Directive::Whole(Command::Move { paragraph, after }))
+    let (mark, fields) = fields.number()?;
+    read_alone(Directive::Whole(Command::Resolve { mark }), fields)
+}
+
+fn read_strike(fields: Fields<'_>) -> Option<Directive<'_>>
+    ensures { result ≡ read (Then Number (λ id. Gives (Directive.Whole (Command.Strike id))))
+        fields.entry }
+{
+    let (paragraph, fields) = fields.number()?;
+    read_alone(Directive::Whole(Command::Strike { paragraph }), fields)
+}
+
+fn read_restore(fields: Fields<'_>) -> Option<Directive<'_>>
+    ensures { result ≡ read (Then Number (λ id. Gives (Directive.Whole (Command.Restore id))))
+        fields.entry }
+{
+    let (paragraph, fields) = fields.number()?;
+    read_alone(Directive::Whole(Command::Restore { paragraph }), fields)
+}
+
+fn read_style(fields: Fields<'_>) -> Option<Directive<'_>>
+    ensures { result ≡ read (Then Number (λ id. Then Look (λ look. Gives (Directive.Whole (Command.Style id look)))))
+        fields.entry }
+{
+    let (paragraph, fields) = fields.number()?;
+    let (style, fields) = fields.look()?;
+    read_alone(
+        Directive::Whole(Command::Style { paragraph, style }),
+        fields,
+    )
+}
+
+fn read_volume(fields: Fields<'_>) -> Option<Directive<'_>>
+    ensures { result ≡ read (Then Number (λ id. Then Flag (λ begins. Gives (Directive.Whole (Command.Volume id begins)))))
+        fields.entry }
+{
+    let (paragraph, fields) = fields.number()?;
+    let (begins, fields) = fields.flag()?;
+    read_alone(
+        Directive::Whole(Command::Volume { paragraph, begins }),
+        fields,
+    )
+}
+
+fn read_retable(fields: Fields<'_>) -> Option<Directive<'_>>
+    ensures { result ≡ read (Then Number (λ id. Then Name (λ table. Gives (Directive.Whole (Command.Retable id table)))))
+        fields.entry }
+{
+    let (paragraph, fields) = fields.number()?;
+    let (table, fields) = fields.name()?;
+    read_alone(
+        Directive::Whole(Command::Retable { paragraph, table }),
+        fields,
+    )
+}
+
+fn read_move(fields: Fields<'_>) -> Option<Directive<'_>>
+    ensures { result ≡ read (Then Number (λ id. Then Place (λ after. Gives (Directive.Whole (Command.Move id after)))))
+        fields.entry }
+{
+    let (paragraph, fields) = fields.number()?;
+    let (after, fields) = fields.place()?;
+    read_alone(Directive::Whole(Command::Move { paragraph, after }), fields)
+}
+
+/// What a head line says if no field is left.
+fn read_alone<'a>(directive: Directive<'a>, fields: Fields<'_>) -> Option<Directive<'a>>
+    ensures { result ≡ read (Gives directive.entry) fields.entry }
+{
+    if !fields.is_empty() {
+        return None;
+    }
+    Some(directive)
+}
+
+/// The name of a proofreader who isn't named.
+fn nobody() -> LentText<'static>
+    ensures { result ≡ [] }
+{
+    LentText::new("")
 }
 
 /// The command that a head line and the bytes of the lines after it make.

@@ -1,7 +1,7 @@
 //! The fields of a head line.
 ghost use Rattle.desk_line.specs.Fields.{fields_in_rest, fields_of, line_of_fields};
-ghost use Rattle.desk_line.specs.Reading.{first_and_others, only_one, only_two};
-ghost use Rattle.std.specs.Prelude.{◌≡◌, [], IsTrue, ◌↔◌, ◌∷◌};
+ghost use Rattle.desk_line.specs.Reading.{first_and_others, is_end};
+ghost use Rattle.std.specs.Prelude.{◌≡◌, ◌∷◌};
 ghost use Rattle.std.specs.Str.{bytes_eq, chars};
 
 use desk_command::LentText;
@@ -22,13 +22,6 @@ impl<'a> Model for Field<'a> {
 }
 
 impl<'a> Field<'a> {
-    /// A field without characters.
-    pub(crate) fn empty() -> Self
-        ensures { result ≡ [] }
-    {
-        Field { text: "" }
-    }
-
     /// The text of the field.
     pub(crate) fn as_str(&self) -> &'a str
         ensures { result.now ≡ self.now }
@@ -92,38 +85,16 @@ impl<'a> Fields<'a> {
 
     /// Whether no field is left.
     pub(crate) fn is_empty(&self) -> bool
-        ensures { IsTrue result ↔ (self.now ≡ []) }
+        ensures { result ≡ is_end self.now }
     {
         self.rest.is_none()
     }
 
-    /// The field, if there is exactly one.
-    pub(crate) fn one(self) -> Option<Field<'a>>
-        ensures { result ≡ only_one self.entry }
-    {
-        let (field, others) = self.split()?;
-        if !others.is_empty() {
-            return None;
-        }
-        Some(field)
-    }
-
-    /// Both fields, if there are exactly two.
-    pub(crate) fn two(self) -> Option<(Field<'a>, Field<'a>)>
-        ensures { result ≡ only_two self.entry }
-    {
-        let (first, others) = self.split()?;
-        let second = others.one()?;
-        Some((first, second))
-    }
-
     /// The line from here on, with its blanks.
-    pub(crate) fn text(self) -> Field<'a>
-        ensures { result ≡ line_of_fields self.entry }
+    pub(crate) fn text(self) -> LentText<'a>
+        ensures { result ≡ chars (line_of_fields self.entry) }
     {
-        Field {
-            text: self.rest.unwrap_or(""),
-        }
+        LentText::new(self.rest.unwrap_or(""))
     }
 }
 

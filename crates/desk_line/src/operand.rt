@@ -1,24 +1,15 @@
 //! What the fields after the first word of a head line stand for.
-ghost use Rattle.desk_line.specs.Reading.{anchor_in, count_in, flag_in, name_in, number_in, style_in};
+ghost use Rattle.desk_line.specs.Grammar.{Flag, Lines, Look, Name, Number, Place};
+ghost use Rattle.desk_line.specs.Reading.{anchor_in, count_in, first_of, flag_in, name_in, number_in, style_in};
 ghost use Rattle.std.specs.Char.{is_ascii_digit};
 ghost use Rattle.std.specs.List.{list_all};
 ghost use Rattle.std.specs.Prelude.{◌≡◌, ◌≤◌, length, true};
 ghost use Rattle.std.specs.Str.Parse.{digits_value};
 
-use super::fields::Field;
+use super::fields::{Field, Fields};
 use super::limits::{MOST_DIGITS, MOST_NUMBER};
-use desk_command::{Anchor, Style};
+use desk_command::{Anchor, LentText, Style};
 use louis_table::MOST_LINES;
-
-/// A name: one character or more.
-pub(crate) fn read_name(field: Field<'_>) -> Option<Field<'_>>
-    ensures { result ≡ name_in field.entry }
-{
-    if field.as_bytes().is_empty() {
-        return None;
-    }
-    Some(field)
-}
 
 /// A number: 1 to 16 decimal digits, leading zeros too, of a value up to 2^53.
 #[tactic(auto, unfolding(crate::specs::Reading::number_in))]
@@ -57,7 +48,7 @@ fn value_of(digits: &[u8]) -> u64
 
 /// A number of lines of a table, up to 20,000.
 #[tactic(auto, unfolding(crate::specs::Reading::count_in))]
-pub(crate) fn read_count(field: &[u8]) -> Option<u64>
+fn read_count(field: &[u8]) -> Option<u64>
     ensures { result ≡ count_in field.now }
 {
     let count = read_number(field)?;
@@ -67,9 +58,19 @@ pub(crate) fn read_count(field: &[u8]) -> Option<u64>
     Some(count)
 }
 
+/// A name: one character or more.
+fn read_name<'a>(field: &Field<'a>) -> Option<LentText<'a>>
+    ensures { result ≡ name_in field.now }
+{
+    if field.as_bytes().is_empty() {
+        return None;
+    }
+    Some(field.as_text())
+}
+
 /// Where a paragraph is put: `front`, `end` or the number of the paragraph before it.
 #[tactic(auto, unfolding(crate::specs::Reading::anchor_in))]
-pub(crate) fn read_anchor(field: &Field<'_>) -> Option<Anchor>
+fn read_anchor(field: &Field<'_>) -> Option<Anchor>
     ensures { result ≡ anchor_in field.now }
 {
     if field.is("front") {
@@ -84,7 +85,7 @@ pub(crate) fn read_anchor(field: &Field<'_>) -> Option<Anchor>
 
 /// A style: `body` or `heading`.
 #[tactic(auto, unfolding(crate::specs::Reading::style_in))]
-pub(crate) fn read_style(field: &Field<'_>) -> Option<Style>
+fn read_style(field: &Field<'_>) -> Option<Style>
     ensures { result ≡ style_in field.now }
 {
     if field.is("body") {
@@ -98,7 +99,7 @@ pub(crate) fn read_style(field: &Field<'_>) -> Option<Style>
 
 /// Whether a flag is set: `on` or `off`.
 #[tactic(auto, unfolding(crate::specs::Reading::flag_in))]
-pub(crate) fn read_flag(field: &Field<'_>) -> Option<bool>
+fn read_flag(field: &Field<'_>) -> Option<bool>
     ensures { result ≡ flag_in field.now }
 {
     if field.is("on") {
@@ -107,5 +108,67 @@ pub(crate) fn read_flag(field: &Field<'_>) -> Option<bool>
         Some(false)
     } else {
         None
+    }
+}
+
+impl<'a> Fields<'a> {
+    /// The first field as a number, and the fields after it.
+    #[tactic(auto, unfolding(crate::specs::Reading::first_of))]
+    pub(crate) fn number(self) -> Option<(u64, Self)>
+        ensures { result ≡ first_of Number self.entry }
+    {
+        let (field, others) = self.split()?;
+        let number = read_number(field.as_bytes())?;
+        Some((number, others))
+    }
+
+    /// The first field as a number of lines, and the fields after it.
+    #[tactic(auto, unfolding(crate::specs::Reading::first_of))]
+    pub(crate) fn lines(self) -> Option<(u64, Self)>
+        ensures { result ≡ first_of Lines self.entry }
+    {
+        let (field, others) = self.split()?;
+        let count = read_count(field.as_bytes())?;
+        Some((count, others))
+    }
+
+    /// The first field as a name, and the fields after it.
+    #[tactic(auto, unfolding(crate::specs::Reading::first_of))]
+    pub(crate) fn name(self) -> Option<(LentText<'a>, Self)>
+        ensures { result ≡ first_of Name self.entry }
+    {
+        let (field, others) = self.split()?;
+        let name = read_name(&field)?;
+        Some((name, others))
+    }
+
+    /// The first field as where a paragraph is put, and the fields after it.
+    #[tactic(auto, unfolding(crate::specs::Reading::first_of))]
+    pub(crate) fn place(self) -> Option<(Anchor, Self)>
+        ensures { result ≡ first_of Place self.entry }
+    {
+        let (field, others) = self.split()?;
+        let anchor = read_anchor(&field)?;
+        Some((anchor, others))
+    }
+
+    /// The first field as a style, and the fields after it.
+    #[tactic(auto, unfolding(crate::specs::Reading::first_of))]
+    pub(crate) fn look(self) -> Option<(Style, Self)>
+        ensures { result ≡ first_of Look self.entry }
+    {
+        let (field, others) = self.split()?;
+        let style = read_style(&field)?;
+        Some((style, others))
+    }
+
+    /// The first field as whether a flag is set, and the fields after it.
+    #[tactic(auto, unfolding(crate::specs::Reading::first_of))]
+    pub(crate) fn flag(self) -> Option<(bool, Self)>
+        ensures { result ≡ first_of Flag self.entry }
+    {
+        let (field, others) = self.split()?;
+        let set = read_flag(&field)?;
+        Some((set, others))
     }
 }

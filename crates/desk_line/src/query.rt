@@ -1,10 +1,9 @@
 //! What the head line of a query asks.
-ghost use Rattle.desk_line.specs.Reading.{lone_query, numbers_in, paragraph_query, query_in};
+ghost use Rattle.desk_line.specs.Grammar.{Gives, Number, Then};
+ghost use Rattle.desk_line.specs.Reading.{query_by, query_in, read};
 ghost use Rattle.std.specs.Prelude.{◌≡◌};
 
-use super::directive::read_paragraph;
 use super::fields::{Field, Fields};
-use super::operand::read_number;
 use super::request::Query;
 
 /// The query that the fields of a line ask.
@@ -13,59 +12,86 @@ pub(crate) fn read_query(fields: Fields<'_>) -> Option<Query>
     ensures { result ≡ query_in fields.entry }
 {
     let (word, others) = fields.split()?;
-    if word.is("where") {
-        let (paragraph, place) = read_two_numbers(others)?;
-        let place = place as usize;
-        Some(Query::WhereIs { paragraph, place })
-    } else if word.is("whence") {
-        let (paragraph, cell) = read_two_numbers(others)?;
-        let cell = cell as usize;
-        Some(Query::Whence { paragraph, cell })
-    } else if others.is_empty() {
-        lone_query(&word)
-    } else {
-        let paragraph = read_paragraph(others)?;
-        paragraph_query(&word, paragraph)
-    }
+    read_query_by(&word, others)
 }
 
-/// The query that a word alone asks.
-fn lone_query(word: &Field<'_>) -> Option<Query>
-    ensures { result ≡ lone_query word.now }
-{
-    if word.is("list") {
-        Some(Query::List)
-    } else if word.is("version") {
-        Some(Query::Version)
-    } else {
-        None
-    }
-}
-
-/// The query that a word asks of a paragraph.
-fn paragraph_query(word: &Field<'_>, paragraph: u64) -> Option<Query>
-    ensures { result ≡ paragraph_query word.now paragraph }
+/// The query that a word and the fields after it ask.
+fn read_query_by(word: &Field<'_>, fields: Fields<'_>) -> Option<Query>
+    ensures { result ≡ query_by word.now fields.entry }
 {
     if word.is("print") {
-        Some(Query::Print { paragraph })
+        read_print(fields)
     } else if word.is("braille") {
-        Some(Query::Braille { paragraph })
+        read_braille(fields)
     } else if word.is("history") {
-        Some(Query::History { paragraph })
+        read_history(fields)
     } else if word.is("marks") {
-        Some(Query::Marks { paragraph })
+        read_marks(fields)
+    } else if word.is("where") {
+        read_where(fields)
+    } else if word.is("whence") {
+        read_whence(fields)
+    } else if word.is("list") {
+        read_alone(Query::List, fields)
+    } else if word.is("version") {
+        read_alone(Query::Version, fields)
     } else {
         None
     }
 }
 
-/// Two numbers.
-#[tactic(auto, unfolding(crate::specs::Reading::with_two))]
-fn read_two_numbers(fields: Fields<'_>) -> Option<(u64, u64)>
-    ensures { result ≡ numbers_in fields.entry }
+/// A query that a word asks alone.
+fn read_alone(query: Query, fields: Fields<'_>) -> Option<Query>
+    ensures { result ≡ read (Gives query) fields.entry }
 {
-    let (first, second) = fields.two()?;
-    let first = read_number(first.as_bytes())?;
-    let second = read_number(second.as_bytes())?;
-    Some((first, second))
+    if !fields.is_empty() {
+        return None;
+    }
+    Some(query)
+}
+
+fn read_print(fields: Fields<'_>) -> Option<Query>
+    ensures { result ≡ read (Then Number (λ id. Gives (Query.Print id))) fields.entry }
+{
+    let (paragraph, fields) = fields.number()?;
+    read_alone(Query::Print { paragraph }, fields)
+}
+
+fn read_braille(fields: Fields<'_>) -> Option<Query>
+    ensures { result ≡ read (Then Number (λ id. Gives (Query.Braille id))) fields.entry }
+{
+    let (paragraph, fields) = fields.number()?;
+    read_alone(Query::Braille { paragraph }, fields)
+}
+
+fn read_history(fields: Fields<'_>) -> Option<Query>
+    ensures { result ≡ read (Then Number (λ id. Gives (Query.History id))) fields.entry }
+{
+    let (paragraph, fields) = fields.number()?;
+    read_alone(Query::History { paragraph }, fields)
+}
+
+fn read_marks(fields: Fields<'_>) -> Option<Query>
+    ensures { result ≡ read (Then Number (λ id. Gives (Query.Marks id))) fields.entry }
+{
+    let (paragraph, fields) = fields.number()?;
+    read_alone(Query::Marks { paragraph }, fields)
+}
+
+fn read_where(fields: Fields<'_>) -> Option<Query>
+    ensures { result ≡ read (Then Number (λ id. Then Number (λ place. Gives (Query.WhereIs id place)))) fields.entry }
+{
+    let (paragraph, fields) = fields.number()?;
+    let (place, fields) = fields.number()?;
+    let place = place as usize;
+    read_alone(Query::WhereIs { paragraph, place }, fields)
+}
+
+fn read_whence(fields: Fields<'_>) -> Option<Query>
+    ensures { result ≡ read (Then Number (λ id. Then Number (λ cell. Gives (Query.Whence id cell)))) fields.entry }
+{
+    let (paragraph, fields) = fields.number()?;
+    let (cell, fields) = fields.number()?;
+    let cell = cell as usize;
+    read_alone(Query::Whence { paragraph, cell }, fields)
 }
