@@ -1,8 +1,8 @@
 #!/bin/bash
 # Tries the edits in crates/NAME/attacks, which the gate doesn't: wrong bodies that the prover has to refuse, beside those
-# of must-fail. An edit with a line 'test: PART TEST' is one that no contract rules out: with it that part of tests/trials
-# is run, and that test has to fail. It works on a copy, with what has been proved here, and takes half a minute of a processor
-# for an edit.
+# of must-fail. A file there has all edits of one source file, each from a line 'edit: NAME' on. An edit with a line
+# 'test: PART TEST' is one that no contract rules out: with it that part of tests/trials is run, and that test has to fail. It
+# works on a copy, with what has been proved here, and takes half a minute of a processor for an edit.
 #   tests/trials/attacks.sh [NAME..]     JOBS (1): how many checks at a time
 set -eu
 cd "$(dirname "$0")/../.."
@@ -15,6 +15,16 @@ names=("$@")
 if [ ${#names[@]} -eq 0 ]; then
     for folder in crates/*/attacks; do names+=("$(basename "$(dirname "$folder")")"); done
 fi
+
+# Writes each edit of a file by itself, as rt reads it, with what stands before the first one.
+part() { # FILE.edits
+    awk -v stem="${1%.edits}" '
+        /^edit: / { file = stem "." substr($0, 7) ".edit"; printf "%s", head > file; next }
+        file == "" && NF { head = head $0 "\n" }
+        file == "" { next }
+        NF { print > file }' "$1"
+    rm "$1"
+}
 
 # Puts each 'new:' of an edit in the place of its 'old:', which stands once in the edit's file, in the crate of this folder.
 apply() {
@@ -56,6 +66,7 @@ test_sees() {
 
 missed=0
 for name in "${names[@]}"; do
+    for file in "crates/$name"/attacks/*.edits; do part "$file"; done
     for edit in $(cd "crates/$name/attacks" && grep -l '^test: ' ./*.edit || true); do
         (cd "crates/$name" && test_sees "attacks/$edit") || missed=$((missed + 1))
         rm "crates/$name/attacks/$edit"
