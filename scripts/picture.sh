@@ -1,5 +1,5 @@
 #!/bin/bash
-# Makes docs/window.png, the picture of the window that docs/WINDOW.md shows: a small book, with a mark, and the page beside it.
+# Makes docs/window.png, the picture of the window that docs/window.md shows: a small book, with a mark, and the page beside it.
 #   scripts/picture.sh     PROGRAM: the program (build/braildesk); PYTHON: an interpreter with PyQt6 (that of tests/python.sh)
 # It needs no screen.
 set -eu
