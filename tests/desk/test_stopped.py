@@ -107,7 +107,7 @@ def between(folder: Path, action: str, number: int) -> dict[str, str]:
 def test_an_import_that_is_told_to_end_while_it_judges_has_typed_nothing(
     book: Path, text: Path
 ) -> None:
-    settings = between(book.parent, "translate", 2)
+    settings = between(book.parent, "translate", 1)
     ran = run(settings, book.parent, "import", str(book), str(text), "--lines")
     assert (ran.status, ran.shown) == (-signal.SIGTERM, "")
     assert ran.said == "Stopped by SIGTERM. Nothing was typed.\n"
