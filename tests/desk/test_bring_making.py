@@ -98,6 +98,40 @@ def test_capitals_become_pairs_with_their_signs(tmp_path: Path) -> None:
     ]
 
 
+LONE_CAPITALS = """\
+base uppercase A a
+base uppercase X x
+base uppercase Q q
+base uppercase Z z
+attribute capital AXQ
+noback context _$s[]%capital$s @46
+"""
+
+
+def test_a_sign_that_capitals_have_where_they_stand_alone_is_part_of_them(
+    tmp_path: Path,
+) -> None:
+    lines = lines_of(tmp_path, LETTERS + LONE_CAPITALS + DIGITS)
+    assert not any(line.startswith("capsletter") for line in lines)
+    assert "uplow Aa 46-1,1" in lines
+    for kind in ("begword", "midword", "endword"):
+        assert f"{kind} a 1" in lines
+    # no kind of rule is for the last letter before a digit
+    assert "always xa 1346-1" in lines
+    # a capital without that sign stays as it is
+    assert "uplow Zz 1356" in lines
+    assert "begword z 1356" not in lines
+
+
+def test_contractions_are_not_in_the_way_of_a_sign_of_lone_capitals(
+    tmp_path: Path,
+) -> None:
+    lines = lines_of(tmp_path, LETTERS + LONE_CAPITALS + "always xa 5\n")
+    assert "uplow Aa 46-1,1" in lines
+    assert "always xa 5" in lines
+    assert "always qa 12345-1" not in lines
+
+
 def test_digits_get_their_sign(tmp_path: Path) -> None:
     assert lines_of(tmp_path, LETTERS + DIGITS)[:1] == ["numsign 3456"]
     assert lines_of(tmp_path, LETTERS + DIGITS)[-3:] == [

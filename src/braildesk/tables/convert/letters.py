@@ -2,7 +2,8 @@
 
 from __future__ import annotations
 
-from collections.abc import Sequence
+from collections.abc import Mapping, Sequence
+from itertools import product
 from typing import Final
 
 from braildesk.tables.convert.draft import Origin, TableDraft
@@ -17,6 +18,9 @@ from braildesk.tables.convert.subject import Subject, script_of
 from braildesk.tables.operands import Cells
 
 ALONE: Final = Origin("Letters that stand alone, by asking liblouis.")
+IN_WORDS: Final = Origin(
+    "Letters within words, whose capitals have a sign only where they stand alone."
+)
 
 
 def ask_letters(subject: Subject, draft: TableDraft) -> list[str]:
@@ -165,3 +169,69 @@ def _run_sign(
         plain = tuple(cell for one in run for cell in draft.cells[one])
         found.append(None if whole is None else stripped(whole, (), plain))
     return most_common(found) if any(one is not None for one in found) else None
+
+
+def settle_lone_capitals(subject: Subject, draft: TableDraft) -> None:
+    """A sign that capitals have where they stand alone, while those of words have none.
+
+    The profile has the sign of one capital wherever that stands. So this one is put into the capital's
+    definition, and rules of the letter, which are for the capital too, are without it within words.
+    """
+    if draft.signs["capsletter"] or subject.alphabet.is_large:
+        return
+    letters = {
+        upper: lower
+        for upper, lower in draft.lower.items()
+        if draft.cells[upper] == draft.cells[lower]
+    }
+    alone = _signs_alone(subject, draft, letters)
+    sample = _sample(subject, letters)
+    sign = most_common([alone[upper] for upper in sample]) if sample else None
+    if not sign:
+        return
+    for upper, lower in letters.items():
+        if alone[upper] == sign:
+            cells = draft.cells[lower]
+            draft.define(upper, "letter", sign + cells)
+            for kind in ("begword", "midword", "endword"):
+                if (kind, lower) not in draft.rules:
+                    draft.add_rule(kind, lower, cells, IN_WORDS)
+    if not _has_contractions(subject):
+        _settle_before_digits(draft, [letters[upper] for upper in sample])
+
+
+def _signs_alone(
+    subject: Subject, draft: TableDraft, letters: Mapping[str, str]
+) -> dict[str, Cells | None]:
+    """What stands before each capital between two words, and not before its small letter."""
+    word = (subject.alphabet.carriers() or ("",))[0] * 2
+    frames = {upper: Frame(f"{word} ", upper, f" {word}") for upper in letters}
+    ask_frames(subject.liblouis, frames.values())
+    found: dict[str, Cells | None] = {}
+    for upper, frame in frames.items():
+        cells = between(subject.liblouis, frame)
+        found[upper] = (
+            None if cells is None else stripped(cells, (), draft.cells[upper])
+        )
+    return found
+
+
+def _has_contractions(subject: Subject) -> bool:
+    """Whether a table has a rule for several letters."""
+    return any(
+        len(rule.characters) > 1 and rule.characters.isalpha()
+        for rule in subject.table.rules
+    )
+
+
+def _settle_before_digits(draft: TableDraft, letters: Sequence[str]) -> None:
+    """The last letter of a word before a digit, by rules of the two last: no kind is for that place."""
+    begun = {
+        characters[0]
+        for kind, characters in draft.rules
+        if len(characters) > 1 and kind != "always"
+    }
+    for first, last in product(letters, repeat=2):
+        if last not in begun:
+            cells = draft.cells[first] + draft.cells[last]
+            draft.add_rule("always", first + last, cells, IN_WORDS)

@@ -16,7 +16,12 @@ from braildesk.tables.convert.draft import (
     add_normal_forms,
 )
 from braildesk.tables.convert.joints import Joints
-from braildesk.tables.convert.letters import ask_capitals, ask_letters, ask_lone_letters
+from braildesk.tables.convert.letters import (
+    ask_capitals,
+    ask_letters,
+    ask_lone_letters,
+    settle_lone_capitals,
+)
 from braildesk.tables.convert.marks import (
     AFTER_LETTERS,
     ENCLOSING,
@@ -90,6 +95,7 @@ def _make(
     missing += marks.define(alphabet.of("punctuation"))
     uncarried = read_rules(subject, draft)
     settle_rules(subject, draft, trial)
+    settle_lone_capitals(subject, draft)
     printed = [
         one
         for one in alphabet.of("punctuation")
