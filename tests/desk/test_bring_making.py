@@ -132,6 +132,14 @@ def test_contractions_are_not_in_the_way_of_a_sign_of_lone_capitals(
     assert "always qa 12345-1" not in lines
 
 
+def test_a_mark_before_a_sign_of_equality_gets_rules(tmp_path: Path) -> None:
+    marks = "punctuation + 235\npunctuation = 2356\npunctuation , 2\n"
+    sums = "noback pass2 @235-2356 @236-2356\nnoback pass2 @2356-2 @256-2\n"
+    lines = lines_of(tmp_path, LETTERS + marks + sums)
+    assert "word += 236-2356" in lines
+    assert "endword =, 256-2" in lines
+
+
 def test_digits_get_their_sign(tmp_path: Path) -> None:
     assert lines_of(tmp_path, LETTERS + DIGITS)[:1] == ["numsign 3456"]
     assert lines_of(tmp_path, LETTERS + DIGITS)[-3:] == [

@@ -24,6 +24,7 @@ from braildesk.tables.convert.letters import (
 )
 from braildesk.tables.convert.marks import (
     AFTER_LETTERS,
+    BEFORE_EQUALS,
     ENCLOSING,
     ENDING,
     IN_PLACES,
@@ -164,6 +165,14 @@ def _settle(marks: Marks, alphabet: Alphabet, printed: list[str]) -> list[str]:
     return marks.unsettled()
 
 
+def _beside_equals(draft: TableDraft, usual: Sequence[str]) -> list[str]:
+    """Marks after a sign of equality, as in `--all=,`, and such as stand before one, as in `+=`."""
+    if "=" not in draft.cells:
+        return []
+    before = [mark for mark in BEFORE_EQUALS if mark in draft.cells]
+    return [f"={mark}" for mark in usual] + [f"{mark}=" for mark in before]
+
+
 def _asked_in_places(
     draft: TableDraft, alphabet: Alphabet, printed: list[str]
 ) -> Iterator[tuple[list[str], Sequence[Place], Origin]]:
@@ -184,6 +193,7 @@ def _asked_in_places(
     yield ends, _LETTER_PLACES, WITH_LETTERS
     yield [one + other for one, other in product(usual, usual)], _PAIR_PLACES, PAIRED
     yield [mark * 3 for mark in usual], _PAIR_PLACES, PAIRED
+    yield _beside_equals(draft, usual), _PAIR_PLACES, PAIRED
     shown = [
         pair[0] + mark + pair[1]
         for pair in ENCLOSING
@@ -192,5 +202,6 @@ def _asked_in_places(
     ]
     yield shown, [(Side.EDGE, Side.EDGE)], PAIRED
     if has_blank:
-        after = [f"{one}{other} " for one, other in product(closing, ENDING)]
+        before = [*closing, *(one for one in "=" if one in draft.cells)]
+        after = [f"{one}{other} " for one, other in product(before, ENDING)]
         yield after, _END_PLACES, PAIRED

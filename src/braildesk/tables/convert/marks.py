@@ -48,6 +48,9 @@ ENCLOSING: Final = ('""', "''", "()", "[]", "\u00ab\u00bb", "\u00bb\u00ab") + (
 )
 """Marks between which a text names another one."""
 
+BEFORE_EQUALS: Final = "+-*/<>!:"
+"""The marks that are asked for before a sign of equality."""
+
 ENDING: Final = ",;:.?!"
 """The marks that are asked for after a closing one with a blank after them."""
 
