@@ -26,17 +26,29 @@ PASSAGES: Final = Origin("Between words of another script, by asking liblouis.")
 FEWEST_LETTERS: Final = 10
 """Of a script with fewer letters no words are written."""
 
-BETWEEN: Final = (" ", ", ", "-", ") ", " (", ".", "/", "_", "'")
-"""What stands between two words of small letters."""
+WITHIN: Final = "_/-.'=:@&+,"
+"""The marks that stand between two such words without a blank, hardly ever after one of the own script."""
 
-BEFORE_CAPITALS: Final = (" ", ". ", "-")
+FIRST: Final = "$"
+"""A mark before words of another script, as before the name of a variable."""
+
+BETWEEN: Final = (" ", ", ", " (", ". ", " --", " -")
+"""What stands with a blank between two words of small letters."""
+
+BEFORE_CAPITALS: Final = (" ", ". ", " (")
 """What stands between a small letter and a capital."""
 
 AFTER_CAPITALS: Final = (" ",)
 """What stands between a word of capitals and another word."""
 
-BETWEEN_CAPITALS: Final = (" ", "_", "-", ", ")
+BETWEEN_CAPITALS: Final = (" ", ", ", ". ")
 """What stands between two words of capitals."""
+
+OPTION: Final = " -"
+"""What stands between a word and a single letter that is an option, with which a passage ends."""
+
+VERSION: Final = "v"
+"""A letter before the number of a version. No kind of rule is for a letter before a digit."""
 
 LONE_WORDS: Final = ("a", "A", "I")
 """Words of one letter, with which a passage may begin. It may end with any, as System V does."""
@@ -90,6 +102,13 @@ class Script:
         self._carrier: Final = carriers[0]
         self._letters: Final = letters
         self._own: Final = subject.alphabet.carriers()[0] * 2
+        self._own_letters: Final = [
+            one
+            for one in subject.alphabet.of("letter")
+            if one in draft.cells
+            and one not in draft.lower
+            and script_of(one) == subject.alphabet.script
+        ]
         self._places: Final[dict[str, _Places]] = {}
         self._in_run: Final[dict[str, Cells]] = {}
         """The cells of capitals after other ones, if these aren't those after a small letter."""
@@ -256,10 +275,44 @@ class Script:
     def settle_passages(self) -> None:
         """Adds what stands between two words, and then what is rarer, while the table has room."""
         if self._carrier in self._places and self._goes_on(" "):
+            self._settle_marks()
             self._settle_joints()
+            self._settle_after_own()
         if self._in_run:
             self._after_small("endword")
             self._after_small("begword")
+
+    def _settle_marks(self) -> None:
+        """Adds marks without blanks, with the first letter of the word after them.
+
+        They are few, since the letter before such a mark, of whatever script, isn't part of a rule.
+        """
+        letters = self._of_case(upper=False) + self._of_case(upper=True)
+        for mark in WITHIN:
+            if mark in self._draft.cells and self._goes_on(mark):
+                for kind in ("midword", "endword"):
+                    self._join(kind, product(("",), (mark,), letters))
+        if FIRST in self._draft.cells:
+            for kind in ("begword", "word"):
+                self._join(kind, product(("",), (FIRST,), letters))
+
+    def _settle_after_own(self) -> None:
+        """Adds a hyphen after a letter of the table's own script, where the second word has its sign."""
+        if "-" not in self._draft.cells or not self._goes_on("-"):
+            return
+        letters = self._of_case(upper=False) + self._of_case(upper=True)
+        own, end = self._own, self._carrier * 2
+        texts = {
+            f"{last}-{first}": f"{own}{last}-{first}{end}"
+            for last, first in product(self._own_letters, letters)
+        }
+        self._liblouis.ask(texts.values())
+        after = self._within(self._carrier)
+        for characters, text in texts.items():
+            front = self._liblouis.cells(own)
+            cells = None if after is None else self._between(text, front, after * 2)
+            if cells:
+                self._draft.add_rule("midword", characters, cells, PASSAGES)
 
     def _settle_joints(self) -> None:
         """Adds what stands between two words, with the last letter of one and the first of the other."""
@@ -277,6 +330,8 @@ class Script:
         lone = [one for one in small + capitals if one in LONE_WORDS]
         self._join("begword", product(lone, (" ",), small + capitals))
         self._join("endword", product(small, (" ",), small + capitals))
+        self._join("endword", product(small, (OPTION,), small))
+        self._join("always", product(small, (" ",), VERSION))
 
     def _join(self, kind: str, joints: Iterable[tuple[str, str, str]]) -> None:
         """Adds a rule for each last letter, what stands between, and first letter."""
