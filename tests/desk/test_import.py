@@ -90,6 +90,39 @@ def test_all_that_would_be_refused_is_reported_before_anything_is_typed(
     assert version(book) == 1
 
 
+OF_LIBLOUIS = """\
+# Greek braille: el.ctb of liblouis 3.24.0, brought over to the profile of
+#   braildesk by scribe bring.
+"""
+MORE_LINES = (
+    "The table own was made from el.ctb of liblouis. With lines of your own that give"
+    " these characters cells, it is made anew by: scribe bring el.ctb FILE{} --add LINES"
+)
+
+
+@pytest.mark.parametrize(
+    ("head", "said"),
+    [
+        (OF_LIBLOUIS, [MORE_LINES.format("")]),
+        (
+            OF_LIBLOUIS + "# 5 rules were learned from the\n#   manuscript.\n",
+            [MORE_LINES.format(" --for MANUSCRIPT")],
+        ),
+        ("# el.ctb of liblouis has more.\n", []),
+        ("space \\t 0\n" + OF_LIBLOUIS, []),
+    ],
+)
+def test_a_table_made_from_one_of_liblouis_is_told_how_it_gets_more_lines(
+    head: str, said: list[str], empty_book: Path
+) -> None:
+    table = head + "space \\s 0\nletter α 1\n"
+    with Session(empty_book) as session:
+        session.put_table("own", table.encode())
+    first, *more = put(empty_book, "α — α").said.splitlines()
+    assert "(U+2014 EM DASH) has no cells by the table own." in first
+    assert more == [*said, "Nothing was typed."]
+
+
 def test_columns_count_characters_of_the_file(empty_book: Path) -> None:
     table = "space \\s 0\nletter ש 146\nletter é 123456\nletter 月 134\n"
     with Session(empty_book) as session:

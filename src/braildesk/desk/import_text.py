@@ -31,6 +31,7 @@ from braildesk.desk.manuscript import Passage, UnreadableText
 from braildesk.desk.manuscripts import Taken, read_bytes, taken
 from braildesk.desk.origin import standing
 from braildesk.desk.replacements import read_replacements
+from braildesk.desk.tables import Made, made_from
 from braildesk.desk.typist import CutShort, look_for, type_all
 from braildesk.desk.unfinished import digest_of, unfinished
 from braildesk.desk.validation import TextFault, faults
@@ -114,13 +115,20 @@ class Faulty(NotImported):
     """Something of the text would be refused, or there are more paragraphs than a book has."""
 
     def __init__(
-        self, path: Path, found: Sequence[TextFault], there: int, count: int
+        self,
+        path: Path,
+        found: Sequence[TextFault],
+        there: int,
+        count: int,
+        made: Made | None,
     ) -> None:
-        super().__init__(path, found, there, count)
+        super().__init__(path, found, there, count, made)
         self.path = path
         self.faults = found
         self.there = there
         self.count = count
+        #: How the table was made, if that was from one of liblouis.
+        self.made = made
 
     @property
     def over(self) -> int:
@@ -295,7 +303,8 @@ def _intake(job: Import, whole: Sequence[Passage]) -> Intake:
     # only once the program has judged the file
     found = read_tables(job.book, timeout=job.wait)
     table = table_for(found, anchor, job.table)
-    faulty = Faulty(job.text, faults(rest, table), len(book), len(rest))
+    made = made_from(table.text)
+    faulty = Faulty(job.text, faults(rest, table), len(book), len(rest), made)
     if faulty.faults or faulty.over:
         raise faulty
     lacking = settings(before[-1], anchor.id, anchor) if before and anchor else ()

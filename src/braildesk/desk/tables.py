@@ -2,7 +2,9 @@
 
 import re
 from collections.abc import Sequence
+from dataclasses import dataclass
 from importlib.resources import files
+from itertools import takewhile
 from pathlib import Path
 
 from braildesk.desk import Problem
@@ -64,3 +66,29 @@ def table_file(name: str, folder: Path = FOLDER) -> Path | None:
 def table_names(folder: Path = FOLDER) -> list[str]:
     """The names of the installed tables."""
     return sorted(path.stem for path in folder.glob("*.utb"))
+
+
+@dataclass(frozen=True)
+class Made:
+    """How a table was made from one of liblouis: by the name of that, and for a manuscript or not."""
+
+    name: str
+    is_for_manuscript: bool
+
+
+def made_from(text: bytes) -> Made | None:
+    """How a table was made, by the comments at the top of its text, if it was made from one of liblouis."""
+    lines = takewhile(_is_comment, text.decode(errors="replace").split("\n"))
+    head = " ".join(part for line in lines for part in line[1:].split())
+    found = _MADE.search(head)
+    return Made(found[1], _FOR_MANUSCRIPT in head) if found else None
+
+
+def _is_comment(line: str) -> bool:
+    return line.startswith("#")
+
+
+_MADE = re.compile(
+    r"(\S+) of liblouis \S+, brought over to the profile of braildesk by scribe bring\."
+)
+_FOR_MANUSCRIPT = "learned from the manuscript"

@@ -290,12 +290,27 @@ def _faulty(problem: Faulty) -> list[str]:
         for each in problem.faults
     ):
         sentences.append("--replace PAIRS puts other characters in their place.")
+    sentences += _made_anew(problem)
     if problem.over:
         sentences.append(
             f"The book has {problem.there:,} paragraphs and the text {problem.count:,}. That is"
             f" {problem.over:,} too many: a book has at most {limits.PARAGRAPHS:,}."
         )
     return sentences
+
+
+def _made_anew(problem: Faulty) -> Iterator[str]:
+    """How a table gets cells for the characters, if it was made from one of liblouis."""
+    made = problem.made
+    lacking = [each.what for each in problem.faults if isinstance(each.what, Lacking)]
+    if made is None or not lacking:
+        return
+    manuscript = " --for MANUSCRIPT" if made.is_for_manuscript else ""
+    yield (
+        f"The table {lacking[0].table} was made from {made.name} of liblouis. With lines of your own"
+        " that give these characters cells, it is made anew by: scribe bring"
+        f" {made.name} FILE{manuscript} --add LINES"
+    )
 
 
 def reminders(found: Unfinished | NotSeen | NotKept, book: Path) -> Iterator[str]:
