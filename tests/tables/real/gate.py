@@ -18,7 +18,12 @@ from braildesk.tables.convert.source import find_table
 from braildesk.tables.convert.subject import script_of_table
 
 LINES = 300
-"""How many lines of a language are compared, the first in the order of their digests."""
+MANY_LINES = 1_500
+"""How many lines of a language are compared, the first in the order of their digests.
+
+Where many lines differ, a few hundred say little: of 300 in Russian 134 are plain, and two of them more
+or less are a hundredth. So there are more of these.
+"""
 
 FEWEST_LINES = 100
 """With fewer lines a share says nothing, and a machine may have none: small ones leave messages out."""
@@ -34,6 +39,7 @@ class Least:
     language: str
     words: float
     plain: float
+    lines: int = LINES
 
 
 LEAST = (
@@ -42,9 +48,9 @@ LEAST = (
     Least("el.ctb", "el", 0.99, 0.97),
     Least("es-g1.ctb", "es", 0.99, 0.99),
     Least("fr-bfu-comp6.utb", "fr", 0.99, 0.97),
-    Least("ru-litbrl.ctb", "ru", 0.96, 0.85),
+    Least("ru-litbrl.ctb", "ru", 0.9695, 0.87, MANY_LINES),
     Least("sv-g0.utb", "sv", 0.99, 0.97),
-    Least("uk.utb", "uk", 0.95, 0.8),
+    Least("uk.utb", "uk", 0.967, 0.86, MANY_LINES),
 )
 """Messages have more Latin words, options and file names than manual pages, so their shares are smaller."""
 
@@ -56,7 +62,7 @@ def judged(least: Least) -> tuple[str, bool | None]:
         line
         for line in running.in_order(running.of_messages(least.language))
         if running.is_of_script(line, script)
-    ][:LINES]
+    ][: least.lines]
     if len(lines) < FEWEST_LINES:
         return (
             f"{least.table}: {len(lines)} lines of messages in {least.language}, too few",
