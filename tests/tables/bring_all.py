@@ -2,6 +2,7 @@
 
     tests/tables/bring_all.py FOLDER [NAME ..]     a row of FOLDER for each table, or for those that are named
     tests/tables/bring_all.py --write FOLDER       measured.md and measured.tsv of src/braildesk/tables/convert
+    tests/tables/bring_all.py --renew FOLDER       what both have of the tables that have rows there
     tests/tables/bring_all.py --real               what both have of running text, from real/figures.tsv
 
 A table that has its row already is left out, so that a stopped run goes on. A row is the figures of
@@ -18,7 +19,7 @@ import os
 import subprocess
 import sys
 import textwrap
-from collections.abc import Iterable, Sequence
+from collections.abc import Iterable, Mapping, Sequence
 from concurrent.futures import ThreadPoolExecutor
 from dataclasses import dataclass
 from pathlib import Path
@@ -74,11 +75,11 @@ Row = dict[str, Any]
 
 def main(words: Sequence[str]) -> int:
     """Runs what the words ask for."""
-    if words[:1] == ["--write"]:
+    if words[:1] in (["--write"], ["--renew"]):
         rows = [
             json.loads(path.read_text()) for path in sorted(Path(words[1]).iterdir())
         ]
-        write(rows)
+        (write if words[0] == "--write" else renew)(rows)
         return 0
     if words[:1] == ["--real"]:
         write_real()
@@ -171,14 +172,24 @@ def failed(name: str, why: str) -> Row:
 
 def write(rows: Iterable[Row]) -> None:
     """Writes the document and the figures for `scribe bring --list`."""
-    by_name = {row["table"]: row for row in rows}
+    found = measured_tables({row["table"]: row for row in rows})
+    write_shares(found)
+    DOCUMENT.write_text(document(found), encoding="utf-8")
+
+
+def measured_tables(rows: Mapping[str, Row]) -> list[Found]:
+    """The tables that have rows, with those that have the lines of one of them."""
     found = [
-        Found(table, by_name[tables[0].name])
+        Found(table, rows[tables[0].name])
         for tables in tables_by_lines()
         for table in tables
-        if tables[0].name in by_name
+        if tables[0].name in rows
     ]
-    found.sort(key=lambda one: (one.table.language, one.table.name))
+    return sorted(found, key=lambda one: (one.table.language, one.table.name))
+
+
+def write_shares(found: Iterable[Found]) -> None:
+    """Writes the figures for `scribe bring --list`."""
     real = on_running_text()
     with MEASURED.open("w", encoding="utf-8", newline="") as file:
         writer = csv.writer(file, delimiter="\t", lineterminator="\n")
@@ -188,7 +199,45 @@ def write(rows: Iterable[Row]) -> None:
                 shares = [f"{share:.5f}" for share in one.shares]
                 known = real.get(one.table.name, {}).get("all_lines", "")
                 writer.writerow([one.table.name, *shares, one.row["differs"], known])
-    DOCUMENT.write_text(document(found), encoding="utf-8")
+
+
+def renew(rows: Iterable[Row]) -> None:
+    """Writes what is known of some tables anew, and leaves the lines of all others."""
+    new = measured_tables({row["table"]: row for row in rows})
+    by_name = {one.table.name: one for one in new}
+    known = known_shares()
+    found = [
+        by_name.get(one.name) or Found(one, known.get(one.name, {}))
+        for one in sorted(shipped_tables(), key=lambda one: (one.language, one.name))
+    ]
+    write_shares(found)
+    before, _, made_up = DOCUMENT.read_text(encoding="utf-8").partition(MADE_UP)
+    _, first, lines = made_up.partition(FIRST)
+    for one in new:
+        start = f"| {one.table.language} | `{one.table.name}`"
+        lines = "".join(
+            row_of(one) if line.startswith(start) and one.is_compared else line
+            for line in lines.splitlines(keepends=True)
+        )
+    head = paragraphs(HEAD.format(**summary_of(found)))
+    DOCUMENT.write_text(before + head + "\n" + first + lines, encoding="utf-8")
+
+
+def known_shares() -> dict[str, Row]:
+    """The shares that are written down, as rows."""
+    with MEASURED.open(encoding="utf-8", newline="") as file:
+        return {
+            row["table"]: {
+                "asked": {"all": float(row["asked"])},
+                "unseen": {
+                    "lines": 1,
+                    "all": float(row["unseen"]),
+                    "others": float(row["others"]),
+                },
+                "differs": row["differs"],
+            }
+            for row in csv.DictReader(file, delimiter="\t")
+        }
 
 
 def write_real() -> None:
@@ -272,7 +321,7 @@ def document(found: Sequence[Found]) -> str:
     text = io.StringIO()
     text.write(paragraphs(FRONT))
     text.write("\n" + part_on_running_text([one.table for one in found]) + "\n")
-    text.write(paragraphs(HEAD.format(**summary(found, compared, europe))))
+    text.write(paragraphs(HEAD.format(**summary_of(found))))
     for title, part in (
         ("Uncontracted tables of Europe", europe),
         ("Other uncontracted tables", [one for one in rest if one not in contracted]),
@@ -316,6 +365,13 @@ def paragraphs(text: str) -> str:
     return "\n\n".join(wrapped).rstrip("\n") + "\n"
 
 
+def summary_of(found: Sequence[Found]) -> dict[str, object]:
+    """What is counted of all tables."""
+    compared = [one for one in found if one.is_compared]
+    europe = [one for one in compared if is_european_and_uncontracted(one.table)]
+    return summary(found, compared, europe)
+
+
 def summary(
     found: Sequence[Found], compared: Sequence[Found], europe: Sequence[Found]
 ) -> dict[str, object]:
@@ -352,6 +408,9 @@ DOCUMENT: Final = ROOT / "src/braildesk/tables/convert/measured.md"
 REAL: Final = "## On running text\n"
 MADE_UP: Final = "## On lines that were made up\n"
 """The headings of the two parts of the document."""
+
+FIRST: Final = "### Uncontracted tables of Europe\n"
+"""The heading of the first tables of made-up lines."""
 
 FRONT: Final = """\
 # Tables of liblouis, brought over

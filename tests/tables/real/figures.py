@@ -4,7 +4,7 @@
     tests/tables/real/figures.py FOLDER [NAME ..] a file of FOLDER for each table, and then figures.tsv
 
 A table that has its file already is left out, so that a stopped run goes on. Of tables that have the same
-lines one is measured, for all of them.
+lines one is measured, for all of them. What figures.tsv has of tables without a file stays.
 """
 
 import csv
@@ -127,8 +127,9 @@ def keep(folder: Path, name: str, language: str) -> None:
 
 
 def write(folder: Path) -> None:
-    """Writes the figures of all tables that have a file."""
-    rows = [json.loads(path.read_text()) for path in sorted(folder.glob("*.json"))]
+    """Writes the figures of all tables that have a file, in place of those that are known of them."""
+    found = [json.loads(path.read_text()) for path in folder.glob("*.json")]
+    by_name = known() | {row["table"]: row for row in found}
     with FIGURES.open("w", encoding="utf-8", newline="") as file:
         writer = csv.DictWriter(file, COLUMNS, delimiter="\t", lineterminator="\n")
         writer.writeheader()
@@ -137,9 +138,17 @@ def write(folder: Path) -> None:
                 key: f"{value:.5f}" if isinstance(value, float) else value
                 for key, value in row.items()
             }
-            for row in rows
+            for _, row in sorted(by_name.items())
             if "failed" not in row
         )
+
+
+def known() -> dict[str, dict[str, Any]]:
+    """The figures that are written down, by the names of the tables."""
+    if not FIGURES.is_file():
+        return {}
+    with FIGURES.open(encoding="utf-8", newline="") as file:
+        return {row["table"]: row for row in csv.DictReader(file, delimiter="\t")}
 
 
 def main(words: Sequence[str]) -> int:

@@ -8,6 +8,7 @@ looking at, and as many after them are held back.
 
 import gzip
 import hashlib
+import os
 import re
 import struct
 import sys
@@ -18,7 +19,7 @@ sys.path.insert(0, str(Path(__file__).resolve().parents[3] / "src"))
 
 from braildesk.tables.convert.subject import script_of  # noqa: E402
 
-MANUALS = Path("/usr/share/man")
+MANUALS = Path(os.environ.get("MANUALS", "/usr/share/man"))
 MESSAGES = Path("/usr/share/locale")
 CATALOGS = (
     "bash bfd binutils coreutils dpkg findutils gas git grep ld make sed tar".split()
