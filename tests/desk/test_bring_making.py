@@ -311,6 +311,16 @@ def test_a_mark_after_a_blank_has_its_cells_at_the_end_of_a_line_too(
     assert "endword \\s! 0-56-235" in lines
 
 
+def test_a_mark_after_a_blank_may_begin_a_word_with_another_mark(
+    tmp_path: Path,
+) -> None:
+    text = LETTERS + "punctuation ) 356\npunctuation ! 235\npunctuation : 25\n"
+    text += "word ! 56-235\npostpunc )! 356-235\nalways !: 235-25\n"
+    lines = lines_of(tmp_path, text)
+    assert "endword \\s! 0-56-235" in lines
+    assert "midword \\s!: 0-235-25" in lines
+
+
 def test_a_mark_three_times_gets_a_rule(tmp_path: Path) -> None:
     text = "punctuation . 256\nalways ... 3-3-3\n"
     assert "always ... 3-3-3" in lines_of(tmp_path, LETTERS + text)

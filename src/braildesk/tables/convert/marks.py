@@ -56,6 +56,8 @@ ENDING: Final = ",;:.?!"
 
 _BEFORE_DIGIT: Final = ((Side.EDGE, Side.DIGIT), (Side.LETTER, Side.DIGIT))
 
+_AFTER_WORD: Final = ((Side.LETTER, Side.LETTER), (Side.LETTER, Side.EDGE))
+
 KIND_OF: Final = {
     (Side.EDGE, Side.EDGE): "word",
     (Side.EDGE, Side.LETTER): "begword",
@@ -112,11 +114,17 @@ class Marks:
         theirs = self.subject.liblouis.ask(lines.values())
         ours = self.trial.cells(self.draft, list(lines.values()))
         front = self.subject.liblouis.cells(word)
+        added = []
         for mark, want, have in zip(lines, theirs, ours, strict=True):
             if front and self._probes.written_out(want) not in (None, have):
                 cells = stripped(want or (), front, ())
-                if cells:
-                    self.draft.add_rule("endword", f" {mark}", cells, WITH_BLANKS)
+                if cells and self.draft.add_rule(
+                    "endword", f" {mark}", cells, WITH_BLANKS
+                ):
+                    added.append(mark)
+        # such a rule holds before another mark too, where a word may begin, as in `":help`
+        pairs = [f" {mark}{other}" for mark, other in product(added, marks)]
+        self.settle(pairs, _AFTER_WORD, WITH_BLANKS)
 
     def unsettled(self) -> list[str]:
         """The lines for which rules were looked for, and that differ in the end."""
