@@ -18,7 +18,8 @@ from braildesk.tables.convert import making
 from braildesk.tables.convert.causes import Difference, Judge
 from braildesk.tables.convert.chooser import Chooser
 from braildesk.tables.convert.draft import Origin, TableDraft
-from braildesk.tables.convert.learning import Learned
+from braildesk.tables.convert.examples import Example
+from braildesk.tables.convert.learning import Learned, Learner
 from braildesk.tables.convert.oracle import Liblouis
 from braildesk.tables.convert.running_text import Word, agreement
 from braildesk.tables.convert.tailoring import Manuscript, Means, Tailored, tailor
@@ -51,6 +52,8 @@ punctuation . 256
 """
 LEARNED = SMALL + "match - th %a 1456\nword be 23\n"
 """A table with a contraction that no rule of it says plainly: th is one cell before a letter."""
+
+SMALL_LETTERS = b"space \\s 0\nletter a 1\nletter b 12\n"
 
 TEXT = "That bat hath bathe the hat.\n\nBath the eth. The tab be that.\n"
 WORDS = "that\nthe\nbath\nbathe\neth\nhath\nbe\nhat\ntab\n"
@@ -107,6 +110,38 @@ def test_rules_are_learned_from_a_manuscript_and_marked_with_its_words(
     assert (found.from_list, found.from_manuscript) == (0, 2)
     assert found.own.agreement.share_of_words == 1
     assert found.held_back is None
+
+
+def spelt(chooser: Chooser, word: str, weight: float, *, doubled: bool) -> Example:
+    """A word as an example, of which each letter has its cell, or has it twice."""
+    cells = [cell for one in word for cell in chooser.cells(chooser.printed(one))]
+    wanted = tuple(cell for cell in cells for _ in range(1 + doubled))
+    starts = range(0, len(wanted) + 1, 1 + doubled)
+    seen = chooser.printed(word)
+    example = Example(seen, wanted, starts, 0, len(word), weight)
+    example.choose(chooser)
+    return example
+
+
+def test_a_token_with_more_cells_than_a_rule_gets_several_that_are_tried_together() -> (
+    None
+):
+    chooser = Chooser(read(SMALL_LETTERS).table)
+    long = spelt(chooser, "abababababab", 1, doubled=True)
+    learned = Learner(chooser, [long], 100).learn_chains([long])
+    assert [*learned] == [("begword", "ababababab"), ("endword", "ab")]
+    assert long.is_right
+    assert not Learner(chooser, [long], len(chooser)).learn_chains([long])
+
+
+def test_several_rules_for_a_token_are_taken_back_where_they_spoil_more() -> None:
+    chooser = Chooser(read(SMALL_LETTERS).table)
+    long = spelt(chooser, "abababababab", 1, doubled=True)
+    others = [spelt(chooser, "ababababababa", 1, doubled=False)]
+    learner = Learner(chooser, [long, *others], 100)
+    assert not learner.learn_chains([long])
+    assert len(chooser) == 0
+    assert others[0].is_right
 
 
 def test_rules_of_a_word_list_are_for_as_many_words_as_the_manuscript_has(

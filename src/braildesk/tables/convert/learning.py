@@ -16,7 +16,7 @@ from typing import Final
 
 from braildesk.tables.convert.chooser import ALWAYS, WORD, Choice, Chooser, Rule
 from braildesk.tables.convert.examples import NOWHERE, Example, Progress
-from braildesk.tables.convert.proposals import proposals
+from braildesk.tables.convert.proposals import chain, proposals
 from braildesk.tables.operands import Cells
 
 PENALTY: Final = 1.5
@@ -62,6 +62,37 @@ class Learner:
             learned |= self._round(least)
         progress(len(rounds), len(rounds))
         return learned
+
+    def learn_chains(self, examples: Iterable[Example]) -> Learned:
+        """Rules that write a token together, as a long address, of which each alone sets nothing right."""
+        learned: Learned = {}
+        for example in examples:
+            rules = {} if example.is_right else chain(example)
+            has_room = len(self._chooser) + len(rules) <= self._most
+            if rules and has_room and self._set_more_right(rules):
+                learned |= rules
+        return learned
+
+    def _set_more_right(self, rules: Learned) -> bool:
+        """Adds rules, unless they set more wrong than right, all of them counted together."""
+        older = {key: self._chooser.cells_of(*key) for key in rules}
+        strings = dict.fromkeys(characters for _, characters in rules)
+        touched = _touched(self._occurrences.of(strings), strings)
+        before = [example.is_right for example in touched]
+        for key, cells in rules.items():
+            self._chooser.add((*key, cells))
+        self._choose(touched)
+        gain = sum(
+            example.weight if example.is_right else -PENALTY * example.weight
+            for example, was_right in zip(touched, before, strict=True)
+            if example.is_right != was_right
+        )
+        if gain > 0:
+            return True
+        for key, cells_before in older.items():
+            self._chooser.put_back(*key, cells_before)
+        self._choose(touched)
+        return False
 
     def _round(self, least: float) -> Learned:
         gains, helped = self._gains()

@@ -137,3 +137,38 @@ def _as_word(example: Example) -> Iterator[Proposal]:
     cells = _cells_between(example, 0, whole, sign)
     if cells is not None:
         yield (WORD, example.seen.folded, cells), True
+
+
+def chain(example: Example) -> dict[tuple[str, str], Cells]:
+    """Rules one after another that write a token, each as long as a rule may be. None if there are no such.
+
+    Liblouis writes some tokens by a way of their own, as addresses, and a rule has few cells. What
+    stands beside a digit has no kind of its own, so such a token has no chain.
+    """
+    found: dict[tuple[str, str], Cells] = {}
+    text, start = example.seen.folded, _front(example)
+    while start < len(text) - _front(example):
+        sign = example.seen.sign(start)
+        for end in range(_farthest(example, start), start, -1):
+            kind = example.seen.kind(start, end)
+            if kind is None or NOWHERE in (example.starts[start], example.starts[end]):
+                continue
+            cells = _cells_between(example, start, end, sign)
+            if cells is not None:
+                found[kind, text[start:end]] = cells
+                start = end
+                break
+        else:
+            return {}
+    return found
+
+
+def _front(example: Example) -> int:
+    """Where the token begins, without the blank beside it, which is as far from the end."""
+    return example.first + (example.first > 0)
+
+
+def _farthest(example: Example, start: int) -> int:
+    """Where a rule of a chain may end at most: at the token's end, or before the next sign."""
+    end = len(example.seen.text) - _front(example)
+    return min(end, start + min(MOST_CHARACTERS, example.seen.room(start)))

@@ -221,7 +221,8 @@ class _Tailoring:
         others = [one for one in of_list if one.seen.text not in weights]
         report = self._means.report("rounds of learning from the manuscript")
         learner = Learner(self._chooser, [*others, *own], self._most)
-        return learner.learn(BOOK_ROUNDS, report)
+        learned = learner.learn(BOOK_ROUNDS, report)
+        return learned | learner.learn_chains(own)
 
     def _figures(
         self,
