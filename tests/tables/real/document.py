@@ -12,7 +12,7 @@ WANTED = 0.995
 PASSAGES = "passages of Latin words over several marks or numbers, in which the first word alone has a sign"
 
 LACKS = {
-    "da-dk-g16-lit_1993.ctb": "a sign before a capital that stands alone and no other",
+    "da-dk-g16-lit_1993.ctb": "signs of capitals that small letters follow, and of a capital within a word",
     "de-g0.utb": "computer braille, which liblouis uses for what it takes for an address or a path",
     "de-g0-detailed.utb": "computer braille, which liblouis uses for what it takes for an address or a path",
     "de-g1.ctb": "computer braille, which liblouis uses for what it takes for an address or a path",
