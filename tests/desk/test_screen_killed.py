@@ -107,8 +107,8 @@ def test_what_the_screen_said_is_kept_where_the_session_is_killed(
     worked(terminal, number)
     lines = terminal.wait("The book was opened again")
     assert lines[0].endswith(SAID[number if far == ANSWERED else number - 1])
-    # what isn't in the book is offered, and given up
-    terminal.keys("n", "q")
+    # what isn't in the book is typed still, and given up
+    terminal.keys("escape", "q")
     assert terminal.ended() == 0
     # half of a line is no command, and a command that was answered is kept
     assert shown(moon) == BOOKS[number if far in (KEPT, ANSWERED) else number - 1]

@@ -9,7 +9,7 @@ import pytest
 from braildesk import Session
 
 from sitting import Sat, Sit
-from stand_in import HALF, KEPT, KILL_PROGRAM, READ, REPLY, SEND
+from stand_in import ANSWERED, HALF, KEPT, KILL_PROGRAM, READ, REPLY, SEND
 from terminal import Open, once_free, standing_in
 
 
@@ -19,6 +19,23 @@ def killed(sat: Sat) -> None:
     sat.state = sat.desk.lost(sat.state)
 
 
+def stopped_once(
+    book: Path, sit: Sit, patch: pytest.MonkeyPatch, number: int, far: str
+) -> Sat:
+    """A desk whose session is killed when a command has come so far; the next one isn't."""
+    with patch.context() as patched:
+        for name, value in standing_in(number, far, KILL_PROGRAM).items():
+            patched.setenv(name, value)
+        return sit(book)
+
+
+def prints(sat: Sat) -> list[str]:
+    """The print of all paragraphs, by another session."""
+    sat.desk.close()
+    with Session(sat.desk.path) as session:
+        return [session.print_of(each.id) for each in session.paragraphs()]
+
+
 def test_the_book_opens_again_by_itself_with_what_was_typed(
     moon: Path, sit: Sit
 ) -> None:
@@ -26,49 +43,106 @@ def test_the_book_opens_again_by_itself_with_what_was_typed(
     sat.press("s", "down", "enter")
     sat.write("Oh, ")
     killed(sat)
-    assert sat.lines[-4:] == [
+    assert sat.lines[-3:] == [
         "The session was ended by signal 9. The book was opened again: it is at version",
-        "8, as before.",
-        "A text of paragraph 2 was typed and isn't in the book: “Oh, The Tides”. Shall it",
-        "be typed further? y is yes, n is no. l leaves it for later.",
+        "8, as before. What is typed is still here: type on.",
+        "Enter keeps it  Escape doesn't  F1 keys",
     ]
-    sat.press("y", "enter")
+    sat.write("so ")
+    sat.press("enter")
     assert sat.state.kept == "kept: correction 1 of paragraph 2"
+    assert prints(sat)[1] == "Oh, so The Tides"
     assert sat.desk.drafts.waiting() is None
+
+
+@pytest.mark.parametrize("typed", ["", "It rose,"])
+def test_who_types_on_where_the_session_ends_gives_no_commands(
+    moon: Path, sit: Sit, typed: str
+) -> None:
+    sat = sit(moon)
+    sat.press("o")
+    sat.write(typed)
+    killed(sat)
+    sat.write("no sun: my last hymn, seen so.")
+    sat.press("enter")
+    assert prints(sat)[1] == f"{typed}no sun: my last hymn, seen so."
+    assert (sat.state.version, len(sat.desk.drafts.given_up())) == (8, 0)
+
+
+@pytest.mark.parametrize("far", [KEPT, ANSWERED])
+def test_after_a_paragraph_that_the_book_has_the_next_one_is_typed(
+    moon: Path, sit: Sit, monkeypatch: pytest.MonkeyPatch, far: str
+) -> None:
+    sat = stopped_once(moon, sit, monkeypatch, 1, far)
+    sat.press("o")
+    sat.write("It rose.")
+    sat.press("enter")
+    assert sat.state.message.endswith(
+        "What was typed last is in the book, as paragraph 4: “It rose.”."
+    )
+    sat.write("no sun.")
+    sat.press("enter")
+    assert prints(sat)[:3] == ["The moon is far away.", "It rose.", "no sun."]
+
+
+@pytest.mark.parametrize("far, keys", [(READ, "y y"), (KEPT, "y"), (ANSWERED, "y")])
+def test_the_rest_of_a_paragraph_that_was_too_long_is_offered_alone(
+    moon: Path, sit: Sit, monkeypatch: pytest.MonkeyPatch, far: str, keys: str
+) -> None:
+    text = " ".join(f"This is sentence {n}." for n in range(1, 251))
+    sat = stopped_once(moon, sit, monkeypatch, 1, far)
+    sat.press("o")
+    sat.state = sat.desk.paste(sat.state, text)
+    sat.press("enter", "y")
+    waits = sat.desk.drafts.waiting()
+    assert waits and waits.text.endswith("This is sentence 250.")
+    sat.press(*keys.split(), "enter", "escape")
+    assert " ".join(prints(sat)[1:3]) == text
+
+
+def test_the_rest_of_a_paragraph_that_was_too_long_is_kept_at_once(
+    moon: Path, sit: Sit
+) -> None:
+    sat = sit(moon)
+    sat.press("o")
+    sat.state = sat.desk.paste(sat.state, "It rose. " * 500)
+    sat.press("enter", "y")
+    waits = sat.desk.drafts.waiting()
+    assert waits and sat.state.typed and waits.text == sat.state.typed.text
 
 
 @pytest.mark.parametrize("far, version", [(READ, 7), (HALF, 7), (KEPT, 8)])
 @pytest.mark.parametrize(
-    "keys, offered, kept, where",
+    "keys, typed, kept, where",
     [
         (
             "enter O h , enter",
-            "A text of paragraph 1 was typed and isn't in the book: “Oh,The moon is far away.”.",
+            "Oh,The moon is far away.",
             "kept: correction 2 of paragraph 1",
             "in paragraph 1: “Oh,The moon is far away.”.",
         ),
         (
             "O S o o n . enter",
-            "A text of a new paragraph was typed and isn't in the book: “Soon.”.",
+            "Soon.",
             "kept: paragraph 4",
             "as paragraph 4: “Soon.”.",
         ),
         (
             "m w h y ? enter",
-            "A note for a mark in paragraph 1 was typed and isn't in the book: “why?”.",
+            "why?",
             "kept: mark 2",
             "as mark 2: “why?”.",
         ),
     ],
 )
-def test_a_command_that_was_under_way_is_found_in_the_book_or_offered(
+def test_a_command_that_was_under_way_is_found_in_the_book_or_still_typed(
     moon: Path,
     sit: Sit,
     monkeypatch: pytest.MonkeyPatch,
     far: str,
     version: int,
     keys: str,
-    offered: str,
+    typed: str,
     kept: str,
     where: str,
 ) -> None:
@@ -87,33 +161,27 @@ def test_a_command_that_was_under_way_is_found_in_the_book_or_offered(
         return
     assert sat.state.message == (
         "The session was ended by signal 9. The book was opened again: it is at version 7, as"
-        " before, and what was asked last is not in it."
+        " before, and what was asked last is not in it. What is typed is still here: type on."
     )
     # the stand-in is still there once more
     for _ in range(2):
-        assert sat.state.question
-        assert sat.state.question.sentence.startswith(offered)
-        sat.press("y", "enter")
+        assert sat.state.typed and sat.state.typed.text == typed
+        sat.press("enter")
     assert sat.state.kept == kept
 
 
+@pytest.mark.parametrize("far", [KEPT, ANSWERED])
 def test_lines_that_were_cut_short_go_on_where_the_book_ends(
-    moon: Path, sit: Sit, monkeypatch: pytest.MonkeyPatch
+    moon: Path, sit: Sit, monkeypatch: pytest.MonkeyPatch, far: str
 ) -> None:
-    with monkeypatch.context() as patched:
-        for name, value in standing_in(2, KEPT, KILL_PROGRAM).items():
-            patched.setenv(name, value)
-        sat = sit(moon)
-        sat.press("o")
-        sat.state = sat.desk.paste(sat.state, "One.\nTwo.\nThree.\nFour.")
-        sat.press("y")
-    sat.press("y")
+    sat = stopped_once(moon, sit, monkeypatch, 2, far)
+    sat.press("o")
+    sat.state = sat.desk.paste(sat.state, "One.\nTwo.\nThree.\nFour.")
+    sat.press("y", "y")
     assert sat.state.question and sat.state.question.lines == ("Three.", "Four.")
     sat.press("y")
-    sat.desk.close()
-    with Session(moon) as session:
-        prints = [session.print_of(each.id) for each in session.paragraphs()]
-    assert prints[:5] == ["The moon is far away.", "One.", "Two.", "Three.", "Four."]
+    found = ["The moon is far away.", "One.", "Two.", "Three.", "Four."]
+    assert prints(sat)[:5] == found
 
 
 @pytest.mark.parametrize(
@@ -138,17 +206,16 @@ def test_a_session_that_fails_or_answers_nonsense_is_left_in_words(
         sat.press("enter", "O", "h", ",", "enter")
     assert sat.state.message == (
         f"{said} The book was opened again: it is at version 7, as before, and what was asked last is"
-        " not in it."
+        " not in it. What is typed is still here: type on."
     )
     # the stand-in is still there once more
     for _ in range(2):
-        assert sat.state.question
-        assert "Oh,The moon is far away." in sat.state.question.sentence
-        sat.press("y", "enter")
+        assert sat.state.typed and sat.state.typed.text == "Oh,The moon is far away."
+        sat.press("enter")
     assert sat.state.kept == "kept: correction 2 of paragraph 1"
 
 
-def test_what_was_typed_is_offered_where_it_could_not_be_kept_in_a_file(
+def test_what_was_typed_is_still_there_where_it_could_not_be_kept_in_a_file(
     moon: Path, sit: Sit, monkeypatch: pytest.MonkeyPatch
 ) -> None:
     monkeypatch.setenv("XDG_STATE_HOME", str(moon))
@@ -159,8 +226,9 @@ def test_what_was_typed_is_offered_where_it_could_not_be_kept_in_a_file(
     assert sat.state.message == (
         "The session was ended by signal 9. The book was opened again: it is at version 7, as before."
         f" What is typed can't be kept in {moon}/braildesk: Not a directory."
+        " What is typed is still here: type on."
     )
-    sat.press("y", "enter")
+    sat.press("enter")
     assert sat.state.kept == "kept: correction 1 of paragraph 2"
 
 

@@ -63,7 +63,7 @@ def test_a_killed_session_leaves_what_the_screen_said_was_kept(
     terminal.keys("o", "It rose.")
     terminal.wait("It rose.")
     os.kill(terminal.program(), signal.SIGKILL)
-    terminal.wait("be typed further? y is yes")
+    terminal.wait("here: type on.")
     terminal.hang_up()
     assert terminal.left() == 3
     with once_free(moon) as session:

@@ -102,6 +102,7 @@ _PASTED = (
     "Pasted text goes in after Enter or o. No key of it was obeyed. U brings it back, for a new"
     " paragraph."
 )
+_TYPE_ON = "What is typed is still here: type on."
 # the first words of a listed paragraph are kept as long as any line may be
 _WORDS = 300
 
@@ -523,6 +524,8 @@ class Desk:
                 state = self._done(state, step.asked)
         except _Interrupted as interrupted:
             state = self._after_failure(interrupted.state, interrupted.cause)
+            if isinstance(step.asked, requests.Type):
+                state = self._begun_where_typed(state)
         except Stop as stop:
             state = state.saying(stop.sentence)
         except (Lost, Refused) as failed:
@@ -547,8 +550,16 @@ class Desk:
 
     def _begun(self, state: State, text: str = "") -> State:
         """The state in which another paragraph is typed after the one that was kept."""
-        state = self.save_draft(state)
-        return replace(state, typed=Field(Purpose.AFTER, text, len(text)))
+        return self.save_draft(
+            replace(state, typed=Field(Purpose.AFTER, text, len(text)))
+        )
+
+    def _begun_where_typed(self, state: State) -> State:
+        """The state after a paragraph was found in the book: the next one is typed, as after Enter."""
+        if state.is_lost or state.typed is not None or state.question is not None:
+            return state
+        newest = max(each.id for each in state.book)
+        return self._begun(self.refreshed(at_paragraph(state, newest)))
 
     def _gone_on(self, state: State, action: GoOn) -> State:
         """Keeps the first part of a text that is too long, and goes on with the rest."""
@@ -556,7 +567,15 @@ class Desk:
         assert typed is not None
         asked = keys.entered(state, replace(typed, text=action.first)).asked
         if isinstance(asked, Command):
-            state = self._sent(state, asked)
+            # until the book has the first part, both wait as lines
+            about = keys.about_lines(typed.purpose, (action.first, action.rest))
+            waiting = replace(state, question=about)
+            try:
+                state = replace(self._sent(waiting, asked), question=None)
+            except _Interrupted as interrupted:
+                if isinstance(interrupted.cause, Refused):
+                    interrupted.state = replace(interrupted.state, question=None)
+                raise
         return self._begun(state, action.rest)
 
     def _drawn(self, state: State) -> State:
@@ -606,8 +625,15 @@ class Desk:
             self._open()
             found_words = found_again(aftermath.found_again(self._session, lost))
             said = f"{lost.cause} {found_words} {unsaved}".strip()
-            found = replace(state, typed=None, preview=None, question=None, pages=None)
-            found = self._opened_again(found).saying(said)
+            found = replace(state, pages=None).saying(said)
+            is_same = state.version == self._session.last_version
+            if is_same and state.typed is not None and state.question is None:
+                # who types on meanwhile types into the same text, and gives no commands
+                if state.typed.text:
+                    found = found.saying_too(_TYPE_ON)
+                return self.refreshed(found)
+            found = replace(found, typed=None, preview=None, question=None)
+            found = self._opened_again(replace(found, version=lost.version))
             return self.refreshed(self._offered(found, waits))
         except DeskError as failed:
             return self._ended(state, lost.sentence, failed.sentence)
@@ -637,7 +663,7 @@ class Desk:
         """Sends a command; only what its `ok` says is said to be kept."""
         # what is sent is kept until the book has it; what is in the way is said if it has not
         self._keep(state)
-        before, typed = state, state.typed
+        before = state
         try:
             resolving = self._resolving(state, command)
             answer = self._session.ask(command)
@@ -650,19 +676,28 @@ class Desk:
                 preview=None,
                 deeds=(*state.deeds, deed) if deed else state.deeds,
             )
-            number = getattr(command, "paragraph", None)
-            if isinstance(command, requests.Type):
-                number = answer.id
-            elif isinstance(command, requests.Resolve) and before.reading:
-                number = before.reading.paragraph.id
-            elif typed is not None and typed.purpose is Purpose.EDIT:
-                state = replace(state, pane=Pane.PRINT, place=typed.place)
-            state = self._changed(state, number, before)
-            if isinstance(command, requests.Resolve):
-                state = left_here(state)
-            return state
-        except (Lost, Refused) as failed:
-            raise _Interrupted(state, failed) from failed
+            return self._shown_after(state, command, answer, before)
+        except Lost as lost:
+            # what is typed is looked for in the book, so that what comes after it isn't forgotten
+            still = replace(before, kept=state.kept, deeds=state.deeds)
+            raise _Interrupted(still, lost) from lost
+        except Refused as refused:
+            raise _Interrupted(state, refused) from refused
+
+    def _shown_after(
+        self, state: State, command: Command[Any], answer: Any, before: State
+    ) -> State:
+        """The state once a command was kept, at the paragraph that it is about."""
+        typed = before.typed
+        number = getattr(command, "paragraph", None)
+        if isinstance(command, requests.Type):
+            number = answer.id
+        elif isinstance(command, requests.Resolve) and before.reading:
+            number = before.reading.paragraph.id
+        elif typed is not None and typed.purpose is Purpose.EDIT:
+            state = replace(state, pane=Pane.PRINT, place=typed.place)
+        state = self._changed(state, number, before)
+        return left_here(state) if isinstance(command, requests.Resolve) else state
 
     def _resolving(self, state: State, command: Command[Any]) -> Deed | None:
         """How a mark that is about to be resolved is put again; its cells are found before."""
