@@ -380,6 +380,22 @@ def test_a_mark_is_put_on_words(talk: Talk) -> None:
     ]
 
 
+def test_change_means_the_paragraph_of_the_mark_in_hand_if_it_names_none(
+    talk: Talk,
+) -> None:
+    # before a mark is shown no paragraph is meant
+    assert talk.type("change far near")[0] == "Argument PARA: 'far' is not a number."
+    talk.type("next")
+    assert talk.type("change far near")[:2] == [
+        "Paragraph 1: The moon is [near] away.",
+        "Before: The moon is [far] away.",
+    ]
+    # a number is that of a paragraph, as ever
+    assert talk.type("change 2 Tides Tide")[0] == "Paragraph 2: The [Tide]"
+    talk.type("resolve")
+    assert talk.type("change near far")[0] == "Argument PARA: 'near' is not a number."
+
+
 def test_paragraphs_are_shown_and_words_found(talk: Talk) -> None:
     assert talk.type("show --paragraphs 2") == [
         "Paragraph 2, body",

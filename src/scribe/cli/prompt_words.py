@@ -106,7 +106,7 @@ def command_answered(talk: Conversation, file: Path, name: str, rest: str) -> No
     parser = its.prompt_parser()
     arguments = Namespace(file=file, read_at=file, ask_person=talk.ask)
     try:
-        parser.parse_args(words_of(rest), arguments)
+        parser.parse_args(_with_paragraph(talk, parser, words_of(rest)), arguments)
     except TextAsked as asked:
         talk.console.show(*asked.text.rstrip("\n").split("\n"))
         return
@@ -125,6 +125,17 @@ def command_answered(talk: Conversation, file: Path, name: str, rest: str) -> No
         return
     if isinstance(outcome, MarkOfBook):
         talk.hand = outcome
+
+
+def _with_paragraph(talk: Conversation, parser: Parser, words: list[str]) -> list[str]:
+    """The words of a line, with the paragraph of the mark in hand if they begin without one."""
+    hand, first = talk.hand, parser.asked[0] if parser.asked else None
+    if hand is None or hand.mark.resolved or first is None or not words:
+        return words
+    takes_it = first.in_hand and first.action.dest == "paragraph"
+    if not takes_it or words[0].startswith("-") or words[0].isdecimal():
+        return words
+    return [str(hand.paragraph), *words]
 
 
 def _complete(talk: Conversation, parser: Parser, arguments: Namespace) -> None:
