@@ -92,9 +92,9 @@ def test_a_correction_is_kept_with_its_name_and_then_undone(
     sat.press("h")
     assert sat.lines[1:5] == [
         "History of paragraph 1. Lines 1 to 3 of 3.",
-        "1: “moon” for characters 5 to 7",
-        "2: “M” for character 5, by anna",
-        "3: correction 2 taken back",
+        "Correction 2 taken back: The [moon] is far away.",
+        "Correction 2, by anna, for “moon”: The [Moon] is far away.",
+        "Correction 1, for 3 characters: The [moon] is far away.",
     ]
     with Session(closed(sat)) as session:
         entries = session.history_of(1)

@@ -1,7 +1,7 @@
 """What comes into a window otherwise than by keys: lines that are pasted, and files that are dropped."""
 
 import time
-from collections.abc import Callable
+from collections.abc import Callable, Sequence
 from pathlib import Path
 
 import pytest
@@ -9,6 +9,7 @@ from PyQt6.QtCore import QMimeData, QPointF, Qt, QTimer, QUrl
 from PyQt6.QtGui import QDropEvent
 from PyQt6.QtWidgets import QApplication, QDialog, QLabel
 
+from braildesk import requests
 from braildesk.desk.drafts import Drafts
 from braildesk.desk.layout import PageSize
 
@@ -133,3 +134,23 @@ def test_sizes_and_fonts_are_remembered(desk: Desk, moon: Path) -> None:
     again.is_closed = True
     assert again.window.cells.font().pointSizeF() == pytest.approx(23.0)
     again.close()
+
+
+def test_the_history_says_who_changed_what(
+    desk: Desk, monkeypatch: pytest.MonkeyPatch
+) -> None:
+    reports: list[tuple[str, list[str]]] = []
+
+    def report(over: object, title: str, lines: Sequence[str]) -> None:
+        reports.append((title, [*lines]))
+
+    monkeypatch.setattr(dialogs, "report", report)
+    desk.choose(0)
+    desk.acts["history"]()
+    desk.do(requests.CorrectBy(1, 4, 4, "Sun", who="anna"))
+    desk.acts["history"]()
+    title = "History of paragraph 1"
+    assert reports == [
+        (title, ["Nothing was corrected yet."]),
+        (title, ["Correction 1, by anna, for 4 characters: The [Sun]"]),
+    ]

@@ -34,7 +34,7 @@ from braildesk.text.excerpt import opening
 from braildesk.text.sequences import composed
 from braildesk.text.spans import Span
 
-from scribe.screen import by_pages, finding, keys, whole_book
+from scribe.screen import by_pages, finding, keys, lists, whole_book
 from scribe.screen.actions import (
     Action,
     BringBack,
@@ -93,7 +93,6 @@ from scribe.words.drafts import Unsent, not_kept, what_for
 from scribe.words.import_text import came_to, not_seen
 from scribe.words.paragraph import quoted
 from scribe.words.preview import Tables
-from scribe.words.replies import shown
 from scribe.words.status import Interrupted, Stop, in_sentences, of_system
 
 _SHOWS_KEYS = "? shows the keys."
@@ -770,11 +769,7 @@ class Desk:
                 found = finding.to_mark(self._session, state, action)
                 return self._with_page_said(state, found)
             case ShowHistory():
-                assert state.paragraph is not None
-                number = state.paragraph.id
-                lines = shown(self._session, requests.History(number))
-                title = f"History of paragraph {number}."
-                return replace(state, pages=Pages(title, tuple(lines)))
+                return lists.with_history(self._session, state)
             case ShowPage() | ListMarks() | ListHeadings() | ToPage() | SayPage():
                 return self._by_pages(state, action)
             case FindPlaces() | ChangePlaces() | ListVolumes() | SetVolumes():

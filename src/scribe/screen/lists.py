@@ -1,4 +1,4 @@
-"""Lists to go by: the marks and the headings of a book, each with its page and line."""
+"""Lists: the marks and the headings of a book, each with its page and line, and a history."""
 
 from collections.abc import Callable, Iterator, Sequence
 from dataclasses import replace
@@ -16,6 +16,7 @@ from scribe.screen.actions import ToPage
 from scribe.screen.in_hand import holding
 from scribe.screen.state import Pages, Pane, State, Target
 from scribe.words import pagelook
+from scribe.words.changes import nothing_found, paragraph_history
 from scribe.words.pagelook import Layouts, Volume, line_of
 from scribe.words.paragraph import mark_line
 
@@ -128,6 +129,15 @@ def headings_list(
     before = [n for n, each in enumerate(found) if order[each.id] <= state.chosen]
     line = before[-1] if before else 0
     return replace(state, pages=pager.at_line(pages, state.size, line))
+
+
+def with_history(session: Session, state: State) -> State:
+    """The state in which the history of the chosen paragraph is looked at."""
+    its = state.paragraph
+    assert its is not None
+    lines = tuple(paragraph_history(session, its, state.size.columns))
+    title = f"History of paragraph {its.id}."
+    return replace(state, pages=Pages(title, lines or (nothing_found(None, ()),)))
 
 
 def _at_nearest(state: State, pages: Pages, count: int) -> Pages:

@@ -8,9 +8,10 @@ from braildesk.desk.tables import SUPPLIED, table_names
 
 from scribe.window import dialogs
 from scribe.window.desk import STRUCK, Desk, New
-from scribe.words.replies import shown
+from scribe.words.changes import nothing_found, paragraph_history
 from scribe.words.status import Stop
 
+_HISTORY_COLUMNS = 72
 _FROM_A_FILE = "From a file…"
 _TABLES = "Tables (*.utb);;All files (*)"
 
@@ -104,6 +105,6 @@ class Structure:
     def history(self) -> None:
         """Shows the corrections of the chosen paragraph."""
         desk, number = self.desk, self.desk.settled()
-        asked = requests.History(number)
-        lines = desk.asked(lambda: shown(desk.book.session, asked))
+        found = paragraph_history(desk.book.session, desk.chosen, _HISTORY_COLUMNS)
+        lines = desk.asked(lambda: list(found)) or [nothing_found(None, ())]
         dialogs.report(desk.window, f"History of paragraph {number}", lines)

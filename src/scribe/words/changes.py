@@ -7,7 +7,7 @@ from typing import Any, TypeVar
 from braildesk import Kind, NoMemory, Paragraph, Refused, Session, Style, requests
 from braildesk.desk.change import Change, newly_touched
 from braildesk.desk.correction import smallest_correction
-from braildesk.desk.history import Step
+from braildesk.desk.history import Step, histories
 from braildesk.desk.marks import MarkedWords
 from braildesk.desk.places import NoPlace
 from braildesk.desk.readings import answers
@@ -286,9 +286,22 @@ def no_place(none: NoPlace) -> str:
 def history_lines(found: Iterable[Step], width: int) -> Iterator[list[str]]:
     """The lines of each entry: which it is, who made it, for which words, and the print after it."""
     for step in found:
-        text = step.before + step.came + step.after
-        start = len(step.before)
-        yield in_its_line(_head(step), text, start, start + len(step.came), width)
+        head = f"Paragraph {step.paragraph}, {_entry(step)}"
+        yield _in_its_print(step, head, width)
+
+
+def paragraph_history(
+    session: Session, paragraph: Paragraph, width: int
+) -> Iterator[str]:
+    """The lines of one paragraph's history, the newest first, where its number is said before."""
+    for step in histories(session, [paragraph]):
+        head = _entry(step)
+        yield from _in_its_print(step, head[0].upper() + head[1:], width)
+
+
+def _in_its_print(step: Step, head: str, width: int) -> list[str]:
+    text, start = step.before + step.came + step.after, len(step.before)
+    return in_its_line(head, text, start, start + len(step.came), width)
 
 
 def nothing_found(by: str | None, names: Iterable[str]) -> str:
@@ -301,12 +314,13 @@ def nothing_found(by: str | None, names: Iterable[str]) -> str:
     return f"There is no correction by {quoted(by)}. There are some by {', '.join(map(visible, known))}."
 
 
-def _head(step: Step) -> str:
+def _entry(step: Step) -> str:
+    """Which entry of a history a step is, who made it, and for which words."""
     entry = step.entry
     if entry.kind is Kind.UNDO:
-        return f"Paragraph {step.paragraph}, correction {entry.undone} taken back"
+        return f"correction {entry.undone} taken back"
     by = "" if entry.who is None else f", by {visible(entry.who)}"
-    return f"Paragraph {step.paragraph}, correction {entry.seq}{by}{_for(step)}"
+    return f"correction {entry.seq}{by}{_for(step)}"
 
 
 def _for(step: Step) -> str:
