@@ -91,6 +91,17 @@ def test_enter_goes_to_the_mark_of_the_line_and_it_is_in_hand(
     assert sat.state.pages and sat.state.pages.title.startswith("No open marks, 3")
 
 
+def test_n_goes_from_mark_to_mark_in_their_list(tides: Path, sit: Sit) -> None:
+    sat = sit(tides, size=Size(40, 12))
+    # on the first mark, which takes three rows here as the second does
+    sat.press("M", "n", "enter")
+    assert (sat.state.chosen, sat.state.place) == (3, 3)
+    sat.press("M", "N", "enter")
+    assert (sat.state.chosen, sat.state.place) == (1, 39 * 30 + 20)
+    sat.press("M", "n", "n", "n")
+    assert sat.state.message == "There are no more lines that way."
+
+
 def test_page_and_line_of_what_is_gone_to_are_said_where_that_is_wanted(
     tides: Path, sit: Sit, monkeypatch: pytest.MonkeyPatch
 ) -> None:

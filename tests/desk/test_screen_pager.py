@@ -2,7 +2,7 @@
 
 from dataclasses import replace
 
-from scribe.screen.pager import at_line, moved, seen
+from scribe.screen.pager import at_line, beside, moved, seen
 from scribe.screen.state import Pages, Size
 
 SMALL, USUAL = Size(40, 12), Size(80, 24)
@@ -35,6 +35,26 @@ def test_the_cursor_stands_on_the_head_and_then_on_each_line() -> None:
         pages = pressed(pages, SMALL, "up")
         assert looked_at(pages, SMALL) == f"line {number}"
     assert pressed(pages, SMALL, "up") == LINES
+
+
+def test_a_key_goes_from_one_line_of_a_list_to_the_next_however_many_rows_it_has() -> (
+    None
+):
+    texts = tuple(f"mark {n} stands on words with a longer note" for n in range(1, 8))
+    pages = Pages("All lines.", texts)
+    for number in range(1, 8):
+        pages = beside(pages, SMALL, 1)
+        assert looked_at(pages, SMALL) == f"mark {number} stands on words with a longer"
+        found = seen(pages, SMALL)
+        assert found.lines[found.cursor - len(found.head) + 1] == "note"
+    assert beside(pages, SMALL, 1) == pages
+    # also from the second row of one
+    pages = beside(pressed(pages, SMALL, "down"), SMALL, -1)
+    for number in range(6, 0, -1):
+        assert looked_at(pages, SMALL) == f"mark {number} stands on words with a longer"
+        pages = beside(pages, SMALL, -1)
+    assert looked_at(pages, SMALL) == "All lines. Lines 1 to 8 of 14."
+    assert beside(pages, SMALL, -1) == pages
 
 
 def test_the_lines_stay_where_they_are_while_they_are_read() -> None:

@@ -124,6 +124,7 @@ KEYS_OF_PAGES = (
 KEYS_OF_LIST = (
     "Enter: goes there",
     *KEYS_OF_PAGES[:-1],
+    "n, N: to the next of the list, to the one before",
     "Escape, q: go back",
 )
 
@@ -279,6 +280,8 @@ def _taken_up(asked: State, draft: Field) -> Step:
 def _looking(state: State, pages: Pages, key: str) -> State:
     moved = pager.moved(pages, state.size, key)
     if moved == pages:
+    if key in ("n", "N") and pages.targets and pages.offer is None:
+        moved = pager.beside(pages, state.size, 1 if key == "n" else -1)
         return state.saying("There are no more lines that way.")
     if moved is not None:
         return replace(state, pages=moved)

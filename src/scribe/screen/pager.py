@@ -43,16 +43,38 @@ def at_line(pages: Pages, size: Size, number: int) -> Pages:
     return _at(pages, size, len(_wrapped(before, size)))
 
 
+def beside(pages: Pages, size: Size, by: int) -> Pages:
+    """The lines with the cursor on the front of the next one or the one before, however long it is.
+
+    All of that line is seen, if there is room for it.
+    """
+    number = min(_number(pages, size) + by, len(pages.lines) - 1)
+    if number < 0:
+        return _at(pages, size, HEAD_LINE)
+    moved = at_line(pages, size, number)
+    end = moved.place + len(wrap(visible(pages.lines[number]), size.columns))
+    if end <= moved.top + _most(pages, size):
+        return moved
+    last = len(_wrapped(pages, size)) - _most(pages, size)
+    return replace(moved, top=max(0, min(moved.place, last)))
+
+
+def _number(pages: Pages, size: Size) -> int:
+    """Which of the lines the cursor is on, counted from 0, or -1 on their head."""
+    if pages.place == HEAD_LINE:
+        return -1
+    stop = 0
+    for number, line in enumerate(pages.lines):
+        stop += len(wrap(visible(line), size.columns))
+        if pages.place < stop:
+            return number
+    return len(pages.lines) - 1
+
+
 def target(pages: Pages, size: Size) -> Target | None:
     """Where the line of the cursor leads, in a list to go by; on its head none does."""
-    if not pages.targets or pages.place == HEAD_LINE:
-        return None
-    count = 0
-    for line, found in zip(pages.lines, pages.targets):
-        count += len(wrap(visible(line), size.columns))
-        if pages.place < count:
-            return found
-    return None
+    number = _number(pages, size)
+    return pages.targets[number] if 0 <= number < len(pages.targets) else None
 
 
 def fitted(pages: Pages, size: Size) -> Pages:
