@@ -30,6 +30,35 @@ def said(sat: Sat) -> str:
     return " ".join(lines[rule + 1 :])
 
 
+#: The keys before m, and what is said of where the mark goes.
+PLACES = {
+    "the words that were found": ("/ f a r enter", "On “far”."),
+    "the character of the cursor, where nothing was found": (
+        "/ s u n enter",
+        "On “T”.",
+    ),
+    "the character of the cursor, away from what was found": (
+        "/ f a r enter right",
+        "On “a”.",
+    ),
+    "the cells that were found": ("tab / f a r enter", "On 3 cells."),
+    "the cells that are chosen": ("tab space right right", "On 3 cells."),
+    "the character of a cell": ("tab", "On “T”."),
+}
+
+
+@pytest.mark.parametrize("place", PLACES)
+def test_what_a_mark_goes_on_is_said_before_its_note_is_typed(
+    moon: Path, sit: Sit, place: str
+) -> None:
+    keys, wanted = PLACES[place]
+    sat = sit(moon)
+    sat.press(*(" " if key == "space" else key for key in keys.split()), "m")
+    assert sat.state.message == (
+        f"{wanted} r resolves a mark, and nothing takes it out."
+    )
+
+
 @pytest.mark.parametrize("size", SIZES, ids=str)
 @pytest.mark.parametrize("fix", FIXES)
 def test_r_resolves_the_mark_that_n_went_to_whatever_was_typed(

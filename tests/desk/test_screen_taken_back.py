@@ -153,9 +153,7 @@ def test_a_mark_is_taken_back_by_resolving_it_and_that_by_a_new_one(
 ) -> None:
     sat = sit(moon)
     sat.press("down", "m")
-    assert sat.state.message == (
-        "The book keeps each mark: r resolves it, and nothing takes it out."
-    )
+    assert sat.state.message.endswith(". r resolves a mark, and nothing takes it out.")
     sat.press(*"who?", "enter", "r", "c-home", "u")
     assert sat.state.message == (
         "Taken back: mark 2 was resolved. It stays resolved, and a new mark stands in its"

@@ -129,6 +129,8 @@ class WordsFound:
     pane: Pane
     place: int
     cells: Span
+    #: How many characters or cells were found.
+    count: int
 
 
 @dataclass(frozen=True)
@@ -232,11 +234,18 @@ class State:
         if self.anchor is not None and self.pane is Pane.CELLS:
             first, last = sorted((self.anchor, self.place))
             return Span(first, last + 1)
+        if self.found_here is not None:
+            return self.found_here.cells
+        return self.highlighted.cells if self.highlighted else None
+
+    @property
+    def found_here(self) -> WordsFound | None:
+        """What was found, while the cursor stays at its front."""
         found = self.found
         here = (self.paragraph.id if self.paragraph else 0, self.pane, self.place)
-        if found is not None and (found.paragraph, found.pane, found.place) == here:
-            return found.cells
-        return self.highlighted.cells if self.highlighted else None
+        if found is None or (found.paragraph, found.pane, found.place) != here:
+            return None
+        return found
 
     @property
     def mark_in_hand(self) -> Mark | None:
