@@ -6,6 +6,7 @@ from pathlib import Path
 
 import pytest
 
+from scribe.screen.keys import KEYS
 from scribe.window.menus import MENUS, Item
 
 from conftest import Open
@@ -68,6 +69,10 @@ CASES = (
     Case("to_message", focus=("text", "Message")),
     Case("to_paragraphs", focus=("table", "Paragraphs")),
     Case("page", "The page is shown beside the book."),
+    Case(
+        "pages_said",
+        "Now F4, Ctrl+F and F3 say the page and line to which they go.",
+    ),
     Case("notation", "Cells are shown in Braille ASCII."),
     Case("larger", "Print has 16 points now, and braille 23."),
     Case("smaller", "Print has 14 points now, and braille 20."),
@@ -84,6 +89,40 @@ CASES = (
     Case("keys", dialog="Keys"),
     Case("leave"),
 )
+
+#: The letters of `scribe edit`: the action of each in the window, and how the help of the terminal begins.
+LETTERS = {
+    "/": ("find", "finds words"),
+    "*": ("find_next", "finds the same again"),
+    "?": ("keys", "shows the keys"),
+    "H": ("headings", "the headings with their pages"),
+    "M": ("all_marks", "the marks with their pages"),
+    "N": ("last_mark", "to the open mark before"),
+    "O": ("new_before", "a new paragraph before"),
+    "P": ("pages_said", "says the page and line of marks and words"),
+    "U": ("bring_back", "brings back a text"),
+    "V": ("volumes", "the volumes with their pages"),
+    "a": ("notation", "cells in Braille ASCII"),
+    "b": ("heading", "makes it a heading"),
+    "c": ("change_all", "changes words wherever they stand"),
+    "g": ("go_to", "goes to a paragraph by its number"),
+    "h": ("history", "the history"),
+    "i": ("import_text", "imports a text"),
+    "m": ("mark", "puts a mark on"),
+    "n": ("next_mark", "to the next open mark"),
+    "o": ("new_after", "a new paragraph after"),
+    "p": ("page", "the page on which"),
+    "q": ("leave", "ends"),
+    "r": ("resolve", "says that the mark shown first is dealt with"),
+    "s": ("strike", "strikes the paragraph"),
+    "t": ("table", "gives it a table"),
+    "u": ("take_back", "takes back what a key last did"),
+    "v": ("volume", "has it begin a volume"),
+    "w": ("page_size", "the size of pages"),
+    "x": ("export", "exports all volumes"),
+}
+# lines and cells are chosen by the keys of any window; what the others are for is elsewhere in docs/window.md
+TERMINAL_ALONE = {"j", "k", " ", "d", "z"}
 
 Press = Callable[[Reader, Item], None]
 
@@ -135,3 +174,11 @@ def test_no_action_is_left_out_and_no_key_or_letter_stands_for_two() -> None:
         given = [getattr(item, kind) for item in ITEMS.values()]
         assert len([each for each in given if each]) == len({*given} - {""})
     assert [name for name, item in ITEMS.items() if not item.key] == []
+
+
+def test_a_letter_does_the_same_as_in_the_terminal() -> None:
+    letters = {item.letter: name for name, item in ITEMS.items() if item.letter}
+    assert letters == {letter: name for letter, (name, _) in LETTERS.items()}
+    assert {key for key in KEYS if len(key) == 1} == LETTERS.keys() | TERMINAL_ALONE
+    for letter, (_, says) in LETTERS.items():
+        assert KEYS[letter].says.startswith(says), letter

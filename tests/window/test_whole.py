@@ -218,6 +218,26 @@ def test_headings_and_marks_are_gone_to_by_their_lists(
     assert desk.window.message.text == "Mark 1, open, on “mon”: spelled so?"
 
 
+def test_page_and_line_are_said_of_what_is_gone_to(desk: Desk, given: Answers) -> None:
+    desk.page_size = PageSize(10, 3)
+    desk.act("pages_said")
+    desk.act("next_mark")
+    mark = "Mark 1, open, on “mon”: spelled so?"
+    assert desk.window.message.text == f"{mark} Page 2 line 1."
+    given["text"] = "sea"
+    desk.act("find")
+    assert desk.window.message.text == "Paragraph 3, character 17. Page 4 line 2."
+    desk.do(requests.Volume(3, True))
+    given["text"] = "day"
+    desk.act("find")
+    there = "Paragraph 3, character 9. This is the first in the book: there is none further on."
+    assert desk.window.message.text == f"{there} Volume 2, page 1 line 2."
+    desk.act("pages_said")
+    assert desk.window.message.text == "Now without page and line."
+    desk.act("find_next")
+    assert desk.window.message.text == "“day” stands nowhere else in the book."
+
+
 def test_a_text_that_is_too_long_goes_on_in_a_new_paragraph(
     desk: Desk, given: Answers
 ) -> None:

@@ -169,15 +169,8 @@ def page_said(session: Session, state: State, laid: Volume) -> str:
     """The page and line of the cursor's words in a volume that is laid out, as a sentence."""
     its, here = state.paragraph, state.highlighted
     assert its is not None and here is not None
-    lines = laid.lines[laid.paragraphs.index(its)] if laid.lines else range(0)
-    if not lines:
-        return laid.fault or "It is on no page."
-    (section,) = sections(session, [its])
-    number = line_of(laid, section, lines, here.cells.start)
-    page, line = laid.page_size.place(number)
-    if len(volumes_of(state)) == 1:
-        return f"Page {page} line {line}."
-    return f"Volume {laid.number}, page {page} line {line}."
+    volumes = len(volumes_of(state))
+    return pagelook.place_said(session, laid, its, here.cells.start, volumes)
 
 
 def at_page(session: Session, state: State, action: ToPage, laid: Volume) -> State:

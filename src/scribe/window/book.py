@@ -431,11 +431,11 @@ class OpenBook:
         if volume is None:
             said = f"Paragraph {its.id} is struck, and stands on no page."
             return pagelook.Page(said)
-        if self._laid is None or not self._laid.is_of(volume):
-            if volume.is_long and not is_asked:
-                return pagelook.Page(_LONG)
-            self._laid = pagelook.laid_out(self._session, volume, lambda *_: None)
-        return pagelook.page_of(self._session, self._laid, sought)
+        is_laid = self._laid is not None and self._laid.is_of(volume)
+        if volume.is_long and not is_asked and not is_laid:
+            return pagelook.Page(_LONG)
+        laid = self._laid_out(volume, lambda *_: None)
+        return pagelook.page_of(self._session, laid, sought)
 
     def line(
         self,
@@ -467,14 +467,45 @@ class OpenBook:
             if is_stopped():
                 raise Stop("The pages aren't laid out. The caret stays where it was.")
 
-        if self._laid is None or not self._laid.is_of(volume):
-            self._laid = pagelook.laid_out(self._session, volume, report)
+        laid = self._laid_out(volume, report)
         try:
-            return pagelook.start_of(
-                self._session, self._laid, wanted.page, wanted.line
-            )
+            return pagelook.start_of(self._session, laid, wanted.page, wanted.line)
         except pagelook.NotThere as fault:
             raise Stop(f"{fault.sentence} The caret stays where it was.") from fault
+
+    def place_said(
+        self,
+        contents: Contents,
+        page_size: PageSize,
+        here: tuple[Paragraph, int],
+        say: Callable[[str], None],
+        is_stopped: Callable[[], bool],
+    ) -> str:
+        """The page and line of a cell of a paragraph, as a sentence."""
+        (its, cell), book, version = here, contents.paragraphs, contents.version
+        volume = pagelook.volume_of(book, version, page_size, its)
+        if volume is None:
+            return f"Paragraph {its.id} is struck, and stands on no page."
+        count = len(pagelook.volumes_of(book, version, page_size))
+
+        def report(done: int, whole: int) -> None:
+            say(f"{done:,} of {whole:,} paragraphs are laid out.")
+            if is_stopped():
+                raise Stop("The pages aren't laid out.")
+
+        try:
+            laid = self._laid_out(volume, report)
+        except Stop as stop:
+            return stop.sentence
+        return pagelook.place_said(self._session, laid, its, cell, count)
+
+    def _laid_out(
+        self, volume: pagelook.Volume, report: Callable[[int, int], None]
+    ) -> pagelook.Volume:
+        """A volume that is laid out, if need be now."""
+        if self._laid is None or not self._laid.is_of(volume):
+            self._laid = pagelook.laid_out(self._session, volume, report)
+        return self._laid
 
     def where_kept(self, contents: Contents, draft: Draft) -> str:
         """Where a text that waits, or its first line, is in the book, in words; or nothing.

@@ -72,6 +72,8 @@ class Desk:
         self.new: New | None = None
         self.in_hand: int | None = None
         self.is_ascii = False
+        #: The page and line are said of marks and words that are gone to.
+        self.says_pages = False
         #: The book can't be worked on, since its session ended and none could be opened.
         self.is_closed = False
         self.acts: dict[str, Callable[[], None]] = {}
@@ -237,6 +239,11 @@ class Desk:
         if self.window.cells.hasFocus() and self._light is not None:
             return self._light.words.start
         return self.window.print.place
+
+    @property
+    def cell(self) -> int | None:
+        """The first of the cells that are lit; none where none is."""
+        return self._light.cells.start if self._light is not None else None
 
     def show(self, contents: Contents, number: int | None) -> None:
         """Shows the book as it is now, with a paragraph chosen, of which something changed."""

@@ -8,6 +8,7 @@ from braildesk.text.sequences import composed
 from braildesk.text.spans import Span, find_spans
 
 from scribe.window import dialogs
+from scribe.window.arriving import say_there
 from scribe.window.desk import NO_PARAGRAPH, Desk
 from scribe.words.paragraph import quoted
 from scribe.words.status import Stop
@@ -101,7 +102,7 @@ class Finding:
             said = f"{said} This is the first in the book: there is none further on."
         elif self._finds_alike and not is_cells:
             said = f"{said} It stands there otherwise than as it was typed."
-        desk.say(said)
+        say_there(desk, said)
 
     def found_here(self) -> Span | None:
         """The words that were looked for, where the caret stands on them."""

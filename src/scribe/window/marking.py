@@ -8,6 +8,7 @@ from braildesk.desk.draft import Aim, Draft
 from braildesk.text.spans import Span
 
 from scribe.window import dialogs
+from scribe.window.arriving import say_there
 from scribe.window.desk import STRUCK, Desk
 from scribe.words.paragraph import mark_line, quoted
 from scribe.words.status import Stop
@@ -105,7 +106,7 @@ class Marking:
         its = desk.reading.its if desk.reading else None
         marks = its.marks if its else ()
         lines = [mark_line(m, its.text) for m in marks if its and m.id == desk.in_hand]
-        desk.say(said + " ".join(lines))
+        say_there(desk, said + " ".join(lines))
 
     def resolve(self) -> None:
         """Resolves the mark in hand, or the first open one at the caret."""

@@ -52,7 +52,7 @@ MENUS: Mapping[str, tuple[Item | None, ...]] = {
         Item("find", "&Find…", "Ctrl+F", "/"),
         Item("find_next", "Find ne&xt", "F3", "*"),
         Item("change", "&Change words…", "Ctrl+H"),
-        Item("change_all", "Change &everywhere…", "Ctrl+Shift+H", "C"),
+        Item("change_all", "Change &everywhere…", "Ctrl+Shift+H", "c"),
     ),
     "&Paragraph": (
         Item("new_after", "&New paragraph after", "Ctrl+Return", "o"),
@@ -83,6 +83,7 @@ MENUS: Mapping[str, tuple[Item | None, ...]] = {
         Item("to_message", "To the &message", "F6"),
         None,
         Item("page", "Page of the &caret, shown or not", "Ctrl+P", "p"),
+        Item("pages_said", "Page and line sai&d, or not", "Ctrl+Shift+N", "P"),
         Item("notation", "Braille &ASCII or Unicode", "F9", "a"),
         Item("larger", "&Larger", "Ctrl++"),
         Item("smaller", "&Smaller", "Ctrl+-"),

@@ -43,6 +43,13 @@ class View:
         is_shown = dock.isVisible()
         desk.say(f"The page is {'shown beside the book' if is_shown else 'hidden'}.")
 
+    def pages_said(self) -> None:
+        """Has the page and line be said of what is gone to, or not any more."""
+        desk = self.desk
+        desk.says_pages = not desk.says_pages
+        said = "Now F4, Ctrl+F and F3 say the page and line to which they go."
+        desk.say(said if desk.says_pages else "Now without page and line.")
+
     def page_size(self) -> None:
         """Asks for the size of pages."""
         desk = self.desk

@@ -218,6 +218,21 @@ def start_of(session: Session, volume: Volume, page: int, line: int) -> tuple[in
     return its.id, words_of(session, its.id, cells, text, section.braille).start
 
 
+def place_said(
+    session: Session, volume: Volume, its: Paragraph, cell: int, volumes: int
+) -> str:
+    """The page and line of a cell as a sentence, with its volume where the book has several."""
+    lines = volume.lines[volume.paragraphs.index(its)] if volume.lines else range(0)
+    if not lines:
+        return volume.fault or "It is on no page."
+    (section,) = sections(session, [its])
+    number = line_of(volume, section, lines, cell)
+    page, line = volume.page_size.place(number)
+    if volumes == 1:
+        return f"Page {page} line {line}."
+    return f"Volume {volume.number}, page {page} line {line}."
+
+
 def line_of(volume: Volume, section: Section, lines: range, cell: int) -> int:
     """The line of a volume on which a cell of a paragraph stands that takes some lines."""
     spans = spans_of(section, volume.page_size.width)

@@ -1,0 +1,16 @@
+"""What is said once the caret has gone to a mark, or to words or cells that were looked for."""
+
+from functools import partial
+
+from scribe.window import dialogs
+from scribe.window.desk import Desk
+
+
+def say_there(desk: Desk, said: str) -> None:
+    """Says where the caret is now, and its page and line where these are said too."""
+    if desk.says_pages and desk.reading is not None and desk.cell is not None:
+        here = desk.reading.its.paragraph, desk.cell
+        look = partial(desk.book.place_said, desk.contents, desk.page_size, here)
+        page = dialogs.long(desk.window, desk.work, "Page and line", look)
+        said = f"{said} {page}"
+    desk.say(said)
