@@ -17,10 +17,12 @@ from PyQt6.QtGui import (
     QTextCharFormat,
     QTextCursor,
 )
-from PyQt6.QtWidgets import QPlainTextEdit, QTextEdit, QWidget
+from PyQt6.QtWidgets import QFrame, QPlainTextEdit, QTextEdit, QWidget
 
 from braildesk.text.spans import Span
 
+#: How wide the line around the part is that has the focus, and around the others.
+FRAME_WITH_FOCUS, _FRAME = 3, 1
 _BEYOND = "\U00010000"
 #: What Qt puts where a line of a text ends.
 LINE_END = "\u2029"
@@ -58,6 +60,9 @@ class Field(QPlainTextEdit):
     def __init__(self, name: str, is_read_only: bool) -> None:
         super().__init__()
         self._described = ""
+        self._lights: tuple[Sequence[Span], Span | None] = (), None
+        self.selectionChanged.connect(lambda: self.light(*self._lights))
+        self._frame(False)
         self.setAccessibleName(name)
         self.setTabChangesFocus(True)
         self.setReadOnly(is_read_only)
@@ -71,11 +76,24 @@ class Field(QPlainTextEdit):
         self._described = said
         self.setAccessibleDescription(said)
 
+    def focusInEvent(self, event: QFocusEvent | None) -> None:
+        """It is seen to have the focus."""
+        if event is not None:
+            super().focusInEvent(event)
+            self._frame(True)
+
     def focusOutEvent(self, event: QFocusEvent | None) -> None:
         """What was said once isn't said again when this takes the focus."""
         if event is not None:
             super().focusOutEvent(event)
+            self._frame(False)
             self.setAccessibleDescription(self._described)
+
+    def _frame(self, has_focus: bool) -> None:
+        width = frame(self, has_focus)
+        # the text stays where it is
+        margin = FRAME_WITH_FOCUS - width
+        self.setViewportMargins(margin, margin, margin, margin)
 
     @property
     def text(self) -> str:
@@ -121,17 +139,21 @@ class Field(QPlainTextEdit):
 
         A screen reader is told of neither; what they mean is said in words elsewhere.
         """
-        underlined, ground = QTextCharFormat(), QTextCharFormat()
-        underlined.setFontUnderline(True)
-        underlined.setUnderlineStyle(QTextCharFormat.UnderlineStyle.DashUnderline)
+        self._lights = marked, lit
+        underlined, ground = _underlined(QTextCharFormat()), QTextCharFormat()
         palette = self.palette()
         ground.setBackground(palette.brush(QPalette.ColorRole.Highlight))
         ground.setForeground(palette.brush(QPalette.ColorRole.HighlightedText))
         stretches = [(each, underlined) for each in marked]
-        if lit is not None and lit.stop > lit.start:
+        # what is selected has the same ground, and what is lit beside it would seem to be selected
+        if lit is not None and not self.textCursor().hasSelection():
             stretches.append((lit, ground))
+            both = _underlined(QTextCharFormat(ground))
+            stretches += [(_common(each, lit), both) for each in marked]
         text, found = self.text, []
         for span, form in stretches:
+            if not span.start < span.stop <= len(text):
+                continue
             its = QTextEdit.ExtraSelection()
             its.cursor = self.textCursor()
             its.cursor.setPosition(units(text, span.start))
@@ -210,6 +232,27 @@ class Cells(Field):
         """Has a letter do what its action does."""
         if event is None or not self._letter(event):
             super().keyPressEvent(event)
+
+
+def frame(area: QFrame, has_focus: bool) -> int:
+    """Draws a line around a part in the colour of texts, and gives its width.
+
+    It is wider where the focus is. Styles draw it in a shade of the ground, which isn't seen on black.
+    """
+    width = FRAME_WITH_FOCUS if has_focus else _FRAME
+    area.setFrameStyle(QFrame.Shape.Box | QFrame.Shadow.Plain)
+    area.setLineWidth(width)
+    return width
+
+
+def _underlined(form: QTextCharFormat) -> QTextCharFormat:
+    form.setFontUnderline(True)
+    form.setUnderlineStyle(QTextCharFormat.UnderlineStyle.DashUnderline)
+    return form
+
+
+def _common(one: Span, other: Span) -> Span:
+    return Span(max(one.start, other.start), min(one.stop, other.stop))
 
 
 def lines_of(text: str) -> list[str]:

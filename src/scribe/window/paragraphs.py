@@ -11,6 +11,7 @@ from braildesk import Paragraph, Style
 from braildesk.text.characters import visible
 
 from scribe.window.book import Opening
+from scribe.window.fields import frame
 
 _COLUMNS = ("Number", "Kind", "Open marks", "First words")
 #: The column on which the cursor stands. A screen reader reads the row, cell by cell.
@@ -125,6 +126,7 @@ class Table(QTableView):
         self.setEditTriggers(QAbstractItemView.EditTrigger.NoEditTriggers)
         self.setTabKeyNavigation(False)
         self.setWordWrap(False)
+        frame(self, False)
         header, numbers = self.horizontalHeader(), self.verticalHeader()
         assert header is not None and numbers is not None
         header.setStretchLastSection(True)
@@ -136,7 +138,14 @@ class Table(QTableView):
         """Tells a screen reader of the chosen row too, and not of the table alone."""
         if event is not None:
             super().focusInEvent(event)
+            frame(self, True)
             QTimer.singleShot(0, self._tell_of_row)
+
+    def focusOutEvent(self, event: QFocusEvent | None) -> None:
+        """It is seen to have the focus no more."""
+        if event is not None:
+            super().focusOutEvent(event)
+            frame(self, False)
 
     def _tell_of_row(self) -> None:
         if self.hasFocus():

@@ -22,7 +22,13 @@ from PyQt6.QtWidgets import (
 
 from braildesk.text.spans import Span
 
-from scribe.window.fields import Cells, Field, Print, with_font
+from scribe.window.fields import (
+    FRAME_WITH_FOCUS,
+    Cells,
+    Field,
+    Print,
+    with_font,
+)
 from scribe.window.menus import Menus
 from scribe.window.paragraphs import WORDS, Paragraphs, Table
 
@@ -37,6 +43,8 @@ _HEIGHTS = [180, 270, 70]
 # the lines of what is said
 _MESSAGE_LINES = 3
 _MARGIN = 6
+# what is above and below the lines of a text
+_AROUND = FRAME_WITH_FOCUS + 5
 _PAGE_WIDTH = 360
 
 
@@ -91,7 +99,7 @@ class Window(QMainWindow):
         column.setContentsMargins(_MARGIN, _MARGIN, _MARGIN, _MARGIN)
         self.setCentralWidget(whole)
         for field, lines in ((self.here, 2), (self.message, _MESSAGE_LINES)):
-            height = field.fontMetrics().lineSpacing() * lines + 12
+            height = field.fontMetrics().lineSpacing() * lines + 2 * _AROUND
             field.setFixedHeight(height)
         self.dock = QDockWidget("Page", self)
         self.dock.setObjectName("page")
