@@ -2,7 +2,7 @@
 
 import signal
 from collections.abc import Callable
-from dataclasses import replace
+from dataclasses import dataclass, replace
 from io import BytesIO
 from pathlib import Path
 
@@ -29,7 +29,24 @@ from scribe.words.typed import typed_path
 
 _TEXTS = "Texts (*.txt);;All files (*)"
 _ASKED = "The &folder to which the volumes go, which is made if it isn't there:"
+_AGAIN = "Import it again to have the rest typed too."
 _PAGES = "pages"
+
+
+@dataclass(frozen=True)
+class _Beside(Console):
+    """What is said of work: how far it is stands in its dialog alone, and not in the report."""
+
+    tell: Say = lambda line: None
+
+    def progress(self, what: str) -> Callable[[int, int], None]:
+        """A function of how many are done, of how many, that says so."""
+
+        def report(done: int, total: int) -> None:
+            self.check()
+            self.tell(f"{done:,} of {total:,} {what}.")
+
+        return report
 
 
 class Files:
@@ -108,7 +125,9 @@ class Files:
         if way is Way.GO_ON:
             job = replace(job, table=None, after="end")
         try:
-            self._aside("Import", lambda console: import_in_words(job, console))
+            self._aside(
+                "Import", lambda console: import_in_words(job, console, None, _AGAIN)
+            )
         except Undecided as undecided:
             self.decide(path, undecided)
 
@@ -141,14 +160,10 @@ class Files:
                 if is_stopped():
                     raise Interrupted(signal.SIGINT)
 
-            shown_lines, said = Heard(say), Heard(say)
-            console = Console(BytesIO(), shown_lines, said, check)
+            heard = Heard(say)
             desk.book.close()
-            _told(act, console, problems)
-            lines = (
-                *shown_lines.getvalue().splitlines(),
-                *said.getvalue().splitlines(),
-            )
+            _told(act, _Beside(BytesIO(), heard, heard, check, tell=say), problems)
+            lines = tuple(heard.getvalue().splitlines())
             return desk.book.imported(before), lines
 
         try:

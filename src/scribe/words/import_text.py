@@ -69,12 +69,13 @@ _AROUND = 50
 
 
 def import_in_words(
-    job: Import, console: Console, report: Path | None = None
+    job: Import, console: Console, report: Path | None = None, again: str = ""
 ) -> tuple[Status, str]:
     """Imports a text, and says what became of it: a command's status, and what was kept, if it is.
 
     What a book can't hold of it is said before that, and all of it is written to a file, if one is
-    named. Raises `NotImported`.
+    named. If it was cut short, `again` says how to go on where that isn't by a command. Raises
+    `NotImported`.
     """
     importer = Importer(job, lambda fault: console.say(not_kept(fault)))
     intake = prepared(importer, console, console.say, report)
@@ -82,7 +83,7 @@ def import_in_words(
         typed = importer.type_text(intake, console.progress("paragraphs typed"))
     except CutShort as cut:
         sentence, status = _cut_short(cut)
-        console.say(sentence, *_left(importer.job, intake, cut))
+        console.say(sentence, *_left(importer.job, intake, cut, again))
         if isinstance(cut.cause, KeyboardInterrupt):
             raise Interrupted.after(cut.cause) from cut
         return status, ""
@@ -167,7 +168,7 @@ def _is_same(path: Path, other: Path) -> bool:
         return False
 
 
-def _left(job: Import, intake: Intake, cut: CutShort) -> Iterator[str]:
+def _left(job: Import, intake: Intake, cut: CutShort, again: str) -> Iterator[str]:
     """What of the text is in the book, and how the rest gets there."""
     kept = cut.done if cut.kept is None else cut.kept
     least = "at least " if cut.kept is None else ""
@@ -187,6 +188,8 @@ def _left(job: Import, intake: Intake, cut: CutShort) -> Iterator[str]:
             f"Paragraph {intake.there + kept} isn't a heading yet, or begins no volume, as it was to:"
             " scribe heading and scribe volume do that."
         )
+    elif (cut.is_lacking or not is_all_typed) and again and cut.is_noted:
+        yield again
     elif cut.is_lacking or not is_all_typed:
         words = shlex.join(_command_from(job, intake, kept, cut.is_noted))
         yield f"When nothing stands in the way any more, go on by: {words}"
