@@ -1,9 +1,21 @@
 """Texts of other scripts, characters of two units of Qt, cells of eight dots, and long ones."""
 
+from collections.abc import Iterator
 from pathlib import Path
 
-from braildesk import Session, new_book
+import pytest
+from PyQt6.QtCore import Qt
+from PyQt6.QtGui import QKeyEvent
+from PyQt6.QtWidgets import QApplication
+
+from braildesk import Session, new_book, requests
+from braildesk.desk.layout import PageSize
 from braildesk.protocol.requests import Table, Type
+from braildesk.text.spans import Span
+
+from scribe.window.actions import Actions
+from scribe.window.desk import Desk
+from scribe.window.fields import Field
 
 from conftest import Open
 
@@ -11,6 +23,8 @@ TABLE = """\
 space \\s 0
 letter a 1
 letter b 12
+letter 月 134
+letter 亮 13478
 letter \u05d0 1
 letter \u05d1 12
 letter 😀 12345678
@@ -58,6 +72,72 @@ def test_places_are_those_of_characters(tmp_path: Path, at: Open) -> None:
     with Session(book) as session:
         (entry,) = session.history_of(1)
         assert (entry.start, entry.count, entry.text) == (3, 0, "a")
+
+
+@pytest.fixture
+def own(application: QApplication, tmp_path: Path) -> Iterator[Desk]:
+    """A book in Chinese and in Hebrew, at work in a window that nobody sees."""
+    book = _book(tmp_path / "own.braildesk", "月亮a月", "\u05d0\u05d1 ab")
+    found = Desk(book, None, 0.0, PageSize())
+    found.acts = Actions(found).by_name
+    found.begin()
+    yield found
+    found.close()
+
+
+def _press(field: Field, key: Qt.Key, text: str = "") -> None:
+    held = Qt.KeyboardModifier.NoModifier
+    QApplication.sendEvent(field, QKeyEvent(QKeyEvent.Type.KeyPress, key, held, text))
+
+
+def test_wide_characters_and_cells_of_eight_dots_go_with_each_other(own: Desk) -> None:
+    window = own.window
+    assert (window.print.text, window.cells.text) == ("月亮a月", "⠍⣍⠁⠍")
+    assert window.here.text == "“月” ⠍, character 1, cell 1."
+    _press(window.print, Qt.Key.Key_Right)
+    assert window.here.text == "“亮” ⣍, character 2, cell 2."
+    assert (window.print.place, window.cells.place) == (1, 1)
+    own.do(requests.Mark(1, 1, 1, "which?"))
+    assert window.here.text.endswith("Mark 1, open, on “亮”: which?")
+    window.print.textCursor().insertText("月")
+    assert own.settle()
+    assert (window.print.text, window.cells.text) == ("月月亮a月", "⠍⠍⣍⠁⠍")
+    assert window.here.text.startswith("“亮” ⣍, character 3, cell 3.")
+    own.act("copy_ascii")
+    assert _copied() == "MM⣍AM"
+    assert window.message.text == (
+        "Copied in Braille ASCII: 5 cells. Those with dot 7 or 8, which it lacks, are Unicode."
+    )
+    own.act("copy_unicode")
+    assert _copied() == "⠍⠍⣍⠁⠍"
+    own.act("notation")
+    assert window.cells.text == "MM⣍AM"
+
+
+def test_text_from_right_to_left_is_gone_through_and_corrected(own: Desk) -> None:
+    window = own.window
+    own.choose(1)
+    assert window.here.text == "“\u05d0” ⠁, character 1, cell 1."
+    # what comes next stands on the left
+    _press(window.print, Qt.Key.Key_Left)
+    assert window.here.text == "“\u05d1” ⠃, character 2, cell 2."
+    _press(window.print, Qt.Key.Key_Right)
+    assert window.here.text == "“\u05d0” ⠁, character 1, cell 1."
+    _press(window.print, Qt.Key.Key_End)
+    assert window.here.text == "The end, after 5 characters."
+    window.print.put_caret(1)
+    window.print.textCursor().insertText("\u05d1")
+    assert own.settle()
+    assert window.print.text == "\u05d0\u05d1\u05d1 ab"
+    window.print.select(Span(1, 3))
+    assert window.print.selected == Span(1, 3)
+    assert own.asked(lambda: own.book.cells_of(2, Span(1, 3))) == Span(1, 3)
+
+
+def _copied() -> str:
+    clipboard = QApplication.clipboard()
+    assert clipboard is not None
+    return clipboard.text()
 
 
 def test_the_longest_paragraph_is_typed_in_and_no_longer_one(

@@ -108,7 +108,11 @@ class View:
 
     def copy_ascii(self) -> None:
         """The same in Braille ASCII, as files for embossers have them."""
-        self._copy(braille_ascii(self._cells_to_copy()), "in Braille ASCII")
+        text = braille_ascii(self._cells_to_copy())
+        self._copy(text, "in Braille ASCII")
+        if not text.isascii():
+            said = self.desk.window.message.text
+            self.desk.say(f"{said} Those with dot 7 or 8, which it lacks, are Unicode.")
 
     def _cells_to_copy(self) -> str:
         reading, selected = self.desk.reading, self.desk.window.cells.selected
