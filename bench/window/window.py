@@ -1,8 +1,11 @@
 """Times the opening of a window and its keys on a long book."""
 
+import resource
+import subprocess
 import sys
 import time
 from collections.abc import Callable, Iterable
+from dataclasses import dataclass
 from pathlib import Path
 
 from PyQt6.QtCore import Qt
@@ -60,46 +63,72 @@ def press(desk: Desk, field: QWidget, key: Qt.Key, text: str = "") -> None:
     settle(desk)
 
 
-def said(name: str, times: list[float]) -> None:
+@dataclass(frozen=True)
+class Took:
+    """How many milliseconds something took by the clock, and of a processor, with its session."""
+
+    clock: float
+    processor: float
+
+
+def said(name: str, times: list[Took]) -> None:
     """Says the best and the middle of some times."""
-    times.sort()
-    middle = times[len(times) // 2]
-    print(f"{name}: {times[0]:.1f} ms, the middle one {middle:.1f} ms")
+    clocks = sorted(each.clock for each in times)
+    processors = sorted(each.processor for each in times)
+    middle = len(times) // 2
+    print(
+        f"{name}: {clocks[0]:.1f} ms, the middle one {clocks[middle]:.1f} ms;"
+        f" of a processor {processors[0]:.1f} ms, the middle one {processors[middle]:.1f} ms"
+    )
 
 
-def took(act: Callable[[], object]) -> float:
-    """How many milliseconds something takes."""
-    began = time.perf_counter()
+def took(act: Callable[[], object], desk: Desk | None = None) -> Took:
+    """How long something takes, in a window where one is given."""
+    began, used = time.perf_counter(), processor_seconds(desk)
     act()
-    return (time.perf_counter() - began) * 1000
+    clock, processor = time.perf_counter() - began, processor_seconds(desk) - used
+    return Took(clock * 1000, processor * 1000)
 
 
-def timed(name: str, runs: int, act: Callable[[], object]) -> None:
+def processor_seconds(desk: Desk | None) -> float:
+    """What this process, those that it started and ended, and the session of a window have used."""
+    ended = resource.getrusage(resource.RUSAGE_CHILDREN)
+    own = time.process_time() + ended.ru_utime + ended.ru_stime
+    if desk is None:
+        return own
+    nanoseconds, *_ = Path(f"/proc/{desk.book.pid}/schedstat").read_text().split()
+    return own + int(nanoseconds) / 1e9
+
+
+def timed(
+    name: str, runs: int, act: Callable[[], object], desk: Desk | None = None
+) -> None:
     """Says how long something takes that is done many times."""
-    said(name, [took(act) for _ in range(runs)])
+    said(name, [took(act, desk) for _ in range(runs)])
 
 
 def time_keys(desk: Desk, runs: int) -> None:
     """Times keys of a window."""
-    table, prints = desk.window.table, desk.window.print
-    keys = Qt.Key
-    timed(
-        "Down, to the next paragraph", runs, lambda: press(desk, table, keys.Key_Down)
-    )
-    timed(
-        "Right, to the next character",
-        runs,
-        lambda: press(desk, prints, keys.Key_Right),
-    )
-    timed(
-        "a letter, with its braille", runs, lambda: press(desk, prints, keys.Key_A, "a")
-    )
+    table, prints, keys = desk.window.table, desk.window.print, Qt.Key
+
+    def in_table() -> None:
+        press(desk, table, keys.Key_Down)
+
+    def in_print() -> None:
+        press(desk, prints, keys.Key_Right)
+
+    def letter() -> None:
+        press(desk, prints, keys.Key_A, "a")
+
+    timed("Down, to the next paragraph", runs, in_table, desk)
+    timed("Right, to the next character", runs, in_print, desk)
+    timed("a letter, with its braille", runs, letter, desk)
     times = []
     for _ in range(runs):
-        press(desk, prints, keys.Key_A, "a")
-        times.append(took(lambda: press(desk, prints, keys.Key_Return)))
+        letter()
+        times.append(took(lambda: press(desk, prints, keys.Key_Return), desk))
     said("Enter, which corrects", times)
-    timed("F4, to the next mark", runs, lambda: act_in(desk, "next_mark"))
+    timed("F4, to the next mark", runs, lambda: act_in(desk, "next_mark"), desk)
 
 
 def act_in(desk: Desk, name: str) -> None:
@@ -108,24 +137,54 @@ def act_in(desk: Desk, name: str) -> None:
     settle(desk)
 
 
-def main() -> None:
-    """Times each."""
-    folder, runs, count = Path(sys.argv[1]), int(sys.argv[2]), int(sys.argv[3])
+def most_memory() -> int:
+    """The most memory that this process had, in megabytes."""
+    (line,) = [
+        line
+        for line in Path("/proc/self/status").read_text().splitlines()
+        if line.startswith("VmHWM:")
+    ]
+    return int(line.split()[1]) // 1000
+
+
+def open_once(book: Path) -> None:
+    """Opens a window and closes it, as a process of its own does."""
     application = QApplication([])
-    book = folder / "long.braildesk"
-    book_of(book, count)
+    opened(book).close()
+    del application
+
+
+def time_all(book: Path, runs: int) -> None:
+    """Times each."""
+    application = QApplication([])
+    desk = opened(book)
+    settle(desk)
+    time_keys(desk, runs)
+    desk.close()
+    print(f"the most memory that a window had: {most_memory()} MB")
 
     def session() -> None:
         with Session(book) as its:
             its.paragraphs()
 
+    def command() -> None:
+        subprocess.run([sys.executable, __file__, "once", str(book)], check=True)
+
     timed("a session that lists the paragraphs", 5, session)
     timed("the window opens and is closed", 5, lambda: opened(book).close())
-    desk = opened(book)
-    settle(desk)
-    time_keys(desk, runs)
-    desk.close()
+    timed("the same, with the start of Python and Qt", 5, command)
     del application
+
+
+def main() -> None:
+    """Makes the book, or times the window on it."""
+    what, book = sys.argv[1], Path(sys.argv[2])
+    if what == "make":
+        book_of(book, int(sys.argv[3]))
+    elif what == "once":
+        open_once(book)
+    else:
+        time_all(book, int(sys.argv[3]))
 
 
 if __name__ == "__main__":

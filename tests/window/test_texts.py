@@ -171,6 +171,6 @@ def test_a_book_of_20_000_paragraphs_takes_little_memory(
     window.lists(19_999, "20000 body: Paragraph number 20000 of the moon.")
     window.press("Up")
     window.reads("Print", "Paragraph number 19999 of the moon.")
-    sizes = Path(f"/proc/{window.program.pid}/smaps_rollup").read_text().split("\n")
-    rss = next(int(line.split()[1]) for line in sizes if line.startswith("Rss:"))
-    assert rss < 150_000
+    sizes = Path(f"/proc/{window.program.pid}/status").read_text().split("\n")
+    most = next(int(line.split()[1]) for line in sizes if line.startswith("VmHWM:"))
+    assert most < 150_000
