@@ -71,6 +71,7 @@ done
 # what opens a book in a window
 [ "$desktop" = "build/braildesk-desktop_${version}_all.deb" ] || fail "the second package is called $desktop"
 [ "$(dpkg-deb --field "$desktop" Depends)" = "braildesk (= $version), python3-pyqt6, fonts-dejavu-core" ] || fail 'the second package depends on other packages'
+[ "$(dpkg-deb --field "$desktop" Recommends)" = qt6-gtk-platformtheme ] || fail 'the second package recommends other packages'
 ! dpkg-deb --field "$package" Depends | grep -q pyqt || fail 'the first package depends on Qt'
 dpkg-deb --extract "$desktop" "$scratch/desktop"
 for file in applications/braildesk-desktop.desktop icons/hicolor/scalable/apps/braildesk.svg \
