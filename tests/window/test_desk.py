@@ -9,7 +9,7 @@ from PyQt6.QtCore import QMimeData, QPointF, Qt, QTimer, QUrl
 from PyQt6.QtGui import QDropEvent
 from PyQt6.QtWidgets import QApplication, QDialog, QLabel
 
-from braildesk import requests
+from braildesk import Style, requests
 from braildesk.desk.drafts import Drafts
 from braildesk.desk.layout import PageSize
 
@@ -97,6 +97,26 @@ def test_a_file_that_is_dropped_is_imported(
     asked["Import"] = 1
     desk.window.dropEvent(drop)
     assert len(_prints(desk)) == 5
+
+
+def test_a_manuscript_is_imported_with_its_headings_and_a_report(
+    desk: Desk, tmp_path: Path, monkeypatch: pytest.MonkeyPatch
+) -> None:
+    reported: list[str] = []
+    monkeypatch.setattr(
+        dialogs, "report", lambda _, title, lines: reported.extend(lines)
+    )
+    (text := tmp_path / "tides.md").write_text("# Tides\n\nTwice a *day*.\n")
+    monkeypatch.setattr(dialogs, "file_to_read", lambda *_: text)
+    desk.act("import_text")
+    assert _prints(desk)[:3] == ["The Moon", "Tides", "Twice a day."]
+    assert desk.contents.paragraphs[1].style is Style.HEADING
+    assert reported[1:] == [
+        "1 emphasis, as by italics, is lost:",
+        "- “day” in “Twice a day.”",
+        "2 paragraphs typed, numbers 4 to 5, by the table en.",
+    ]
+    assert desk.window.message.text == reported[-1]
 
 
 def test_what_takes_long_is_cancelled_by_its_dialog(desk: Desk) -> None:

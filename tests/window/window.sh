@@ -4,7 +4,7 @@
 #                              many seconds a state is waited for, which comes at once if a test holds; the words go to pytest
 set -eu
 cd "$(dirname "$0")/../.."
-. tests/built.sh python black mypy pyflakes pytest xvfb-run xauth dbus-run-session PyQt6 gi atspi dejavu
+. tests/built.sh python black mypy pyflakes pytest pandoc xvfb-run xauth dbus-run-session PyQt6 gi atspi dejavu
 export BRAILDESK=$(realpath "$program") PYTHONPATH=$PWD/src
 "$PYTHON" -m black --check --quiet tests/window bench/window || { echo 'tests/window/window.sh: black lays out tests/window or bench/window in another way' >&2; exit 1; }
 "$PYTHON" -m pyflakes tests/window bench/window

@@ -27,7 +27,10 @@ from scribe.words.proof_html import Proof
 from scribe.words.status import Interrupted, Stop
 from scribe.words.typed import typed_path
 
-_TEXTS = "Texts (*.txt);;All files (*)"
+_TEXTS = (
+    "Manuscripts (*.txt *.docx *.odt *.epub *.html *.htm *.xhtml *.md *.markdown *.rtf *.doc)"
+    ";;All files (*)"
+)
 _ASKED = "The &folder to which the volumes go, which is made if it isn't there:"
 _AGAIN = "Import it again to have the rest typed too."
 _PAGES = "pages"
