@@ -105,7 +105,7 @@ def main() -> None:
     if "LOG" in os.environ:
         Path(os.environ["LOG"]).write_text(orca.log())
     parts = "\n".join(_parts(began, orca.log()))
-    written.write_text(parts.replace(str(folder), "/home/anna"), encoding="utf-8")
+    written.write_text(parts.replace(str(folder), "/books"), encoding="utf-8")
 
 
 if __name__ == "__main__":
