@@ -198,6 +198,16 @@ def test_a_note_is_typed_on_the_last_line_and_the_cursor_stands_there() -> None:
     assert drawn.cursor == (23, 20)
 
 
+def test_a_question_about_lines_says_how_it_is_answered_while_the_last_is_typed_on() -> (
+    None
+):
+    question = Question("Are they 2 paragraphs?", ("One.", "Two"), is_typed_on=True)
+    asked = replace(STATE, typed=Field(Purpose.AFTER), question=question)
+    assert draw(asked).texts()[-1] == (
+        "Are they 2 paragraphs? Enter ends the last line, and then y is yes, n is no."
+    )
+
+
 def test_a_long_note_is_shown_from_a_word_on_while_it_is_typed() -> None:
     note = "is it far away, or only a little way off"
     narrow = replace(STATE, size=Size(40, 12))

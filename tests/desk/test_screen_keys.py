@@ -36,7 +36,16 @@ from scribe.screen.actions import (
 from scribe.screen.field import Field, Purpose
 from scribe.screen.keys import KEYS, keys_of, pasted, step
 from scribe.screen.lines import rows
-from scribe.screen.state import Opening, Pages, Pane, Question, Size, State, Target
+from scribe.screen.state import (
+    Opening,
+    Pages,
+    Pane,
+    Question,
+    Size,
+    State,
+    Target,
+    draft_of,
+)
 
 PRINT = "The moon is far away."
 CELLS = "⠠⠞⠓⠑⠀⠍⠕⠕⠝⠀⠊⠎⠀⠋⠁⠗⠀⠁⠺⠁⠽⠲"
@@ -481,6 +490,38 @@ def test_pasted_lines_of_a_new_paragraph_are_asked_about() -> None:
     assert joined.typed and joined.typed.text == "One Two ThreeIt. "
 
 
+def test_what_is_typed_on_at_a_question_about_lines_goes_on_in_the_last() -> None:
+    asked = pasted(typed(Purpose.AFTER, "The moon r", 10), "ose.\rIt").state
+    for key in (*" isz", "backspace", *" nigh"):
+        asked = step(asked, key).state
+    asked = step(pasted(asked, "t.\rDay").state, "s").state
+    assert asked.question and asked.question.lines == (
+        "The moon rose.",
+        "It is night.",
+        "Days",
+    )
+    assert asked.joined and asked.joined.text == "The moon rose. It is night. Days"
+    ended = step(asked, "enter").state
+    draft = draft_of(ended)
+    assert draft and draft.text == "The moon rose.\nIt is night.\nDays"
+    assert ended.question and ended.question.sentence == (
+        "The pasted text has 3 lines. Are they 3 paragraphs?"
+    )
+    lines = ("The moon rose.", "It is night.", "Days")
+    assert step(ended, "y").asked == TypeAll(Purpose.AFTER, lines)
+
+
+def test_what_is_typed_on_at_a_question_about_lines_stands_before_what_followed() -> (
+    None
+):
+    asked = pasted(typed(Purpose.EDIT, "The moon.", 4), "old \n\nnew\n").state
+    for key in " n":
+        asked = step(asked, key).state
+    assert asked.question and asked.question.lines == ("The old", "new nmoon.")
+    ended = step(asked, "enter").state
+    assert ended.question and ended.question.lines == ("The old", "new n", "moon.")
+
+
 def test_a_key_at_an_end_leaves_the_cursor_and_the_chosen_cells() -> None:
     state = replace(STATE, pane=Pane.CELLS, anchor=3, place=5)
     moved = step(state, "up").state
@@ -555,7 +596,9 @@ def test_a_key_that_is_no_answer_is_said_to_be_none_at_each_question() -> None:
         replace(STATE, question=Question("All?", yes=TakeBack())),
         pasted_lines,
     ):
-        for key in ("enter", "q", "x", "a-y", "up"):
+        # at lines letters go on in the last of them
+        letters = () if asked is pasted_lines else ("q", "x")
+        for key in ("enter", "a-y", "up", *letters):
             taken = step(asked, key)
             assert (taken.state.question, taken.asked) == (asked.question, None)
             assert taken.state.message == "That key is no answer to the question."

@@ -175,8 +175,9 @@ class Desk:
     def paste(self, state: State, text: str) -> State:
         """The state after text was pasted, with what its table lacks before it is sent."""
         step = keys.pasted(state, text)
-        question = step.state.question
-        if question is not None and question.lines and not state.question:
+        question, before = step.state.question, state.question
+        is_new = before is None or question and question.sentence != before.sentence
+        if question is not None and question.lines and is_new:
             fault = self.tables.first_fault(state.table or "", question.lines)
             if fault:
                 sentence = f"{fault} {question.sentence}"

@@ -224,6 +224,8 @@ def _asked(state: State, question: Question) -> Area:
     """A question after what is said, on all lines but the first if it needs them."""
     width, most = state.size.columns, state.size.lines - 1
     how = f"y is yes, n is no. {question.more}".rstrip()
+    if question.is_typed_on:
+        how = f"Enter ends the last line, and then {how}"
     asked = wrap(f"{visible(question.sentence)} {how}", width)
     if len(asked) > most:
         # how it is answered stands at its end

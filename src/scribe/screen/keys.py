@@ -162,8 +162,10 @@ def pasted(state: State, text: str) -> Step:
     """What text that is pasted asks for: lines of a new paragraph may become several."""
     if _is_cut(text):
         return Step(state.saying("What came isn't UTF-8, and was left out."))
-    typed = state.typed
-    if typed is None or state.question or state.pages or state.is_lost:
+    typed, question = state.typed, state.question
+    if typed and question and question.lines and not state.pages and not state.is_lost:
+        return Step(_typed_on(state, typed, question, text))
+    if typed is None or question or state.pages or state.is_lost:
         return Step(state, PutBy(text) if text.strip() else None)
     lines = text.replace("\r", "\n").replace("\t", " ").split("\n")
     if len(lines) > 1:
@@ -214,19 +216,50 @@ def _answered(state: State, question: Question, key: str) -> Step:
             return Step(state, GoOn(state.typed.purpose, *question.parts))
         if key in ("n", "escape"):
             return Step(state.saying(_STAYS_TYPED))
-    if key not in ("y", "n", "escape"):
-        return Step(replace(state, question=question).saying(_NO_ANSWER))
+    if question.lines and state.typed is not None:
+        return _about_lines(state, state.typed, question, key)
+    return Step(replace(state, question=question).saying(_NO_ANSWER))
+
+
+def _about_lines(state: State, typed: Field, question: Question, key: str) -> Step:
+    """Lines that were pasted are paragraphs, or are joined; what is no answer goes on in them."""
+    asked = replace(state, question=question)
     if key == "escape":
-        return Step(replace(state, question=question), GiveUp())
-    assert state.typed is not None
-    if key == "y":
+        return Step(asked, GiveUp())
+    if key in ("y", "n") and not question.is_typed_on:
+        if key == "n":
+            return Step(replace(state, typed=asked.joined))
         for line in question.lines:
             refused = control_refused(line.encode())
             if refused:
-                return Step(replace(state, question=question).saying(refused))
-        return Step(state, TypeAll(state.typed.purpose, question.lines))
-    joined = replace(state, question=question).joined
-    return Step(replace(state, typed=joined))
+                return Step(asked.saying(refused))
+        lines = tuple(line for line in question.lines if line.strip())
+        return Step(state, TypeAll(typed.purpose, lines))
+    if key == "enter" and question.is_typed_on:
+        key = "\n"
+    elif key == "backspace" and question.is_typed_on:
+        key = "\x7f"
+    elif len(key) != 1 or key < " " or "\x7f" <= key < "\xa0":
+        return Step(asked.saying(_NO_ANSWER))
+    return Step(_typed_on(asked, typed, question, key))
+
+
+def _typed_on(state: State, typed: Field, question: Question, text: str) -> State:
+    """Lines that are asked about, with what was typed on after them before it was answered.
+
+    Hands that don't read the question type on, where a slow line brought their keys all at once.
+    """
+    text = text.replace("\r", "\n").replace("\t", " ")
+    *above, last = question.lines
+    place = len(last) - (len(typed.text) - typed.place)
+    *ended, front = f"{last[:place]}{text}".split("\n")
+    if text == "\x7f":
+        ended, front = [], last[: max(0, place - 1)]
+    lines = [*above, *ended, front + last[place:]]
+    if ended or not last:
+        question = about_lines(typed.purpose, [line for line in lines if line.strip()])
+    asked = replace(question, lines=tuple(lines), is_typed_on=bool(front))
+    return replace(state, question=asked)
 
 
 def _about_errand(

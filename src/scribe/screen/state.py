@@ -58,6 +58,8 @@ class Question:
 
     sentence: str
     lines: tuple[str, ...] = ()
+    #: Whether the last of the lines is typed on, so that y and n are letters of it until Enter.
+    is_typed_on: bool = False
     draft: Field | None = None
     #: A text that is too long for one paragraph, and may go on in a new one, in its two parts.
     parts: tuple[str, str] | None = None
@@ -384,7 +386,7 @@ def draft_of(state: State) -> Draft | None:
     if typed is None or not typed.purpose.is_for_book:
         return None
     pasted = state.question.lines if state.question else ()
-    text = "\n".join(pasted) or typed.text
+    text = "\n".join(line for line in pasted if line) or typed.text
     before = state.reading.text if state.reading else ""
     if not text or typed.purpose is Purpose.EDIT and text == before:
         return None
