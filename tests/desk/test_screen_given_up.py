@@ -238,8 +238,10 @@ def test_lines_that_were_pasted_into_an_edit_and_cut_short_go_on(
     paste(sat, " of\nthe sea.\nThey come.")
     os.kill(sat.desk.pid, signal.SIGKILL)
     sat.press("y")
-    assert sat.state.question and sat.state.question.draft
-    sat.press("y", "y")
+    # the same question stands, since none of the lines is in the book
+    lines = ("The Tides of", "the sea.", "They come.")
+    assert sat.state.question and sat.state.question.lines == lines
+    sat.press("y")
     prints = [sat.state.openings[each.id].words for each in sat.state.book]
     assert prints[1:4] == ["The Tides of", "the sea.", "They come."]
 

@@ -69,6 +69,19 @@ def test_who_types_on_where_the_session_ends_gives_no_commands(
     assert (sat.state.version, len(sat.desk.drafts.given_up())) == (8, 0)
 
 
+def test_who_types_on_after_pasted_lines_where_the_session_ends_gives_no_commands(
+    moon: Path, sit: Sit
+) -> None:
+    sat = sit(moon)
+    sat.press("o")
+    sat.state = sat.desk.paste(sat.state, "It rose.\nIt s")
+    killed(sat)
+    sat.write("et: no sun, my last hymn.")
+    sat.press("enter", "y")
+    assert prints(sat)[1:3] == ["It rose.", "It set: no sun, my last hymn."]
+    assert len(sat.desk.drafts.given_up()) == 0
+
+
 @pytest.mark.parametrize("far", [KEPT, ANSWERED])
 def test_after_a_paragraph_that_the_book_has_the_next_one_is_typed(
     moon: Path, sit: Sit, monkeypatch: pytest.MonkeyPatch, far: str

@@ -627,7 +627,8 @@ class Desk:
             said = f"{lost.cause} {found_words} {unsaved}".strip()
             found = replace(state, pages=None).saying(said)
             is_same = state.version == self._session.last_version
-            if is_same and state.typed is not None and state.question is None:
+            is_about_lines = state.question is None or bool(state.question.lines)
+            if is_same and state.typed is not None and is_about_lines:
                 # who types on meanwhile types into the same text, and gives no commands
                 if state.typed.text:
                     found = found.saying_too(_TYPE_ON)
