@@ -27,6 +27,8 @@ class OpenFile:
         self.path = real_path(path)
         self._descriptor: int | None = None
         self._was_database = False
+        #: The most bytes that were found in it.
+        self._most = 0
         if os.path.isfile(self.path):
             try:
                 # a pipe that stands there by now isn't waited for
@@ -34,6 +36,7 @@ class OpenFile:
             except OSError:
                 return  # the program says why
             self._was_database = self._is_database(self._descriptor)
+            self._most = os.fstat(self._descriptor).st_size
 
     @property
     def is_at_its_path(self) -> bool:
@@ -49,13 +52,16 @@ class OpenFile:
 
     @property
     def is_overwritten(self) -> bool:
-        """Whether the file began as a database does, and doesn't any more, or is empty.
+        """Whether the file began as a database does, and doesn't any more, or has become smaller.
 
-        No program that uses it as one ever changes these bytes, whatever else it writes there.
+        No program that uses it as one ever changes these bytes or makes the file smaller, whatever
+        else it writes there.
         """
         if self._descriptor is None or not self._was_database:
             return False
-        return not self._is_database(self._descriptor)
+        size = os.fstat(self._descriptor).st_size
+        self._most = max(self._most, size)
+        return size < self._most or not self._is_database(self._descriptor)
 
     @staticmethod
     def _is_database(descriptor: int) -> bool:

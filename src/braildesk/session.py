@@ -405,8 +405,8 @@ class Session:
         self._is_saving, self._is_streaming = True, False
         shown = shortened(self._book.path, len(self._book.path))
         cause = (
-            f"Another program wrote into the file of the book, {shown}, while it was open: it is no"
-            " book any more."
+            f"Another program wrote into the file of the book, {shown}, while it was open: it isn't"
+            " that book any more."
         )
         try:
             saved = self._file.save_text(self._all_print())

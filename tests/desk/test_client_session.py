@@ -623,7 +623,7 @@ def test_a_book_that_is_gone_with_its_folder_says_that_it_is_not_saved(
 
 
 @pytest.mark.parametrize("moment", ["before a command", "among many", "before the end"])
-@pytest.mark.parametrize("how", ["emptied", "overwritten"])
+@pytest.mark.parametrize("how", ["emptied", "overwritten", "cut", "copied over"])
 def test_the_print_of_a_book_that_was_written_into_is_saved(
     book: Path, how: str, moment: str
 ) -> None:
@@ -631,6 +631,14 @@ def test_the_print_of_a_book_that_was_written_into_is_saved(
         with open(book, "r+b") as file:
             if how == "emptied":
                 file.truncate(0)
+            elif how == "cut":
+                file.truncate(file.seek(0, os.SEEK_END) // 2)
+            elif how == "copied over":
+                # an older copy, which is a database as well
+                front = file.read(4_096)
+                file.truncate(0)
+                file.seek(0)
+                file.write(front)
             else:
                 file.write(b"Dear Anna,\n")
 
@@ -647,8 +655,8 @@ def test_the_print_of_a_book_that_was_written_into_is_saved(
                     pass
     saved = Path(f"{book}-saved-1.txt")
     assert caught.value.sentence == (
-        f"Another program wrote into the file of the book, “{book}”, while it was open: it is no book"
-        " any more. The print of all paragraphs, with what was kept last, is in the new file"
+        f"Another program wrote into the file of the book, “{book}”, while it was open: it isn't that"
+        " book any more. The print of all paragraphs, with what was kept last, is in the new file"
         f" “{saved}”. Go on with a copy of the book, and import from that file what it lacks."
     )
     texts = ["One.", "Two."] if moment == "before the end" else ["Two.", "One."]
