@@ -101,6 +101,19 @@ def test_a_table_that_includes_itself_is_refused(tmp_path: Path) -> None:
         read_source(tmp_path / "a.utb")
 
 
+def test_a_table_that_stands_too_deep_is_not_said_to_include_itself(
+    tmp_path: Path,
+) -> None:
+    for number in range(22):
+        include = f"include {number + 1}.uti\n"
+        (tmp_path / f"{number}.uti").write_text(include)
+    with pytest.raises(NoTable) as refused:
+        read_source(tmp_path / "0.uti")
+    assert refused.value.sentence == (
+        "The table 21.uti stands more than 20 includes deep, and is not read."
+    )
+
+
 def test_a_table_that_is_not_there_is_refused_with_where_it_was_looked_for() -> None:
     with pytest.raises(NoTable, match="There is no table none.utb"):
         find_table("none.utb")

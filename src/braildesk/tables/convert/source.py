@@ -15,7 +15,7 @@ INSTALLED: Final = Path("/usr/share/liblouis/tables")
 """Where distributions put the tables of liblouis."""
 
 DEEPEST: Final = 20
-"""Includes within includes, beyond which a table includes itself."""
+"""Includes within includes, beyond which no more are read."""
 
 MOST_FILES: Final = 100
 """The files of a table with all that it includes, each as often as it is included; liblouis reads no more."""
@@ -121,8 +121,12 @@ class _Reading:
 
     def take(self, path: Path, above: tuple[Path, ...]) -> None:
         """Reads a file, and at each include the file that it names."""
-        if path in above or len(above) > DEEPEST:
+        if path in above:
             raise NoTable(f"The table {path.name} includes itself.")
+        if len(above) > DEEPEST:
+            raise NoTable(
+                f"The table {path.name} stands more than {DEEPEST} includes deep, and is not read."
+            )
         self.files.append(path.name)
         if len(self.files) > MOST_FILES:
             raise NoTable(
