@@ -33,6 +33,8 @@ class Talk:
             env=settings,
             preexec_fn=None if is_new else scribe_in_copy(spoken, settings),
             encoding="utf-8",
+            # a line that is longer than the terminal may be drawn from the middle of a character on
+            codec_errors="replace",
             timeout=60,
             dimensions=(24, 200),
         )
