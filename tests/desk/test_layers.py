@@ -161,13 +161,22 @@ def test_no_method_has_the_name_of_a_function_that_python_has() -> None:
 
 def test_each_module_of_the_client_is_named_where_its_layout_is_described() -> None:
     text = (ROOT / "docs" / "CLIENT.md").read_text(encoding="utf-8")
-    layout = text[text.index("## How it is laid out") :]
-    front = (SRC / "braildesk/tables/convert/__init__.py").read_text(encoding="utf-8")
+    fronts = {"braildesk": text[text.index("## How it is laid out") :]}
+    # what stands above the client has a front page of its own
+    for package in ("desk", "tables", "tables.convert"):
+        page = SRC / "braildesk" / package.replace(".", "/") / "__init__.py"
+        fronts[f"braildesk.{package}"] = page.read_text(encoding="utf-8")
     missing = {
         module
         for module, path in modules().items()
         if module.startswith("braildesk.") and path.name != "__init__.py"
-        # those of the conversion are named on its own front page
-        if f"`{path.stem}`" not in (front if "convert." in module else layout)
+        if f"`{path.stem}`" not in front_of(module, fronts)
     }
     assert missing == set()
+
+
+def front_of(module: str, fronts: dict[str, str]) -> str:
+    """The page on which a module is named: that of the lowest package that has one."""
+    return fronts[
+        max((name for name in fronts if f"{module}.".startswith(f"{name}.")), key=len)
+    ]

@@ -2,7 +2,12 @@
 
 The program says whether a table is accepted, or its first fault, and the braille of a print. People
 who write tables ask for more: all faults, and which line each cell came from. This package answers
-that by ``docs/FORMATS.md`` alone. ``beside`` compares what it finds with the program's own answer.
+that by ``docs/FORMATS.md`` alone.
+
+``operands`` reads characters and dots, ``entries`` are what lines give, and ``faults`` are what is
+bad in them; ``table`` is what all entries mean, ``reading`` reads a text, ``tiling`` chooses a rule
+at each place of a print, ``warnings`` finds what is rarely meant, and ``beside`` compares all that
+with what the program answers.
 """
 
 from braildesk.tables.beside import Disagreement, TableText, text_at
