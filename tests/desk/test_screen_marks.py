@@ -41,8 +41,9 @@ PLACES = {
         "/ f a r enter right",
         "On “a”.",
     ),
-    "the cells that were found": ("tab / f a r enter", "On 3 cells."),
-    "the cells that are chosen": ("tab space right right", "On 3 cells."),
+    "the cells that were found": ("tab / f a r enter", "On “far”."),
+    "the cells that are chosen": ("tab space right right", "On “Th”."),
+    "a part of the cells of a character": ("tab space", "On “T”."),
     "the character of a cell": ("tab", "On “T”."),
 }
 

@@ -9,6 +9,7 @@ from braildesk.desk.change_all import Proposal, Replacement
 from braildesk.desk.earlier import Way
 from braildesk.desk.import_note import ImportNote
 from braildesk.desk.layout import PageSize
+from braildesk.text.spans import Span
 
 from scribe.screen.field import Purpose
 
@@ -26,6 +27,13 @@ class ToMark:
     """To the next open mark, or to the one before."""
 
     is_back: bool
+
+
+@dataclass(frozen=True)
+class AskForNote:
+    """Asks for the note of a mark on some cells, and says on which words it will be."""
+
+    cells: Span
 
 
 @dataclass(frozen=True)
@@ -213,6 +221,7 @@ class Quit:
 Action = (
     ToFound
     | ToMark
+    | AskForNote
     | ShowHistory
     | ByPages
     | OfWholeBook

@@ -37,6 +37,7 @@ from braildesk.text.spans import Span
 from scribe.screen import by_pages, finding, keys, lists, whole_book
 from scribe.screen.actions import (
     Action,
+    AskForNote,
     BringBack,
     ByPages,
     ChangePlaces,
@@ -67,7 +68,7 @@ from scribe.screen.actions import (
 )
 from scribe.screen.background import done_in_background, question_about
 from scribe.screen.field import Cut, Field, Purpose
-from scribe.screen.in_hand import left_here, with_mark_in_hand
+from scribe.screen.in_hand import asked_for_note, left_here, with_mark_in_hand
 from scribe.screen.state import (
     Opening,
     Pages,
@@ -770,6 +771,8 @@ class Desk:
             case ToMark():
                 found = finding.to_mark(self._session, state, action)
                 return self._with_page_said(state, found)
+            case AskForNote():
+                return asked_for_note(self._session, state, action.cells)
             case ShowHistory():
                 return lists.with_history(self._session, state)
             case ShowPage() | ListMarks() | ListHeadings() | ToPage() | SayPage():

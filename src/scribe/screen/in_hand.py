@@ -1,15 +1,23 @@
-"""The mark in hand: which one is worked on once the cursor or the print has changed."""
+"""The mark in hand: which one is worked on once the cursor or the print has changed.
+
+Before a new one is put, its note is asked for, and the words are said on which it will be.
+"""
 
 from dataclasses import replace
 
-from braildesk import Mark
+from braildesk import Mark, Session
+from braildesk.desk.places import words_of
 from braildesk.desk.search import Found
+from braildesk.text.spans import Span
 
-from scribe.screen.field import Purpose
+from scribe.screen.field import Field, Purpose
 from scribe.screen.state import InHand, State
+from scribe.words.paragraph import quoted
 
 _FIRST = "No open mark up to the end of the book: this is the first in it."
 _LAST = "No open mark up to the front of the book: this is the last in it."
+# said before it is put, since the book keeps it
+_OF_MARK = "r resolves a mark, and nothing takes it out."
 
 
 def at_mark(state: State, found: Found, is_back: bool) -> State:
@@ -68,6 +76,15 @@ def holding(state: State, mark: int) -> State:
     assert state.paragraph is not None
     held = InHand(mark, state.paragraph.id, state.pane, state.place)
     return replace(state, in_hand=held)
+
+
+def asked_for_note(session: Session, state: State, cells: Span) -> State:
+    """The state in which the note of a mark is typed; said are all the words that it will be on."""
+    its = state.reading
+    assert its is not None
+    words = words_of(session, its.paragraph.id, cells, its.text, its.braille)
+    said = f"On {quoted(its.text[words.start : words.stop])}. {_OF_MARK}"
+    return replace(state, typed=Field(Purpose.NOTE)).saying(said)
 
 
 def touched(marks: list[Mark]) -> str:

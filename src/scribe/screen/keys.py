@@ -9,11 +9,11 @@ from braildesk.desk.correction import replaced, smallest_correction
 from braildesk.text import limits
 from braildesk.text.characters import control_refused
 from braildesk.text.sequences import composed, parted
-from braildesk.text.spans import Span
 
 from scribe.screen import pager, whole_book
 from scribe.screen.actions import (
     Action,
+    AskForNote,
     BringBack,
     ChangePlaces,
     ExportTo,
@@ -55,7 +55,7 @@ from scribe.screen.moves import (
 from scribe.screen.state import Pages, Pane, Question, State, Step, draft_of
 from scribe.words.pagelook import wanted_line
 from scribe.words.pages import NoSize, described, typed_page_size
-from scribe.words.paragraph import counted, quoted
+from scribe.words.paragraph import quoted
 from scribe.words.typed import typed_path
 
 _NOTHING_WHILE_TYPING = (
@@ -75,7 +75,6 @@ _OF_OLD = "Each place is shown before it is changed."
 _OF_NEW = "Enter alone takes the words out. The places are shown before."
 _OF_GOING = "A paragraph's number, or page 6 line 9, or words to find."
 # what is said before it is done, since the book keeps it
-_OF_MARK = "r resolves a mark, and nothing takes it out."
 _OF_TABLE = "A table that the book lacks is put into it, and stays there."
 _OF_IMPORT = "The book keeps what is imported. u strikes it, and nothing takes it out."
 
@@ -623,19 +622,7 @@ def _mark(state: State) -> Step:
     cells = state.chosen_cells
     if cells is None or cells.stop <= cells.start:
         return Step(state.saying("There is no cell here that a mark could stand on."))
-    said = f"On {_marked_words(state, cells)}. {_OF_MARK}"
-    return Step(replace(state, typed=Field(Purpose.NOTE)).saying(said))
-
-
-def _marked_words(state: State, cells: Span) -> str:
-    """What a mark would stand on: the words, or how many cells if these are chosen or sought."""
-    found, light, reading = state.found_here, state.highlighted, state.reading
-    is_chosen = state.pane is Pane.CELLS and (state.anchor is not None or found)
-    if is_chosen or light is None or reading is None:
-        return counted(cells.stop - cells.start, "cell")
-    start = state.place if found else light.words.start
-    stop = start + found.count if found else light.words.stop
-    return quoted(reading.text[start:stop])
+    return Step(state, AskForNote(cells))
 
 
 def _resolve(state: State) -> Step:
