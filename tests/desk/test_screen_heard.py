@@ -229,6 +229,8 @@ PLACES = [
             7: "Place 2 of 2, paragraph 2: [The] Tides",
             8: "After: [Our] Tides",
             9: "",
+            10: "",
+            11: "",
             12: "y changes it  n leaves it  a all  ?…",
         },
         (),
@@ -309,6 +311,20 @@ def test_places_are_heard_as_they_are_changed_and_left(marked: Path, sit: Sit) -
     sat.press("c", *"The", "enter", *"Our")
     for each in PLACES:
         check(sat, each)
+
+
+@pytest.mark.parametrize("keys", ["m", "g", "t", "x", "i", "c", "c T enter", "V v"])
+def test_what_is_said_of_a_line_stands_while_it_is_typed_and_is_heard_once(
+    marked: Path, sit: Sit, keys: str
+) -> None:
+    sat = sit(marked, size=Size(40, 12))
+    sat.press(*keys.split())
+    assert sat.lines[10]
+    for key in "why":
+        before = draw(sat.state).lines
+        sat.press(key)
+        pairs = enumerate(zip(before, draw(sat.state).lines), 1)
+        assert [row for row, (old, new) in pairs if old != new] == [12]
 
 
 def test_a_quiet_screen_draws_one_row_for_each_character_that_is_typed(

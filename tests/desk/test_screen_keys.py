@@ -402,7 +402,7 @@ def test_a_key_asks_for_its_command(name: str) -> None:
 def test_a_key_that_asks_for_nothing_says_why(name: str) -> None:
     state, key, sentence = SAID[name]
     taken = step(state, key)
-    assert (taken.asked, taken.state.message) == (None, sentence)
+    assert (taken.asked, taken.state.heard) == (None, sentence)
 
 
 @pytest.mark.parametrize(

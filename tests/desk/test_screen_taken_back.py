@@ -120,7 +120,7 @@ def test_an_import_is_taken_back_by_striking_its_paragraphs(
     text = moon.parent / "more.txt"
     text.write_text("The sun\n\nThe stars.\n\nThe sea.\n")
     sat.press("i")
-    assert sat.state.message == (
+    assert sat.state.heard == (
         "The book keeps what is imported. u strikes it, and nothing takes it out."
     )
     sat.press(*str(text), "enter")
@@ -153,7 +153,7 @@ def test_a_mark_is_taken_back_by_resolving_it_and_that_by_a_new_one(
 ) -> None:
     sat = sit(moon)
     sat.press("down", "m")
-    assert sat.state.message.endswith(". r resolves a mark, and nothing takes it out.")
+    assert sat.state.heard.endswith(". r resolves a mark, and nothing takes it out.")
     sat.press(*"who?", "enter", "r", "c-home", "u")
     assert sat.state.message == (
         "Taken back: mark 2 was resolved. It stays resolved, and a new mark stands in its"
@@ -212,7 +212,7 @@ def test_a_table_that_was_put_into_the_book_stays_there_which_is_said_before(
 ) -> None:
     sat = sit(moon)
     sat.press("s", "s", "t")
-    assert sat.state.message == (
+    assert sat.state.heard == (
         "A table that the book lacks is put into it, and stays there."
     )
     sat.press(*"ueb", "enter", "u")

@@ -44,7 +44,7 @@ def test_each_place_is_shown_before_and_after_and_nothing_is_changed_yet(
     sat = sit(tides)
     sat.press("c")
     assert sat.lines[-1].rstrip() == "Words that go:"
-    assert sat.state.message == "Each place is shown before it is changed."
+    assert sat.state.heard == "Each place is shown before it is changed."
     sat.press(*"tide", "enter")
     assert sat.lines[-1].rstrip() == "What comes:"
     version = sat.state.version

@@ -47,6 +47,8 @@ class Field:
     purpose: Purpose
     text: str = ""
     place: int = 0
+    #: What is said of it as long as it is typed, where nothing else is said.
+    said: str = ""
 
     def inserted(self, text: str) -> "Field":
         """The field with a text at its place."""

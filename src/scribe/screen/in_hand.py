@@ -84,7 +84,7 @@ def asked_for_note(session: Session, state: State, cells: Span) -> State:
     assert its is not None
     words = words_of(session, its.paragraph.id, cells, its.text, its.braille)
     said = f"On {quoted(its.text[words.start : words.stop])}. {_OF_MARK}"
-    return replace(state, typed=Field(Purpose.NOTE)).saying(said)
+    return replace(state, typed=Field(Purpose.NOTE, said=said))
 
 
 def touched(marks: list[Mark]) -> str:

@@ -458,8 +458,8 @@ def _answering(state: State, typed: Field) -> Step:
         case Purpose.SIZE:
             return Step(_with_sheet(state, typed))
         case Purpose.OLD:
-            state = replace(state, gone=typed.text, typed=Field(Purpose.NEW))
-            return Step(state.saying(_OF_NEW))
+            field = Field(Purpose.NEW, said=_OF_NEW)
+            return Step(replace(state, gone=typed.text, typed=field))
         case Purpose.NEW:
             wanted = Replacement(state.gone, typed.text, by=state.by)
             return Step(state, FindPlaces(wanted))
@@ -546,11 +546,11 @@ def _size(state: State) -> Step:
 
 def _folder(state: State) -> Step:
     said = f"Pages of {described(state.page_size)}. Escape, then w, changes it."
-    return Step(replace(state, typed=Field(Purpose.FOLDER)).saying(said))
+    return Step(replace(state, typed=Field(Purpose.FOLDER, said=said)))
 
 
 def _typed_for(purpose: Purpose, said: str = "") -> Callable[[State], Step]:
-    return lambda state: Step(replace(state, typed=Field(purpose)).saying(said))
+    return lambda state: Step(replace(state, typed=Field(purpose, said=said)))
 
 
 def _edit(state: State) -> Step:
@@ -573,7 +573,7 @@ def _table(state: State) -> Step:
     """Asks for a table, which a struck paragraph isn't given."""
     if state.paragraph is not None and state.paragraph.struck:
         return _refused_as_struck(state, "given a table")
-    return Step(replace(state, typed=Field(Purpose.TABLE)).saying(_OF_TABLE))
+    return Step(replace(state, typed=Field(Purpose.TABLE, said=_OF_TABLE)))
 
 
 def _lit_start(state: State) -> int:
@@ -587,8 +587,7 @@ def _new(purpose: Purpose, said: str = "") -> Callable[[State], Step]:
         table = _table_of_new(state)
         if table is None:
             return Step(state.saying(_no_table(state)))
-        state = replace(state, table=table, typed=Field(purpose))
-        return Step(state.saying(said))
+        return Step(replace(state, table=table, typed=Field(purpose, said=said)))
 
     return typed
 

@@ -285,7 +285,13 @@ class State:
 
     @property
     def heard(self) -> str:
-        """What has to be said, otherwise than before, so that it is drawn and spoken once more."""
+        """What has to be said, otherwise than before, so that it is drawn and spoken once more.
+
+        Where nothing has to be, that is said of a line that is typed which its key said first.
+        """
+        if not self.message:
+            is_asked = self.pages or self.question or self.is_lost
+            return "" if self.typed is None or is_asked else self.typed.said
         again = {1: "", 2: "Again: "}.get(self.times, f"{self.times} times now: ")
         return again + self.message
 

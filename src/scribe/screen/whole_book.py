@@ -82,8 +82,8 @@ def asked_by(state: State, pages: Pages, key: str) -> tuple[State, OfWholeBook |
         case SetVolumes() as offer if key == "y" and offer.changed:
             return state, offer
         case SetVolumes() if key == "v":
-            field = Field(Purpose.PAGES)
-            return replace(state, pages=None, typed=field).saying(_OF_PAGES), None
+            field = Field(Purpose.PAGES, said=_OF_PAGES)
+            return replace(state, pages=None, typed=field), None
     return state, None
 
 
@@ -122,7 +122,7 @@ def pages_typed(state: State, text: str) -> tuple[State, OfWholeBook | None]:
     """What a number asks for that was typed as the most pages of a volume."""
     word = text.strip()
     if not (word.isascii() and word.isdigit() and 0 < len(word) < 7 and int(word)):
-        typed = Field(Purpose.PAGES, text, len(text))
+        typed = Field(Purpose.PAGES, text, len(text), _OF_PAGES)
         return replace(state, typed=typed).saying(_NOT_A_NUMBER), None
     return state, ListVolumes(int(word))
 
