@@ -110,7 +110,7 @@ def test_page_and_line_of_what_is_gone_to_are_said_where_that_is_wanted(
     assert sat.state.message == ""
     sat.press("P")
     assert sat.state.message == (
-        "Now n, N, / and * say the page and line to which they go."
+        "Now n, N, / and * say the page and line to which they go. P ends that."
     )
     sat.press("n")
     assert sat.state.message == "Volume 2, page 1 line 2."

@@ -233,7 +233,7 @@ def test_page_and_line_are_said_of_what_is_gone_to(desk: Desk, given: Answers) -
     there = "Paragraph 3, character 9. This is the first in the book: there is none further on."
     assert desk.window.message.text == f"{there} Volume 2, page 1 line 2."
     desk.act("pages_said")
-    assert desk.window.message.text == "Now without page and line."
+    assert desk.window.message.text == "Now F4, Ctrl+F and F3 say no page and line."
     desk.act("find_next")
     assert desk.window.message.text == "“day” stands nowhere else in the book."
 

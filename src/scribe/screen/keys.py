@@ -69,7 +69,8 @@ _DOTS = (
     "Dot 7 is under marked cells, dot 8 under those of the cursor. d takes both away."
 )
 _QUIET = "Now without the list, and without braille while you type. z brings them back."
-_PAGES_SAID = "Now n, N, / and * say the page and line to which they go."
+_PAGES_SAID = "Now n, N, / and * say the page and line to which they go. P ends that."
+_NO_PAGES_SAID = "Now n, N, / and * say no page and line."
 _NO_DOTS = "Braille ASCII has no dots 7 and 8: a shows the cells as Unicode characters."
 _OF_OLD = "Each place is shown before it is changed."
 _OF_NEW = "Enter alone takes the words out. The places are shown before."
@@ -725,7 +726,7 @@ def _dots(state: State) -> Step:
 def _pages_said(state: State) -> Step:
     """Has the keys that go to marks and words say their page and line, or not any more."""
     says_pages = not state.says_pages
-    said = _PAGES_SAID if says_pages else "Now without page and line."
+    said = _PAGES_SAID if says_pages else _NO_PAGES_SAID
     return Step(replace(state, says_pages=says_pages).saying(said))
 
 
