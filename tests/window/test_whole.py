@@ -104,7 +104,7 @@ def test_places_that_are_refused_are_said_and_stay(desk: Desk, given: Answers) -
             ["Moon", "Moon"],
             "The new words are the same as the old. Nothing was changed.",
         ),
-        (["", "x"], "No words were typed that go. Nothing was changed."),
+        (["", "x"], "No words to change were typed. Nothing was changed."),
     ],
 )
 def test_what_changes_nothing_is_said(

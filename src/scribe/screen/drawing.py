@@ -34,8 +34,8 @@ PROMPTS = {
     Purpose.SIZE: "Cells and lines: ",
     Purpose.FOLDER: "Export to the folder: ",
     Purpose.TEXT_FILE: "Import the text file: ",
-    Purpose.OLD: "Words that go: ",
-    Purpose.NEW: "What comes: ",
+    Purpose.OLD: "Words to change: ",
+    Purpose.NEW: "In their place: ",
     Purpose.PAGES: "Pages of a volume: ",
 }
 

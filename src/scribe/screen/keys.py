@@ -73,7 +73,6 @@ _PAGES_SAID = "Now n, N, / and * say the page and line to which they go. P ends 
 _NO_PAGES_SAID = "Now n, N, / and * say no page and line."
 _NO_DOTS = "Braille ASCII has no dots 7 and 8: a shows the cells as Unicode characters."
 _OF_OLD = "Each place is shown before it is changed."
-_OF_NEW = "Enter alone takes the words out. The places are shown before."
 _OF_GOING = "A paragraph's number, or page 6 line 9, or words to find."
 # what is said before it is done, since the book keeps it
 _OF_TABLE = "A table that the book lacks is put into it, and stays there."
@@ -459,7 +458,8 @@ def _answering(state: State, typed: Field) -> Step:
         case Purpose.SIZE:
             return Step(_with_sheet(state, typed))
         case Purpose.OLD:
-            field = Field(Purpose.NEW, said=_OF_NEW)
+            said = f"Enter alone takes {quoted(typed.text)} out. {_OF_OLD}"
+            field = Field(Purpose.NEW, said=said)
             return Step(replace(state, gone=typed.text, typed=field))
         case Purpose.NEW:
             wanted = Replacement(state.gone, typed.text, by=state.by)

@@ -16,7 +16,7 @@ from scribe.words.paragraph import quoted
 from scribe.words.status import Stop
 
 _TITLE = "Change everywhere"
-_ASKED = ("&Words that go:", "What comes in their &place; nothing takes them out:")
+_ASKED = ("&Words to change:", "What comes in their &place; nothing takes them out:")
 _CHECKS = ("Only wh&ole words", "Whatever the &capitals, which are kept")
 _NOTHING = "Nothing was changed."
 _OF_ALL = ("Change &all", "Ask at each &place", "&Cancel")
@@ -38,7 +38,7 @@ class Changing:
         if not desk.settle():
             return
         sought = dialogs.text(
-            desk.window, "Change words", "Words that go:", finding.sought
+            desk.window, "Change words", "Words to change:", finding.sought
         )
         if not sought:
             return
@@ -72,7 +72,7 @@ class Changing:
             return
         (old, new), (is_of_words, is_of_any_case) = answer
         if not old:
-            raise Stop(f"No words were typed that go. {_NOTHING}")
+            raise Stop(f"No words to change were typed. {_NOTHING}")
         self._finding.seek(old)
         wanted = Replacement(old, new, is_of_words, is_of_any_case, by=desk.book.by)
         found = self._found(wanted)
