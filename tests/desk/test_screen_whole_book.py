@@ -121,10 +121,29 @@ def test_places_are_changed_and_left_one_by_one(tides: Path, sit: Sit) -> None:
     version = sat.state.version
     sat.press("y", "a")
     assert sat.state.version == version
+    assert sat.state.message == "There are no more places to change."
     sat.press("escape", "u")
     assert sat.state.message == "Taken back: paragraph 2 was corrected."
     sat.desk.close()
     assert prints(tides) == ["The tide", TIDES.replace("The tide", "The flood")]
+
+
+def test_the_keys_of_both_lists_name_those_that_move_in_it(
+    tides: Path, sit: Sit
+) -> None:
+    for keys, first in (
+        (("c", *"tide", "enter", "enter"), "y: changes this place"),
+        (("V",), "v: proposes volumes of at most so many pages"),
+    ):
+        sat = sit(tides)
+        sat.press(*keys, "?")
+        assert sat.state.pages and sat.state.pages.lines[0] == first
+        assert sat.state.pages.lines[-4:-1] == (
+            "Up, Down: to the line before, after",
+            "Page Up, Page Down: a screen back, on",
+            "Home, End: to the first line, to the last",
+        )
+        sat.desk.close()
 
 
 def test_words_that_stand_side_by_side_are_taken_out_one_by_one(

@@ -115,16 +115,11 @@ KEYS_OF_CHOICE = (
     "Space: gives the choice up",
     "Tab: gives it up, and goes to the print",
 )
-KEYS_OF_PAGES = (
-    "Up, Down: to the line before, after",
-    "Page Up, Page Down: a screen back, on",
-    "Home, End: to the first line, to the last",
-    "Escape, Enter, q: go back",
-)
+KEYS_OF_PAGES = (*pager.KEYS, "Escape, Enter, q: go back")
 KEYS_OF_LIST = (
     "Enter: goes there",
     "n, N: to the next of the list, to the one before",
-    *KEYS_OF_PAGES[:-1],
+    *pager.KEYS,
     "Escape, q: go back",
 )
 

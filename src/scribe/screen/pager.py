@@ -10,6 +10,12 @@ from scribe.screen.state import HEAD_LINE, Pages, Size, Target
 
 #: The row for what is said below the lines.
 SAID = 1
+#: The keys that move the cursor, and what each does.
+KEYS = (
+    "Up, Down: to the line before, after",
+    "Page Up, Page Down: a screen back, on",
+    "Home, End: to the first line, to the last",
+)
 # the rows of the screen that aren't the pager's: the first has the book's name, the last keys
 OTHERS = 2 + SAID
 

@@ -52,6 +52,7 @@ _OF_CAPITALS = "These have other capitals, which the new words take."
 _STOPPED = "The rest stays as it was."
 _NOT_A_NUMBER = "That is no number of pages, such as 80."
 _OF_PAGES = "None has more pages, and they begin at headings where that can be."
+_NONE_LEFT = "There are no more places to change."
 _STAY = "The other places stay as they are."
 
 KEYS_OF_PLACES = (
@@ -61,12 +62,14 @@ KEYS_OF_PLACES = (
     "w: whole words alone, or parts of words too",
     "c: with other capitals too, or not",
     "Enter: goes there",
+    *pager.KEYS,
     "Escape, q: go back; the other places stay as they are",
 )
 KEYS_OF_VOLUMES = (
     "v: proposes volumes of at most so many pages",
     "y: sets the volumes that are proposed",
     "Enter: goes to the first paragraph of a volume",
+    *pager.KEYS,
     "Escape, q: go back",
 )
 
@@ -94,6 +97,8 @@ def _of_places(
     match key:
         case "a" if offer.open_places:
             return state, offer
+        case "a":
+            return state.saying(_NONE_LEFT), None
         case "w":
             other = not wanted.is_of_words
             return state, FindPlaces(replace(wanted, is_of_words=other))
