@@ -55,9 +55,7 @@ def test_what_a_mark_goes_on_is_said_before_its_note_is_typed(
     keys, wanted = PLACES[place]
     sat = sit(moon)
     sat.press(*(" " if key == "space" else key for key in keys.split()), "m")
-    assert sat.state.heard == (
-        f"{wanted} r resolves a mark, and nothing takes it out."
-    )
+    assert sat.state.heard == (f"{wanted} r resolves a mark, and nothing takes it out.")
 
 
 @pytest.mark.parametrize("size", SIZES, ids=str)

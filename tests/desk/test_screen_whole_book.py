@@ -261,7 +261,7 @@ def test_volumes_are_proposed_set_and_taken_back(chapters: Path, sit: Sit) -> No
     sat = sit(chapters)
     sat.state = replace(sat.state, page_size=PageSize(28, 8))
     sat.press("V", "v")
-    assert sat.lines[-1].rstrip() == "Pages of a volume:"
+    assert sat.lines[-1].rstrip() == "Most pages of a volume:"
     sat.press(*"0", "enter")
     assert sat.state.message == "That is no number of pages, such as 80."
     sat.press("backspace", *"4", "enter")
@@ -290,7 +290,7 @@ def test_a_paragraph_that_no_volume_can_have_is_said(chapters: Path, sit: Sit) -
     sat = sit(chapters)
     sat.state = replace(sat.state, page_size=PageSize(28, 8))
     sat.press("V", "v", *"1", "enter")
-    assert sat.state.pages is None
+    assert sat.state.pages and sat.state.pages.title.startswith("1 volume, ")
     assert sat.state.message.startswith("Paragraph 2 has ")
     assert sat.state.message.endswith("Nothing was changed.")
 

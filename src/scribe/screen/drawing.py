@@ -36,7 +36,7 @@ PROMPTS = {
     Purpose.TEXT_FILE: "Import the text file: ",
     Purpose.OLD: "Words to change: ",
     Purpose.NEW: "In their place: ",
-    Purpose.PAGES: "Pages of a volume: ",
+    Purpose.PAGES: "Most pages of a volume: ",
 }
 
 
@@ -207,7 +207,7 @@ def _bottom(state: State) -> Area:
     """Where the cursor is in words, the marks there, what is said, and what is typed."""
     if state.question and not state.is_lost:
         return _asked(state, state.question)
-    typed = None if state.is_lost or state.pages else state.typed
+    typed = state.typed if state.is_typing and not state.is_lost else None
     width, own = state.size.columns, _own(state)
     if typed and not typed.purpose.is_print:
         text, place = _tail(PROMPTS[typed.purpose], typed, width)

@@ -137,7 +137,7 @@ def step(state: State, key: str) -> Step:
         return _answered(state, state.question, key)
     if key in _ASKS_FOR_KEYS and not state.is_lost:
         return Step(_with_help(state))
-    if state.pages:
+    if state.pages and not state.is_typing:
         found, asked = whole_book.asked_by(state, state.pages, key)
         if asked is not None or found is not state:
             return Step(found, asked)
@@ -159,7 +159,7 @@ def pasted(state: State, text: str) -> Step:
     typed, question = state.typed, state.question
     if typed and question and question.lines and not state.pages and not state.is_lost:
         return Step(_typed_on(state, typed, question, text))
-    if typed is None or question or state.pages or state.is_lost:
+    if typed is None or question or not state.is_typing or state.is_lost:
         return Step(state, PutBy(text) if text.strip() else None)
     lines = text.replace("\r", "\n").replace("\t", " ").split("\n")
     if len(lines) > 1:
@@ -385,12 +385,13 @@ def _with_help(state: State) -> State:
 
 def keys_of(state: State) -> tuple[str, tuple[str, ...]]:
     """What is being done, and its keys."""
-    if state.pages and isinstance(state.pages.offer, ChangePlaces):
+    pages = None if state.is_typing else state.pages
+    if pages and isinstance(pages.offer, ChangePlaces):
         return "in the list of places", whole_book.KEYS_OF_PLACES
-    if state.pages and state.pages.offer is not None:
+    if pages and pages.offer is not None:
         return "in the list of volumes", whole_book.KEYS_OF_VOLUMES
-    if state.pages:
-        return "while looking", KEYS_OF_LIST if state.pages.targets else KEYS_OF_PAGES
+    if pages:
+        return "while looking", KEYS_OF_LIST if pages.targets else KEYS_OF_PAGES
     if state.typed is not None:
         is_print = state.typed.purpose.is_print
         return "while typing", (*(KEYS_OF_PRINT if is_print else ()), *KEYS_OF_LINE)

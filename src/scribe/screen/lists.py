@@ -124,9 +124,14 @@ def headings_list(
     )
     targets = tuple(Target(each.id) for each in found)
     count = "1 heading" if len(found) == 1 else f"{len(found):,} headings"
-    pages = Pages(f"{count}.", lines, targets=targets)
+    return at_chosen(state, Pages(f"{count}.", lines, targets=targets))
+
+
+def at_chosen(state: State, pages: Pages) -> State:
+    """The state in which a list is looked at, the cursor on its last line up to the chosen paragraph."""
     order = {each.id: place for place, each in enumerate(state.book)}
-    before = [n for n, each in enumerate(found) if order[each.id] <= state.chosen]
+    places = [order[each.paragraph] for each in pages.targets]
+    before = [n for n, place in enumerate(places) if place <= state.chosen]
     line = before[-1] if before else 0
     return replace(state, pages=pager.at_line(pages, state.size, line))
 

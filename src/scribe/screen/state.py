@@ -202,6 +202,17 @@ class State:
         return self.book[self.chosen] if self.book else None
 
     @property
+    def is_typing(self) -> bool:
+        """Whether keys are for what is typed, and not for lines that are looked at in its place.
+
+        The volumes stay in sight above the line on which the most pages of one are typed.
+        """
+        if self.typed is None or self.pages is None:
+            return self.typed is not None
+        is_of_volumes = isinstance(self.pages.offer, SetVolumes)
+        return is_of_volumes and self.typed.purpose is Purpose.PAGES
+
+    @property
     def joined(self) -> Field | None:
         """What is typed: while something is asked about its lines, all of them joined."""
         typed, question = self.typed, self.question
@@ -290,8 +301,12 @@ class State:
         Where nothing has to be, that is said of a line that is typed which its key said first.
         """
         if not self.message:
-            is_asked = self.pages or self.question or self.is_lost
-            return "" if self.typed is None or is_asked else self.typed.said
+            is_asked = self.question is not None or self.is_lost
+            return (
+                self.typed.said
+                if self.typed and self.is_typing and not is_asked
+                else ""
+            )
         again = {1: "", 2: "Again: "}.get(self.times, f"{self.times} times now: ")
         return again + self.message
 

@@ -37,6 +37,7 @@ from scribe.screen.actions import (
 )
 from scribe.screen.field import Field, Purpose
 from scribe.screen.in_hand import touched
+from scribe.screen.lists import at_chosen
 from scribe.screen.state import Pages, State, Target
 from scribe.words.change_all import Count, nowhere, proposal_lines
 from scribe.words.deeds import Deed
@@ -51,7 +52,9 @@ _FEW = 20
 _OF_CAPITALS = "These have other capitals, which the new words take."
 _STOPPED = "The rest stays as it was."
 _NOT_A_NUMBER = "That is no number of pages, such as 80."
-_OF_PAGES = "None has more pages, and they begin at headings where that can be."
+_OF_PAGES = (
+    "Volumes begin at headings where they can, and none has more pages than this."
+)
 _NONE_LEFT = "There are no more places to change."
 _STAY = "The other places stay as they are."
 
@@ -86,7 +89,7 @@ def asked_by(state: State, pages: Pages, key: str) -> tuple[State, OfWholeBook |
             return state, offer
         case SetVolumes() if key == "v":
             field = Field(Purpose.PAGES, said=_OF_PAGES)
-            return replace(state, pages=None, typed=field), None
+            return replace(state, typed=field), None
     return state, None
 
 
@@ -300,7 +303,8 @@ def _volumes(session: Session, state: State, most: int | None) -> State:
         targets=(*([Target(book[0].id)] * len(front)), *firsts),
         offer=SetVolumes(tuple(changed)),
     )
-    return replace(state, pages=listed)
+    # what is proposed is read from its head on
+    return at_chosen(state, listed) if most is None else replace(state, pages=listed)
 
 
 def _volumes_set(

@@ -48,7 +48,9 @@ class View:
         desk = self.desk
         desk.says_pages = not desk.says_pages
         said = "Now F4, Ctrl+F and F3 say the page and line to which they go."
-        desk.say(said if desk.says_pages else "Now F4, Ctrl+F and F3 say no page and line.")
+        desk.say(
+            said if desk.says_pages else "Now F4, Ctrl+F and F3 say no page and line."
+        )
 
     def page_size(self) -> None:
         """Asks for the size of pages."""
