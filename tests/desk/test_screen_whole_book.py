@@ -269,7 +269,7 @@ def test_volumes_are_proposed_set_and_taken_back(chapters: Path, sit: Sit) -> No
     assert pages is not None
     assert pages.title == "Proposed: 3 volumes, 12 pages of 8 lines of 28 cells."
     assert pages.lines == (
-        "Paragraphs 3 and 5 would begin a volume; y sets it.",
+        "Paragraphs 3 and 5 would begin a volume; y does it.",
         "Volume 1: 4 pages, from paragraph 1, heading: The Moon",
         "Volume 2: 4 pages, from paragraph 3, heading: The Tides",
         "Volume 3: 4 pages, from paragraph 5, heading: The End",

@@ -60,7 +60,7 @@ def test_volumes_are_proposed_at_headings_and_nothing_is_set(chapters: Path) -> 
         "Volume 3: 1 page, from paragraph 6, heading: Three\n",
         "3 volumes, 3 pages of 5 lines of 12 cells.\n"
         "Paragraphs 4 and 6 would begin a volume; --set does it.\n"
-        "Paragraph 3 would begin none; --set does it.\n",
+        "Paragraph 3 would begin no volume; --set does it.\n",
     )
     assert chapters.read_bytes() == before
     assert volumes(chapters, "--pages", "3", *SIZE).shown == (
@@ -175,7 +175,7 @@ def test_a_talk_shows_volumes_and_sets_them(chapters: Path) -> None:
     assert ran.said.splitlines()[:-1] == [
         "2 volumes, 2 pages of 25 lines of 40 cells.",
         "1 volume, 1 page of 25 lines of 40 cells.",
-        "Paragraph 3 would begin none; --set does it.",
+        "Paragraph 3 would begin no volume; --set does it.",
         "1 volume, 1 page of 25 lines of 40 cells.",
         "Paragraph 3 begins no volume now.",
         "The book is at version 15.",

@@ -295,7 +295,7 @@ def _volumes(session: Session, state: State, most: int | None) -> State:
         volumes = planned(lines, size, most)
         title = f"Proposed: {summary(volumes, size)}"
         changed = to_be_set(book, volumes)
-        front = list(to_set(changed, "y sets it"))
+        front = list(to_set(changed, "y does it"))
     firsts = [Target(book[each.paragraphs.start].id) for each in volumes]
     listed = Pages(
         title,

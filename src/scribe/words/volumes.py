@@ -50,10 +50,10 @@ def to_set(
 
 
 def to_begin(changed: Sequence[tuple[Paragraph, bool]]) -> Iterator[str]:
-    """Which paragraphs would begin a volume, and which none."""
-    for begins, what in ((True, "would begin a volume"), (False, "would begin none")):
+    """Which paragraphs would begin a volume, and which would begin none."""
+    for begins, what in ((True, "a volume"), (False, "no volume")):
         if numbers := [each.id for each, on in changed if on is begins]:
-            yield f"{numbered(numbers)} {what}."
+            yield f"{numbered(numbers)} would begin {what}."
 
 
 def was_set(changed: Sequence[tuple[Paragraph, bool]], version: int) -> Iterator[str]:
