@@ -14,6 +14,7 @@ from braildesk import Lost
 from braildesk.desk.layout import PageSize
 
 from scribe.window.actions import Actions
+from scribe.window.contrast import Contrast
 from scribe.window.desk import Desk
 from scribe.words.status import Interrupted
 
@@ -29,6 +30,7 @@ class Application:
         self._qt = QApplication(sys.argv[:1])
         self._qt.setApplicationName("braildesk")
         self._qt.setDesktopFileName("braildesk-desktop")
+        self._contrast = Contrast(self._qt)
         self._fault: BaseException | None = None
         self._ended_by: signal.Signals | None = None
         self._desk = Desk(path, by, wait, page_size)
@@ -44,6 +46,7 @@ class Application:
     def run(self) -> None:
         """Shows the book until its window is closed; raises what ends it otherwise."""
         desk = self._desk
+        self._contrast.follow()
         try:
             desk.begin()
         except BaseException:

@@ -58,9 +58,9 @@ class Field(QPlainTextEdit):
     doubled = pyqtSignal()
 
     def __init__(self, name: str, is_read_only: bool) -> None:
+        self._lights: tuple[Sequence[Span], Span | None] = (), None
         super().__init__()
         self._described = ""
-        self._lights: tuple[Sequence[Span], Span | None] = (), None
         self.selectionChanged.connect(lambda: self.light(*self._lights))
         self._frame(False)
         self.setAccessibleName(name)
@@ -88,6 +88,13 @@ class Field(QPlainTextEdit):
             super().focusOutEvent(event)
             self._frame(False)
             self.setAccessibleDescription(self._described)
+
+    def changeEvent(self, event: QEvent | None) -> None:
+        """What is lit is lit in the colours of the desktop, which may be others now."""
+        if event is not None:
+            super().changeEvent(event)
+            if event.type() == QEvent.Type.PaletteChange:
+                self.light(*self._lights)
 
     def _frame(self, has_focus: bool) -> None:
         width = frame(self, has_focus)

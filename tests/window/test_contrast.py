@@ -1,0 +1,171 @@
+"""High contrast, which a window has where the desktop wants it, from its opening on and as it changes."""
+
+import os
+import time
+from collections import Counter
+from collections.abc import Callable, Iterator
+from pathlib import Path
+
+import pytest
+from gi.repository import Atspi  # type: ignore[import]
+from PyQt6.QtGui import QGuiApplication, QImage, QPalette
+from PyQt6.QtWidgets import QApplication
+
+from scribe.window.contrast import Contrast
+
+from conftest import Open
+from portal import CONTRAST, Key, OF_GNOME, Portal, SCHEME
+from reader import Part, Reader
+
+BLACK, WHITE = "#000000", "#ffffff"
+#: A program for settings that says so, and one that says nothing and doesn't end.
+SAYS = "#!/bin/sh\n[ \"$*\" = 'get {} {}' ] && echo true\n".format(*OF_GNOME)
+HANGS = "#!/bin/sh\necho $$ > {}\nexec sleep 600\n"
+
+Lend = Callable[..., Portal]
+
+
+@pytest.fixture
+def lends() -> Iterator[Lend]:
+    """Starts a portal that lends settings, and ends it."""
+    portals: list[Portal] = []
+
+    def lent(*settings: tuple[Key, str]) -> Portal:
+        portals.append(Portal(*settings))
+        return portals[-1]
+
+    yield lent
+    for portal in portals:
+        portal.end()
+
+
+def picture(part: Part) -> QImage:
+    """What is seen of a part on the screen, row by row."""
+    at = Atspi.Component.get_extents(part, Atspi.CoordType.SCREEN)
+    screen = QGuiApplication.primaryScreen()
+    assert screen is not None
+    return screen.grabWindow(0, at.x, at.y, at.width, at.height).toImage()
+
+
+def grounds(window: Reader) -> list[str]:
+    """The colours of which each covers a hundredth of a window, that of most of it first."""
+    seen = picture(window.top)
+    count = Counter(
+        seen.pixelColor(x, y).name()
+        for x in range(0, seen.width(), 3)
+        for y in range(0, seen.height(), 3)
+    )
+    return [name for name, its in count.most_common() if its * 100 > count.total()]
+
+
+def becomes(window: Reader, *colours: str) -> None:
+    """Waits until the window has these colours, and no others."""
+    window.until(f"only {colours}", lambda: grounds(window) == list(colours))
+
+
+def is_usual(window: Reader) -> None:
+    """Waits until the window has colours that are neither black nor white."""
+    window.until("other colours", lambda: not {*grounds(window)} <= {BLACK, WHITE})
+
+
+def frame(part: Part) -> int:
+    """How wide the line is at the left of a part."""
+    seen = picture(part)
+    y, ground = seen.height() // 2, seen.pixelColor(seen.width() // 2, 4)
+    row = [seen.pixelColor(x, y) for x in range(6)]
+    return next(n for n, colour in enumerate(row) if colour == ground)
+
+
+@pytest.mark.parametrize("setting", [(CONTRAST, "1"), (OF_GNOME, "true")], ids=str)
+def test_a_window_has_high_contrast_where_the_desktop_wants_it(
+    application: QApplication, moon: Path, at: Open, lends: Lend, setting: object
+) -> None:
+    lends((SCHEME, "0"), setting)
+    window = at(moon)
+    becomes(window, WHITE, BLACK)
+    assert frame(window.part("table", "Paragraphs")) == 3
+    print_ = window.part("text", "Print")
+    assert frame(print_) == 1
+    window.press("F2")
+    window.focus("text", "Print")
+    window.until("a wide frame", lambda: frame(print_) == 3)
+    window.press("Ctrl+f")
+    asked = window.first("text", window.dialog("Find"))
+    window.until("a wide frame in the dialog", lambda: frame(asked) == 3)
+
+
+def test_a_window_follows_the_desktop_while_it_is_open(
+    application: QApplication, moon: Path, at: Open, lends: Lend
+) -> None:
+    portal = lends((SCHEME, "0"), (CONTRAST, "0"), (OF_GNOME, "false"))
+    window = at(moon)
+    is_usual(window)
+    portal.set(OF_GNOME, "true")
+    becomes(window, WHITE, BLACK)
+    portal.set(SCHEME, "1")
+    becomes(window, BLACK, WHITE)
+    portal.set(OF_GNOME, "false")
+    is_usual(window)
+    portal.set(CONTRAST, "1")
+    becomes(window, BLACK, WHITE)
+    # what is lit is black and white as well
+    window.press("F4")
+    window.focus("text", "Print")
+    window.caret("Print", 4)
+    for name in ("Print", "Braille"):
+        seen = picture(window.part("text", name))
+        colours = (
+            seen.pixelColor(x, y)
+            for x in range(seen.width())
+            for y in range(seen.height())
+        )
+        assert all(its.red() == its.green() == its.blue() for its in colours), name
+
+
+def program(folder: Path, text: str) -> str:
+    """A path on which GNOME's program for settings is another one."""
+    folder.mkdir()
+    its = folder / "gsettings"
+    its.write_text(text)
+    its.chmod(0o755)
+    return f"{folder}:{os.environ['PATH']}"
+
+
+def test_the_program_for_settings_is_asked_where_there_is_no_portal(
+    application: QApplication, moon: Path, at: Open, tmp_path: Path
+) -> None:
+    window = at(moon, PATH=program(tmp_path / "bin", SAYS))
+    becomes(window, WHITE, BLACK)
+
+
+def test_a_window_waits_for_no_program_for_settings(
+    application: QApplication, moon: Path, at: Open, tmp_path: Path
+) -> None:
+    number = tmp_path / "number"
+    window = at(moon, PATH=program(tmp_path / "bin", HANGS.format(number)))
+    window.press("F2")
+    window.focus("text", "Print")
+    window.until("the program", number.exists)
+    its = Path("/proc", number.read_text().strip())
+    window.until("the end of the program", lambda: not its.exists())
+    is_usual(window)
+    window.press("Ctrl+q")
+    assert window.end() == 0
+
+
+def test_kde_has_colours_of_its_own(
+    application: QApplication, lends: Lend, monkeypatch: pytest.MonkeyPatch
+) -> None:
+    lends((CONTRAST, "1"))
+    before = application.palette()
+    for desktop, is_high in (("KDE", False), ("ubuntu:GNOME", True)):
+        monkeypatch.setenv("XDG_CURRENT_DESKTOP", desktop)
+        contrast = Contrast(application)
+        contrast.follow()
+        end = time.monotonic() + (0.5 if not is_high else 60)
+        while time.monotonic() < end and application.palette() == before:
+            application.processEvents()
+        assert (application.palette() != before) == is_high
+    application.setStyleSheet("")
+    application.setPalette(QPalette())
+    assert application.palette() == before
