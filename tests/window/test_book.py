@@ -160,7 +160,7 @@ def test_what_is_known_after_a_table_a_restoring_and_an_undo_is_what_the_book_ha
     book.done(requests.Correct(2, 6, 0, "o"))
     acts: list[Callable[[], Done]] = [
         lambda: book.done(requests.Undo(2)),
-        lambda: book.with_table(2, "ueb"),
+        lambda: book.with_table(2, "ueb", None, lambda step: True),
         lambda: book.done(requests.Strike(2)),
         lambda: book.done(requests.Restore(2)),
         lambda: book.done(requests.Resolve(1)),

@@ -1,5 +1,7 @@
 """What takes long is cancelled in its middle: what was done by then is said, and the book is worked on."""
 
+import errno
+import os
 from collections.abc import Callable, Sequence
 from pathlib import Path
 from threading import Event
@@ -9,12 +11,16 @@ import pytest
 from PyQt6.QtCore import QTimer
 from PyQt6.QtWidgets import QApplication, QDialog, QLabel, QPushButton, QWidget
 
-from braildesk import requests
+from braildesk import Session, requests
 
 from scribe.window import dialogs
 from scribe.window.desk import Desk
 
+from conftest import Open
+
 MANY = 300
+#: Stands in the place of the program, and waits where it is told.
+STAND_IN = Path(__file__).resolve().parents[1] / "desk" / "stand_in.py"
 
 Cancelled = Callable[[str, Callable[[], None]], list[str]]
 
@@ -109,6 +115,84 @@ def test_an_import_that_is_cancelled_is_gone_on_with(
     assert len(desk.contents.paragraphs) == MANY + 3
     rest = f"{MANY - count} paragraphs typed, numbers {count + 4} to {MANY + 3}, by the table en."
     assert (said[3:], desk.window.message.text) == ([rest], rest)
+
+
+TABLE = "space \\s 0\nletter a 1\nletter b 12\n"
+
+
+@pytest.mark.parametrize(
+    ("step", "said", "tables"),
+    [
+        ("is read", "Stopped. The book is as it was.", ("en",)),
+        ("into the book", "Stopped. The book is as it was.", ("en",)),
+        (
+            "is given",
+            "Kept: table own. Stopped before paragraph 1 was given it.",
+            ("en", "own"),
+        ),
+    ],
+)
+def test_a_table_that_is_cancelled_is_not_given_and_what_was_sent_is_said(
+    desk: Desk,
+    cancelled: Cancelled,
+    tmp_path: Path,
+    monkeypatch: pytest.MonkeyPatch,
+    step: str,
+    said: str,
+    tables: tuple[str, ...],
+) -> None:
+    text = tmp_path / "own.utb"
+    text.write_text(TABLE)
+    monkeypatch.setattr(dialogs, "one_of", lambda *_: "From a file…")
+    monkeypatch.setattr(dialogs, "file_to_read", lambda *_: text)
+    cancelled(step, lambda: desk.act("table"))
+    assert desk.window.message.text == said
+    assert desk.contents.tables == tables
+    assert desk.chosen.table == "en"
+    # the book is worked on, and the table can be given
+    desk.act("strike")
+    assert desk.window.message.text == "Kept: paragraph 1 struck."
+
+
+def test_a_table_is_cancelled_while_the_book_takes_it(
+    moon: Path, at: Open, tmp_path: Path
+) -> None:
+    queue = tmp_path / "queue"
+    os.mkfifo(queue)
+    window = at(
+        moon,
+        BRAILDESK=str(STAND_IN),
+        STAND_IN_FOR=os.environ["BRAILDESK"],
+        STAND_IN_AT=f"1 read wait {queue}",
+    )
+    there = os.open(queue, os.O_RDONLY | os.O_NONBLOCK)
+    window.press("Ctrl+l")
+    window.part("combo box", "en", window.dialog("Table"))
+    window.press("Down", "Return")
+    top = window.dialog("Table: please wait")
+    window.part("label", "The table ueb is put into the book.", top)
+    window.click(window.part("push button", "Cancel", top))
+    window.part("label", "It ends after this step.", top)
+    os.close(there)
+
+    def is_let_on() -> bool:
+        try:
+            os.close(os.open(queue, os.O_WRONLY | os.O_NONBLOCK))
+        except OSError as failure:
+            # nobody reads there yet
+            assert failure.errno == errno.ENXIO
+            return False
+        return True
+
+    window.until("the program that waits", is_let_on)
+    window.no_dialog()
+    said = "Kept: table ueb. Stopped before paragraph 1 was given it."
+    window.reads("Message", said)
+    window.press("Ctrl+q")
+    assert window.end() == 0
+    with Session(moon) as session:
+        assert [each.name for each in session.tables()] == ["en", "ueb"]
+        assert {each.table for each in session.paragraphs()} == {"en"}
 
 
 def test_an_export_that_is_cancelled_says_which_volumes_are_new(

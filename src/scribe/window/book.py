@@ -47,6 +47,7 @@ from scribe.words.status import Stop
 
 # the first words of a listed paragraph
 _WORDS = 120
+_AS_IT_WAS = "Stopped. The book is as it was."
 _LONG = (
     "The volume is long, and isn't laid out by itself: Ctrl+P, twice, has that done."
 )
@@ -255,22 +256,41 @@ class OpenBook:
         return replace(self._after(command, answer), paragraph=its.paragraph.id)
 
     def with_table(
-        self, paragraph: int | None, name: str, path: Path | None = None
+        self,
+        paragraph: int | None,
+        name: str,
+        path: Path | None,
+        go_on: Callable[[str], bool],
     ) -> Done:
         """Gives a paragraph a table, which is put into the book where it isn't there.
 
-        It may be that of a file. What the book makes of its text is for the book to say.
+        It may be that of a file. What the book makes of its text is for the book to say. Each step is
+        said before it is done, and is done where it goes on; raises `Stop` where none was done.
         """
         done = None
         if name not in self.tables.names or path is not None:
-            request = table_request(name, path)
-            text = request.text if isinstance(request, requests.Table) else None
-            answer = self._sent(request)
-            self.tables.put(name, text)
-            done = self._after(request, answer)
+            done = self._with_new_table(name, path, go_on)
         if paragraph is None:
             return done or Done(self.contents(), f"kept: table {name}", None)
-        return self.done(requests.Retable(paragraph, name))
+        if go_on(f"Paragraph {paragraph} is given the table {name}."):
+            return self.done(requests.Retable(paragraph, name))
+        if done is None:
+            raise Stop(_AS_IT_WAS)
+        stopped = f"{done.said}. Stopped before paragraph {paragraph} was given it."
+        return replace(done, said=stopped)
+
+    def _with_new_table(
+        self, name: str, path: Path | None, go_on: Callable[[str], bool]
+    ) -> Done:
+        """Puts a table into the book, unless that is stopped before."""
+        is_wanted = go_on(f"The table {name} is read.")
+        request = table_request(name, path) if is_wanted else None
+        if request is None or not go_on(f"The table {name} is put into the book."):
+            raise Stop(_AS_IT_WAS)
+        text = request.text if isinstance(request, requests.Table) else None
+        answer = self._sent(request)
+        self.tables.put(name, text)
+        return self._after(request, answer)
 
     def typed_all(
         self,

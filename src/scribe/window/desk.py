@@ -38,10 +38,11 @@ from scribe.words.preview import Preview
 from scribe.words.status import Stop, in_sentences
 
 Result = TypeVar("Result")
-#: What is said where an action needs a paragraph, and where that has to be one that isn't struck.
+#: What is said where an action needs a paragraph, where that has to be one that isn't struck, and where
+#: the book isn't open any more.
 NO_PARAGRAPH = "The book has no paragraph yet. Ctrl+Enter begins one."
 STRUCK = "is struck. Ctrl+D restores it, so that it can be changed."
-_CLOSED = "The book is closed: Open the book again, in the menu Book, opens it."
+CLOSED = "The book is closed: Open the book again, in the menu Book, opens it."
 
 
 @dataclass(frozen=True)
@@ -190,7 +191,7 @@ class Desk:
     def asked(self, act: Callable[[], Result]) -> Result:
         """What comes of something in the thread of the session."""
         if self.is_closed:
-            raise Stop(_CLOSED)
+            raise Stop(CLOSED)
         return self.work.result(act)
 
     def say(self, sentence: str) -> None:
@@ -320,7 +321,7 @@ class Desk:
 
         def act() -> None:
             if self.is_closed:
-                raise Stop(_CLOSED)
+                raise Stop(CLOSED)
             if not self.settle():
                 QTimer.singleShot(0, self._choose_again)
                 return

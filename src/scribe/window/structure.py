@@ -1,13 +1,15 @@
 """The paragraphs of the book at work: what they are, where they stand, and by which table."""
 
-from functools import partial
+from pathlib import Path
 
 from braildesk import After, Style, requests
 from braildesk.desk.draft import Aim
 from braildesk.desk.tables import SUPPLIED, table_names
 
 from scribe.window import dialogs
-from scribe.window.desk import STRUCK, Desk, New
+from scribe.window.book import Done
+from scribe.window.desk import CLOSED, STRUCK, Desk, New
+from scribe.window.dialogs import IsStopped, Say
 from scribe.words.changes import nothing_found, paragraph_history
 from scribe.words.status import Stop
 
@@ -77,9 +79,22 @@ class Structure:
             )
             name = path.stem if path is not None else None
         if name is not None and (its is None or name != its.table or path is not None):
-            number = its.id if its else None
-            book = desk.book
-            desk.show_done(desk.asked(partial(book.with_table, number, name, path)))
+            self._give(its.id if its else None, name, path)
+
+    def _give(self, number: int | None, name: str, path: Path | None) -> None:
+        """Gives a paragraph a table, which takes a while if it is in many paragraphs already."""
+        desk = self.desk
+        if desk.is_closed:
+            raise Stop(CLOSED)
+
+        def act(say: Say, is_stopped: IsStopped) -> Done:
+            def go_on(step: str) -> bool:
+                say(step)
+                return not is_stopped()
+
+            return desk.book.with_table(number, name, path, go_on)
+
+        desk.show_done(dialogs.long(desk.window, desk.work, "Table", act))
 
     def move_up(self) -> None:
         """Moves the chosen paragraph before the one before it."""
