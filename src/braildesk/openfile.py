@@ -2,7 +2,8 @@
 
 import os
 from pathlib import Path
-from typing import BinaryIO
+from typing import BinaryIO, NamedTuple
+from zlib import crc32
 
 from braildesk import program as programs
 from braildesk.opening import MAGIC
@@ -18,6 +19,19 @@ from braildesk.workshop import (
     put,
 )
 
+#: So much of a file is summed up at most, in parts that lie evenly in a larger one.
+_SUMMED, _PART = 1 << 21, 1 << 16
+#: The bytes of a log before its first page.
+_FRONT = 32
+
+
+class _Noted(NamedTuple):
+    """What a file was while the program waited: its size and times, the sum of what it held, and its log."""
+
+    state: tuple[int, int, int]
+    sum: int
+    front: bytes
+
 
 class OpenFile:
     """A file that is held open beside the program, so that it is known when its name is taken away."""
@@ -29,6 +43,9 @@ class OpenFile:
         self._was_database = False
         #: The most bytes that were found in it.
         self._most = 0
+        self._noted: _Noted | None = None
+        #: Whether the program may have written into it since then.
+        self._is_lent = False
         if os.path.isfile(self.path):
             try:
                 # a pipe that stands there by now isn't waited for
@@ -62,6 +79,43 @@ class OpenFile:
         size = os.fstat(self._descriptor).st_size
         self._most = max(self._most, size)
         return size < self._most or not self._is_database(self._descriptor)
+
+    def note(self) -> None:
+        """Notes what the file holds, while the program waits for a request and writes nothing."""
+        if self._descriptor is not None and self._was_database:
+            self._noted = _noted(self._descriptor, self._front())
+            self._is_lent = False
+
+    def lend(self) -> None:
+        """Says that the program gets a command, for which it may write into the file."""
+        self._is_lent = True
+
+    @property
+    def is_written_into(self) -> bool:
+        """Whether others wrote into the file since it was noted, while the program waits.
+
+        The program writes there to empty its log, which has another front then. Who touches the
+        file, or changes its mode, changes its times alone.
+        """
+        noted, descriptor = self._noted, self._descriptor
+        if noted is None or descriptor is None:
+            return False
+        front = self._front() if self._is_lent else noted.front
+        if (_state(descriptor), front) == (noted.state, noted.front):
+            return False
+        self._noted, self._is_lent = _noted(descriptor, front), False
+        is_emptied = not front or front != noted.front
+        was, now = (noted.state[0], noted.sum), (self._noted.state[0], self._noted.sum)
+        return not is_emptied and was != now
+
+    def _front(self) -> bytes:
+        """The front of the log, which is another one once the log was emptied; nothing if it isn't seen."""
+        flags = os.O_RDONLY | os.O_NOFOLLOW | os.O_NONBLOCK | os.O_CLOEXEC
+        try:
+            with open(os.open(f"{self.path}-wal", flags), "rb", buffering=0) as log:
+                return log.read(_FRONT)
+        except OSError:
+            return b""
 
     @staticmethod
     def _is_database(descriptor: int) -> bool:
@@ -109,6 +163,25 @@ class OpenFile:
         if self._descriptor is not None:
             os.close(self._descriptor)
             self._descriptor = None
+
+
+def _state(descriptor: int) -> tuple[int, int, int]:
+    """What is another one once something was written into a file: its size and its times."""
+    found = os.fstat(descriptor)
+    return found.st_size, found.st_mtime_ns, found.st_ctime_ns
+
+
+def _noted(descriptor: int, front: bytes) -> _Noted:
+    state = _state(descriptor)
+    return _Noted(state, _sum(descriptor, state[0]), front)
+
+
+def _sum(descriptor: int, size: int) -> int:
+    """The sum of what a file holds."""
+    found, step = 0, _PART * max(1, -(-size // _SUMMED))
+    for place in range(0, size, step):
+        found = crc32(os.pread(descriptor, _PART, place), found)
+    return found
 
 
 def _version(made: Path, program: StrPath | None) -> int:

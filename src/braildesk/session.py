@@ -121,7 +121,8 @@ class Session:
         # looked at while nobody else can have it: once the program has ended, anybody may replace it
         if self._acknowledged is not None and not self._file.is_at_its_path:
             raise self._displaced()
-        if self._file.is_overwritten:
+        is_foreign = self._acknowledged is not None and self._file.is_written_into
+        if is_foreign or self._file.is_overwritten:
             raise self._overwritten()
         self._is_closed = True
         ending = self._pipe.close()
@@ -221,6 +222,7 @@ class Session:
                 file.close()
                 raise
             if file.is_at_its_path:
+                file.note()
                 return pipe, file, version
             # another file was put there while the program opened it
             pipe.close()
@@ -258,6 +260,10 @@ class Session:
 
     def _send(self, request: Request[Any], data: bytes) -> None:
         """Queues a request, whose reply is waited for after those of the earlier ones."""
+        if self._is_at_rest:
+            self._judge_file(request)
+        if isinstance(request, Command):
+            self._file.lend()
         with self._pipe.steps:
             self._sent.append(request)
             self._pipe.send(data)
@@ -319,9 +325,24 @@ class Session:
         if reply.word == "ok" and not self._is_saving:
             if not self._file.is_at_its_path:
                 raise self._displaced()
-            if self._file.is_overwritten:
+            is_foreign = self._is_at_rest and self._file.is_written_into
+            if is_foreign or self._file.is_overwritten:
                 raise self._overwritten()
         return reply
+
+    @property
+    def _is_at_rest(self) -> bool:
+        """Whether the program waits for a request, since each that was sent is answered."""
+        return all(isinstance(each, Refused) for each in self._sent)
+
+    def _judge_file(self, request: Request[Any]) -> None:
+        """Whether the file still holds what the program wrote there, which waits for a request.
+
+        A session that only asks has nothing to lose there.
+        """
+        is_at_stake = self._acknowledged is not None or isinstance(request, Command)
+        if is_at_stake and not self._is_saving and self._file.is_written_into:
+            raise self._overwritten()
 
     def _note(self, request: Request[Any], reply: Reply) -> None:
         """Notes the reply to a request; a command that isn't kept stays among those sent."""

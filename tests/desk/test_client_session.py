@@ -659,9 +659,83 @@ def test_the_print_of_a_book_that_was_written_into_is_saved(
         " book any more. The print of all paragraphs, with what was kept last, is in the new file"
         f" “{saved}”. Go on with a copy of the book, and import from that file what it lacks."
     )
-    texts = ["One.", "Two."] if moment == "before the end" else ["Two.", "One."]
-    assert saved.read_text() == "\n\n".join(texts) + "\n"
+    # a command is not sent to such a file
+    assert saved.read_text() == "One.\n\nTwo.\n"
     assert saved.stat().st_mode & 0o777 == 0o640
+
+
+def written_over(other: Path, book: Path) -> None:
+    """The bytes of another file in the place of a book's, in its own file, as `dd` puts them."""
+    with open(book, "r+b") as file:
+        file.write(other.read_bytes())
+
+
+@pytest.mark.parametrize("put", [shutil.copyfile, written_over])
+@pytest.mark.parametrize(
+    "moment",
+    [
+        "before the first command",
+        "before a command",
+        "before many",
+        "among many",
+        "before the end",
+    ],
+)
+def test_another_book_that_is_copied_into_the_file_of_an_open_one_is_noticed(
+    book: Path, put: Callable[[Path, Path], object], moment: str
+) -> None:
+    other = book.with_name("other")
+    shutil.copyfile(book, other)
+    for path, text in ((book, "One."), (other, "Two.")):
+        with Session(path) as session:
+            session.add_paragraph("end", "en", text)
+    # the two have the same size, and began with the same bytes
+    assert book.read_bytes()[:100] == other.read_bytes()[:100]
+    with pytest.raises(Displaced) as caught:
+        with Session(book) as session:
+            if moment != "before the first command":
+                session.add_paragraph("end", "en", "Three.")
+            if moment == "among many":
+                answers = session.each([requests.Move(2, "front")] * 100)
+                next(answers)
+            put(other, book)
+            # who looks at what was read before has nothing to lose
+            if moment == "before the first command":
+                assert session.print_of(1) == "One."
+            if moment == "among many":
+                list(answers)
+            elif moment == "before many":
+                list(session.each([requests.Move(2, "front")] * 3))
+            elif moment != "before the end":
+                session.add_paragraph("end", "en", "Four.")
+    assert caught.value.cause == (
+        f"Another program wrote into the file of the book, “{book}”, while it was open: it isn't that"
+        " book any more."
+    )
+    texts = ["One."] if moment == "before the first command" else ["One.", "Three."]
+    assert sorted(Path(f"{book}-saved-1.txt").read_text().split()) == texts
+    # and what was copied there stays as it is
+    assert book.read_bytes() == other.read_bytes()
+
+
+def test_a_book_that_is_touched_and_written_by_its_own_program_is_no_other_book(
+    book: Path,
+) -> None:
+    size = book.stat().st_size
+    line = requests.Type("end", "en", "The moon is far away. " * 40)
+    with Session(book) as session:
+        for number in range(12):
+            list(session.each([line] * 60))
+            os.utime(book, (number, number))
+            session.add_paragraph("end", "en", "One.")
+            shutil.copyfile(book, book.with_name("elsewhere"))
+            book.chmod(0o600 + number)
+            session.add_paragraph("end", "en", "Two.")
+        # the log was put into it meanwhile
+        assert book.stat().st_size > size + 100_000
+        # as also where somebody writes what is there already
+        written_over(book, book)
+        assert session.add_paragraph("end", "en", "Three.").version == 746
 
 
 def test_a_session_that_asked_alone_does_not_mind_what_became_of_the_file(

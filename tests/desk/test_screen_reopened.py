@@ -1,6 +1,7 @@
 """The book that is opened again: after its session ended by itself, or was of another version."""
 
 import os
+import shutil
 import signal
 from pathlib import Path
 
@@ -270,6 +271,33 @@ def test_a_book_that_cannot_be_opened_again_says_why_until_it_can(
         assert sat.state.is_lost and not sat.state.is_over
     sat.press("enter", "y", "enter")
     assert sat.state.kept == "kept: paragraph 4"
+
+
+def test_nothing_is_said_to_be_kept_in_a_file_into_which_another_book_was_copied(
+    moon: Path, sit: Sit
+) -> None:
+    other = moon.with_name("other.braildesk")
+    shutil.copyfile(moon, other)
+    with Session(other) as session:
+        session.add_paragraph("end", "en", "Of the other book. " * 200)
+    sat = sit(moon)
+    sat.press("s", "O")
+    sat.write("Soon.")
+    shutil.copyfile(other, moon)
+    sat.press("enter")
+    assert sat.state.kept == "kept: paragraph 1 struck"
+    saved = f"{moon}-saved-1.txt"
+    assert sat.state.is_lost and sat.state.pages
+    assert sat.state.pages.lines[:3] == (
+        f"Another program wrote into the file of the book, “{moon}”, while it was open: it isn't"
+        " that book any more. The print of all paragraphs, with what was kept last, is in the new"
+        f" file “{saved}”. Go on with a copy of the book, and import from that file what it lacks.",
+        "This was typed, and was not reported as kept:",
+        "Soon.",
+    )
+    waits = sat.desk.drafts.waiting()
+    assert waits and waits.text == "Soon."
+    assert moon.read_bytes() == other.read_bytes()
 
 
 def test_a_command_to_a_book_that_is_gone_from_its_path_is_not_shown_as_kept(
