@@ -57,15 +57,18 @@ class OpenFile:
 
     @property
     def is_at_its_path(self) -> bool:
-        """Whether the file has its name still; True if there was none to be held."""
+        """Whether the file has its name still; True if there was none to be held, or nobody can tell."""
         if self._descriptor is None:
             return True
         try:
             # by a link that stands there by now the log would be looked for in another place
             found = os.stat(self.path, follow_symlinks=False)
             return os.path.samestat(found, os.fstat(self._descriptor))
-        except OSError:
+        except (FileNotFoundError, NotADirectoryError):
             return False
+        except OSError:
+            # a folder that may not be entered any more says nothing of its files
+            return True
 
     @property
     def is_overwritten(self) -> bool:

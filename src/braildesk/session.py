@@ -1,5 +1,6 @@
 """A session with a book: requests go to the program, and values come back."""
 
+import os
 import threading
 import warnings
 from collections import deque
@@ -398,9 +399,10 @@ class Session:
         self._pipe.drop()
         self._pipe.close()
         shown = shortened(self._book.path, len(self._book.path))
+        is_replaced = os.path.lexists(self._file.path)
+        what = "another one was put there" if is_replaced else "it was removed or moved"
         cause = (
-            f"The file of the book is no longer at {shown}: it was removed, renamed or replaced"
-            " while it was open."
+            f"The file of the book is no longer at {shown}: {what} while it was open."
         )
         try:
             saved = self._file.save(self._program, self._seen)

@@ -594,8 +594,11 @@ def test_a_book_that_is_gone_from_its_path_is_saved_and_said(
             assert moment == "before the end"
             moved(book)
     saved = Path(f"{book}-saved-1")
+    what = "another one was put there"
+    if moved in (removed, renamed):
+        what = "it was removed or moved"
     assert caught.value.sentence == (
-        f"The file of the book is no longer at “{book}”: it was removed, renamed or replaced while it"
+        f"The file of the book is no longer at “{book}”: {what} while it"
         " was open. All of the book, with what was kept last, is in the new file"
         f" “{saved}”. Go on with that one, or look first what is at the old path by now."
     )
@@ -616,9 +619,9 @@ def test_a_book_that_is_gone_with_its_folder_says_that_it_is_not_saved(
     with pytest.raises(Displaced) as caught:
         session.add_paragraph("end", "en", "One.")
     assert caught.value.sentence == (
-        f"The file of the book is no longer at “{book}”: it was removed, renamed or replaced while it"
-        " was open. What was kept last isn't at that path, and it could not be saved in a new file:"
-        " No such file or directory. Copy what you typed last."
+        f"The file of the book is no longer at “{book}”: it was removed or moved while it was"
+        " open. What was kept last isn't at that path, and it could not be saved in a new file: No"
+        " such file or directory. Copy what you typed last."
     )
 
 

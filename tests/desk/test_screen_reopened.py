@@ -314,8 +314,8 @@ def test_a_command_to_a_book_that_is_gone_from_its_path_is_not_shown_as_kept(
     saved = moon.with_name("moon.braildesk-saved-1")
     assert sat.state.is_lost and sat.state.pages
     assert sat.state.pages.lines[:3] == (
-        f"The file of the book is no longer at “{moon}”: it was removed, renamed or replaced while it"
-        " was open. All of the book, with what was kept last, is in the new file"
+        f"The file of the book is no longer at “{moon}”: it was removed or moved while it was open."
+        " All of the book, with what was kept last, is in the new file"
         f" “{saved}”. Go on with that one, or look first what is at the old path by now.",
         "This was typed, and was not reported as kept:",
         "Soon.",
