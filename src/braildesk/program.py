@@ -26,7 +26,7 @@ from braildesk.protocol.asked import (
     real_path,
 )
 from braildesk.protocol.codes import Code
-from braildesk.protocol.sentences import Why
+from braildesk.protocol.sentences import ENDED_BY, Why
 from braildesk.protocol.values import Table
 from braildesk.protocol.wording import said_of_room
 from braildesk.refusals import (
@@ -224,6 +224,11 @@ def unopened(status: int, errors: str, asked: AskedOfFile) -> DeskError:
     return Failed(_failure(status, errors, asked))
 
 
+def of_signal(number: int) -> str:
+    """What ended a program where a signal did, as after the word “by”."""
+    return ENDED_BY.get(number, f"signal {number}")
+
+
 def _failure(status: int, errors: str, asked: AskedOfFile) -> str:
     if status == 3:
         room = said_of_room(opening.little_room(asked.path))
@@ -232,7 +237,8 @@ def _failure(status: int, errors: str, asked: AskedOfFile) -> str:
             f" the disk, and try again{room}."
         )
     if status < 0:
-        return f"braildesk was ended by signal {-status} before it was done."
+        more = " Set a higher one, and try again." if -status in ENDED_BY else ""
+        return f"braildesk was ended by {of_signal(-status)} before it was done.{more}"
     return f"braildesk ended with status {status}: {errors.strip()}"
 
 

@@ -668,7 +668,7 @@ def _query_about(refusal: Refused) -> Request[str] | None:
 def _ended(ending: Ending) -> str:
     """How the program ended before it should have."""
     if ending.status < 0:
-        return f"The session was ended by signal {-ending.status}."
+        return f"The session was ended by {programs.of_signal(-ending.status)}."
     if ending.status == 3:
         return "The session ended, since the file of the book could not be written or read."
     return f"The session ended with status {ending.status}."

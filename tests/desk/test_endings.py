@@ -2,6 +2,7 @@
 
 import os
 import re
+import resource
 import signal
 import stat
 import subprocess
@@ -11,7 +12,7 @@ from pathlib import Path
 import pytest
 
 import braildesk
-from braildesk import Session
+from braildesk import Session, SessionEnded
 from tool import Ran, environment, scribe
 from words import GIVEN, LOOKING, WORDS
 
@@ -109,6 +110,44 @@ def test_a_signal_ends_scribe_after_a_sentence_by_the_same_signal(
     assert (running.returncode, shown) == (-number, b"")
     assert said.decode() == f"Stopped{by}. {IN_THE_BOOK}\n"
     assert braildesk.check(moon) == 8
+
+
+def test_the_limit_on_processor_time_stops_scribe_in_a_sentence(
+    running: "subprocess.Popen[bytes]", moon: Path
+) -> None:
+    running.send_signal(signal.SIGXCPU)
+    _, said = running.communicate()
+    assert running.returncode == -signal.SIGXCPU
+    assert said.decode() == (
+        f"Stopped by the limit on processor time (ulimit -t). {IN_THE_BOOK}\n"
+    )
+    assert braildesk.check(moon) == 8
+
+
+@pytest.mark.parametrize("name", ["strike", "show", "export", "run"])
+def test_the_limit_on_the_size_of_files_is_named(moon: Path, name: str) -> None:
+    def limit() -> None:
+        _, most = resource.getrlimit(resource.RLIMIT_FSIZE)
+        resource.setrlimit(resource.RLIMIT_FSIZE, (0, most))
+
+    ran = scribe(name, *WORDS[name], folder=moon.parent, before=limit)
+    assert ran == Ran(
+        3,
+        "",
+        "braildesk was ended by the limit on the size of files (ulimit -f) before it was done. Set a"
+        " higher one, and try again.\n",
+    )
+    assert braildesk.check(moon) == 7
+
+
+def test_a_session_that_a_limit_ends_names_it(moon: Path) -> None:
+    with Session(moon) as session:
+        os.kill(session.pid, signal.SIGXFSZ)
+        with pytest.raises(SessionEnded) as caught:
+            session.strike(1)
+    assert caught.value.cause == (
+        "The session was ended by the limit on the size of files (ulimit -f)."
+    )
 
 
 def test_no_second_signal_cuts_short_what_the_first_one_began(

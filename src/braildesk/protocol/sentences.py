@@ -3,6 +3,7 @@
 What stands in braces is filled by ``refusals.py`` from what was asked and what was answered.
 """
 
+import signal
 from collections.abc import Mapping
 from enum import StrEnum
 from types import MappingProxyType
@@ -126,6 +127,14 @@ PARTS = MappingProxyType(
         5: "the table mark, of mark {id}",
         6: "the table cache, of paragraph {id}",
         7: "the table corr2, in the history of paragraph {id}",
+    }
+)
+
+#: The limits of a process that the system keeps up by a signal, by its number.
+ENDED_BY: Mapping[int, str] = MappingProxyType(
+    {
+        signal.SIGXFSZ: "the limit on the size of files (ulimit -f)",
+        signal.SIGXCPU: "the limit on processor time (ulimit -t)",
     }
 )
 

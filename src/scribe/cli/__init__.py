@@ -20,7 +20,7 @@ statuses:
   1  the words are refused
   2  something is refused: a request, a book, a table, a text
   3  something failed: a file, the disk, standard input or output, scribe itself
-After Ctrl-C (SIGINT), SIGTERM and SIGHUP scribe says what is so, and ends by that signal."""
+After Ctrl-C (SIGINT), SIGTERM, SIGHUP and SIGXCPU scribe says what is so, and ends by that signal."""
 
 
 def make_parser(names: Collection[str] = COMMANDS.keys()) -> Parser:

@@ -19,7 +19,7 @@ from scribe.words.console import OutputFailed
 from scribe.words.status import Interrupted, Status, number_of, stopped_by
 
 _DETAILS = "fault.txt"
-_SIGNALS = (signal.SIGINT, signal.SIGTERM, signal.SIGHUP)
+_SIGNALS = (signal.SIGINT, signal.SIGTERM, signal.SIGHUP, signal.SIGXCPU)
 _IN_THE_BOOK = "What was reported as kept is in the book, and what was asked after that may be there too."
 
 

@@ -219,7 +219,7 @@ class Screen:
             if not loop.is_closed():
                 loop.call_soon_threadsafe(leave)
 
-        for number in (signal.SIGHUP, signal.SIGTERM, signal.SIGINT):
+        for number in (signal.SIGHUP, signal.SIGTERM, signal.SIGINT, signal.SIGXCPU):
             signal.signal(number, ended)
         self._watch()
         self._app.create_background_task(self._keep())

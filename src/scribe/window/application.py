@@ -18,7 +18,7 @@ from scribe.window.contrast import Contrast
 from scribe.window.desk import Desk
 from scribe.words.status import Interrupted
 
-_SIGNALS = (signal.SIGHUP, signal.SIGTERM, signal.SIGINT)
+_SIGNALS = (signal.SIGHUP, signal.SIGTERM, signal.SIGINT, signal.SIGXCPU)
 
 
 class Application:

@@ -8,6 +8,7 @@ from contextlib import contextmanager
 from pathlib import Path
 
 from braildesk.desk import Problem
+from braildesk.protocol.sentences import ENDED_BY
 
 
 class Status(enum.IntEnum):
@@ -61,7 +62,9 @@ def number_of(cause: KeyboardInterrupt) -> signal.Signals:
 def stopped_by(cause: KeyboardInterrupt) -> str:
     """That the work was stopped, in a sentence."""
     number = number_of(cause)
-    return "Stopped." if number is signal.SIGINT else f"Stopped by {number.name}."
+    if number is signal.SIGINT:
+        return "Stopped."
+    return f"Stopped by {ENDED_BY.get(number, number.name)}."
 
 
 @contextmanager
