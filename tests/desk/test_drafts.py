@@ -254,7 +254,7 @@ ATTACKS: dict[str, tuple[Callable[[Path], object], str]] = {
     "a link to nothing": (lambda path: path.symlink_to("none"), "it is a link"),
     "a second name": (_second_name, "it has another name too"),
     "a FIFO": (os.mkfifo, "it is no regular file"),
-    "a folder": (Path.mkdir, "it is no regular file"),
+    "a folder": (Path.mkdir, "it is a folder"),
     "10 GB": (_sparse, "it has more than 4,194,304 bytes"),
     "deep JSON": (_written("[" * 100_000), "it is no such text"),
     "an export": (_written(forged(purpose="FOLDER")), "it is no such text"),
@@ -290,6 +290,38 @@ def test_what_lies_beside_the_book_and_is_no_text_of_ones_own_stays_as_it_is(
         before.st_ino,
         before.st_size,
         before.st_mtime_ns,
+    )
+
+
+def test_a_folder_in_the_place_of_a_text_that_waits_is_set_aside(
+    moon: Path, store: Path, sit: Sit
+) -> None:
+    place = Drafts(moon).place
+    place.mkdir(parents=True)
+    (place / "photo").write_text("mine")
+    sat = sit(moon)
+    aside = f"{place.name}.unreadable"
+    assert sat.state.message == (
+        f"{place} can't be read as what scribe kept there for the book. It is kept as {aside}. The"
+        " book is as it was."
+    )
+    assert (store / aside / "photo").read_text() == "mine"
+    sat.press("enter", "O")
+    sat.state = sat.desk.save_draft(sat.state)
+    waits = sat.desk.drafts.waiting()
+    assert waits and waits.text == "OThe moon is far away."
+
+
+def test_a_folder_that_comes_there_while_a_text_is_typed_is_named(
+    moon: Path, store: Path, sit: Sit
+) -> None:
+    sat = sit(moon)
+    place = Drafts(moon).place
+    place.mkdir(parents=True)
+    sat.press("enter", "O")
+    sat.state = sat.desk.save_draft(sat.state)
+    assert sat.state.message == (
+        f"What is typed can't be kept in {store}: {place.name} is a folder there."
     )
 
 

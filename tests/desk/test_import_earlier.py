@@ -418,6 +418,8 @@ def test_what_is_in_the_way_of_noting_an_import_is_said_once(
     (home / "braildesk").mkdir(mode=0o700, parents=True)
     (home / "braildesk" / name).mkdir()
     ran = scribe(*words, folder=moon.parent, XDG_STATE_HOME=str(home))
-    assert (
-        ran.status == 0 and ran.said.count("can't be read: it is no regular file") == 1
+    assert (ran.status, ran.said) == (
+        0,
+        f"{home}/braildesk/{name} can't be read as what scribe kept there for the book. It is kept as"
+        f" {name}.unreadable. The book is as it was.\n",
     )

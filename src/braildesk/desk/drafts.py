@@ -19,6 +19,7 @@ from braildesk.desk.draft import Draft, draft_in, written
 from braildesk.desk.import_note import ImportNote, Pairs, note_in, pairs_in, values_of
 from braildesk.desk.own_folder import (
     MOST_BYTES,
+    IsFolder,
     OwnFolder,
     Unfit,
     bytes_of,
@@ -277,7 +278,7 @@ class Drafts:
         try:
             data = self._folder.read(path.name)
             return None if data is None else taken(Record.of(data))
-        except NotSuch as cause:
+        except (NotSuch, IsFolder) as cause:
             raise NotAsKept(path, self._set_aside(path)) from cause
         except OSError as cause:
             raise NotRead(path, cause) from cause

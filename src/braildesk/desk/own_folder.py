@@ -36,6 +36,10 @@ class Unfit(OSError):
         super().__init__(None, why)
 
 
+class IsFolder(Unfit):
+    """What is there is a folder."""
+
+
 class OwnFolder:
     """The folder of a path, which is made with the first file."""
 
@@ -58,7 +62,10 @@ class OwnFolder:
             raise Unfit("no home folder is known")
         _make(self.path)
         with self._opened() as folder:
-            replace_in(folder, name, data, _OWN)
+            try:
+                replace_in(folder, name, data, _OWN)
+            except IsADirectoryError:
+                raise IsFolder(f"{name} is a folder there") from None
 
     def rename(self, name: str, other: str) -> None:
         """Gives a file another name, also one that can't be read."""
@@ -133,6 +140,8 @@ def bytes_of(folder: int, name: str) -> bytes:
 def _refuse(found: os.stat_result) -> None:
     if stat.S_ISLNK(found.st_mode):
         raise Unfit("it is a link")
+    if stat.S_ISDIR(found.st_mode):
+        raise IsFolder("it is a folder")
     if not stat.S_ISREG(found.st_mode):
         raise Unfit("it is no regular file")
     if found.st_uid != os.geteuid():
