@@ -1,5 +1,6 @@
 """Books that are made whole or not at all: new ones, and copies."""
 
+import errno
 import os
 import sqlite3
 from collections.abc import Iterator, Sequence
@@ -63,6 +64,11 @@ def _new_book(
 ) -> None:
     if opening.word(asked.path) is None:
         raise cannot_open(asked, Why.NO_PATH)
+    if _leads_nowhere(asked.path):
+        raise NotMade(
+            f"“{asked.path}” is a link that leads to no file. Nothing was made. Remove the link, or"
+            " take the path to which it leads."
+        )
     try:
         if not os.path.lexists(asked.path):
             _judge_log(asked.path, NotMade, "new book")
@@ -74,6 +80,17 @@ def _new_book(
         raise cannot_open(asked, opening.why(asked)) from None
     programs.make_book(asked.path, program)
     _carry_out(asked.path, program, holding)
+
+
+def _leads_nowhere(path: str) -> bool:
+    """Whether there is a link at a path, and no file to which it leads."""
+    try:
+        os.stat(path)
+    except (FileNotFoundError, NotADirectoryError):
+        return os.path.islink(path)
+    except (OSError, ValueError) as error:
+        return getattr(error, "errno", None) == errno.ELOOP
+    return False
 
 
 def _make(

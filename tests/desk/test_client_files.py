@@ -648,6 +648,21 @@ def test_a_copy_is_not_put_where_a_link_leads_nowhere(
     assert names(tmp_path) == {book.name, "link"}
 
 
+@pytest.mark.parametrize("to", ["nothing", "missing/book", "book/book", "link"])
+def test_a_new_book_is_not_made_where_a_link_leads_to_no_file(
+    book: Path, tmp_path: Path, to: str
+) -> None:
+    link = tmp_path / "link"
+    link.symlink_to(to.replace("book/", f"{book.name}/"))
+    with pytest.raises(NotMade) as caught:
+        braildesk.new_book(link)
+    assert caught.value.sentence == (
+        f"“{link}” is a link that leads to no file. Nothing was made. Remove the link, or take the"
+        " path to which it leads."
+    )
+    assert names(tmp_path) == {book.name, "link"}
+
+
 def test_a_book_with_two_names_is_opened_by_neither(book: Path, tmp_path: Path) -> None:
     other = tmp_path / "other"
     os.link(book, other)
