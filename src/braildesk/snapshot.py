@@ -53,6 +53,8 @@ def snapshot(path: StrPath) -> Iterator[Path]:
 def copied_session(path: StrPath) -> Iterator[tuple[Session, Path]]:
     """A session with a copy of a book, and where that is; what is refused names the book itself."""
     with snapshot(path) as copied:
+        # the book may be one that this user may only read
+        copied.chmod(0o600)
         try:
             session = Session(copied)
         except Refused as refusal:
@@ -80,7 +82,11 @@ def _is_copied(book: BookFile, file: BinaryIO, copied: Path) -> bool:
     log = log_path(book.path)
     if not is_log(log):
         raise cannot_open(book, Why.NO_LOG)
-    before = _state(file, log)
+    try:
+        before = _state(file, log)
+    except PermissionError as error:
+        # the newest work is there
+        raise cannot_open(book, Why.DENIED) from error
     time.sleep(_TICK)
     if _state(file, log) != before:
         return False
@@ -108,7 +114,6 @@ def _header(log: str) -> bytes:
 
 def _not_copied(book: BookFile, error: OSError) -> Failed:
     return Failed(
-        f"The book “{book.path}” could not be copied to a temporary folder, to be looked at while"
-        f" another program has it open: {error.strerror}. Nothing was changed. Let TMPDIR name a"
-        " folder with room for the book."
+        f"The book “{book.path}” could not be copied to a temporary folder, to be looked at there:"
+        f" {error.strerror}. Nothing was changed. Let TMPDIR name a folder with room for the book."
     )

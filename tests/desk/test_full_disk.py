@@ -202,8 +202,9 @@ def test_a_file_that_finds_no_room_is_said_not_to_be_made_and_is_not(
     assert found.files == left
 
 
-#: Commands that open no book.
+#: Commands that open no book, and those that look at a copy of it.
 WITHOUT_BOOK = ("check-table", "try", "bring")
+OF_COPY = "show list history compare find marks next volumes pages".split()
 
 
 @pytest.mark.parametrize("name", NAMES)
@@ -212,8 +213,11 @@ def test_a_disk_that_can_only_be_read_is_said(
 ) -> None:
     found = on_read_only[name]
     assert (found.files, found.version) == ([], 8)
-    if name in WITHOUT_BOOK:
-        assert found.status == 0
+    if name in (*WITHOUT_BOOK, *OF_COPY):
+        assert found.status == 0 and found.shown + found.said
+    elif name == "proof":
+        assert (found.status, found.shown) == (3, "")
+        assert found.said == "moon.html could not be written: Read-only file system.\n"
     elif name == "copy":
         assert found.said == (
             "The copy “copy.braildesk” could not be written: Read-only file system.\n"

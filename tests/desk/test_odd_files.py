@@ -251,10 +251,12 @@ MODES = {
 }
 
 
+#: The commands that look at a book, of which a copy is enough, and write nothing there.
+LOOKS = "show list history compare find marks next volumes pages".split()
 #: The commands that do what they are asked to there.
 ALLOWED = {
     "a folder that may not be read": ("new",),
-    "a folder that may only be read": ("check-table", "try"),
+    "a folder that may only be read": ("check-table", "try", *LOOKS),
 }
 
 
@@ -273,3 +275,47 @@ def test_what_may_not_be_opened_ends_each_command_in_a_sentence(
     ]
     for name, found in zip(names, ran_by_another(installed, asked)):
         check_said(found, f"{name}, {kind}")
+
+
+def left_in_log(folder: Path) -> None:
+    """Has a killed program leave what was done last in the log of the sample's book."""
+    session = Session(folder / "moon.braildesk")
+    session.correct(1, 0, 3, "A")
+    os.kill(session.pid, signal.SIGKILL)
+    with pytest.raises(Lost):
+        session.close()
+
+
+def test_who_may_only_read_a_book_may_look_at_it(locked: Path, installed: Path) -> None:
+    left_in_log(locked)
+    asked = [
+        [name, *(str(locked / w) if w in PLACES else w for w in ALL[name])]
+        for name in LOOKS
+    ]
+    asked.append(["proof", str(locked / "moon.braildesk"), str(installed / "p.html")])
+    for file in locked.iterdir():
+        file.chmod(0o444)
+    locked.chmod(0o555)
+    installed.chmod(0o777)
+    files = {each.name: each.stat().st_mtime_ns for each in locked.iterdir()}
+    found = ran_by_another(installed, asked)
+    assert {each.name: each.stat().st_mtime_ns for each in locked.iterdir()} == files
+    locked.chmod(0o755)
+    for each in locked.iterdir():
+        each.chmod(0o644)
+    for words, mine, other in zip(asked, map(ran, asked), found):
+        assert (words[0], other.status, other.shown) == (words[0], 0, mine.shown)
+    assert "A moon is far away." in found[0].shown
+
+
+def test_a_log_that_may_not_be_read_is_said_to_be_denied(
+    locked: Path, installed: Path
+) -> None:
+    left_in_log(locked)
+    (locked / "moon.braildesk-wal").chmod(0)
+    (found,) = ran_by_another(installed, [["show", str(locked / "moon.braildesk")]])
+    assert found.status == 2
+    assert " ".join(found.said.split()) == (
+        f"You aren't permitted to open “{locked}/moon.braildesk”. Nothing was changed. Ask who owns"
+        " it for leave to read and write it and to write in its folder."
+    )

@@ -117,17 +117,19 @@ def _is_book(path: Path) -> bool:
 
 
 def _of_book(path: Path, wait: float) -> Manuscript:
-    """A book, or what it had kept a moment ago if another program has it open."""
+    """A book, or a copy of it where it can't be opened: what another program had kept a moment ago."""
     try:
         session = Session(path, timeout=wait)
     except CannotOpen as refusal:
-        if refusal.why is not Why.IN_USE:
+        if refusal.why not in (Why.IN_USE, Why.DENIED, Why.READ_ONLY):
             raise
-        # imported here, since few books are open
+        # imported here, since few books are such
         from braildesk.snapshot import copied_session
 
         with copied_session(path) as (session, _):
-            return replace(_of_session(session), kept_at=session.last_version)
+            found = _of_session(session)
+            is_used = refusal.why is Why.IN_USE
+            return replace(found, kept_at=session.last_version if is_used else None)
     with session:
         return _of_session(session)
 

@@ -102,18 +102,20 @@ def said_where_stopped(
 def looked_at(arguments: Namespace, console: Console) -> Iterator[tuple[Session, Path]]:
     """A session with the book, and the path at which it is read.
 
-    While another program has the book open that is a copy, of which the version is said.
+    While another program has the book open that is a copy, of which the version is said, and where
+    nothing may be written a copy as well.
     """
     try:
         session = Session(arguments.file, timeout=arguments.wait)
     except CannotOpen as refusal:
-        if refusal.why is not Why.IN_USE:
+        if refusal.why not in (Why.IN_USE, Why.DENIED, Why.READ_ONLY):
             raise
-        # imported here, since few commands meet an open book
+        # imported here, since few commands meet a book that they can't open
         from braildesk.snapshot import copied_session
 
         with copied_session(arguments.file) as (session, copied):
-            console.say(as_kept(arguments.file, session.last_version))
+            if refusal.why is Why.IN_USE:
+                console.say(as_kept(arguments.file, session.last_version))
             yield session, copied
         return
     with session:
