@@ -26,13 +26,13 @@ def done_with(*came: tuple[float, str]) -> list[Stroke]:
 
 
 def test_a_line_that_comes_at_once_is_pasted_text_and_no_letter_acts() -> None:
-    assert done_with((0.0, "strike bit.\r")) == [Pasted("strike bit.\n")]
+    assert done_with((0.0, "strike bit.\r")) == [Pasted("strike bit.\n", is_keys=True)]
 
 
 def test_lines_that_come_in_pieces_are_one_pasted_text() -> None:
     text = "The moon is far.\rTwice a day\tthe sea comes up.\r"
     one_by_one = [(n / 1000, each) for n, each in enumerate(text)]
-    wanted = [Pasted(text.replace("\r", "\n"))]
+    wanted = [Pasted(text.replace("\r", "\n"), is_keys=True)]
     assert done_with(*one_by_one) == wanted
     assert done_with((0.0, text[:20]), (0.03, text[20:30]), (0.07, text[30:])) == wanted
 
@@ -85,13 +85,15 @@ def test_keys_that_waited_while_the_desk_was_busy_were_typed_if_there_was_time(
     arrivals = Arrivals()
     done = arrivals.came([*keys], 10.0, 10.0 - busy) + arrivals.let_go(11.0)
     wanted: list[Stroke] = [*keys]
-    assert done == ([Pasted(keys)] if is_text else wanted)
+    assert done == ([Pasted(keys, is_keys=True)] if is_text else wanted)
 
 
 def test_a_line_is_pasted_text_also_where_the_desk_was_busy_for_a_second() -> None:
     arrivals = Arrivals()
     line = "Twice a day the sea comes up."
-    assert arrivals.came([*line], 10.0, 9.0) + arrivals.let_go(11.0) == [Pasted(line)]
+    assert arrivals.came([*line], 10.0, 9.0) + arrivals.let_go(11.0) == [
+        Pasted(line, is_keys=True)
+    ]
 
 
 def test_what_comes_is_done_once_and_in_its_order_however_it_comes() -> None:

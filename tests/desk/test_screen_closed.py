@@ -162,7 +162,7 @@ def failing(folder: Path, failure: str) -> dict[str, str]:
     (folder / "sitecustomize.py").write_text(
         "import errno, os\n"
         "from scribe.screen.desk import Desk\n\n"
-        "def paste(self, state, text):\n"
+        "def paste(self, state, text, is_keys=False):\n"
         f"    raise {failure}\n\n"
         "Desk.paste = paste\n"
     )

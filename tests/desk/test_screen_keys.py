@@ -511,6 +511,38 @@ def test_what_is_typed_on_at_a_question_about_lines_goes_on_in_the_last() -> Non
     assert step(ended, "y").asked == TypeAll(Purpose.AFTER, lines)
 
 
+def test_enter_at_the_end_of_keys_that_came_at_once_parts_what_is_typed_on() -> None:
+    lines = ("The moon must", "be", "far.")
+    asked = pasted(typed(Purpose.AFTER, "The ", 4), "moon must\n", True).state
+    assert (asked.typed, asked.question) == (Field(Purpose.AFTER, lines[0], 13), None)
+    assert asked.message == (
+        "Enter came with other keys at once, and ended nothing yet. Press it to end this; what is"
+        " typed on is another line."
+    )
+    for key in "be":
+        asked = step(asked, key).state
+    assert asked.question and asked.question.lines == lines[:2]
+    assert asked.question.is_typed_on
+    asked = pasted(asked, "\nfar.\n", True).state
+    assert asked.question and asked.question.lines == (*lines, "")
+    assert step(asked, "y").asked == TypeAll(Purpose.AFTER, lines)
+
+
+def test_enter_at_the_end_of_several_lines_that_came_at_once_parts_them_too() -> None:
+    asked = pasted(typed(Purpose.AFTER), "One.\nTwo must\n", True).state
+    assert asked.question and asked.question.lines == ("One.", "Two must")
+    for key in "be":
+        asked = step(asked, key).state
+    assert asked.question and asked.question.lines == ("One.", "Two must", "be")
+
+
+def test_enter_that_came_at_once_is_forgotten_once_another_key_is_pressed() -> None:
+    asked = pasted(typed(Purpose.EDIT, "The moon.", 4), "old\n", True).state
+    asked = step(step(asked, "backspace").state, "d").state
+    assert asked.question is None
+    assert asked.typed == Field(Purpose.EDIT, "The oldmoon.", 7)
+
+
 def test_what_is_typed_on_at_a_question_about_lines_stands_before_what_followed() -> (
     None
 ):

@@ -75,7 +75,8 @@ class Arrivals:
         held, self._held = self._held, []
         if not _is_pasted(held):
             return list(held)
-        return [Pasted("".join(_TEXT.get(key, key) for key in held))]
+        text = "".join(_TEXT.get(key, key) for key in held)
+        return [Pasted(text, is_keys=True)]
 
 
 @dataclass

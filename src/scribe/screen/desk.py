@@ -173,9 +173,12 @@ class Desk:
             found = self._taken_up(found, asked)
         return found.after(state)
 
-    def paste(self, state: State, text: str) -> State:
-        """The state after text was pasted, with what its table lacks before it is sent."""
-        step = keys.pasted(state, text)
+    def paste(self, state: State, text: str, is_keys: bool = False) -> State:
+        """The state after text was pasted, with what its table lacks before it is sent.
+
+        It may have come as keys, all at once.
+        """
+        step = keys.pasted(state, text, is_keys)
         question, before = step.state.question, state.question
         is_new = before is None or question and question.sentence != before.sentence
         if question is not None and question.lines and is_new:

@@ -61,6 +61,8 @@ class Pasted:
 
     text: str
     has_end: bool = True
+    #: Whether it came as keys, so that an ending of it may be an Enter that hands pressed.
+    is_keys: bool = False
 
 
 #: A key by its name or its character, or a pasted text.

@@ -63,6 +63,10 @@ _NOTHING_WHILE_TYPING = (
 )
 _NO_ANSWER = "That key is no answer to the question."
 _NOT_ENTER = "The end of the pasted line was left out. Enter ends what is typed."
+_NOT_YET = (
+    "Enter came with other keys at once, and ended nothing yet. Press it to end this; what is"
+    " typed on is another line."
+)
 _ASKED_LATER = "Nothing was typed. It is asked again when the book is opened."
 _STAYS_GIVEN_UP = "It stays given up. U asks about it again."
 _DOTS = (
@@ -152,22 +156,28 @@ def step(state: State, key: str) -> Step:
     return bound.does(state)
 
 
-def pasted(state: State, text: str) -> Step:
-    """What text that is pasted asks for: lines of a new paragraph may become several."""
+def pasted(state: State, text: str, is_keys: bool = False) -> Step:
+    """What text that is pasted asks for: lines of a new paragraph may become several.
+
+    If it came as keys, Enter at its end ends the last line for what is typed after it.
+    """
     if _is_cut(text):
         return Step(state.saying("What came isn't UTF-8, and was left out."))
-    typed, question = state.typed, state.question
+    typed, question = state.typed, state.question or _about_ended(state)
     if typed and question and question.lines and not state.pages and not state.is_lost:
         return Step(_typed_on(state, typed, question, text))
     if typed is None or question or not state.is_typing or state.is_lost:
         return Step(state, PutBy(text) if text.strip() else None)
     lines = text.replace("\r", "\n").replace("\t", " ").split("\n")
+    is_ended = is_keys and typed.purpose.is_print and not lines[-1]
     if len(lines) > 1:
         lines = [line for line in lines if line.strip()]
     if len(lines) < 2:
         said = _NOT_ENTER if text.endswith(("\r", "\n")) else ""
-        whole = replace(state, typed=typed.inserted("".join(lines)))
-        return Step(whole.saying(said))
+        field = typed.inserted("".join(lines))
+        if is_ended and field.text.strip():
+            state, said = replace(state, ended=field), _NOT_YET
+        return Step(replace(state, typed=field).saying(said))
     front, back = typed.text[: typed.place], typed.text[typed.place :]
     # a blank parts the first line from what it goes on
     gap = " " if front and lines[0].startswith(" ") else ""
@@ -178,7 +188,8 @@ def pasted(state: State, text: str) -> Step:
         return Step(joined.saying(said))
     lines[0] = front + gap + lines[0]
     lines[-1] += back
-    return Step(replace(state, question=about_lines(typed.purpose, lines)))
+    question = replace(about_lines(typed.purpose, lines), is_ended=is_ended)
+    return Step(replace(state, question=question))
 
 
 def about_lines(purpose: Purpose, lines: Sequence[str]) -> Question:
@@ -238,12 +249,22 @@ def _about_lines(state: State, typed: Field, question: Question, key: str) -> St
     return Step(_typed_on(asked, typed, question, key))
 
 
+def _about_ended(state: State) -> Question | None:
+    """Whether what is typed on is another line: Enter came with the keys before it, all at once."""
+    typed = state.typed
+    if typed is None or state.ended != typed:
+        return None
+    return replace(about_lines(typed.purpose, (typed.text,)), is_ended=True)
+
+
 def _typed_on(state: State, typed: Field, question: Question, text: str) -> State:
     """Lines that are asked about, with what was typed on after them before it was answered.
 
     Hands that don't read the question type on, where a slow line brought their keys all at once.
     """
     text = text.replace("\r", "\n").replace("\t", " ")
+    if question.is_ended:
+        text = f"\n{text}"
     *above, last = question.lines
     place = len(last) - (len(typed.text) - typed.place)
     *ended, front = f"{last[:place]}{text}".split("\n")
@@ -253,7 +274,7 @@ def _typed_on(state: State, typed: Field, question: Question, text: str) -> Stat
     if ended or not last:
         question = about_lines(typed.purpose, [line for line in lines if line.strip()])
     asked = replace(question, lines=tuple(lines), is_typed_on=bool(front))
-    return replace(state, question=asked)
+    return replace(state, question=replace(asked, is_ended=False))
 
 
 def _about_errand(
@@ -350,6 +371,9 @@ def _typing(state: State, typed: Field, key: str) -> Step:
     if moved is not None:
         return Step(replace(state, typed=moved))
     if len(key) == 1 and (key >= " " and not "\x7f" <= key < "\xa0"):
+        ended = _about_ended(state)
+        if ended is not None:
+            return Step(_typed_on(state, typed, ended, key))
         return Step(replace(state, typed=typed.inserted(key)))
     return Step(state.saying(_NOTHING_WHILE_TYPING))
 

@@ -60,6 +60,8 @@ class Question:
     lines: tuple[str, ...] = ()
     #: Whether the last of the lines is typed on, so that y and n are letters of it until Enter.
     is_typed_on: bool = False
+    #: Whether the last of the lines was ended, so that what is typed on is another one.
+    is_ended: bool = False
     draft: Field | None = None
     #: A text that is too long for one paragraph, and may go on in a new one, in its two parts.
     parts: tuple[str, str] | None = None
@@ -174,6 +176,8 @@ class State:
     typed: Field | None = None
     #: What was last cut out of a text that is typed.
     cut: Cut | None = None
+    #: A text to whose end Enter came among keys that came all at once, while nothing else is done.
+    ended: Field | None = None
     preview: Preview | None = None
     question: Question | None = None
     pages: Pages | None = None

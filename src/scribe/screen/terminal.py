@@ -178,7 +178,8 @@ class Screen:
         is_of_line = self.state.typed is not None and self.state.question is None
         for stroke in came:
             if isinstance(stroke, Pasted):
-                self.state = self._desk.paste(self.state, stroke.text)
+                text, is_keys = stroke.text, stroke.is_keys
+                self.state = self._desk.paste(self.state, text, is_keys)
                 if self.state.typed is None and not self.state.is_lost:
                     self.unseen = (*self.unseen, self.state.message)
             elif is_of_line and len(stroke) == 1:
@@ -309,7 +310,7 @@ class Screen:
             if isinstance(stroke, Pasted) or self.state.is_over:
                 self._waiting.append(stroke)
         elif isinstance(stroke, Pasted):
-            state = self._desk.paste(self.state, stroke.text)
+            state = self._desk.paste(self.state, stroke.text, stroke.is_keys)
             self._become(state if stroke.has_end else state.saying_too(_NO_END))
         else:
             self._become(self._desk.press(self.state, stroke))
