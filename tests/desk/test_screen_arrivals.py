@@ -9,7 +9,7 @@ import pytest
 
 from braildesk import Session
 
-from scribe.screen.arrivals import Arrivals, Lull
+from scribe.screen.arrivals import Arrivals, Lull, ToBeRead
 from scribe.screen.keyboard import Keyboard, Pasted, Stroke
 from stand_in import READ, WAIT
 from terminal import Open, standing_in
@@ -131,6 +131,57 @@ def test_a_paste_is_over_once_for_three_seconds_keys_come_one_by_one_or_nothing(
     assert lull.is_over(19.51)
     lull.came(6, False, 19.6)
     assert (lull.due, lull.is_over(100.0)) == (None, False)
+
+
+def test_a_question_is_read_once_it_stood_for_a_third_of_a_second_without_keys() -> (
+    None
+):
+    question = ToBeRead()
+    question.came("Lines?", 10.0, 5.0)
+    assert not question.is_read  # it isn't drawn yet
+    question.drawn("Lines?", 10.1)
+    question.drawn("Lines?", 10.3)
+    for pressed_at, before, is_read in (
+        (10.05, 9.0, False),
+        (10.3, 9.0, False),
+        (10.41, 9.0, True),
+        (10.41, 10.2, False),
+        (10.51, 10.2, True),
+    ):
+        question.came("Lines?", pressed_at, before)
+        assert question.is_read is is_read, pressed_at
+    question.came("Other lines?", 20.0, 10.6)
+    assert not question.is_read
+
+
+def test_letters_that_are_typed_on_after_keys_that_came_at_once_answer_no_question(
+    moon: Path, at: Open
+) -> None:
+    terminal = at(moon, 160)
+    terminal.wait("? shows the keys.")
+    terminal.keys("o")
+    terminal.wait("-- New paragraph after paragraph 1")
+    terminal.send("It rose.\rIt must\r")
+    terminal.await_read()
+    time.sleep(0.1)
+    terminal.send("n")
+    terminal.wait("Are they 3 paragraphs? Enter ends the last line")
+    for key in "ight":
+        terminal.send(key)
+        time.sleep(0.06)
+    terminal.wait("It rose. It must night")
+    terminal.keys("enter")
+    terminal.wait("Are they 3 paragraphs? y is yes, n is no.")
+    terminal.answer("y")
+    terminal.wait("version 10, table en, last kept: paragraph 6")
+    terminal.keys("escape", "q")
+    assert terminal.ended() == 0
+    with Session(moon) as session:
+        assert [session.print_of(each) for each in (4, 5, 6)] == [
+            "It rose.",
+            "It must",
+            "night",
+        ]
 
 
 def test_keys_act_again_where_the_end_of_a_paste_never_comes(

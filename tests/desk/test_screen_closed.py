@@ -124,7 +124,7 @@ def test_lines_that_were_pasted_and_not_answered_for_are_asked_about_again(
     again.wait("further? y is yes, n is no.")
     again.keys("y")
     again.wait("Are they 2 paragraphs? y is yes, n is no.")
-    again.keys("y")
+    again.answer("y")
     again.wait("kept: paragraph 5")
     again.keys("q")
     assert again.ended() == 0

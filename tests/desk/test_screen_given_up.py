@@ -451,7 +451,7 @@ def test_an_unbracketed_paste_at_the_terminal_changes_nothing_and_comes_back(
     terminal.wait("You are editing paragraph")
     terminal.send(" One\rtwo")
     terminal.wait("Shall the first go on in this paragraph")
-    terminal.keys("n")
+    terminal.answer("n")
     terminal.wait("strike this bit and import. One two")
     terminal.keys("enter")
     terminal.wait("kept: correction 1 of paragraph 4")

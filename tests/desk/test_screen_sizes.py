@@ -87,7 +87,7 @@ def test_a_terminal_may_change_its_size_while_print_is_typed_or_a_question_waits
     assert lines[-1] == (
         "The pasted text has 2 lines. Are they 2 paragraphs? y is yes, n is no."
     )
-    terminal.keys("y")
+    terminal.answer("y")
     lines = terminal.wait("kept: paragraph 5")
     assert lines[1:4] == [
         "     1 body, 1 open mark: The moon is far away.",

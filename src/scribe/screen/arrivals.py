@@ -18,6 +18,8 @@ _PASTE_SECONDS = 0.05
 _TYPED_SECONDS = 0.04
 # how long a paste is waited for once no more of it comes
 _LULL_SECONDS = 3.0
+# how long a question is on the screen, and no key comes, before one is an answer to it
+_READING_SECONDS = 0.3
 _FEW = 3
 _TEXT = {"enter": "\n", "tab": "\t"}
 
@@ -102,6 +104,28 @@ class Lull:
     def is_over(self, now: float) -> bool:
         """Whether the end of the paste isn't waited for any longer."""
         return self.due is not None and now >= self.due
+
+
+@dataclass
+class ToBeRead:
+    """What is asked on the screen, and whether there was time to read it before a key came.
+
+    Hands that don't read it type on, and are faster.
+    """
+
+    is_read: bool = True
+    _asked: object = None
+    _since: float = 0.0
+
+    def drawn(self, asked: object, now: float) -> None:
+        """The screen was drawn with what is asked, if anything is."""
+        if asked != self._asked:
+            self._asked, self._since = asked, now
+
+    def came(self, asked: object, pressed_at: float, before: float) -> None:
+        """Keys came, which may have been pressed at a time, and others came before that."""
+        pause = pressed_at - max(before, self._since)
+        self.is_read = asked == self._asked and pause >= _READING_SECONDS
 
 
 def _is_pasted(held: Sequence[str]) -> bool:

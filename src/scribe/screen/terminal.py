@@ -24,7 +24,7 @@ from prompt_toolkit.styles import Style
 
 from braildesk.text.characters import visible
 
-from scribe.screen.arrivals import Arrivals, Lull
+from scribe.screen.arrivals import Arrivals, Lull, ToBeRead
 from scribe.screen.desk import Desk, preview_of
 from scribe.screen.drawing import Drawing, draw
 from scribe.words.encoding import in_encoding
@@ -129,6 +129,7 @@ class Screen:
         # since when there was no time for keys, and when they were read last
         self._busy_from = self._read_at = clock()
         self._is_idle, self._works = True, 0
+        self._question = ToBeRead()
         #: Whether the terminal was closed, so that nobody reads what is said.
         self.is_hung_up = False
         #: The signal that ended scribe, if one did.
@@ -151,7 +152,7 @@ class Screen:
             full_screen=True,
             output=Output.from_pty(sys.stdout, term=os.environ.get("TERM")),
             before_render=lambda app: self._fit(),
-            after_render=lambda app: self._end_work(),
+            after_render=lambda app: self._end_drawing(),
         )
         self._app.ttimeoutlen = _ESCAPE_SECONDS
 
@@ -264,6 +265,10 @@ class Screen:
         if self._is_idle:
             self._is_idle, self._busy_from = False, self._clock()
 
+    def _end_drawing(self) -> None:
+        self._question.drawn(self.state.question, self._clock())
+        self._end_work()
+
     def _end_work(self) -> None:
         """What waits is read within the next two rounds of the loop, and after these none does."""
         self._works += 1
@@ -278,6 +283,8 @@ class Screen:
         now, read_at = self._clock(), self._read_at
         self._read_at = now
         since = None if self._is_idle else max(self._busy_from, read_at)
+        pressed_at = now if since is None else since
+        self._question.came(self.state.question, pressed_at, read_at)
         strokes = self._keyboard.strokes(text)
         self._lull.came(len(text), self._keyboard.is_pasting, now)
         self._do(self._arrivals.came(strokes, now, since))
@@ -312,8 +319,17 @@ class Screen:
         elif isinstance(stroke, Pasted):
             state = self._desk.paste(self.state, stroke.text, stroke.is_keys)
             self._become(state if stroke.has_end else state.saying_too(_NO_END))
+        elif self._is_typed_on(stroke):
+            self._become(self._desk.paste(self.state, stroke))
         else:
             self._become(self._desk.press(self.state, stroke))
+
+    def _is_typed_on(self, key: str) -> bool:
+        """Whether a key that answers a question about lines came too soon, and is a letter of them."""
+        question = self.state.question
+        if question is None or not question.lines or self._question.is_read:
+            return False
+        return key in ("y", "n")
 
     def _wait_for_held(self) -> None:
         if self._timer is not None:
