@@ -484,10 +484,23 @@ def test_pasted_lines_of_a_new_paragraph_are_asked_about() -> None:
     state = pasted(typed(Purpose.AFTER, "It. ", 0), "One\r\n\r\nTwo\nThree ").state
     assert state.question == Question(
         "The pasted text has 3 lines. Are they 3 paragraphs?",
-        ("One", "Two", "ThreeIt. "),
+        ("One", "Two", "Three It. "),
     )
     joined = step(state, "n").state
-    assert joined.typed and joined.typed.text == "One Two ThreeIt. "
+    assert joined.typed == Field(Purpose.AFTER, "One Two Three It. ", 14)
+
+
+def test_a_blank_at_the_end_of_pasted_lines_parts_what_is_typed_on() -> None:
+    asked = pasted(typed(Purpose.AFTER), "One.\nTwo moons ").state
+    assert asked.question and asked.question.lines == ("One.", "Two moons")
+    assert step(asked, "y").asked == TypeAll(Purpose.AFTER, ("One.", "Two moons"))
+    joined = step(asked, "n").state
+    assert joined.typed == Field(Purpose.AFTER, "One. Two moons ", 15)
+    on = step(asked, "r").state
+    assert on.question and on.question.lines == ("One.", "Two moons r")
+    for text in (" r", "r"):
+        on = pasted(asked, text).state
+        assert on.question and on.question.lines == ("One.", "Two moons r")
 
 
 def test_what_is_typed_on_at_a_question_about_lines_goes_on_in_the_last() -> None:

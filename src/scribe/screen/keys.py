@@ -181,14 +181,16 @@ def pasted(state: State, text: str, is_keys: bool = False) -> Step:
     front, back = typed.text[: typed.place], typed.text[typed.place :]
     # a blank parts the first line from what it goes on
     gap = " " if front and lines[0].startswith(" ") else ""
+    blank = " " if lines[-1].endswith(" ") else ""
     lines = [line.strip() for line in lines]
     if not typed.purpose.is_print:
         said = f"The {len(lines)} pasted lines were joined."
         joined = replace(state, typed=typed.inserted(" ".join(lines)))
         return Step(joined.saying(said))
     lines[0] = front + gap + lines[0]
-    lines[-1] += back
-    question = replace(about_lines(typed.purpose, lines), is_ended=is_ended)
+    lines[-1] += blank + back if back else ""
+    joint = "\n" if is_ended else "" if back else blank
+    question = replace(about_lines(typed.purpose, lines), joint=joint)
     return Step(replace(state, question=question))
 
 
@@ -233,7 +235,10 @@ def _about_lines(state: State, typed: Field, question: Question, key: str) -> St
         return Step(asked, GiveUp())
     if key in ("y", "n") and not question.is_typed_on:
         if key == "n":
-            return Step(replace(state, typed=asked.joined))
+            joined = asked.joined
+            if joined is not None and question.joint == " ":
+                joined = joined.inserted(" ")
+            return Step(replace(state, typed=joined))
         for line in question.lines:
             refused = control_refused(line.encode())
             if refused:
@@ -254,7 +259,7 @@ def _about_ended(state: State) -> Question | None:
     typed = state.typed
     if typed is None or state.ended != typed:
         return None
-    return replace(about_lines(typed.purpose, (typed.text,)), is_ended=True)
+    return replace(about_lines(typed.purpose, (typed.text,)), joint="\n")
 
 
 def _typed_on(state: State, typed: Field, question: Question, text: str) -> State:
@@ -263,8 +268,8 @@ def _typed_on(state: State, typed: Field, question: Question, text: str) -> Stat
     Hands that don't read the question type on, where a slow line brought their keys all at once.
     """
     text = text.replace("\r", "\n").replace("\t", " ")
-    if question.is_ended:
-        text = f"\n{text}"
+    if not (question.joint == " " and text[:1] in (" ", "\n")):
+        text = question.joint + text
     *above, last = question.lines
     place = len(last) - (len(typed.text) - typed.place)
     *ended, front = f"{last[:place]}{text}".split("\n")
@@ -274,7 +279,7 @@ def _typed_on(state: State, typed: Field, question: Question, text: str) -> Stat
     if ended or not last:
         question = about_lines(typed.purpose, [line for line in lines if line.strip()])
     asked = replace(question, lines=tuple(lines), is_typed_on=bool(front))
-    return replace(state, question=replace(asked, is_ended=False))
+    return replace(state, question=replace(asked, joint=""))
 
 
 def _about_errand(

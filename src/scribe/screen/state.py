@@ -60,8 +60,8 @@ class Question:
     lines: tuple[str, ...] = ()
     #: Whether the last of the lines is typed on, so that y and n are letters of it until Enter.
     is_typed_on: bool = False
-    #: Whether the last of the lines was ended, so that what is typed on is another one.
-    is_ended: bool = False
+    #: What stands between the last of the lines and what is typed on: a blank, or an end of the line.
+    joint: str = ""
     draft: Field | None = None
     #: A text that is too long for one paragraph, and may go on in a new one, in its two parts.
     parts: tuple[str, str] | None = None
