@@ -9,6 +9,24 @@
         print(session.braille_of(typed.id))
 
 Nothing is done to a book but by requests to the program. ``docs/CLIENT.md`` describes each call.
+
+No module uses one that is named after it here. In ``braildesk/text``, ``limits`` are numbers,
+``characters`` names characters and shows those that nobody sees; ``sequences`` parts a text into
+combining sequences, ``spans`` finds words in it, ``cells`` reads and writes cells, ``wrapping``
+makes lines of a width, and ``excerpt`` takes a few words of a text. In ``braildesk/protocol``,
+``values`` are dataclasses, ``codes`` are the codes of refusals, and ``fields`` writes and reads
+each kind of field that a request has; ``replies`` reads replies, ``answers`` makes values of these,
+and ``requests`` is the table of all requests; ``sentences`` has one sentence for each code,
+``asked`` lists what may be refused besides requests, and says where a book's file and its log lie,
+and ``wording`` fills in the sentences. Beside these folders, ``version`` reads the version, and
+``refusals`` has the exceptions. ``named_files`` reads files that a person names, and nothing that
+is no file. ``confined`` runs programs that others wrote within limits of time and memory.
+``opening`` finds out why a file can't be opened, by its lock, its log and a stranger's tables, and
+tries again while it is in use. ``workshop`` makes files whole before they get their names, and
+``held`` keeps a closed book from being opened. ``program`` finds and runs the program, ``files``
+reads tables of books, ``pipe`` moves bytes to and from a session of the program, ``openfile``
+watches the file of a session, and ``session`` is the session. ``making`` makes new books and
+copies, and ``snapshot`` copies a book that another program has open.
 """
 
 from importlib import import_module

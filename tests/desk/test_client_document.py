@@ -1,4 +1,4 @@
-"""The examples of docs/CLIENT.md, run as they stand there."""
+"""The examples of docs/CLIENT.md, run as they stand there, and the front page of the package."""
 
 import ast
 import doctest
@@ -58,8 +58,7 @@ def used_by(module: Path) -> set[str]:
 
 
 def test_no_module_uses_one_that_is_named_after_it() -> None:
-    layout = DOCUMENT.read_text().split("\n## How it is laid out\n", 1)[1]
-    layout = layout.split("\n## ", 1)[0]
+    layout = (braildesk.__doc__ or "").split("\nNo module uses one ", 1)[1]
     named = re.findall(r"`(\w+)`", layout)
     modules = {
         path.stem: path

@@ -159,13 +159,16 @@ def test_no_method_has_the_name_of_a_function_that_python_has() -> None:
     assert found == []
 
 
-def test_each_module_of_the_client_is_named_where_its_layout_is_described() -> None:
-    text = (ROOT / "docs" / "CLIENT.md").read_text(encoding="utf-8")
-    fronts = {"braildesk": text[text.index("## How it is laid out") :]}
-    # what stands above the client has a front page of its own
-    for package in ("desk", "tables", "tables.convert"):
-        page = SRC / "braildesk" / package.replace(".", "/") / "__init__.py"
-        fronts[f"braildesk.{package}"] = page.read_text(encoding="utf-8")
+def test_each_module_is_named_on_the_front_page_of_its_package() -> None:
+    fronts = {
+        package: (SRC / package.replace(".", "/") / "__init__.py").read_text("utf-8")
+        for package in (
+            "braildesk",
+            "braildesk.tables",
+            "braildesk.tables.convert",
+            "braildesk.desk",
+        )
+    }
     missing = {
         module
         for module, path in modules().items()
