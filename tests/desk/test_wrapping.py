@@ -11,6 +11,7 @@ from braildesk.text.characters import is_shown
 from braildesk.text.sequences import seams, sequences
 from braildesk.text.wrapping import columns, wrap
 
+from scribe.screen.terminal import agree_on_widths
 from scribe.words.view import interlinear
 
 WIDTHS = [
@@ -36,11 +37,8 @@ def test_a_text_takes_the_columns_of_its_characters(text: str, width: int) -> No
     assert columns(text) == width
 
 
-#: Vowels and final consonants that join the one before them, which a terminal shows in its columns.
-JOINING_JAMO = {chr(code) for code in range(0x1160, 0x1200)}
-
-
 def test_the_screen_takes_all_characters_of_unicode_to_be_as_wide() -> None:
+    agree_on_widths()
     differ = {
         character
         for character in map(chr, range(0x110000))
@@ -49,7 +47,12 @@ def test_the_screen_takes_all_characters_of_unicode_to_be_as_wide() -> None:
         and unicodedata.category(character) != "Cn"
         and columns(character) != get_cwidth(character)
     }
-    assert differ <= JOINING_JAMO
+    assert not differ
+
+
+def test_the_screen_gives_a_syllable_that_is_spelled_out_two_columns() -> None:
+    agree_on_widths()
+    assert get_cwidth("\u1112\u119e\u11ab") == columns("\u1112\u119e\u11ab") == 2
 
 
 LINES = [

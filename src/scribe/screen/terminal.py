@@ -13,6 +13,7 @@ from dataclasses import replace
 from types import FrameType
 from typing import Any
 
+from prompt_toolkit import utils
 from prompt_toolkit.application import Application
 from prompt_toolkit.data_structures import Point
 from prompt_toolkit.formatted_text import StyleAndTextTuples
@@ -23,6 +24,7 @@ from prompt_toolkit.output.vt100 import Vt100_Output
 from prompt_toolkit.styles import Style
 
 from braildesk.text.characters import visible
+from braildesk.text.sequences import JOINING_JAMO
 
 from scribe.screen.arrivals import Arrivals, Lull, ToBeRead
 from scribe.screen.desk import Desk, preview_of
@@ -110,6 +112,14 @@ class TerminalFailed(Exception):
         self.failure = failure
 
 
+def agree_on_widths() -> None:
+    """Has prompt_toolkit take as many columns for each character as `columns` does.
+
+    Joining jamo take none of their own on a terminal, which wcwidth knows from release 0.2.9 on.
+    """
+    utils._CHAR_SIZES_CACHE.update({chr(code): 0 for code in JOINING_JAMO})
+
+
 class Screen:
     """A book on the terminal of this process, until the person ends it."""
 
@@ -141,6 +151,7 @@ class Screen:
         self._watched: int | None = None
         self._drawn = (state, draw(state))
         self._translates = False
+        agree_on_widths()
         control = FormattedTextControl(
             self._fragments, show_cursor=True, get_cursor_position=self._cursor
         )
