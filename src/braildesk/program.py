@@ -17,7 +17,7 @@ from braildesk.opening import fault_in, has_work, waited
 from braildesk.protocol.asked import (
     AskedOfFile,
     BookFile,
-    Line,
+    PrintLine,
     NewBook,
     Pages,
     Refusal,
@@ -127,9 +127,9 @@ def translate(
     where ``table`` is the string ``"@en"``.
     """
     asked = _table_asked(table)
-    judged = [_judged(Line(asked.path, line)) for line in lines]
+    judged = [_judged(PrintLine(asked.path, line)) for line in lines]
     sent = b"".join(
-        line.text.encode() + b"\r\n" for line in judged if isinstance(line, Line)
+        line.text.encode() + b"\r\n" for line in judged if isinstance(line, PrintLine)
     )
     if isinstance(table, Table):
         output = _by_text(program, asked, sent)
@@ -327,7 +327,7 @@ def _text_at(path: str) -> bytes:
         return b""
 
 
-def _judged(line: Line) -> Line | Refused:
+def _judged(line: PrintLine) -> PrintLine | Refused:
     """A line that can be sent, or why it can't."""
     if line.text.isprintable():
         return line
@@ -340,7 +340,7 @@ def _judged(line: Line) -> Line | Refused:
     return line
 
 
-def _answered(line: Line | Refused, answers: Iterator[str]) -> str | Refused:
+def _answered(line: PrintLine | Refused, answers: Iterator[str]) -> str | Refused:
     """The answer to a line, which is the next one if the line was sent."""
     if isinstance(line, Refused):
         return line

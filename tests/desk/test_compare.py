@@ -9,7 +9,7 @@ from hypothesis import strategies as st
 from tool import Ran, scribe
 
 from braildesk import Session
-from braildesk.desk.documents.kinds import Kind
+from braildesk.desk.documents.kinds import ManuscriptKind
 from braildesk.desk.documents.reading import Manuscript, Missing
 from braildesk.desk.compare import (
     Difference,
@@ -144,11 +144,11 @@ def test_a_document_is_compared_by_its_paragraphs(moon: Path) -> None:
 
 def test_words_that_no_paragraph_of_a_document_has_are_counted() -> None:
     missing = (Missing("two words", "", ""), Missing("one", "", ""))
-    assert [*left_out(Manuscript(Kind.DOCX, (), (), missing))] == [
+    assert [*left_out(Manuscript(ManuscriptKind.DOCX, (), (), missing))] == [
         "3 words of the file are in no paragraph, and were not compared: scribe import --dry-run"
         " shows them."
     ]
-    assert not [*left_out(Manuscript(Kind.DOCX, ()))]
+    assert not [*left_out(Manuscript(ManuscriptKind.DOCX, ()))]
 
 
 WORD = st.sampled_from(["a", "b", "c", "d"])

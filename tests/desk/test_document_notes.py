@@ -5,7 +5,7 @@ from itertools import takewhile
 
 import pytest
 
-from braildesk.desk.documents.reading import Lost, Manuscript
+from braildesk.desk.documents.reading import LossKind, Manuscript
 from braildesk.desk.manuscripts import read_manuscript
 
 
@@ -120,7 +120,7 @@ def test_no_word_of_the_notes_is_lost_and_a_note_that_is_not_there_is_noted(
     found: Manuscript,
 ) -> None:
     assert [each.words for each in found.missing] == ["a"]
-    assert [each.around for each in found.losses if each.what is Lost.NOTE] == [
+    assert [each.around for each in found.losses if each.what is LossKind.NOTE] == [
         "Far[7]."
     ]
-    assert all(each.what is not Lost.SUPERSCRIPT for each in found.losses)
+    assert all(each.what is not LossKind.SUPERSCRIPT for each in found.losses)

@@ -15,7 +15,7 @@ from braildesk.desk.documents.contents import missing
 from braildesk.desk.documents.document import read_document
 from braildesk.desk.documents.kinds import (
     BrokenOff,
-    Kind,
+    ManuscriptKind,
     NoConverter,
     NoDocument,
     NotConverted,
@@ -26,11 +26,11 @@ from braildesk.desk.documents.kinds import (
 from braildesk.desk.documents.pandoc import office, tree
 from braildesk.desk.documents.reading import (
     Loss,
-    Lost,
+    LossKind,
     Manuscript,
     Missing,
     Part,
-    Reading,
+    ReadingOptions,
     short_enough,
 )
 from braildesk.desk.documents.tree import Node, document
@@ -107,7 +107,7 @@ PARTS = [
 ]
 
 
-def made(folder: Path, kind: Kind) -> Path:
+def made(folder: Path, kind: ManuscriptKind) -> Path:
     """A document of a kind, as pandoc writes it."""
     path = folder / f"moon.{kind.value}"
     words = ["pandoc", "--from", "markdown", "--to", kind.value, "--standalone"]
@@ -116,18 +116,28 @@ def made(folder: Path, kind: Kind) -> Path:
     return path
 
 
-def kind_at(path: Path) -> Kind:
+def kind_at(path: Path) -> ManuscriptKind:
     return kind_of(path.name, path.read_bytes())
 
 
-def lost(found: Manuscript, what: Lost) -> list[str]:
+def lost(found: Manuscript, what: LossKind) -> list[str]:
     return [loss.words for loss in found.losses if loss.what is what]
 
 
-@pytest.mark.parametrize("kind", [Kind.MARKDOWN, Kind.HTML, Kind.EPUB, Kind.DOCX])
-def test_each_kind_gives_the_same_paragraphs(tmp_path: Path, kind: Kind) -> None:
+@pytest.mark.parametrize(
+    "kind",
+    [
+        ManuscriptKind.MARKDOWN,
+        ManuscriptKind.HTML,
+        ManuscriptKind.EPUB,
+        ManuscriptKind.DOCX,
+    ],
+)
+def test_each_kind_gives_the_same_paragraphs(
+    tmp_path: Path, kind: ManuscriptKind
+) -> None:
     path = made(tmp_path, kind)
-    if kind is Kind.MARKDOWN:
+    if kind is ManuscriptKind.MARKDOWN:
         path = path.with_suffix(".md")
         path.write_text(MARKDOWN, encoding="utf-8")
     assert kind_at(path) is kind
@@ -138,7 +148,7 @@ def test_each_kind_gives_the_same_paragraphs(tmp_path: Path, kind: Kind) -> None
             (text.replace("[A picture of the moon]", "A picture of the moon"), level)
             for text, level in PARTS
         ]
-        if kind is Kind.DOCX
+        if kind is ManuscriptKind.DOCX
         else PARTS
     )
     shown = [(part.text, part.level) for part in found.parts]
@@ -150,14 +160,14 @@ def test_each_kind_gives_the_same_paragraphs(tmp_path: Path, kind: Kind) -> None
 def test_what_a_book_cannot_hold_is_noted_with_the_words_around_it(
     tmp_path: Path,
 ) -> None:
-    found = read_manuscript(made(tmp_path, Kind.HTML))
-    assert lost(found, Lost.EMPHASIS) == ["paragraph"]
-    assert lost(found, Lost.LINK) == ["link"]
-    assert lost(found, Lost.SUBSCRIPT) == ["2"]
-    assert lost(found, Lost.SUPERSCRIPT) == ["2"]
-    assert lost(found, Lost.TABLE) == ["a; b"]
-    assert lost(found, Lost.LEVEL) == ["Part two"]
-    (emphasis,) = (loss for loss in found.losses if loss.what is Lost.EMPHASIS)
+    found = read_manuscript(made(tmp_path, ManuscriptKind.HTML))
+    assert lost(found, LossKind.EMPHASIS) == ["paragraph"]
+    assert lost(found, LossKind.LINK) == ["link"]
+    assert lost(found, LossKind.SUBSCRIPT) == ["2"]
+    assert lost(found, LossKind.SUPERSCRIPT) == ["2"]
+    assert lost(found, LossKind.TABLE) == ["a; b"]
+    assert lost(found, LossKind.LEVEL) == ["Part two"]
+    (emphasis,) = (loss for loss in found.losses if loss.what is LossKind.EMPHASIS)
     assert emphasis.around == "First paragraph with a note.[1] And a link."
 
 
@@ -165,7 +175,7 @@ def test_notes_may_stand_at_the_end_of_their_section(tmp_path: Path) -> None:
     path = tmp_path / "notes.md"
     path.write_text("a[^1] b\n\nc\n\n# d\n\ne\n\n[^1]: note\n", encoding="utf-8")
     assert read_manuscript(path).texts == ["a[1] b", "[1: note]", "c", "d", "e"]
-    at_end = read_manuscript(path, Reading(notes_at_end=True))
+    at_end = read_manuscript(path, ReadingOptions(notes_at_end=True))
     assert at_end.texts == ["a[1] b", "c", "[1: note]", "d", "e"]
 
 
@@ -208,9 +218,9 @@ def test_a_document_made_by_hand(tmp_path: Path) -> None:
         Missing("Wingdings_F04A", "A symbol", "here"),
         Missing("A running header", "", ""),
     )
-    assert lost(found, Lost.HIDDEN) == ["hidden"]
-    assert lost(found, Lost.DELETED) == ["deleted"]
-    assert len(lost(found, Lost.TABLE)) == 2
+    assert lost(found, LossKind.HIDDEN) == ["hidden"]
+    assert lost(found, LossKind.DELETED) == ["deleted"]
+    assert len(lost(found, LossKind.TABLE)) == 2
 
 
 def test_words_that_are_there_as_often_are_not_missing() -> None:
@@ -231,20 +241,20 @@ WORD = OLE + bytes(500) + "WordDocument".encode("utf-16-le")
 @pytest.mark.parametrize(
     "name, front, kind",
     [
-        ("moon", b"{\\rtf1 moon}", Kind.RTF),
-        ("moon", WORD, Kind.DOC),
-        ("moon", b"\xef\xbb\xbf <!DOCTYPE html>\n<html>", Kind.HTML),
-        ("moon.txt", b"<!-- of the moon -->\n<html>", Kind.HTML),
-        ("moon.htm", b"<p>The moon", Kind.HTML),
-        ("moon.MD", b"Only text.", Kind.MARKDOWN),
-        ("moon", b"<?xml version='1.0'?><book/>", Kind.TEXT),
-        ("moon.docx", b"Only text.", Kind.TEXT),
-        ("moon", b"Only text.", Kind.TEXT),
-        ("moon", b"", Kind.TEXT),
+        ("moon", b"{\\rtf1 moon}", ManuscriptKind.RTF),
+        ("moon", WORD, ManuscriptKind.DOC),
+        ("moon", b"\xef\xbb\xbf <!DOCTYPE html>\n<html>", ManuscriptKind.HTML),
+        ("moon.txt", b"<!-- of the moon -->\n<html>", ManuscriptKind.HTML),
+        ("moon.htm", b"<p>The moon", ManuscriptKind.HTML),
+        ("moon.MD", b"Only text.", ManuscriptKind.MARKDOWN),
+        ("moon", b"<?xml version='1.0'?><book/>", ManuscriptKind.TEXT),
+        ("moon.docx", b"Only text.", ManuscriptKind.TEXT),
+        ("moon", b"Only text.", ManuscriptKind.TEXT),
+        ("moon", b"", ManuscriptKind.TEXT),
     ],
 )
 def test_a_kind_is_known_by_the_front_of_a_file(
-    name: str, front: bytes, kind: Kind
+    name: str, front: bytes, kind: ManuscriptKind
 ) -> None:
     assert kind_of(name, front) is kind
 
@@ -306,7 +316,9 @@ def test_files_that_no_program_can_read_are_refused(data: bytes, why: WhyNot) ->
 
 def test_hidden_fonts_keep_nobody_from_reading_a_book(tmp_path: Path) -> None:
     parts = {"mimetype": EPUB, "META-INF/encryption.xml": FONTS}
-    assert kind_of("moon", container_of(tmp_path / "moon", **parts)) is Kind.EPUB
+    assert (
+        kind_of("moon", container_of(tmp_path / "moon", **parts)) is ManuscriptKind.EPUB
+    )
 
 
 def test_a_file_that_is_no_document_is_not_converted(tmp_path: Path) -> None:
@@ -314,10 +326,10 @@ def test_a_file_that_is_no_document_is_not_converted(tmp_path: Path) -> None:
         tmp_path / "moon", **{"[Content_Types].xml": "", "word/document.xml": "no XML"}
     )
     with pytest.raises(NoDocument) as found:
-        read_document(data, Kind.DOCX)
+        read_document(data, ManuscriptKind.DOCX)
     assert found.value.why is WhyNot.DAMAGED
     with pytest.raises(NotConverted, match="couldn't parse docx|parse"):
-        tree(data, Kind.DOCX)
+        tree(data, ManuscriptKind.DOCX)
 
 
 def test_a_container_that_unpacks_to_too_much_is_not_read(
@@ -340,7 +352,7 @@ def test_kinds_that_need_a_program_name_it(
     assert (found.value.name, found.value.package) == ("pandoc", "pandoc")
     assert office() is None
     with pytest.raises(NoConverter) as found:
-        read_document(b"{\\rtf1 moon}", Kind.RTF)
+        read_document(b"{\\rtf1 moon}", ManuscriptKind.RTF)
     assert found.value.package == "libreoffice-writer-nogui"
 
 
@@ -383,7 +395,7 @@ def test_the_title_of_a_document_is_a_heading_before_its_text(tmp_path: Path) ->
         Part("One", 1),
         Part("Text"),
     )
-    assert lost(found, Lost.EMPHASIS) == ["Moon"]
+    assert lost(found, LossKind.EMPHASIS) == ["Moon"]
 
 
 @pytest.mark.parametrize(
@@ -413,9 +425,9 @@ def test_long_paragraphs_are_noted_by_their_first_words(tmp_path: Path) -> None:
     path.write_text("Twice a day the sea comes up. " * 150)
     found = read_manuscript(path)
     assert [len(text) for text in found.texts] == [3_989, 509]
-    assert [loss for loss in found.losses if loss.what is Lost.LENGTH] == [
+    assert [loss for loss in found.losses if loss.what is LossKind.LENGTH] == [
         Loss(
-            Lost.LENGTH,
+            LossKind.LENGTH,
             "",
             "Twice a day the sea comes up. Twice a day the sea comes up.",
         )
@@ -459,7 +471,7 @@ def test_blanks_of_all_widths_are_one_blank(tmp_path: Path) -> None:
 )
 def test_pages_are_read_in_what_they_are_encoded(said: str, encoding: str) -> None:
     page = f"<html><head>{said}</head><p>Größe</p></html>".encode(encoding)
-    assert read_document(page, Kind.HTML).texts == ["Größe"]
+    assert read_document(page, ManuscriptKind.HTML).texts == ["Größe"]
 
 
 def test_a_large_first_letter_belongs_to_its_paragraph(tmp_path: Path) -> None:
@@ -474,7 +486,7 @@ def test_tags_of_a_page_are_no_print_that_is_lost(tmp_path: Path) -> None:
     path.write_text("<nav>\n\nThe moon\n\n</nav>\n\n\\newpage\n")
     found = read_manuscript(path)
     assert found.texts == ["The moon"]
-    assert lost(found, Lost.RAW) == ["\\newpage"]
+    assert lost(found, LossKind.RAW) == ["\\newpage"]
 
 
 PACKAGE = (
@@ -515,7 +527,7 @@ def test_a_book_in_epub_has_its_title_page_and_its_notes(tmp_path: Path) -> None
     assert found.texts[:2] == ["The Moon", "Anna"]
     assert "Very far." in " ".join(found.texts)
     assert found.missing == (Missing("Aside", "", ""),)
-    assert lost(found, Lost.CONTENTS) == ["One"]
+    assert lost(found, LossKind.CONTENTS) == ["One"]
 
 
 def test_a_text_in_odt_that_is_hidden_or_deleted_or_at_the_edge_is_noted(
@@ -547,9 +559,9 @@ def test_a_text_in_odt_that_is_hidden_or_deleted_or_at_the_edge_is_noted(
     found = read_manuscript(path)
     assert found.texts[0].startswith("Seen veiled words")
     assert Missing("Foot", "", "") in found.missing
-    assert lost(found, Lost.HIDDEN) == ["veiled"]
-    assert lost(found, Lost.DELETED) == ["Gone"]
-    assert lost(found, Lost.COMMENT) == ["Check"]
+    assert lost(found, LossKind.HIDDEN) == ["veiled"]
+    assert lost(found, LossKind.DELETED) == ["Gone"]
+    assert lost(found, LossKind.COMMENT) == ["Check"]
 
 
 def program(folder: Path, name: str, *script: str) -> None:
@@ -575,16 +587,19 @@ def test_rtf_and_doc_are_what_libreoffice_makes_of_them(
         tmp_path / "made.docx", paragraph(run("Made "), symbol("Wingdings", "1"))
     )
     program(programs, "soffice", 'mkdir -p "$6"', f'cp {made} "$6/manuscript.docx"')
-    for data, kind in ((b"{\\rtf1 moon}", Kind.RTF), (WORD, Kind.DOC)):
+    for data, kind in (
+        (b"{\\rtf1 moon}", ManuscriptKind.RTF),
+        (WORD, ManuscriptKind.DOC),
+    ):
         found = read_document(data, kind)
         assert (found.kind, found.texts) == (kind, ["Made"])
         assert found.missing == (Missing("Wingdings_1", "Made", ""),)
     program(programs, "soffice", "echo It has no form. >&2", "exit 1")
     with pytest.raises(NotConverted, match="It has no form."):
-        read_document(WORD, Kind.DOC)
+        read_document(WORD, ManuscriptKind.DOC)
     program(programs, "soffice", "exit 0")
     with pytest.raises(NotConverted):
-        read_document(WORD, Kind.DOC)
+        read_document(WORD, ManuscriptKind.DOC)
 
 
 def test_odt_is_taken_as_it_loses_fewer_words(tmp_path: Path, programs: Path) -> None:
@@ -601,8 +616,8 @@ def test_odt_is_taken_as_it_loses_fewer_words(tmp_path: Path, programs: Path) ->
     for lost_by_pandoc, wanted in ((" two", "One two"), ("", "One")):
         computed = f"One<text:expression>{lost_by_pandoc}</text:expression>"
         parts["content.xml"] = content.replace("One", computed)
-        found = read_document(container_of(path, **parts), Kind.ODT)
-        assert (found.kind, found.texts) == (Kind.ODT, [wanted])
+        found = read_document(container_of(path, **parts), ManuscriptKind.ODT)
+        assert (found.kind, found.texts) == (ManuscriptKind.ODT, [wanted])
 
 
 def test_a_program_that_takes_too_long_is_given_up(
@@ -612,13 +627,13 @@ def test_a_program_that_takes_too_long_is_given_up(
     with monkeypatch.context() as patched:
         patched.setattr(pandoc, "_SECONDS", 0.3)
         with pytest.raises(BrokenOff):
-            read_document(b"a", Kind.MARKDOWN)
+            read_document(b"a", ManuscriptKind.MARKDOWN)
     program(programs, "pandoc", "kill -KILL $$")
     with pytest.raises(BrokenOff):
-        read_document(b"a", Kind.MARKDOWN)
+        read_document(b"a", ManuscriptKind.MARKDOWN)
     program(programs, "pandoc", "echo none")
     with pytest.raises(NotConverted):
-        read_document(b"a", Kind.MARKDOWN)
+        read_document(b"a", ManuscriptKind.MARKDOWN)
 
 
 #: A document of 100,000 words takes 4 seconds, nearly all of a processor, where nothing else runs. The
@@ -656,8 +671,8 @@ def test_a_document_of_a_hundred_thousand_words_is_read_in_five_seconds(
 
 READS = """
 from braildesk.desk.documents.document import read_document
-from braildesk.desk.documents.kinds import Kind
-read_document(b"a", Kind.MARKDOWN)
+from braildesk.desk.documents.kinds import ManuscriptKind
+read_document(b"a", ManuscriptKind.MARKDOWN)
 """
 
 

@@ -8,11 +8,11 @@ from pathlib import Path
 import pytest
 
 from braildesk import Session, Style
-from braildesk.desk.documents.kinds import Kind
-from braildesk.desk.documents.reading import Reading
+from braildesk.desk.documents.kinds import ManuscriptKind
+from braildesk.desk.documents.reading import ReadingOptions
 from braildesk.desk.drafts import Drafts
 from braildesk.desk.import_note import How, ImportNote, note_in
-from braildesk.desk.manuscript import Line, Passage, Position
+from braildesk.desk.manuscript import TextLine, Passage, Position
 from braildesk.desk.record import Record
 from braildesk.desk.replacements import Replacer
 
@@ -274,7 +274,7 @@ def test_a_file_of_other_lines_replaces_nothing(
 def test_places_of_a_text_are_those_of_its_file_after_characters_were_replaced() -> (
     None
 ):
-    text = Passage((Line("a→b → c", Position(3, 5)), Line("→", Position(4, 1))))
+    text = Passage((TextLine("a→b → c", Position(3, 5)), TextLine("→", Position(4, 1))))
     replacer = Replacer((("→", "to"), ("b ", "")))
     (made,) = replacer.passages([text])
     assert made.text == "atoto c to"
@@ -397,7 +397,9 @@ def begun(book: Path) -> ImportNote:
     """What is noted of that import before its first paragraph is typed."""
     path = Path("moon.md").absolute()
     digest = hashlib.sha256(path.read_bytes()).hexdigest()
-    how = How(Reading(Kind.MARKDOWN, False, "-", "()"), (("&", "and"),), 1)
+    how = How(
+        ReadingOptions(ManuscriptKind.MARKDOWN, False, "-", "()"), (("&", "and"),), 1
+    )
     return ImportNote(str(path), digest, False, 1, 8, "en", "end", 1, 0, how)
 
 
@@ -451,7 +453,7 @@ def test_what_an_older_scribe_noted_of_a_text_is_read(book: Path) -> None:
         "volumes",
     ):
         del kept[name]
-    assert note_in(Record(kept)).how == How(Reading(Kind.TEXT))
+    assert note_in(Record(kept)).how == How(ReadingOptions(ManuscriptKind.TEXT))
 
 
 def test_a_document_is_imported_on_the_screen_with_what_is_lost(

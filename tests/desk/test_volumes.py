@@ -12,7 +12,7 @@ from tool import Ran, scribe
 
 from braildesk import Done, Session
 from braildesk.desk.layout import PageSize, Section, lay_out
-from braildesk.desk.volume_plan import Lines, TooLong, lines_of, planned
+from braildesk.desk.volume_plan import Lines, TooManyPages, lines_of, planned
 
 from scribe.cli import run_words
 from scribe.words.console import Console
@@ -210,7 +210,7 @@ def test_no_volume_has_too_many_pages_for_any_number_of_pages() -> None:
     for most in range(1, 201):
         try:
             found = planned(lines, size, most)
-        except TooLong as fault:
+        except TooManyPages as fault:
             its = lay_out([sections[fault.paragraph]], size)
             assert its.pages == fault.pages > most
             continue
@@ -263,7 +263,7 @@ def test_as_few_chapters_are_cut_and_as_few_volumes_made_as_can_be(
     best = cheapest(lines, most)
     try:
         found = planned(lines, SMALL, most)
-    except TooLong:
+    except TooManyPages:
         assert best is None
         return
     starts = [each.paragraphs.start for each in found[1:]]

@@ -15,7 +15,7 @@ from braildesk.text.sequences import composed
 from braildesk.text.spans import Form, Span, find_spans
 
 
-class Kind(Enum):
+class Variant(Enum):
     """By what words differ that are alike."""
 
     CAPITALS = auto()
@@ -27,10 +27,10 @@ class Kind(Enum):
 
 #: The signs of each kind, which count as the first of them.
 _SIGNS = {
-    Kind.APOSTROPHE: "'‘’‚‛‹›′ʼ`´",
-    Kind.QUOTATION_MARKS: '"“”„‟«»″',
-    Kind.DASH: "-‐‑‒–—―−",
-    Kind.BLANK: " \t\u00a0\u2002\u2003\u2007\u2009\u202f",
+    Variant.APOSTROPHE: "'‘’‚‛‹›′ʼ`´",
+    Variant.QUOTATION_MARKS: '"“”„‟«»″',
+    Variant.DASH: "-‐‑‒–—―−",
+    Variant.BLANK: " \t\u00a0\u2002\u2003\u2007\u2009\u202f",
 }
 #: What each sign counts as where texts may differ by all kinds, or by all but one.
 _SHAPES = {
@@ -40,7 +40,7 @@ _SHAPES = {
         if kind is not kept
         for sign in signs
     }
-    for kept in (None, *Kind)
+    for kept in (None, *Variant)
 }
 
 
@@ -54,15 +54,17 @@ def any_case(text: str) -> str:
     return composed(text).casefold()
 
 
-def unlike(words: str, others: str) -> tuple[Kind, ...]:
+def unlike(words: str, others: str) -> tuple[Variant, ...]:
     """By what two texts differ that are alike."""
-    return tuple(kind for kind in Kind if _folded(words, kind) != _folded(others, kind))
+    return tuple(
+        kind for kind in Variant if _folded(words, kind) != _folded(others, kind)
+    )
 
 
-def _folded(text: str, kept: Kind | None) -> str:
+def _folded(text: str, kept: Variant | None) -> str:
     """A text without what its sequences may differ by, but for one kind."""
     text = composed(text)
-    if kept is not Kind.CAPITALS:
+    if kept is not Variant.CAPITALS:
         text = text.casefold()
     return text.translate(_SHAPES[kept])
 
@@ -82,7 +84,7 @@ class Tally:
 
     count: int = 0
     paragraphs: int = 0
-    kinds: tuple[Kind, ...] = ()
+    kinds: tuple[Variant, ...] = ()
 
     def with_hit(self, hit: Hit, sought: str) -> "Tally":
         """With those of another paragraph."""
@@ -91,7 +93,7 @@ class Tally:
         return Tally(
             self.count + len(hit.places),
             self.paragraphs + 1,
-            tuple(kind for kind in Kind if kind in kinds) if found else self.kinds,
+            tuple(kind for kind in Variant if kind in kinds) if found else self.kinds,
         )
 
 

@@ -5,8 +5,8 @@ from dataclasses import dataclass
 from pathlib import PurePath
 
 from braildesk import After
-from braildesk.desk.documents.kinds import Kind
-from braildesk.desk.documents.reading import BRACKETS, Reading
+from braildesk.desk.documents.kinds import ManuscriptKind
+from braildesk.desk.documents.reading import BRACKETS, ReadingOptions
 from braildesk.desk.record import NotSuch, Record
 from braildesk.text import limits
 
@@ -24,7 +24,7 @@ Pairs = tuple[tuple[str, str], ...]
 class How:
     """How a manuscript becomes paragraphs of a book."""
 
-    reading: Reading
+    reading: ReadingOptions
     #: Characters, and those that stand in their place.
     replacements: Pairs = ()
     #: The level of the headings at which volumes begin.
@@ -47,7 +47,7 @@ class ImportNote:
     #: The version of the book, and how many paragraphs it had.
     version: int
     there: int
-    how: How = How(Reading(Kind.TEXT))
+    how: How = How(ReadingOptions(ManuscriptKind.TEXT))
 
     @property
     def name(self) -> str:
@@ -70,7 +70,7 @@ class ImportNote:
             "after": self.after,
             "version": self.version,
             "there": self.there,
-            "kind": (self.how.reading.kind or Kind.TEXT).value,
+            "kind": (self.how.reading.kind or ManuscriptKind.TEXT).value,
             "notes_at_end": self.how.reading.notes_at_end,
             "bullet": self.how.reading.bullet,
             "brackets": self.how.reading.brackets,
@@ -103,16 +103,16 @@ def note_in(kept: Record) -> ImportNote:
 def _how(kept: Record) -> How:
     # an older scribe kept no more, since it imported texts alone
     if not kept.has("kind"):
-        return How(Reading(Kind.TEXT))
+        return How(ReadingOptions(ManuscriptKind.TEXT))
     try:
-        kind = Kind(kept.text("kind"))
+        kind = ManuscriptKind(kept.text("kind"))
     except ValueError as cause:
         raise NotSuch("kind") from cause
     brackets = kept.text("brackets")
     if len(brackets) != len(BRACKETS):
         raise NotSuch("brackets")
     is_at_end = kept.truth("notes_at_end")
-    reading = Reading(kind, is_at_end, kept.text("bullet"), brackets)
+    reading = ReadingOptions(kind, is_at_end, kept.text("bullet"), brackets)
     volumes = kept.number_or_none("volumes", least=1)
     return How(reading, pairs_in(kept), volumes)
 

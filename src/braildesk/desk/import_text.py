@@ -6,8 +6,8 @@ from dataclasses import dataclass, replace
 from pathlib import Path
 
 from braildesk import After, Refused, Session, read_tables, translate
-from braildesk.desk.documents.kinds import Kind, kind_of
-from braildesk.desk.documents.reading import BRACKETS, BULLET, Reading
+from braildesk.desk.documents.kinds import ManuscriptKind, kind_of
+from braildesk.desk.documents.reading import BRACKETS, BULLET, ReadingOptions
 from braildesk.desk.drafts import Drafts, NotKept
 from braildesk.desk.earlier import (
     AllThere,
@@ -57,14 +57,14 @@ class Import:
     #: How many seconds a book is waited for that another program has open.
     wait: float = 0.0
     #: How it is read. If a document isn't said to be one, its kind is found.
-    how: How = How(Reading())
+    how: How = How(ReadingOptions())
     #: The file of characters that stand in place of others; else those that were kept for the book.
     replacements: Path | None = None
 
     @property
-    def kind(self) -> Kind:
+    def kind(self) -> ManuscriptKind:
         """Which kind the manuscript is, once that is known."""
-        return self.how.reading.kind or Kind.TEXT
+        return self.how.reading.kind or ManuscriptKind.TEXT
 
 
 @dataclass(frozen=True)
@@ -97,7 +97,7 @@ class NoText(NotImported):
 class OfTexts(NotImported):
     """A document has paragraphs of its own, and its lines are none."""
 
-    def __init__(self, path: Path, kind: Kind) -> None:
+    def __init__(self, path: Path, kind: ManuscriptKind) -> None:
         super().__init__(path, kind)
         self.path = path
         self.kind = kind
@@ -324,7 +324,7 @@ def _parted(
     return parted_at(whole, line)
 
 
-def _signs_for(job: Import, reading: Reading) -> Reading:
+def _signs_for(job: Import, reading: ReadingOptions) -> ReadingOptions:
     """The reading with signs that the table has: another bullet and brackets if it lacks the usual."""
     with Session(job.book, timeout=job.wait) as session:
         anchor = paragraph_before(session.paragraphs(), job.after)

@@ -57,7 +57,7 @@ class Position:
 
 
 @dataclass(frozen=True, slots=True)
-class Line:
+class TextLine:
     """What a line of a file has between the blanks around it, and the position of its front."""
 
     text: str
@@ -71,7 +71,7 @@ class Line:
 class Passage:
     """A paragraph of a text file: lines that are joined by one blank each."""
 
-    lines: tuple[Line, ...]
+    lines: tuple[TextLine, ...]
     style: Style = Style.BODY
     begins_volume: bool = False
 
@@ -152,7 +152,7 @@ def passages(data: bytes, by_lines: bool) -> tuple[Passage, ...]:
     return found
 
 
-def _parted(lines: Iterator[Line], by_lines: bool) -> Iterator[Passage]:
+def _parted(lines: Iterator[TextLine], by_lines: bool) -> Iterator[Passage]:
     if by_lines:
         return (Passage((line,)) for line in lines if line.text)
     groups = groupby(lines, key=lambda line: bool(line.text))
@@ -166,11 +166,11 @@ def text_lines(data: bytes) -> Iterator[str]:
         yield whole.removesuffix("\n").removesuffix("\r")
 
 
-def _lines(data: bytes) -> Iterator[Line]:
+def _lines(data: bytes) -> Iterator[TextLine]:
     for number, whole in enumerate(text_lines(data), start=1):
         shown = whole.replace("\t", " ").replace("\f", " ")
         front = len(shown) - len(shown.lstrip(" "))
-        yield Line(shown.strip(" "), Position(number, front + 1))
+        yield TextLine(shown.strip(" "), Position(number, front + 1))
 
 
 def decoded(data: bytes) -> str:

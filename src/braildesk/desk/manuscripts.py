@@ -6,9 +6,15 @@ from itertools import takewhile
 from pathlib import Path
 
 from braildesk import CannotOpen, Session, Style, Why
-from braildesk.desk.documents.kinds import Kind, is_container, kind_of
-from braildesk.desk.documents.reading import Manuscript, Part, Reading
-from braildesk.desk.manuscript import DocumentPassage, Line, Passage, Position, passages
+from braildesk.desk.documents.kinds import ManuscriptKind, is_container, kind_of
+from braildesk.desk.documents.reading import Manuscript, Part, ReadingOptions
+from braildesk.desk.manuscript import (
+    DocumentPassage,
+    TextLine,
+    Passage,
+    Position,
+    passages,
+)
 from braildesk.desk.import_note import How
 from braildesk.desk.readings import prints
 from braildesk.desk.replacements import Replaced, Replacer
@@ -19,7 +25,7 @@ _BOOK = b"SQLite format 3\0"
 
 
 def read_manuscript(
-    path: Path, reading: Reading = Reading(), wait: float = 0.0
+    path: Path, reading: ReadingOptions = ReadingOptions(), wait: float = 0.0
 ) -> Manuscript:
     """The paragraphs of a document, of a text, or of a book, there those aside that are struck.
 
@@ -35,7 +41,9 @@ def read_manuscript(
     return manuscript_of(data, kind, reading)
 
 
-def manuscript_of(data: bytes, kind: Kind, reading: Reading) -> Manuscript:
+def manuscript_of(
+    data: bytes, kind: ManuscriptKind, reading: ReadingOptions
+) -> Manuscript:
     """The paragraphs of the bytes of a document or of a text; raises `UnreadableText`."""
     if kind.is_document:
         # imported here, since a text needs nothing of what reads documents
@@ -61,7 +69,7 @@ def taken(data: bytes, by_lines: bool, how: How) -> Taken:
 
     Raises `UnreadableText`.
     """
-    kind = how.reading.kind or Kind.TEXT
+    kind = how.reading.kind or ManuscriptKind.TEXT
     replacer = Replacer(how.replacements)
     if not kind.is_document:
         found = replacer.passages(passages(data, by_lines))
@@ -89,7 +97,7 @@ def _passages_of(
         begin = begin - {fronts} | {0}
     return tuple(
         DocumentPassage(
-            (Line(part.text, Position(number + 1, 1)),),
+            (TextLine(part.text, Position(number + 1, 1)),),
             Style.HEADING if part.is_heading else Style.BODY,
             number in begin,
         )
@@ -140,7 +148,7 @@ def _of_session(session: Session) -> Manuscript:
         Part(text, 1 if each.style is Style.HEADING else None)
         for each, text in zip(book, prints(session, book))
     )
-    return Manuscript(Kind.BOOK, parts)
+    return Manuscript(ManuscriptKind.BOOK, parts)
 
 
 def _texts(passage: Passage) -> Iterator[str]:

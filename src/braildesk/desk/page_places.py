@@ -20,7 +20,7 @@ class PagePlace:
 
 
 class PageMap:
-    """The pages of a book as it was when it was asked."""
+    """The pages and lines of a book as numbers, which is laid out whole when this is made."""
 
     def __init__(self, session: Session, page_size: PageSize) -> None:
         self._session = session

@@ -12,7 +12,7 @@ from pathlib import Path
 from braildesk.desk.documents.reading import Part, plain
 from braildesk.desk.import_note import Pairs, is_pair
 from braildesk.desk.intake import NotImported
-from braildesk.desk.manuscript import Line, Passage, UnreadableText, text_lines
+from braildesk.desk.manuscript import TextLine, Passage, UnreadableText, text_lines
 from braildesk.named_files import read_file
 from braildesk.text import limits
 from braildesk.text.sequences import composed
@@ -78,7 +78,7 @@ class Replacer:
         ]
         return tuple(passage for passage in made if passage.lines)
 
-    def _line(self, line: Line) -> Line | None:
+    def _line(self, line: TextLine) -> TextLine | None:
         """A line with the new characters, none if nothing is left of it."""
         pieces: list[str] = []
         columns: list[int] = []

@@ -17,7 +17,7 @@ from braildesk.desk.layout import PageSize, Section, sections, spans_of
 _Cost = tuple[int, int, int]
 
 
-class TooLong(Problem):
+class TooManyPages(Problem):
     """A paragraph has more pages by itself than a volume is to have."""
 
     def __init__(self, paragraph: int, pages: int, most: int) -> None:
@@ -207,6 +207,6 @@ class _Plan:
             and _pages(self._lines[front:stop], self._text_lines) > self._most
         )
 
-    def _too_long(self, place: int) -> TooLong:
+    def _too_long(self, place: int) -> TooManyPages:
         pages = _pages(self._lines[place : place + 1], self._text_lines)
-        return TooLong(self._lines[place].paragraph, pages, self._most)
+        return TooManyPages(self._lines[place].paragraph, pages, self._most)

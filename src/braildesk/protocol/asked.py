@@ -11,7 +11,7 @@ from braildesk.protocol.requests import Request
 from braildesk.protocol.sentences import Why
 
 
-class Line(NamedTuple):
+class PrintLine(NamedTuple):
     """A line of print that was to be translated."""
 
     table: str
@@ -49,7 +49,7 @@ class NewBook(NamedTuple):
 #: What names a file.
 AskedOfFile = Pages | TableFile | BookFile | NewBook
 #: Anything that may be refused.
-Asked = Request[Any] | Line | AskedOfFile
+Asked = Request[Any] | PrintLine | AskedOfFile
 
 
 @dataclass(frozen=True, slots=True)

@@ -7,7 +7,7 @@ from braildesk.protocol import requests
 from braildesk.protocol.asked import (
     Asked,
     BookFile,
-    Line,
+    PrintLine,
     NewBook,
     Pages,
     Refusal,
@@ -76,7 +76,7 @@ class _Fields:
                 return "No mark was put."
             case requests.Command():
                 return "Nothing was changed."
-            case Line():
+            case PrintLine():
                 return "This line was not translated."
         return ""
 
@@ -123,7 +123,7 @@ class _Fields:
                 return plain(name)
             case requests.Type(table=name) | requests.Retable(table=name):
                 return plain(name)
-            case Line(table=path) | TableFile(path=path):
+            case PrintLine(table=path) | TableFile(path=path):
                 return path if path == "@en" else shortened(path, len(path))
             case requests.OfParagraph():
                 return f"of paragraph {self.paragraph}"
@@ -180,7 +180,7 @@ class _Fields:
         match self._asked:
             case requests.Mark():
                 return "note"
-            case Line():
+            case PrintLine():
                 return "line"
         return "text"
 
@@ -215,7 +215,7 @@ class _Fields:
                 return stored, place - start
             case requests.Type():
                 return stored, place
-            case Line():
+            case PrintLine():
                 return text, place
         return "", place
 
@@ -225,7 +225,7 @@ class _Fields:
         match self._asked:
             case requests.Type():
                 return "the text"
-            case Line():
+            case PrintLine():
                 return "the line"
             case requests.Correct() if self._text_with_place()[0]:
                 return "the new text"
@@ -313,7 +313,7 @@ class _Fields:
                 f"Character {place + 1} of the {self.kind} is {code_point(text[place])}, which is"
                 f" only half of a character and can't be kept: {around(text, place)}."
             )
-        if isinstance(self._asked, Line):
+        if isinstance(self._asked, PrintLine):
             return f"The line has over {limits.LINE_BYTES:,} bytes."
         return (
             "This is no request that braildesk knows. Its numbers go from 0 to"
@@ -353,7 +353,9 @@ class _Fields:
 def _text(asked: Asked) -> str:
     """The text or the note that was given."""
     match asked:
-        case requests.Type(text=text) | requests.Correct(text=text) | Line(text=text):
+        case requests.Type(text=text) | requests.Correct(text=text) | PrintLine(
+            text=text
+        ):
             return text
         case requests.Mark(note=note):
             return note

@@ -15,7 +15,7 @@ class Class(StrEnum):
     LETTER = "letter"
 
 
-class Kind(StrEnum):
+class RuleKind(StrEnum):
     """Where a rule may stand."""
 
     ALWAYS = "always"
@@ -65,7 +65,7 @@ class Rule:
     """A rule. Without cells it has those of its characters' definitions."""
 
     line: int
-    kind: Kind
+    kind: RuleKind
     characters: str
     cells: Cells | None
 

@@ -9,7 +9,7 @@ from braildesk.tables.entries import (
     Class,
     Definition,
     Entry,
-    Kind,
+    RuleKind,
     Pair,
     Rule,
     SetName,
@@ -28,7 +28,7 @@ _GAP = re.compile("[ \t]+")
 FORMS: dict[str, str] = {
     **{kind: f"{kind} CHARACTER DOTS" for kind in Class},
     "uplow": "uplow CHARACTERS DOTS or uplow CHARACTERS DOTS,DOTS",
-    **{kind: f"{kind} CHARACTERS DOTS or {kind} CHARACTERS =" for kind in Kind},
+    **{kind: f"{kind} CHARACTERS DOTS or {kind} CHARACTERS =" for kind in RuleKind},
     **{name: f"{name} DOTS" for name in SignName},
     **{name: f"{name} CHARACTERS" for name in SetName},
 }
@@ -139,7 +139,7 @@ class _Reader:
             self.pair(line)
         elif opcode in set(Class):
             self.definition(line)
-        elif opcode in set(Kind):
+        elif opcode in set(RuleKind):
             self.rule(line)
         elif opcode in set(SignName):
             self.sign(line)
@@ -187,7 +187,7 @@ class _Reader:
             line.judge_length(text)
             self.needed.append((line.number, text, True))
         if self.is_sound(line) and text:
-            self.entries.append(Rule(line.number, Kind(line.opcode), text, found))
+            self.entries.append(Rule(line.number, RuleKind(line.opcode), text, found))
 
     def sign(self, line: "_Line") -> None:
         """Reads the cells of a sign."""

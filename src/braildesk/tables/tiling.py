@@ -7,7 +7,7 @@ from itertools import groupby
 from braildesk.tables.entries import (
     Class,
     Definition,
-    Kind,
+    RuleKind,
     Rule,
     SetName,
     Sign,
@@ -80,16 +80,16 @@ def _chosen(
     return table.definitions[text[place]]
 
 
-def fits(table: Table, kind: Kind, left: str, right: str) -> bool:
+def fits(table: Table, kind: RuleKind, left: str, right: str) -> bool:
     """Whether a rule may stand between two characters, which are empty at the print's ends."""
     match kind:
-        case Kind.WORD:
+        case RuleKind.WORD:
             return _is_edge(table, left) and _is_edge(table, right)
-        case Kind.BEGWORD:
+        case RuleKind.BEGWORD:
             return _is_edge(table, left) and table.is_of(Class.LETTER, right)
-        case Kind.MIDWORD:
+        case RuleKind.MIDWORD:
             return table.is_of(Class.LETTER, left) and table.is_of(Class.LETTER, right)
-        case Kind.ENDWORD:
+        case RuleKind.ENDWORD:
             return table.is_of(Class.LETTER, left) and _is_edge(table, right)
     return True
 

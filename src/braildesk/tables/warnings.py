@@ -8,7 +8,7 @@ from typing import TypeAlias
 from braildesk.tables.entries import (
     Class,
     Definition,
-    Kind,
+    RuleKind,
     Rule,
     SetName,
     Sign,
@@ -19,7 +19,7 @@ from braildesk.tables.table import Table
 from braildesk.tables.tiling import fits
 from braildesk.text.characters import named
 
-_BESIDE_LETTERS = (Kind.BEGWORD, Kind.MIDWORD, Kind.ENDWORD)
+_BESIDE_LETTERS = (RuleKind.BEGWORD, RuleKind.MIDWORD, RuleKind.ENDWORD)
 _DOT_7 = 0x40
 
 #: What stands on the left of a rule and on its right.
@@ -45,7 +45,7 @@ def warnings(table: Table, is_for_embosser: bool) -> list[Warning]:
 
 def _repeated(table: Table) -> Iterator[Warning]:
     """Rules of the same characters as earlier ones, of which one fits wherever they do."""
-    places = {kind: _places(table, kind) for kind in Kind}
+    places = {kind: _places(table, kind) for kind in RuleKind}
     seen: dict[str, list[Rule]] = {}
     for rule in table.rules:
         before = seen.setdefault(rule.characters, [])
@@ -57,7 +57,7 @@ def _repeated(table: Table) -> Iterator[Warning]:
 
 
 def _covering(
-    places: Mapping[Kind, set[_Place]], rule: Rule, before: list[Rule]
+    places: Mapping[RuleKind, set[_Place]], rule: Rule, before: list[Rule]
 ) -> list[Rule]:
     """An earlier rule that fits wherever a rule does, or some that do together, or none."""
     wanted = places[rule.kind]
@@ -92,7 +92,7 @@ def _repeating(rule: Rule, earlier: list[int]) -> Warning:
     )
 
 
-def _places(table: Table, kind: Kind) -> set[_Place]:
+def _places(table: Table, kind: RuleKind) -> set[_Place]:
     """Where a rule of a kind fits.
 
     The end of the print stands for blanks and punctuation too, and one letter and one digit for

@@ -9,10 +9,10 @@ from scribe.screen import lists, pager
 from scribe.screen.actions import ByPages, ListHeadings, ListMarks, SayPage, ToPage
 from scribe.screen.state import Pages, Pane, State
 from scribe.words import pagelook
-from scribe.words.pagelook import Layouts, Volume
+from scribe.words.pagelook import Layouts, VolumeLines
 
 
-def volumes_for(state: State, action: ByPages) -> tuple[Volume, ...]:
+def volumes_for(state: State, action: ByPages) -> tuple[VolumeLines, ...]:
     """The volumes whose pages are needed, which aren't laid out yet."""
     if isinstance(action, ListMarks | ListHeadings):
         return lists.volumes_of(state)
@@ -55,7 +55,7 @@ def without_volume(state: State, action: ByPages) -> State:
     return state.saying(f"{said} {_no_volume(state, action)}".lstrip())
 
 
-def _at_page(session: Session, state: State, laid: Volume) -> State:
+def _at_page(session: Session, state: State, laid: VolumeLines) -> State:
     """The page of the cursor's words, of a volume that is laid out."""
     its, here = state.paragraph, state.highlighted
     assert its is not None and here is not None

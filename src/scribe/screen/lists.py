@@ -17,7 +17,7 @@ from scribe.screen.in_hand import holding
 from scribe.screen.state import Pages, Pane, State, Target
 from scribe.words import pagelook
 from scribe.words.changes import nothing_found, paragraph_history
-from scribe.words.pagelook import Layouts, Volume, line_of
+from scribe.words.pagelook import Layouts, VolumeLines, line_of
 from scribe.words.paragraph import mark_line
 
 # a heading is named by so many columns of its words
@@ -28,24 +28,27 @@ _STRUCK = "struck, on no page"
 Report = Callable[[int, int], None]
 
 
-def volumes_of(state: State) -> tuple[Volume, ...]:
+def volumes_of(state: State) -> tuple[VolumeLines, ...]:
     """The volumes of the book, which aren't laid out yet."""
     return pagelook.volumes_of(state.book, state.version, state.page_size)
 
 
-class PageNumbers:
-    """The pages and lines of a book by its volumes, once they are laid out."""
+class PagesInWords:
+    """The pages and lines of a book in words, by volumes that are laid out once for the screen.
+
+    `PageMap` of `braildesk.desk` gives them as numbers, and lays the book out for one command.
+    """
 
     def __init__(
         self,
         session: Session,
-        volumes: Sequence[Volume],
+        volumes: Sequence[VolumeLines],
         layouts: Layouts,
         tell: Report,
     ) -> None:
         self._session = session
         self._volumes = [layouts.lay(session, each, tell) for each in volumes]
-        self._lines: dict[int, tuple[Volume, range]] = {
+        self._lines: dict[int, tuple[VolumeLines, range]] = {
             its.id: (volume, lines)
             for volume in self._volumes
             for its, lines in zip(volume.paragraphs, volume.lines)
@@ -70,7 +73,7 @@ class PageNumbers:
                 line = line_of(volume, found[its.id], lines, cell)
                 yield self._said(volume, line)
 
-    def _said(self, volume: Volume, number: int) -> str:
+    def _said(self, volume: VolumeLines, number: int) -> str:
         page, line = volume.page_size.place(number)
         front = f"volume {volume.number}, " if len(self._volumes) > 1 else ""
         return f"{front}page {page} line {line}"
@@ -87,7 +90,7 @@ def marks_list(session: Session, state: State, layouts: Layouts, tell: Report) -
     places = [
         (by_number[each.paragraph], next(cells) if each.text else 0) for each in marks
     ]
-    where = PageNumbers(session, volumes_of(state), layouts, tell).of(places)
+    where = PagesInWords(session, volumes_of(state), layouts, tell).of(places)
     lines = tuple(
         mark_line(each.mark, each.text, each.paragraph, page)
         for each, page in zip(marks, where)
@@ -115,7 +118,7 @@ def headings_list(
     found = [each for each in state.book if each.style is Style.HEADING]
     if not found:
         return state.saying("The book has no headings. b makes one of a paragraph.")
-    numbers = PageNumbers(session, volumes_of(state), layouts, tell)
+    numbers = PagesInWords(session, volumes_of(state), layouts, tell)
     where = numbers.of([(each, 0) for each in found])
     texts = list(prints(session, found))
     lines = tuple(
@@ -170,7 +173,7 @@ def at_target(state: State, target: Target) -> State:
     return state if target.mark is None else holding(state, target.mark)
 
 
-def page_said(session: Session, state: State, laid: Volume) -> str:
+def page_said(session: Session, state: State, laid: VolumeLines) -> str:
     """The page and line of the cursor's words in a volume that is laid out, as a sentence."""
     its, here = state.paragraph, state.highlighted
     assert its is not None and here is not None
@@ -178,7 +181,7 @@ def page_said(session: Session, state: State, laid: Volume) -> str:
     return pagelook.place_said(session, laid, its, here.cells.start, volumes)
 
 
-def at_page(session: Session, state: State, action: ToPage, laid: Volume) -> State:
+def at_page(session: Session, state: State, action: ToPage, laid: VolumeLines) -> State:
     """The state with the cursor on the first word of a line of a page, or what is said of it."""
     try:
         number, place = pagelook.start_of(session, laid, action.page, action.line)

@@ -76,7 +76,7 @@ class Opening:
 
 
 @dataclass(frozen=True)
-class Reading:
+class ChosenParagraph:
     """The chosen paragraph, with the cells of its open marks."""
 
     its: ParagraphReading
@@ -126,7 +126,7 @@ class OpenBook:
         self._deeds: tuple[Deed, ...] = ()
         # the paragraphs as they were listed last: a long book takes a while to list
         self._known: tuple[Paragraph, ...] = ()
-        self._laid: pagelook.Volume | None = None
+        self._laid: pagelook.VolumeLines | None = None
 
     @property
     def session(self) -> Session:
@@ -194,7 +194,7 @@ class OpenBook:
             for number in numbers
         }
 
-    def reading(self, paragraph: Paragraph) -> Reading:
+    def reading(self, paragraph: Paragraph) -> ChosenParagraph:
         """All that is shown of a paragraph."""
         number = paragraph.id
         asked: list[Request[Any]] = [
@@ -203,19 +203,19 @@ class OpenBook:
             requests.Marks(number),
         ]
         its = ParagraphReading(paragraph, *answers(self._session, asked))
-        return Reading(its, cells_of_marks(self._session, its))
+        return ChosenParagraph(its, cells_of_marks(self._session, its))
 
-    def by_character(self, reading: Reading, place: int) -> Highlighted:
+    def by_character(self, reading: ChosenParagraph, place: int) -> Highlighted:
         """The cells that belong to a character."""
         place = max(0, min(place, len(reading.its.text) - 1))
         return highlighted_by_character(self._session, reading.its, place)
 
-    def by_cell(self, reading: Reading, cell: int) -> Highlighted:
+    def by_cell(self, reading: ChosenParagraph, cell: int) -> Highlighted:
         """The characters that belong to a cell."""
         cell = max(0, min(cell, len(reading.its.braille) - 1))
         return highlighted_by_cell(self._session, reading.its, cell)
 
-    def words_of(self, reading: Reading, cells: Span) -> str:
+    def words_of(self, reading: ChosenParagraph, cells: Span) -> str:
         """The words that cells stand for."""
         its = reading.its
         number = its.paragraph.id
@@ -226,7 +226,7 @@ class OpenBook:
         """The cells on which a mark on words stands."""
         return cells_of(self._session, paragraph, words)
 
-    def corrected(self, reading: Reading, text: str) -> Done | None:
+    def corrected(self, reading: ChosenParagraph, text: str) -> Done | None:
         """Makes a print what was typed, by the smallest correction; nothing where it is that."""
         least = smallest_correction(reading.its.text, composed(text))
         if least is None:
@@ -241,7 +241,7 @@ class OpenBook:
         """Carries out a command, and notes how it is taken back."""
         return self._after(command, self._sent(command))
 
-    def resolved(self, reading: Reading, mark: int) -> Done:
+    def resolved(self, reading: ChosenParagraph, mark: int) -> Done:
         """Resolves a mark, with its cells noted, on which it can be put again."""
         its = reading.its
         marks = tuple(each for each in its.marks if each.id == mark)
@@ -520,8 +520,8 @@ class OpenBook:
         return pagelook.place_said(self._session, laid, its, cell, count)
 
     def _laid_out(
-        self, volume: pagelook.Volume, report: Callable[[int, int], None]
-    ) -> pagelook.Volume:
+        self, volume: pagelook.VolumeLines, report: Callable[[int, int], None]
+    ) -> pagelook.VolumeLines:
         """A volume that is laid out, if need be now."""
         if self._laid is None or not self._laid.is_of(volume):
             self._laid = pagelook.laid_out(self._session, volume, report)

@@ -25,7 +25,14 @@ from braildesk.text.sequences import composed
 from braildesk.text.spans import Span
 from braildesk.text.wrapping import wrap
 
-from scribe.window.book import Contents, Done, NotAll, OpenBook, Opening, Reading
+from scribe.window.book import (
+    Contents,
+    Done,
+    NotAll,
+    OpenBook,
+    Opening,
+    ChosenParagraph,
+)
 from scribe.window.dialogs import choice
 from scribe.window.fields import LINE_END
 from scribe.window.menus import MENUS
@@ -69,7 +76,7 @@ class Desk:
         self.unsent = Unsent(self.drafts)
         self.contents = Contents(0, (), ())
         self.row = -1
-        self.reading: Reading | None = None
+        self.reading: ChosenParagraph | None = None
         self.new: New | None = None
         self.in_hand: int | None = None
         self.is_ascii = False
@@ -403,7 +410,7 @@ class Desk:
         window.here.show_text(self._described(reading, place, by_cell))
         self.update_page(False)
 
-    def _described(self, reading: Reading, place: int, by_cell: bool) -> str:
+    def _described(self, reading: ChosenParagraph, place: int, by_cell: bool) -> str:
         """The place in words: the characters, their cells, and the marks there."""
         assert self._light is not None
         words, cells = self._light.words, self._light.cells

@@ -13,7 +13,7 @@ from braildesk.text.sequences import composed, parted
 from braildesk.text.spans import Span
 
 from scribe.window import dialogs
-from scribe.window.book import Done, NotAll, NothingToTakeBack, Reading
+from scribe.window.book import Done, NotAll, NothingToTakeBack, ChosenParagraph
 from scribe.window.desk import Desk, New
 from scribe.window.dialogs import IsStopped, Say
 from scribe.words.drafts import what_for
@@ -216,7 +216,7 @@ class Typed:
         self._typed_all(commands, lines, table)
 
     def _corrected_first(
-        self, reading: Reading, lines: Sequence[str], table: str
+        self, reading: ChosenParagraph, lines: Sequence[str], table: str
     ) -> None:
         """Makes the chosen paragraph the first of some lines; of a refusal no line is lost."""
         desk = self.desk

@@ -2,7 +2,7 @@
 
 from collections.abc import Callable, Iterator, Sequence
 
-from braildesk.desk.find import Hit, Kind, Tally, alike, unlike
+from braildesk.desk.find import Hit, Variant, Tally, alike, unlike
 from braildesk.text.cells import Notation
 from braildesk.text.excerpt import Excerpts
 from braildesk.text.spans import Span, find_spans
@@ -10,15 +10,15 @@ from braildesk.text.spans import Span, find_spans
 from scribe.words.paragraph import quoted
 
 _KINDS = {
-    Kind.CAPITALS: "other capitals",
-    Kind.APOSTROPHE: "another apostrophe",
-    Kind.QUOTATION_MARKS: "other quotation marks",
-    Kind.DASH: "another dash",
-    Kind.BLANK: "another kind of blank",
+    Variant.CAPITALS: "other capitals",
+    Variant.APOSTROPHE: "another apostrophe",
+    Variant.QUOTATION_MARKS: "other quotation marks",
+    Variant.DASH: "another dash",
+    Variant.BLANK: "another kind of blank",
 }
 
 
-def in_words(kinds: Sequence[Kind]) -> str:
+def in_words(kinds: Sequence[Variant]) -> str:
     """By what texts differ, as in “other capitals and another dash”."""
     *most, last = (_KINDS[kind] for kind in kinds)
     return f"{', '.join(most)} and {last}" if most else last

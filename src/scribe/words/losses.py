@@ -4,8 +4,8 @@ from collections import Counter
 from collections.abc import Iterator, Sequence
 from pathlib import Path
 
-from braildesk.desk.documents.kinds import Kind
-from braildesk.desk.documents.reading import Loss, Lost, Manuscript, Missing
+from braildesk.desk.documents.kinds import ManuscriptKind
+from braildesk.desk.documents.reading import Loss, LossKind, Manuscript, Missing
 from braildesk.desk.manuscripts import Taken
 from braildesk.desk.replacements import Replaced
 from braildesk.text.characters import visible
@@ -13,80 +13,83 @@ from braildesk.text.characters import visible
 #: How many places of a kind are shown if not all of them are.
 FEW = 5
 _NAMES = {
-    Kind.TEXT: "text",
-    Kind.MARKDOWN: "Markdown",
-    Kind.HTML: "HTML",
-    Kind.DOCX: "DOCX",
-    Kind.ODT: "ODT",
-    Kind.EPUB: "EPUB",
-    Kind.RTF: "RTF",
-    Kind.DOC: "DOC",
-    Kind.BOOK: "a book",
+    ManuscriptKind.TEXT: "text",
+    ManuscriptKind.MARKDOWN: "Markdown",
+    ManuscriptKind.HTML: "HTML",
+    ManuscriptKind.DOCX: "DOCX",
+    ManuscriptKind.ODT: "ODT",
+    ManuscriptKind.EPUB: "EPUB",
+    ManuscriptKind.RTF: "RTF",
+    ManuscriptKind.DOC: "DOC",
+    ManuscriptKind.BOOK: "a book",
 }
 #: What is said of each kind, where it stands once, and where more often; the gravest first.
 _SAID = {
-    Lost.EMBEDDED: (
+    LossKind.EMBEDDED: (
         "1 embedded document is left out",
         "{} embedded documents are left out",
     ),
-    Lost.PICTURE: (
+    LossKind.PICTURE: (
         "1 picture without a description is left out",
         "{} pictures without a description are left out",
     ),
-    Lost.RAW: (
+    LossKind.RAW: (
         "1 piece in the language of another program is left out",
         "{} pieces in the language of another program are left out",
     ),
-    Lost.NOTE: (
+    LossKind.NOTE: (
         "1 number of a note is typed whose note isn't found where it leads",
         "{} numbers of notes are typed whose notes aren't found where they lead",
     ),
-    Lost.HIDDEN: (
+    LossKind.HIDDEN: (
         "1 piece of text that is hidden in the document is typed too",
         "{} pieces of text that are hidden in the document are typed too",
     ),
-    Lost.DELETED: (
+    LossKind.DELETED: (
         "1 deletion that was tracked is left out",
         "{} deletions that were tracked are left out",
     ),
-    Lost.COMMENT: ("1 comment is left out", "{} comments are left out"),
-    Lost.CONTENTS: (
+    LossKind.COMMENT: ("1 comment is left out", "{} comments are left out"),
+    LossKind.CONTENTS: (
         "1 table of contents of the file is left out",
         "{} tables of contents of the file are left out",
     ),
-    Lost.MATHEMATICS: (
+    LossKind.MATHEMATICS: (
         "1 formula is typed as it is written in TeX",
         "{} formulas are typed as they are written in TeX",
     ),
-    Lost.SUPERSCRIPT: (
+    LossKind.SUPERSCRIPT: (
         "1 superscript stands on the line",
         "{} superscripts stand on the line",
     ),
-    Lost.SUBSCRIPT: (
+    LossKind.SUBSCRIPT: (
         "1 subscript stands on the line",
         "{} subscripts stand on the line",
     ),
-    Lost.TABLE: (
+    LossKind.TABLE: (
         "1 table is typed row by row, with semicolons between the cells",
         "{} tables are typed row by row, with semicolons between the cells",
     ),
-    Lost.LINK: ("1 link has lost its address", "{} links have lost their addresses"),
-    Lost.EMPHASIS: (
+    LossKind.LINK: (
+        "1 link has lost its address",
+        "{} links have lost their addresses",
+    ),
+    LossKind.EMPHASIS: (
         "1 emphasis, as by italics, is lost",
         "{} emphases, as by italics, are lost",
     ),
-    Lost.LEVEL: (
+    LossKind.LEVEL: (
         "1 heading is below the first level, and a book has only one",
         "{} headings are below the first level, and a book has only one",
     ),
-    Lost.LENGTH: (
+    LossKind.LENGTH: (
         "1 paragraph is too long for a book, and is parted at its sentences",
         "{} paragraphs are too long for a book, and are parted at their sentences",
     ),
 }
 
 
-def kind_name(kind: Kind) -> str:
+def kind_name(kind: ManuscriptKind) -> str:
     """What people call a kind of manuscript."""
     return _NAMES[kind]
 
@@ -144,7 +147,7 @@ def _losses(losses: Sequence[Loss], most: int | None) -> Iterator[str]:
 
 
 def _around(loss: Loss) -> str:
-    if loss.what is Lost.PICTURE:
+    if loss.what is LossKind.PICTURE:
         return f"at “{visible(loss.around)}”" if loss.around else "at the front"
     if not loss.words or loss.words == loss.around:
         return f"“{visible(loss.around)}”"

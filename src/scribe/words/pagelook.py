@@ -72,7 +72,7 @@ class NotThere(ValueError):
 
 
 @dataclass(frozen=True)
-class Volume:
+class VolumeLines:
     """A volume of a version of a book, and the lines on which each of its paragraphs stands.
 
     Lines are counted from 0 through all its pages. There is a fault if it can have no pages.
@@ -85,7 +85,7 @@ class Volume:
     lines: Sequence[range] = ()
     fault: str = ""
 
-    def is_of(self, other: "Volume") -> bool:
+    def is_of(self, other: "VolumeLines") -> bool:
         """Whether it is the same volume of the same version, on pages of the same size."""
         return (self.version, self.page_size, self.number) == (
             other.version,
@@ -108,22 +108,22 @@ class Layouts:
     """The volumes that were laid out, as long as the book and the size of its pages are the same."""
 
     def __init__(self) -> None:
-        self._laid: dict[int, Volume] = {}
+        self._laid: dict[int, VolumeLines] = {}
 
-    def of(self, volume: Volume) -> Volume | None:
+    def of(self, volume: VolumeLines) -> VolumeLines | None:
         """A volume as it was laid out, none if it wasn't yet."""
         laid = self._laid.get(volume.number)
         return laid if laid is not None and laid.is_of(volume) else None
 
     def lay(
-        self, session: Session, volume: Volume, report: Callable[[int, int], None]
-    ) -> Volume:
+        self, session: Session, volume: VolumeLines, report: Callable[[int, int], None]
+    ) -> VolumeLines:
         """A volume that is laid out, if need be now."""
         laid = self.of(volume) or laid_out(session, volume, report)
         self._laid[volume.number] = laid
         return laid
 
-    def are_soon(self, volumes: Sequence[Volume]) -> bool:
+    def are_soon(self, volumes: Sequence[VolumeLines]) -> bool:
         """Whether some volumes are laid out in a moment, those aside that are so already."""
         lacking = [each for each in volumes if self.of(each) is None]
         return sum(each.characters for each in lacking) <= _MANY
@@ -131,25 +131,25 @@ class Layouts:
 
 def volumes_of(
     book: Sequence[Paragraph], version: int, page_size: PageSize
-) -> tuple[Volume, ...]:
+) -> tuple[VolumeLines, ...]:
     """The volumes of a version of a book, which aren't laid out yet."""
     return tuple(
-        Volume(version, page_size, number, part)
+        VolumeLines(version, page_size, number, part)
         for number, part in enumerate(parted(book), 1)
     )
 
 
 def volume_of(
     book: Sequence[Paragraph], version: int, page_size: PageSize, its: Paragraph
-) -> Volume | None:
+) -> VolumeLines | None:
     """The volume of a paragraph, which isn't laid out yet; none for one that is struck."""
     volumes = volumes_of(book, version, page_size)
     return next((each for each in volumes if its in each.paragraphs), None)
 
 
 def laid_out(
-    session: Session, volume: Volume, report: Callable[[int, int], None]
-) -> Volume:
+    session: Session, volume: VolumeLines, report: Callable[[int, int], None]
+) -> VolumeLines:
     """A volume with the lines of its paragraphs. Nothing else of their braille is kept."""
     count = len(volume.paragraphs)
     lines: list[range] = []
@@ -163,7 +163,7 @@ def laid_out(
     return replace(volume, lines=lines)
 
 
-def page_of(session: Session, volume: Volume, sought: Sought) -> Page:
+def page_of(session: Session, volume: VolumeLines, sought: Sought) -> Page:
     """The page of a volume that is laid out on which a cell of a paragraph stands."""
     if volume.fault:
         return Page(volume.fault)
@@ -193,7 +193,9 @@ def wanted_line(words: str) -> WantedLine | None:
     )
 
 
-def start_of(session: Session, volume: Volume, page: int, line: int) -> tuple[int, int]:
+def start_of(
+    session: Session, volume: VolumeLines, page: int, line: int
+) -> tuple[int, int]:
     """The paragraph and the character at which a line begins; raises `NotThere`."""
     if volume.fault:
         raise NotThere(volume.fault)
@@ -219,7 +221,7 @@ def start_of(session: Session, volume: Volume, page: int, line: int) -> tuple[in
 
 
 def place_said(
-    session: Session, volume: Volume, its: Paragraph, cell: int, volumes: int
+    session: Session, volume: VolumeLines, its: Paragraph, cell: int, volumes: int
 ) -> str:
     """The page and line of a cell as a sentence, with its volume where the book has several."""
     lines = volume.lines[volume.paragraphs.index(its)] if volume.lines else range(0)
@@ -233,13 +235,13 @@ def place_said(
     return f"Volume {volume.number}, page {page} line {line}."
 
 
-def line_of(volume: Volume, section: Section, lines: range, cell: int) -> int:
+def line_of(volume: VolumeLines, section: Section, lines: range, cell: int) -> int:
     """The line of a volume on which a cell of a paragraph stands that takes some lines."""
     spans = spans_of(section, volume.page_size.width)
     return Placed(section, lines, spans).line_of(cell)
 
 
-def _lines_of(session: Session, volume: Volume, page: int) -> list[str]:
+def _lines_of(session: Session, volume: VolumeLines, page: int) -> list[str]:
     """The lines of a page, counted from 0, by the braille of its paragraphs alone."""
     first = page * volume.page_size.text_lines
     last = first + volume.page_size.text_lines

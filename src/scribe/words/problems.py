@@ -15,7 +15,7 @@ from braildesk.desk.marks import NoMark
 from braildesk.desk.ranges import BackwardRange, NoParagraph
 from braildesk.desk.places import NoPlace
 from braildesk.desk.tables import NoSuchTable, UnreadableTable
-from braildesk.desk.volume_plan import TooLong
+from braildesk.desk.volume_plan import TooManyPages
 
 from scribe.words import export
 from scribe.words.changes import no_place
@@ -46,7 +46,7 @@ def as_stop(problem: Problem) -> Stop:
             return Stop(no_place(problem))
         case SameWords():
             return Stop("The new words are the same as the old. Nothing was changed.")
-        case TooLong():
+        case TooManyPages():
             return Stop(too_long(problem))
         case NoSuchTable():
             return Stop(_no_such_table(problem))

@@ -5,7 +5,7 @@ from collections.abc import Iterator, Sequence
 from braildesk import Paragraph, Session, Style
 from braildesk.desk.layout import PageSize
 from braildesk.desk.readings import prints
-from braildesk.desk.volume_plan import Planned, TooLong
+from braildesk.desk.volume_plan import Planned, TooManyPages
 from braildesk.text.characters import visible
 from braildesk.text.excerpt import opening
 
@@ -86,7 +86,7 @@ def numbered(numbers: Sequence[int]) -> str:
     return f"Paragraphs {', '.join(others)} and {last}"
 
 
-def too_long(fault: TooLong) -> str:
+def too_long(fault: TooManyPages) -> str:
     """The sentence for a paragraph that no volume can have."""
     return (
         f"Paragraph {fault.paragraph} has {counted(fault.pages, 'page')} by itself, so that no"

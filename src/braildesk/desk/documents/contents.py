@@ -16,9 +16,9 @@ from urllib.parse import unquote
 from xml.etree import ElementTree
 from xml.etree.ElementTree import Element
 
-from braildesk.desk.documents.kinds import Kind, part_of, unpacked
+from braildesk.desk.documents.kinds import ManuscriptKind, part_of, unpacked
 from braildesk.desk.documents.notes import BACK
-from braildesk.desk.documents.reading import Loss, Lost, Missing, plain
+from braildesk.desk.documents.reading import Loss, LossKind, Missing, plain
 
 #: How many characters of a table of contents are shown.
 _CONTENTS = 60
@@ -53,7 +53,7 @@ class Contents:
     passages: list[str] = field(default_factory=list)
     losses: list[Loss] = field(default_factory=list)
 
-    def lose(self, what: Lost, words: str) -> None:
+    def lose(self, what: LossKind, words: str) -> None:
         """Notes words, if there are any."""
         if shown := plain(words.replace("\n", " ")):
             self.losses.append(Loss(what, shown, shown))
@@ -64,10 +64,10 @@ class Contents:
             self.passages.append(passage)
 
 
-def contents_of(data: bytes, kind: Kind) -> Contents:
+def contents_of(data: bytes, kind: ManuscriptKind) -> Contents:
     """What the file of a document has; nothing for the kinds that are text."""
     found = Contents()
-    if kind is Kind.HTML:
+    if kind is ManuscriptKind.HTML:
         found.passages += _page_of(data).passages
     if kind in _READERS:
         with unpacked(data) as container:
@@ -172,20 +172,20 @@ def _of_docx(container: zipfile.ZipFile, found: Contents) -> None:
                 )
         elif name == _DOCX_COMMENTS:
             for comment in _root(container, name).iter(f"{_W}comment"):
-                found.lose(Lost.COMMENT, "\n".join(_paragraphs(comment)))
+                found.lose(LossKind.COMMENT, "\n".join(_paragraphs(comment)))
         elif _EMBEDDED.fullmatch(name):
-            found.lose(Lost.EMBEDDED, PurePosixPath(name).name)
+            found.lose(LossKind.EMBEDDED, PurePosixPath(name).name)
 
 
 def _set_aside(root: Element, found: Contents) -> None:
     """Notes the print that a part of a document hides, and that which was deleted."""
     for run in root.iter(f"{_W}r"):
         if run.find(f"{_W}rPr/{_W}vanish") is not None:
-            found.lose(Lost.HIDDEN, "".join(_runs(run, [])))
+            found.lose(LossKind.HIDDEN, "".join(_runs(run, [])))
     for tag in _DELETED:
         for each in root.iter(tag):
             texts = (*each.iter(f"{_W}delText"), *each.iter(f"{_W}t"))
-            found.lose(Lost.DELETED, "".join(text.text or "" for text in texts))
+            found.lose(LossKind.DELETED, "".join(text.text or "" for text in texts))
 
 
 def _paragraphs(element: Element) -> Iterator[str]:
@@ -241,9 +241,11 @@ def _of_odt(container: zipfile.ZipFile, found: Contents) -> None:
     for body in root.iter(f"{_OFFICE}body"):
         found.passages += _odt_paragraphs(body)
     for deletion in root.iter(_ODT_DELETED):
-        found.lose(Lost.DELETED, "\n".join(_odt_paragraphs(deletion)))
+        found.lose(LossKind.DELETED, "\n".join(_odt_paragraphs(deletion)))
     for annotation in root.iter(_ANNOTATION):
-        found.lose(Lost.COMMENT, "\n".join(_odt_paragraphs(annotation, is_whole=True)))
+        found.lose(
+            LossKind.COMMENT, "\n".join(_odt_paragraphs(annotation, is_whole=True))
+        )
     hidden = {
         style.get(f"{_STYLE}name")
         for style in root.iter(f"{_STYLE}style")
@@ -252,7 +254,7 @@ def _of_odt(container: zipfile.ZipFile, found: Contents) -> None:
     for tag in ("span", "p", "h"):
         for each in root.iter(f"{_TEXT}{tag}"):
             if each.get(f"{_TEXT}style-name") in hidden:
-                found.lose(Lost.HIDDEN, "".join(_odt_runs(each, [])))
+                found.lose(LossKind.HIDDEN, "".join(_odt_runs(each, [])))
     if "styles.xml" in names:
         for edges in _root(container, "styles.xml").iter(f"{_OFFICE}master-styles"):
             for passage in _odt_paragraphs(edges):
@@ -307,12 +309,18 @@ def _of_epub(container: zipfile.ZipFile, found: Contents) -> None:
         found.passages += page.passages
         # a page by itself is left out by pandoc, and most such are lists of the pages for programs
         if reference.get("linear") == "no":
-            found.lose(Lost.CONTENTS, " ".join("".join(page.lists).split())[:_CONTENTS])
+            found.lose(
+                LossKind.CONTENTS, " ".join("".join(page.lists).split())[:_CONTENTS]
+            )
         else:
             found.passages += page.lists
 
 
-_READERS = {Kind.DOCX: _of_docx, Kind.ODT: _of_odt, Kind.EPUB: _of_epub}
+_READERS = {
+    ManuscriptKind.DOCX: _of_docx,
+    ManuscriptKind.ODT: _of_odt,
+    ManuscriptKind.EPUB: _of_epub,
+}
 
 
 class _Html(HTMLParser):

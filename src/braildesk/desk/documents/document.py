@@ -13,14 +13,14 @@ from dataclasses import replace
 
 from braildesk.desk.documents import contents, pages, pandoc
 from braildesk.desk.documents.contents import Contents
-from braildesk.desk.documents.kinds import Kind, NotRead
+from braildesk.desk.documents.kinds import ManuscriptKind, NotRead
 from braildesk.desk.documents.notes import with_notes
 from braildesk.desk.documents.reading import (
     Loss,
-    Lost,
+    LossKind,
     Manuscript,
     Part,
-    Reading,
+    ReadingOptions,
     short_enough,
 )
 from braildesk.desk.documents.tree import FAULTS, document
@@ -32,31 +32,35 @@ _CHARSET = re.compile(rb"(?:charset|encoding)\s*=\s*[\"']?([A-Za-z0-9_.-]+)")
 _FRONT = 1024
 _MARKS = ((b"\xff\xfe", "utf-16"), (b"\xfe\xff", "utf-16"), (b"", "utf-8-sig"))
 #: The kinds whose title, and what else is said about the whole, is a part of the print.
-_WITH_FRONT = (Kind.DOCX, Kind.ODT, Kind.MARKDOWN)
+_WITH_FRONT = (ManuscriptKind.DOCX, ManuscriptKind.ODT, ManuscriptKind.MARKDOWN)
 
 
-def read_document(data: bytes, kind: Kind, reading: Reading = Reading()) -> Manuscript:
+def read_document(
+    data: bytes, kind: ManuscriptKind, reading: ReadingOptions = ReadingOptions()
+) -> Manuscript:
     """The manuscript that the bytes of a document are; raises `UnreadableText`."""
-    if kind in (Kind.RTF, Kind.DOC):
+    if kind in (ManuscriptKind.RTF, ManuscriptKind.DOC):
         data = pandoc.as_docx(data, kind)
-        own = contents.contents_of(data, Kind.DOCX)
-        return replace(_read(data, Kind.DOCX, own, reading), kind=kind)
-    if kind in (Kind.MARKDOWN, Kind.HTML):
+        own = contents.contents_of(data, ManuscriptKind.DOCX)
+        return replace(_read(data, ManuscriptKind.DOCX, own, reading), kind=kind)
+    if kind in (ManuscriptKind.MARKDOWN, ManuscriptKind.HTML):
         data = _characters(data, kind).encode()
     own = contents.contents_of(data, kind)
     found = _read(data, kind, own, reading)
-    if kind is Kind.ODT and found.missing and pandoc.office():
+    if kind is ManuscriptKind.ODT and found.missing and pandoc.office():
         return min(found, _by_docx(data, own, reading, found), key=_words_missing)
     return found
 
 
 def _by_docx(
-    data: bytes, own: Contents, reading: Reading, otherwise: Manuscript
+    data: bytes, own: Contents, reading: ReadingOptions, otherwise: Manuscript
 ) -> Manuscript:
     """A document in ODT as it is read from the DOCX that LibreOffice makes of it."""
     try:
-        made = pandoc.as_docx(data, Kind.ODT)
-        return replace(_read(made, Kind.DOCX, own, reading), kind=Kind.ODT)
+        made = pandoc.as_docx(data, ManuscriptKind.ODT)
+        return replace(
+            _read(made, ManuscriptKind.DOCX, own, reading), kind=ManuscriptKind.ODT
+        )
     except UnreadableText:
         return otherwise
 
@@ -65,7 +69,9 @@ def _words_missing(manuscript: Manuscript) -> int:
     return sum(len(each.words.split()) for each in manuscript.missing)
 
 
-def _read(data: bytes, kind: Kind, own: Contents, reading: Reading) -> Manuscript:
+def _read(
+    data: bytes, kind: ManuscriptKind, own: Contents, reading: ReadingOptions
+) -> Manuscript:
     """What pandoc reads, compared with what the file has."""
     tree = pandoc.tree(_readable(data, kind), kind)
     try:
@@ -79,20 +85,20 @@ def _read(data: bytes, kind: Kind, own: Contents, reading: Reading) -> Manuscrip
     return Manuscript(kind, parts, losses, tuple(missing))
 
 
-def _readable(data: bytes, kind: Kind) -> bytes:
+def _readable(data: bytes, kind: ManuscriptKind) -> bytes:
     """A document as pandoc reads all of it."""
-    if kind is Kind.EPUB:
+    if kind is ManuscriptKind.EPUB:
         return pages.readable_book(data)
-    return pages.readable_page(data) if kind is Kind.HTML else data
+    return pages.readable_page(data) if kind is ManuscriptKind.HTML else data
 
 
-def _characters(data: bytes, kind: Kind) -> str:
+def _characters(data: bytes, kind: ManuscriptKind) -> str:
     """The characters of a document without a container: in UTF-8, or as a page says or is read.
 
     pandoc takes what isn't UTF-8 for Latin 1, with a warning.
     """
     names = [next(name for mark, name in _MARKS if data.startswith(mark))]
-    if kind is Kind.HTML:
+    if kind is ManuscriptKind.HTML:
         said = _CHARSET.search(data[:_FRONT])
         names = [*([said[1].decode()] if said else []), *names, "cp1252"]
     for name in names:
@@ -106,7 +112,7 @@ def _characters(data: bytes, kind: Kind) -> str:
 def _too_long(parts: tuple[Part, ...]) -> list[Loss]:
     """The paragraphs that are parted, each by its first words."""
     return [
-        Loss(Lost.LENGTH, "", part.text[:60].rpartition(" ")[0])
+        Loss(LossKind.LENGTH, "", part.text[:60].rpartition(" ")[0])
         for part in parts
         if len(part.text) > limits.PRINT_CHARACTERS
     ]

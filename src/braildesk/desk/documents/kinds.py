@@ -12,7 +12,7 @@ from xml.etree import ElementTree
 from braildesk.desk.manuscript import UnreadableText
 
 
-class Kind(Enum):
+class ManuscriptKind(Enum):
     """A kind of manuscript, by the name that pandoc has for it where it reads that kind."""
 
     TEXT = "text"
@@ -28,7 +28,7 @@ class Kind(Enum):
     @property
     def is_document(self) -> bool:
         """Whether another program reads it."""
-        return self not in (Kind.TEXT, Kind.BOOK)
+        return self not in (ManuscriptKind.TEXT, ManuscriptKind.BOOK)
 
 
 class WhyNot(Enum):
@@ -54,7 +54,7 @@ class NoDocument(UnreadableText):
 class NoConverter(UnreadableText):
     """The program that reads a kind of document isn't installed."""
 
-    def __init__(self, kind: Kind, name: str, package: str) -> None:
+    def __init__(self, kind: ManuscriptKind, name: str, package: str) -> None:
         super().__init__(kind, name, package)
         self.kind = kind
         #: The program, and Debian's package of it.
@@ -99,17 +99,17 @@ _BOOK = b"SQLite format 3\0"
 _MARK = b"\xef\xbb\xbf"
 _HTML = (b"<!doctype html", b"<html", b"<?xml", b"<!--")
 _MIME = {
-    b"application/epub+zip": Kind.EPUB,
-    b"application/vnd.oasis.opendocument.text": Kind.ODT,
-    b"application/vnd.oasis.opendocument.text-template": Kind.ODT,
+    b"application/epub+zip": ManuscriptKind.EPUB,
+    b"application/vnd.oasis.opendocument.text": ManuscriptKind.ODT,
+    b"application/vnd.oasis.opendocument.text-template": ManuscriptKind.ODT,
 }
 _BY_NAME = {
-    ".md": Kind.MARKDOWN,
-    ".markdown": Kind.MARKDOWN,
-    ".mkd": Kind.MARKDOWN,
-    ".html": Kind.HTML,
-    ".htm": Kind.HTML,
-    ".xhtml": Kind.HTML,
+    ".md": ManuscriptKind.MARKDOWN,
+    ".markdown": ManuscriptKind.MARKDOWN,
+    ".mkd": ManuscriptKind.MARKDOWN,
+    ".html": ManuscriptKind.HTML,
+    ".htm": ManuscriptKind.HTML,
+    ".xhtml": ManuscriptKind.HTML,
 }
 #: How the fonts of a book in EPUB are hidden, which keeps nobody from reading it.
 _HIDDEN_FONTS = frozenset(
@@ -131,7 +131,7 @@ _FAULTS = (
 )
 
 
-def kind_of(name: str, data: bytes) -> Kind:
+def kind_of(name: str, data: bytes) -> ManuscriptKind:
     """The kind of a file of some bytes, whose name tells Markdown and parts of HTML from text.
 
     Raises `NoDocument`.
@@ -143,13 +143,13 @@ def kind_of(name: str, data: bytes) -> Kind:
     if data.startswith(_OLE):
         return _kind_of_ole(data)
     if data.startswith(b"{\\rtf"):
-        return Kind.RTF
+        return ManuscriptKind.RTF
     if data.startswith(b"%PDF-"):
         raise NoDocument(WhyNot.PDF)
     front = data.removeprefix(_MARK)[:_FRONT].lstrip().lower()
     if front.startswith(_HTML) and b"<html" in front:
-        return Kind.HTML
-    return _BY_NAME.get(PurePath(name).suffix.lower(), Kind.TEXT)
+        return ManuscriptKind.HTML
+    return _BY_NAME.get(PurePath(name).suffix.lower(), ManuscriptKind.TEXT)
 
 
 def is_container(front: bytes) -> bool:
@@ -185,7 +185,7 @@ def part_of(container: zipfile.ZipFile, name: str) -> bytes:
         return part.read(MOST_BYTES)
 
 
-def _kind_of_zip(data: bytes) -> Kind:
+def _kind_of_zip(data: bytes) -> ManuscriptKind:
     with unpacked(data) as container:
         names = frozenset(container.namelist())
         if any(each.flag_bits & _ENCRYPTED_FLAG for each in container.infolist()):
@@ -196,23 +196,25 @@ def _kind_of_zip(data: bytes) -> Kind:
                 kind = _MIME.get(part.read(_FRONT).strip())
         elif "[Content_Types].xml" in names:
             if any(name.startswith("word/document") for name in names):
-                kind = Kind.DOCX
+                kind = ManuscriptKind.DOCX
         elif "META-INF/container.xml" in names:
-            kind = Kind.EPUB
+            kind = ManuscriptKind.EPUB
         if kind is None:
             raise NoDocument(WhyNot.OTHER)
         _judge_open(container, kind, names)
     return kind
 
 
-def _judge_open(container: zipfile.ZipFile, kind: Kind, names: frozenset[str]) -> None:
+def _judge_open(
+    container: zipfile.ZipFile, kind: ManuscriptKind, names: frozenset[str]
+) -> None:
     """`NoDocument` if the parts of a container are encrypted each by itself."""
     manifest, rights = "META-INF/manifest.xml", "META-INF/encryption.xml"
-    if kind is Kind.ODT and manifest in names:
+    if kind is ManuscriptKind.ODT and manifest in names:
         root = ElementTree.fromstring(part_of(container, manifest))
         if next(root.iterfind(".//{*}encryption-data"), None) is not None:
             raise NoDocument(WhyNot.ENCRYPTED)
-    if kind is Kind.EPUB and rights in names:
+    if kind is ManuscriptKind.EPUB and rights in names:
         root = ElementTree.fromstring(part_of(container, rights))
         for data in root.iterfind("{*}EncryptedData"):
             method = data.find("{*}EncryptionMethod")
@@ -220,10 +222,10 @@ def _judge_open(container: zipfile.ZipFile, kind: Kind, names: frozenset[str]) -
                 raise NoDocument(WhyNot.COPY_PROTECTED)
 
 
-def _kind_of_ole(data: bytes) -> Kind:
+def _kind_of_ole(data: bytes) -> ManuscriptKind:
     """The kind of a file of older programs, or of one that newer ones have encrypted."""
     if "EncryptedPackage".encode("utf-16-le") in data:
         raise NoDocument(WhyNot.ENCRYPTED)
     if "WordDocument".encode("utf-16-le") in data:
-        return Kind.DOC
+        return ManuscriptKind.DOC
     raise NoDocument(WhyNot.OTHER)

@@ -17,7 +17,7 @@ from typing import IO, Any
 from braildesk.confined import Limits, confined
 from braildesk.desk.documents.kinds import (
     BrokenOff,
-    Kind,
+    ManuscriptKind,
     NoConverter,
     NoDocument,
     NotConverted,
@@ -32,11 +32,11 @@ _TREE_BYTES = 512 << 20
 _LIMITS = Limits(memory=4 << 30, seconds=_SECONDS, written=_TREE_BYTES)
 #: What pandoc calls a kind where it isn't the name of it alone: its own reading of notes drops numbers,
 #: and elements that it doesn't know would be no more than their tags.
-_FROM = {Kind.EPUB: "epub-epub_html_exts-raw_html"}
+_FROM = {ManuscriptKind.EPUB: "epub-epub_html_exts-raw_html"}
 _OFFICE = ("soffice", "libreoffice")
 
 
-def tree(data: bytes, kind: Kind) -> dict[str, Any]:
+def tree(data: bytes, kind: ManuscriptKind) -> dict[str, Any]:
     """The tree that pandoc makes of the bytes of a file."""
     pandoc = shutil.which("pandoc")
     if pandoc is None:
@@ -60,7 +60,7 @@ def office() -> str | None:
     return next(filter(None, map(shutil.which, _OFFICE)), None)
 
 
-def as_docx(data: bytes, kind: Kind) -> bytes:
+def as_docx(data: bytes, kind: ManuscriptKind) -> bytes:
     """A document as LibreOffice writes it in DOCX."""
     program = office()
     if program is None:

@@ -5,7 +5,7 @@ from collections.abc import Iterator
 from dataclasses import dataclass
 from enum import Enum, auto
 
-from braildesk.desk.documents.kinds import Kind
+from braildesk.desk.documents.kinds import ManuscriptKind
 from braildesk.text import limits
 from braildesk.text.sequences import sequences
 
@@ -23,7 +23,7 @@ _UNSEEN = re.compile("[\u00ad\u200b\u2060\ufeff]")
 _SENTENCE_END = re.compile("[.!?\u2026]['\"\u2019\u201d\u00bb)\\]]* ")
 
 
-class Lost(Enum):
+class LossKind(Enum):
     """What of a document a book can't hold, or is left out of it."""
 
     EMPHASIS = auto()
@@ -48,7 +48,7 @@ class Lost(Enum):
 class Loss:
     """Something that a book can't hold, and where: the words of it, and those around them."""
 
-    what: Lost
+    what: LossKind
     words: str
     around: str
 
@@ -79,11 +79,11 @@ class Part:
 
 
 @dataclass(frozen=True, slots=True)
-class Reading:
+class ReadingOptions:
     """How a manuscript is read."""
 
     #: Which kind it is; else that is found.
-    kind: Kind | None = None
+    kind: ManuscriptKind | None = None
     #: Whether notes stand at the end of their section, and not after their paragraph.
     notes_at_end: bool = False
     #: What stands before an item of a list that has no number.
@@ -96,7 +96,7 @@ class Reading:
 class Manuscript:
     """The paragraphs of a manuscript, and what of it they don't have."""
 
-    kind: Kind
+    kind: ManuscriptKind
     parts: tuple[Part, ...]
     #: What a book can't hold, in the order in which it stands there.
     losses: tuple[Loss, ...] = ()

@@ -10,7 +10,7 @@ from dataclasses import dataclass, field, replace
 from typing import Any
 
 from braildesk.desk.documents.kinds import NotRead
-from braildesk.desk.documents.reading import Loss, Lost, Part, Reading, plain
+from braildesk.desk.documents.reading import Loss, LossKind, Part, ReadingOptions, plain
 from braildesk.text.sequences import composed
 
 #: A node of pandoc's tree: a dictionary with its kind as ``t`` and its contents as ``c``.
@@ -49,7 +49,7 @@ FAULTS = (
 
 
 def document(
-    tree: Node, reading: Reading = Reading(), *, with_front: bool = False
+    tree: Node, reading: ReadingOptions = ReadingOptions(), *, with_front: bool = False
 ) -> Document:
     """The paragraphs of a tree; with its title and those who wrote it if these are print too.
 
@@ -72,14 +72,14 @@ class _Line:
 
     pieces: list[str] = field(default_factory=list)
     length: int = 0
-    spans: list[tuple[Lost, int, int]] = field(default_factory=list)
+    spans: list[tuple[LossKind, int, int]] = field(default_factory=list)
     notes: list[tuple[str, list[Node]]] = field(default_factory=list)
 
     def add(self, text: str) -> None:
         self.pieces.append(text)
         self.length += len(text)
 
-    def lose(self, what: Lost, since: int) -> None:
+    def lose(self, what: LossKind, since: int) -> None:
         self.spans.append((what, since, self.length))
 
     @property
@@ -95,7 +95,7 @@ class _Line:
 class _Reader:
     """What reads the blocks of a tree, one after another."""
 
-    def __init__(self, reading: Reading) -> None:
+    def __init__(self, reading: ReadingOptions) -> None:
         self._reading = reading
         self._count = 0
         self._waiting: list[tuple[str, list[Node]]] = []
@@ -200,7 +200,7 @@ class _Reader:
         self._take(line, level)
         words = plain(_LINE_END.sub(" ", line.text))
         if level > 1 and words:
-            self.losses.append(Loss(Lost.LEVEL, words, words))
+            self.losses.append(Loss(LossKind.LEVEL, words, words))
 
     def _paragraph(self, nodes: Sequence[Node], before: str = "") -> None:
         self._take(self._line(nodes, before))
@@ -241,7 +241,7 @@ class _Reader:
         if not self._reading.notes_at_end:
             self.put_notes()
         first = next((text for text in texts if text), "")
-        self.losses.append(Loss(Lost.TABLE, first, first))
+        self.losses.append(Loss(LossKind.TABLE, first, first))
 
     def _row(self, row: Sequence[Any]) -> str:
         cells = [" ".join(self._texts_of(cell[4])) for cell in row[1]]
@@ -263,7 +263,7 @@ class _Reader:
         words = plain(content[1].replace("\n", " "))
         is_print = content[0] != "html" or _TAGS.sub("", words).strip()
         if content[0] != "openxml" and words and is_print:
-            self.losses.append(Loss(Lost.RAW, words, words))
+            self.losses.append(Loss(LossKind.RAW, words, words))
 
     def _line(self, nodes: Sequence[Node], before: str = "") -> _Line:
         line = _Line()
@@ -333,7 +333,7 @@ class _Reader:
             target,
             _without_scheme(target),
         ):
-            line.lose(Lost.LINK, since)
+            line.lose(LossKind.LINK, since)
 
     def _picture(self, content: Sequence[Any], line: _Line) -> None:
         described = self._line(content[1])
@@ -342,20 +342,20 @@ class _Reader:
         if words:
             line.add(self._bracketed(words))
         else:
-            line.lose(Lost.PICTURE, since)
+            line.lose(LossKind.PICTURE, since)
 
 
 #: What is lost of inline nodes whose text stays.
 _LOST_AROUND = {
-    "Emph": Lost.EMPHASIS,
-    "Strong": Lost.EMPHASIS,
-    "Underline": Lost.EMPHASIS,
-    "Strikeout": Lost.EMPHASIS,
-    "SmallCaps": Lost.EMPHASIS,
-    "Subscript": Lost.SUBSCRIPT,
-    "Superscript": Lost.SUPERSCRIPT,
-    "Math": Lost.MATHEMATICS,
-    UNKNOWN_NOTE: Lost.NOTE,
+    "Emph": LossKind.EMPHASIS,
+    "Strong": LossKind.EMPHASIS,
+    "Underline": LossKind.EMPHASIS,
+    "Strikeout": LossKind.EMPHASIS,
+    "SmallCaps": LossKind.EMPHASIS,
+    "Subscript": LossKind.SUBSCRIPT,
+    "Superscript": LossKind.SUPERSCRIPT,
+    "Math": LossKind.MATHEMATICS,
+    UNKNOWN_NOTE: LossKind.NOTE,
 }
 _QUOTES = {"SingleQuote": ("\u2018", "\u2019"), "DoubleQuote": ("\u201c", "\u201d")}
 

@@ -11,7 +11,7 @@ from typing import Final
 from braildesk.tables import Table
 from braildesk.tables.convert.oracle import Liblouis, stripped
 from braildesk.tables.convert.running_text import Word
-from braildesk.tables.entries import Kind, SignName
+from braildesk.tables.entries import RuleKind, SignName
 from braildesk.tables.operands import Cells
 
 _QUOTES: Final = re.compile("[\"'\u2018\u2019\u201c\u201d\u00ab\u00bb]")
@@ -162,7 +162,7 @@ def _sign_of_letters(table: Table) -> Cells:
     """What most letters have before them where they stand alone."""
     found: Counter[Cells] = Counter()
     for rule in table.rules:
-        if rule.kind is Kind.WORD and len(rule.characters) == 1 and rule.cells:
+        if rule.kind is RuleKind.WORD and len(rule.characters) == 1 and rule.cells:
             definition = table.definitions[rule.characters]
             sign = stripped(tuple(rule.cells), (), tuple(definition.cells))
             if sign:

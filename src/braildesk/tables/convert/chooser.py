@@ -11,12 +11,19 @@ from dataclasses import dataclass
 from typing import Final
 
 from braildesk.tables import Table
-from braildesk.tables.entries import Class, Kind
+from braildesk.tables.entries import Class, RuleKind
 from braildesk.tables.operands import Cells
 from braildesk.tables.tiling import signs
 
 WORD, BEGINNING, MIDDLE, END, ALWAYS = map(
-    str, (Kind.WORD, Kind.BEGWORD, Kind.MIDWORD, Kind.ENDWORD, Kind.ALWAYS)
+    str,
+    (
+        RuleKind.WORD,
+        RuleKind.BEGWORD,
+        RuleKind.MIDWORD,
+        RuleKind.ENDWORD,
+        RuleKind.ALWAYS,
+    ),
 )
 EDGE: Final = "e"
 LETTER: Final = "l"

@@ -7,7 +7,7 @@ from typing import Final
 from braildesk.tables.convert.draft import Origin, TableDraft
 from braildesk.tables.convert.operands import read_dots
 from braildesk.tables.convert.oracle import Frame, between
-from braildesk.tables.convert.source import Line
+from braildesk.tables.convert.source import TableLine
 from braildesk.tables.convert.subject import Subject
 from braildesk.tables.convert.table import INEXACT, KINDS, SourceRule
 from braildesk.tables.operands import BadOperand, Cells
@@ -15,7 +15,7 @@ from braildesk.tables.operands import BadOperand, Cells
 READ: Final = Origin("Rules of the table.")
 
 
-def read_rules(subject: Subject, draft: TableDraft) -> list[tuple[str, Line]]:
+def read_rules(subject: Subject, draft: TableDraft) -> list[tuple[str, TableLine]]:
     """Adds the rules that the table has. Returns those that can't be carried over, each with the reason."""
     left = []
     for rule in subject.table.rules:

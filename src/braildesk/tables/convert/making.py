@@ -39,7 +39,7 @@ from braildesk.tables.convert.numbers import ask_digits, ask_mode, ask_signed_le
 from braildesk.tables.convert.probes import CLOSING, Place, Side
 from braildesk.tables.convert.reduced import LEFT_OUT
 from braildesk.tables.convert.scripts import other_scripts
-from braildesk.tables.convert.source import Line
+from braildesk.tables.convert.source import TableLine
 from braildesk.tables.convert.subject import Alphabet, Subject, is_pattern, script_of
 
 _ALL: Final = tuple(product(Side, Side))
@@ -61,7 +61,7 @@ class Made:
 
     draft: TableDraft
     without_cells: tuple[str, ...]
-    uncarried: tuple[tuple[str, Line], ...]
+    uncarried: tuple[tuple[str, TableLine], ...]
     unsettled: tuple[str, ...]
 
 

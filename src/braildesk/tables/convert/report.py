@@ -12,7 +12,7 @@ from braildesk.tables.convert.draft import comment_lines
 from braildesk.tables.convert.making import Made
 from braildesk.tables.convert.operands import shown
 from braildesk.tables.convert.shipped import head_of, shipped_table
-from braildesk.tables.convert.source import Line
+from braildesk.tables.convert.source import TableLine
 from braildesk.tables.convert.subject import Subject
 from braildesk.tables.convert.table import SILENT
 from braildesk.text.characters import named
@@ -71,7 +71,7 @@ def losses(made: Made, subject: Subject, addition: Addition | None = None) -> li
         )
     for name, lines in _by_opcode(subject.table.left):
         sentences.append(_sentence(f"Not carried over: {name}", lines))
-    by_fault: dict[str, list[Line]] = {}
+    by_fault: dict[str, list[TableLine]] = {}
     for fault, line in made.uncarried:
         by_fault.setdefault(fault, []).append(line)
     for fault, found in by_fault.items():
@@ -155,8 +155,8 @@ def examples(differences: Sequence[Difference], most: int = SHOWN) -> list[str]:
     return lines
 
 
-def _by_opcode(lines: Iterable[Line]) -> Iterator[tuple[str, list[Line]]]:
-    by_name: dict[str, list[Line]] = {}
+def _by_opcode(lines: Iterable[TableLine]) -> Iterator[tuple[str, list[TableLine]]]:
+    by_name: dict[str, list[TableLine]] = {}
     for line in lines:
         if line.opcode not in _NO_BRAILLE and not line.opcode.startswith(_EMPHASIS):
             by_name.setdefault(line.name, []).append(line)
@@ -173,12 +173,12 @@ _EMPHASIS: Final = (
 )
 
 
-def _sentence(what: str, lines: Sequence[Line]) -> str:
+def _sentence(what: str, lines: Sequence[TableLine]) -> str:
     count = f"{len(lines):,} {'line' if len(lines) == 1 else 'lines'}"
     return f"{what}, {count} ({_places(lines)})."
 
 
-def _places(lines: Sequence[Line]) -> str:
+def _places(lines: Sequence[TableLine]) -> str:
     """The places of lines, as `de-g0.utb 12-14 20, de-accents.cti 7`."""
     files = []
     for file, group in groupby(lines[:MOST_PLACES], key=lambda line: line.file):

@@ -48,7 +48,7 @@ class NoTable(Exception):
 
 
 @dataclass(frozen=True)
-class Line:
+class TableLine:
     """A line of a table that is neither blank nor a comment."""
 
     file: str
@@ -81,7 +81,7 @@ class Source:
 
     path: Path
     files: tuple[str, ...]
-    lines: tuple[Line, ...]
+    lines: tuple[TableLine, ...]
     missing: tuple[str, ...]
 
 
@@ -116,7 +116,7 @@ def read_source(path: Path) -> Source:
 @dataclass
 class _Reading:
     files: list[str]
-    lines: list[Line]
+    lines: list[TableLine]
     missing: list[str]
 
     def take(self, path: Path, above: tuple[Path, ...]) -> None:
@@ -157,11 +157,11 @@ class _Reading:
             self.take(found, (*above, path))
 
 
-def _lines_of(path: Path) -> Iterator[Line]:
+def _lines_of(path: Path) -> Iterator[TableLine]:
     for number, text in enumerate(read_text(path).split("\n"), 1):
         fields = text.split()
         if number == 1 and fields and fields[0].startswith(_HYPHENATION_HEADS):
-            yield Line(path.name, 1, (), "hyphenation", (), text)
+            yield TableLine(path.name, 1, (), "hyphenation", (), text)
             return
         if fields and fields[0][0] not in "#<":
             yield from _line_of(path.name, number, fields, text)
@@ -169,14 +169,14 @@ def _lines_of(path: Path) -> Iterator[Line]:
 
 def _line_of(
     file: str, number: int, fields: Sequence[str], text: str
-) -> Iterator[Line]:
+) -> Iterator[TableLine]:
     prefixes: list[str] = []
     rest = list(fields)
     while rest and rest[0] in _PREFIXES:
         prefixes.append(rest[0])
         rest = rest[1 + _PREFIXES[rest[0]] :]
     if rest:
-        yield Line(
+        yield TableLine(
             file, number, tuple(prefixes), rest[0], tuple(rest[1:]), text.strip()
         )
 

@@ -6,7 +6,7 @@ from collections.abc import Callable, Mapping, Sequence
 from dataclasses import dataclass, field
 from typing import Final
 
-from braildesk.tables.convert.source import Line, Source
+from braildesk.tables.convert.source import TableLine, Source
 from braildesk.tables.operands import BadOperand, characters
 
 DEFINITIONS: Final = (
@@ -71,7 +71,7 @@ SILENT: Final = ("display", "include", "undefined", "attribute", "base", "multin
 class SourceRule:
     """A rule as it is written."""
 
-    line: Line
+    line: TableLine
     characters: str
     dots: str
 
@@ -85,8 +85,8 @@ class SourceTable:
     lower: Mapping[str, str]
     signs: Mapping[str, str]
     rules: tuple[SourceRule, ...]
-    asked: tuple[Line, ...]
-    left: tuple[Line, ...]
+    asked: tuple[TableLine, ...]
+    left: tuple[TableLine, ...]
 
 
 @dataclass
@@ -96,15 +96,15 @@ class _Reading:
     lower: dict[str, str] = field(default_factory=dict)
     signs: dict[str, str] = field(default_factory=dict)
     rules: list[SourceRule] = field(default_factory=list)
-    asked: list[Line] = field(default_factory=list)
-    left: list[Line] = field(default_factory=list)
+    asked: list[TableLine] = field(default_factory=list)
+    left: list[TableLine] = field(default_factory=list)
     ruled: dict[str, str] = field(default_factory=dict)
     """The single characters that rules write, with the dots of the first such rule."""
 
-    def take(self, line: Line) -> None:
+    def take(self, line: TableLine) -> None:
         """Reads one line into what it says, or among the lines that are left."""
         opcode = line.opcode
-        reader: Callable[[Line], bool] | None = None
+        reader: Callable[[TableLine], bool] | None = None
         if opcode == "grouping":
             reader = self.grouping
         elif opcode in DEFINITIONS:
@@ -127,13 +127,13 @@ class _Reading:
         if reader is None or not self._read(reader, line):
             self.left.append(line)
 
-    def _read(self, reader: Callable[[Line], bool], line: Line) -> bool:
+    def _read(self, reader: Callable[[TableLine], bool], line: TableLine) -> bool:
         try:
             return reader(line)
         except BadOperand:
             return False
 
-    def define(self, line: Line) -> bool:
+    def define(self, line: TableLine) -> bool:
         if len(line.operands) < 2:
             return False
         character = characters(line.operands[0])
@@ -145,7 +145,7 @@ class _Reading:
         self.classes.setdefault(character, set()).add(line.opcode)
         return True
 
-    def grouping(self, line: Line) -> bool:
+    def grouping(self, line: TableLine) -> bool:
         """Two characters with a name before them, and the dots of both with a comma between them."""
         if len(line.operands) < 3:
             return False
@@ -158,7 +158,7 @@ class _Reading:
             self.classes.setdefault(character, set()).add(line.opcode)
         return True
 
-    def hyphen(self, line: Line) -> bool:
+    def hyphen(self, line: TableLine) -> bool:
         """A character that goes between the digits of some numbers, and has cells elsewhere too."""
         return self.written(characters(line.operands[0]), line.operands[1:])
 
@@ -169,7 +169,7 @@ class _Reading:
         self.ruled.setdefault(characters, dots[0])
         return True
 
-    def base(self, line: Line) -> bool:
+    def base(self, line: TableLine) -> bool:
         if len(line.operands) < 3:
             return False
         upper, lower = (characters(operand) for operand in line.operands[1:3])
@@ -181,7 +181,7 @@ class _Reading:
         )
         return True
 
-    def attribute(self, line: Line) -> bool:
+    def attribute(self, line: TableLine) -> bool:
         if len(line.operands) < 2:
             return False
         if line.operands[0] in DEFINITIONS:
@@ -189,13 +189,13 @@ class _Reading:
                 self.classes.setdefault(character, set()).add(line.operands[0])
         return True
 
-    def sign(self, line: Line) -> bool:
+    def sign(self, line: TableLine) -> bool:
         if not line.operands:
             return False
         self.signs[line.opcode] = line.operands[0]
         return True
 
-    def rule(self, line: Line) -> bool:
+    def rule(self, line: TableLine) -> bool:
         if len(line.operands) < 2:
             return False
         text = characters(line.operands[0])

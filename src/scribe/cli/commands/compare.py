@@ -4,7 +4,7 @@ from argparse import Namespace
 
 from braildesk import Session
 from braildesk.desk.compare import compare
-from braildesk.desk.documents.reading import Reading
+from braildesk.desk.documents.reading import ReadingOptions
 from braildesk.desk.manuscript import UnreadableText
 from braildesk.desk.manuscripts import read_manuscript
 
@@ -41,7 +41,7 @@ def answer(session: Session, arguments: Namespace, console: Console) -> None:
     """Shows each word that differs, and how many do."""
     path, wait = arguments.text, getattr(arguments, "wait", 0.0)
     try:
-        manuscript = read_manuscript(path, Reading(), wait)
+        manuscript = read_manuscript(path, ReadingOptions(), wait)
     except UnreadableText as fault:
         why = unreadable(fault).replace(", and import it again", "")
         raise Stop(f"{path} {why}. Nothing was compared.") from fault

@@ -3,8 +3,8 @@
 from argparse import ArgumentParser, Namespace
 from pathlib import Path
 
-from braildesk.desk.documents.kinds import Kind
-from braildesk.desk.documents.reading import Reading
+from braildesk.desk.documents.kinds import ManuscriptKind
+from braildesk.desk.documents.reading import ReadingOptions
 from braildesk.desk.earlier import NoneCutShort, Way, leave
 from braildesk.desk.import_note import How
 from braildesk.desk.import_text import Import
@@ -35,7 +35,9 @@ each word of the file that no paragraph has."""
 EXAMPLE = """\
 echo 'The sun is farther away.' > sun.txt && scribe import moon.braildesk sun.txt
 echo '# The Sun' > sun.md && scribe import moon.braildesk sun.md --volumes 1 --dry-run"""
-FORMATS = tuple(kind.value for kind in Kind if kind is not Kind.BOOK)
+FORMATS = tuple(
+    kind.value for kind in ManuscriptKind if kind is not ManuscriptKind.BOOK
+)
 
 
 def add_parser(subparsers: Subparsers) -> ArgumentParser:
@@ -149,8 +151,8 @@ def run(arguments: Namespace, console: Console) -> Status:
 
 
 def _how(arguments: Namespace) -> How:
-    kind = Kind(arguments.format) if arguments.format else None
-    reading = Reading(kind, notes_at_end=arguments.notes == "end")
+    kind = ManuscriptKind(arguments.format) if arguments.format else None
+    reading = ReadingOptions(kind, notes_at_end=arguments.notes == "end")
     return How(reading, volumes=arguments.volumes)
 
 
