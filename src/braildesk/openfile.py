@@ -1,8 +1,9 @@
 """The file of a book that a session has open: whether it still is there and a book, and what is in it."""
 
 import os
+from dataclasses import dataclass
 from pathlib import Path
-from typing import BinaryIO, NamedTuple
+from typing import BinaryIO
 from zlib import crc32
 
 from braildesk import program as programs
@@ -25,7 +26,8 @@ _SUMMED, _PART = 1 << 21, 1 << 16
 _FRONT = 32
 
 
-class _Noted(NamedTuple):
+@dataclass(frozen=True)
+class _Noted:
     """What a file was while the program waited: its size and times, the sum of what it held, and its log."""
 
     state: tuple[int, int, int]

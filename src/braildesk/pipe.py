@@ -7,8 +7,9 @@ import os
 import select
 from collections import deque
 from collections.abc import Sequence
+from dataclasses import dataclass
 from subprocess import PIPE, Popen
-from typing import IO, NamedTuple
+from typing import IO
 
 from braildesk.protocol.replies import Reader, Reply
 
@@ -19,7 +20,8 @@ _WHOLE = select.PIPE_BUF
 _READ = 1 << 16
 
 
-class Ending(NamedTuple):
+@dataclass(frozen=True, eq=False)
+class Ending:
     """How the program of a session ended."""
 
     #: Its exit status, or the number of a signal with a minus before it.

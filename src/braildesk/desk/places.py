@@ -1,7 +1,6 @@
 """The place of words in a paragraph, the cells that they have, and the words that cells stand for."""
 
-from typing import NamedTuple
-
+from dataclasses import dataclass
 
 from braildesk import Session
 from braildesk.desk import Problem
@@ -37,7 +36,8 @@ class ManyPlaces(Problem):
         self.nth = nth
 
 
-class Words(NamedTuple):
+@dataclass(frozen=True)
+class Words:
     """Words that stand in a paragraph: which, and in which of their places, counted from 1."""
 
     paragraph: int

@@ -1,7 +1,7 @@
 """Ranges of paragraphs, in the order of the book, and of pages: those from one to another."""
 
 from collections.abc import Sequence
-from typing import NamedTuple
+from dataclasses import dataclass
 
 from braildesk import Paragraph
 from braildesk.desk import Problem
@@ -25,7 +25,8 @@ class BackwardRange(Problem):
         self.last = last
 
 
-class ParagraphRange(NamedTuple):
+@dataclass(frozen=True)
+class ParagraphRange:
     """From the first paragraph to the last; the front and the end of the book if there is none."""
 
     first: int | None = None
@@ -61,7 +62,8 @@ class NoPage(Problem):
         self.count = count
 
 
-class PageRange(NamedTuple):
+@dataclass(frozen=True)
+class PageRange:
     """Pages of a volume from one to another; from the first one or to the last if none is said."""
 
     first: int | None

@@ -1,7 +1,8 @@
 """What a book says of many of its paragraphs, asked ahead of the replies."""
 
 from collections.abc import Callable, Iterable, Iterator, Sequence
-from typing import Any, NamedTuple, TypeVar
+from dataclasses import dataclass
+from typing import Any, TypeVar
 
 from braildesk import Mark, Paragraph, Refused, Session
 from braildesk.protocol.requests import Braille, Marks, Print, Request
@@ -9,7 +10,8 @@ from braildesk.protocol.requests import Braille, Marks, Print, Request
 Answer = TypeVar("Answer")
 
 
-class ParagraphReading(NamedTuple):
+@dataclass(frozen=True, slots=True)
+class ParagraphReading:
     """A paragraph with its print, its braille and its marks."""
 
     paragraph: Paragraph

@@ -5,49 +5,51 @@ Where the program finds the file of a book, its log and another program's journa
 
 import os
 from dataclasses import dataclass
-from typing import Any, NamedTuple
+from typing import Any
 
 from braildesk.protocol.requests import Request
 from braildesk.protocol.sentences import Why
 
 
-class PrintLine(NamedTuple):
+@dataclass(frozen=True)
+class PrintLine:
     """A line of print that was to be translated."""
 
     table: str
     text: str
 
 
-class Pages(NamedTuple):
-    """A volume of a book that was to be written as pages."""
+@dataclass(frozen=True)
+class AskedOfFile:
+    """What names a file."""
 
     path: str
+
+
+class BookFile(AskedOfFile):
+    """The file of a book."""
+
+
+class NewBook(AskedOfFile):
+    """The file of a book that was to be made."""
+
+
+@dataclass(frozen=True)
+class TableFile(AskedOfFile):
+    """The file of a table, with its text if that could be read."""
+
+    text: bytes = b""
+
+
+@dataclass(frozen=True)
+class Pages(AskedOfFile):
+    """A volume of a book that was to be written as pages."""
+
     volume: int
     width: int
     lines: int
 
 
-class TableFile(NamedTuple):
-    """The file of a table, with its text if that could be read."""
-
-    path: str
-    text: bytes = b""
-
-
-class BookFile(NamedTuple):
-    """The file of a book."""
-
-    path: str
-
-
-class NewBook(NamedTuple):
-    """The file of a book that was to be made."""
-
-    path: str
-
-
-#: What names a file.
-AskedOfFile = Pages | TableFile | BookFile | NewBook
 #: Anything that may be refused.
 Asked = Request[Any] | PrintLine | AskedOfFile
 

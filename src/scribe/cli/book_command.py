@@ -3,8 +3,9 @@
 from argparse import ArgumentParser, ArgumentTypeError, Namespace
 from collections.abc import Callable, Iterator
 from contextlib import contextmanager, suppress
+from dataclasses import dataclass
 from pathlib import Path
-from typing import TYPE_CHECKING, NamedTuple, TypeAlias
+from typing import TYPE_CHECKING, TypeAlias
 
 from braildesk import CannotOpen, Lost, Session, Why, check
 from braildesk.desk import USUAL_WAIT
@@ -24,7 +25,8 @@ if TYPE_CHECKING:
 Outcome: TypeAlias = "MarkOfBook | Status | None"
 
 
-class BookCommand(NamedTuple):
+@dataclass(frozen=True, eq=False)
+class BookCommand:
     """A command whose words mean the same at a shell and at the prompt of `talk`."""
 
     name: str

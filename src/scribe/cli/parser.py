@@ -2,9 +2,9 @@
 
 import argparse
 from collections.abc import Callable, Sequence
-from dataclasses import replace
+from dataclasses import dataclass, replace
 from pathlib import Path
-from typing import Any, NamedTuple, NoReturn, TypeVar, cast
+from typing import Any, NoReturn, TypeVar, cast
 
 from braildesk.desk import USUAL_WAIT
 from braildesk.desk.ranges import ParagraphRange
@@ -66,7 +66,8 @@ class _Version(argparse.Action):
         raise TextAsked(f"{parser.prog} {version()}")
 
 
-class Asked(NamedTuple):
+@dataclass(frozen=True, eq=False)
+class Asked:
     """A word that has to be there. A prompt asks for it if it is missing."""
 
     action: argparse.Action

@@ -712,7 +712,7 @@ class Desk:
         for mark in its.marks:
             if mark.id == command.mark and not mark.resolved:
                 marks = (deeds.on_a_character(mark, len(its.text)),)
-                (cells,) = cells_of_marks(self._session, its._replace(marks=marks))
+                (cells,) = cells_of_marks(self._session, replace(its, marks=marks))
                 return deeds.resolved(mark, its.paragraph.id, cells)
         return None
 

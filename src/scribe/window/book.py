@@ -245,7 +245,7 @@ class OpenBook:
         """Resolves a mark, with its cells noted, on which it can be put again."""
         its = reading.its
         marks = tuple(each for each in its.marks if each.id == mark)
-        cells = cells_of_marks(self._session, its._replace(marks=marks))
+        cells = cells_of_marks(self._session, replace(its, marks=marks))
         command = requests.Resolve(mark)
         deed = (
             deeds.resolved(marks[0], its.paragraph.id, cells[0])

@@ -2,7 +2,7 @@
 
 import re
 from collections.abc import Callable, Iterator
-from typing import NamedTuple
+from dataclasses import dataclass
 
 from braildesk.desk.readings import ParagraphReading
 from braildesk.text.cells import EMPTY_CELL, Notation
@@ -15,7 +15,8 @@ from scribe.words.paragraph import mark_line, title
 _INDENT = "  "
 
 
-class View(NamedTuple):
+@dataclass(frozen=True, eq=False)
+class View:
     """What is shown of paragraphs."""
 
     width: int
