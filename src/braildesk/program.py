@@ -2,7 +2,6 @@
 
 import os
 import re
-import shutil
 import stat
 import subprocess
 from collections.abc import Iterable, Iterator
@@ -59,19 +58,29 @@ def find(program: StrPath | None = None) -> str:
     """
     named = fspath(program) if program is not None else os.environ.get("BRAILDESK", "")
     if named:
-        if found := shutil.which(named):
+        if found := _runnable(named):
             return found
         source = "" if program is not None else ", which BRAILDESK names,"
         raise NoProgram(
             f"The program “{named}”{source} isn't there, or may not be run."
         )
     for candidate in (str(_CHECKOUT / "build" / "braildesk"), "braildesk"):
-        if found := shutil.which(candidate):
+        if found := _runnable(candidate):
             return found
     raise NoProgram(
         "The program braildesk isn't found: it is neither on the path nor built in"
         f" {_CHECKOUT / 'build'}. Build it by make, or let BRAILDESK name it."
     )
+
+
+def _runnable(named: str) -> str | None:
+    """A program that may be run: at its path, or where the path of the shell finds a bare name."""
+    if os.path.dirname(named):
+        return named if os.access(named, os.X_OK) and not os.path.isdir(named) else None
+    # imported here, since it imports much, and a path is known mostly
+    import shutil
+
+    return shutil.which(named)
 
 
 def make_book(

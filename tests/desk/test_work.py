@@ -24,7 +24,7 @@ COUNT = 600
 #: What each paragraph of the book has, once.
 WORDS = "far away"
 #: How many of our modules are imported, and how many in all, at most.
-MODULES = {"--help": (24, 126), "show": (50, 170), "marks": (51, 170)}
+MODULES = {"--help": (24, 119), "show": (50, 163), "marks": (51, 163)}
 #: Modules that take as long as all of a short command, and are needed by few.
 DEAR = {
     "braildesk.desk.drafts",
@@ -40,6 +40,7 @@ DEAR = {
     "readline",
     "scribe.prompt",
     "scribe.screen",
+    "shutil",
     "tempfile",
     "traceback",
 }

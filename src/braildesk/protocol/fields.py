@@ -10,10 +10,11 @@ from braildesk.text import limits
 from braildesk.text.characters import shortened
 
 _NUMBER = re.compile("[0-9]{1,16}")
-_NO_NAME = re.compile("[ \n\r\0\ud800-\udfff]")
 _PLAIN_NAME = re.compile(f"[a-z0-9_-]{{1,{limits.NAME_CHARACTERS}}}")
 _BARRED = re.compile("[\n\r\0]")
-_SURROGATE = re.compile("[\ud800-\udfff]")
+# compiled where they are looked for, since that takes long and few commands need it
+_NO_NAME = "[ \n\r\0\ud800-\udfff]"
+_SURROGATE = "[\ud800-\udfff]"
 
 
 class Unwritable(ValueError):
@@ -83,7 +84,7 @@ class Number(Field):
         return int(word)
 
 
-@dataclass(frozen=True, eq=False)
+# what adds nothing to a kind is no dataclass of its own, since making one takes long
 class Anchor(Number):
     """Where a paragraph is put: the front or the end, or after the one of a number."""
 
@@ -128,12 +129,11 @@ class Choice(Field):
         return next(said for _, meant, said in self.choices if meant == value)
 
 
-@dataclass(frozen=True, eq=False)
 class Name(Field):
     """A name, which is one or more characters that aren't blanks."""
 
     def write(self, value: str) -> str:
-        if not value or _NO_NAME.search(value):
+        if not value or re.search(_NO_NAME, value):
             raise Unwritable(self.code)
         return value
 
@@ -157,7 +157,7 @@ class Text(Field):
         if value.isprintable():
             # so that nothing that is barred is in it
             return value
-        if lone := _SURROGATE.search(value):
+        if lone := re.search(_SURROGATE, value):
             raise Unwritable(Code.NO_REQUEST, lone.start())
         if barred := _BARRED.search(value):
             raise Unwritable(Code.BARRED_CHARACTER, barred.start())
@@ -170,7 +170,6 @@ class Text(Field):
         return shortened(value)
 
 
-@dataclass(frozen=True, eq=False)
 class Lines(Field):
     """How many lines the text of a table has, which follow the line of the request."""
 

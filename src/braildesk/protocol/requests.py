@@ -56,7 +56,7 @@ Switch = Annotated[
 ]
 
 
-@dataclass(frozen=True, eq=False)
+@dataclass(frozen=True, eq=False, repr=False)
 class Request(ABC, Generic[Answer]):
     """What is asked of a book."""
 
@@ -71,6 +71,10 @@ class Request(ABC, Generic[Answer]):
 
     def __hash__(self) -> int:
         return hash((type(self), *vars(self).values()))
+
+    def __repr__(self) -> str:
+        given = ", ".join(f"{key}={value!r}" for key, value in vars(self).items())
+        return f"{type(self).__qualname__}({given})"
 
     @property
     @abstractmethod
@@ -111,7 +115,7 @@ class Request(ABC, Generic[Answer]):
         return line + b"\n"
 
 
-@dataclass(frozen=True, eq=False)
+@dataclass(frozen=True, eq=False, repr=False)
 class Command(Request[Answer]):
     """A request that makes a version of the book."""
 
@@ -134,14 +138,23 @@ class Command(Request[Answer]):
         )
 
 
-@dataclass(frozen=True, eq=False)
+@dataclass(frozen=True, eq=False, repr=False)
 class OfParagraph:
     """What names a paragraph."""
 
     paragraph: Para
 
 
-@dataclass(frozen=True, eq=False)
+# Requests that add no field of their own take over what was made for those that they are of, since
+# making a dataclass takes most of the time in which this module is imported.
+
+
+@dataclass(frozen=True, eq=False, repr=False)
+class CommandOnParagraph(OfParagraph, Command[Answer]):
+    """A command that changes a paragraph."""
+
+
+@dataclass(frozen=True, eq=False, repr=False)
 class Table(Command[Done]):
     """Adds the table whose text is the next LINES lines, or replaces its text."""
 
@@ -175,7 +188,7 @@ class TableHead:
         return Table(self.table, text, expect=self.expect)
 
 
-@dataclass(frozen=True, eq=False)
+@dataclass(frozen=True, eq=False, repr=False)
 class Supply(Command[Done]):
     """Adds the supplied table, uncontracted English, under a name."""
 
@@ -186,7 +199,7 @@ class Supply(Command[Done]):
     table: NewTable
 
 
-@dataclass(frozen=True, eq=False)
+@dataclass(frozen=True, eq=False, repr=False)
 class Type(Command[Typed]):
     """Types a new paragraph with a table. AFTER is front, end, or the number of a paragraph."""
 
@@ -199,8 +212,8 @@ class Type(Command[Typed]):
     text: Words
 
 
-@dataclass(frozen=True, eq=False)
-class Correct(OfParagraph, Command[Corrected]):
+@dataclass(frozen=True, eq=False, repr=False)
+class Correct(CommandOnParagraph[Corrected]):
     """Puts TEXT in place of COUNT characters from place START on, counted from 0."""
 
     name = "correct"
@@ -212,7 +225,7 @@ class Correct(OfParagraph, Command[Corrected]):
     text: Words
 
 
-@dataclass(frozen=True, eq=False)
+@dataclass(frozen=True, eq=False, repr=False)
 class CorrectBy(Correct):
     """Does the same, and keeps the name of the proofreader."""
 
@@ -221,8 +234,7 @@ class CorrectBy(Correct):
     who: Who = field(kw_only=True)
 
 
-@dataclass(frozen=True, eq=False)
-class Undo(OfParagraph, Command[Corrected]):
+class Undo(CommandOnParagraph[Corrected]):
     """Takes back the newest correction of a paragraph that is in force."""
 
     name = "undo"
@@ -231,8 +243,8 @@ class Undo(OfParagraph, Command[Corrected]):
     result = answers.CORRECTED
 
 
-@dataclass(frozen=True, eq=False)
-class Mark(OfParagraph, Command[Marked]):
+@dataclass(frozen=True, eq=False, repr=False)
+class Mark(CommandOnParagraph[Marked]):
     """Puts a mark on COUNT cells from cell CELL on, counted from 0."""
 
     name = "mark"
@@ -244,7 +256,7 @@ class Mark(OfParagraph, Command[Marked]):
     note: Note = ""
 
 
-@dataclass(frozen=True, eq=False)
+@dataclass(frozen=True, eq=False, repr=False)
 class Resolve(Command[Done]):
     """Says that a mark is dealt with."""
 
@@ -255,8 +267,7 @@ class Resolve(Command[Done]):
     mark: MarkNumber
 
 
-@dataclass(frozen=True, eq=False)
-class Strike(OfParagraph, Command[Done]):
+class Strike(CommandOnParagraph[Done]):
     """Takes a paragraph out of the volumes."""
 
     name = "strike"
@@ -265,8 +276,7 @@ class Strike(OfParagraph, Command[Done]):
     result = answers.DONE
 
 
-@dataclass(frozen=True, eq=False)
-class Restore(OfParagraph, Command[Done]):
+class Restore(CommandOnParagraph[Done]):
     """Puts a struck paragraph back into the volumes."""
 
     name = "restore"
@@ -275,8 +285,8 @@ class Restore(OfParagraph, Command[Done]):
     result = answers.DONE
 
 
-@dataclass(frozen=True, eq=False)
-class Style(OfParagraph, Command[Done]):
+@dataclass(frozen=True, eq=False, repr=False)
+class Style(CommandOnParagraph[Done]):
     """Gives a paragraph a style: body or heading."""
 
     name = "style"
@@ -286,8 +296,8 @@ class Style(OfParagraph, Command[Done]):
     style: StyleWord
 
 
-@dataclass(frozen=True, eq=False)
-class Volume(OfParagraph, Command[Done]):
+@dataclass(frozen=True, eq=False, repr=False)
+class Volume(CommandOnParagraph[Done]):
     """Says whether a paragraph begins a volume: on or off."""
 
     name = "volume"
@@ -297,8 +307,8 @@ class Volume(OfParagraph, Command[Done]):
     begins: Switch
 
 
-@dataclass(frozen=True, eq=False)
-class Retable(OfParagraph, Command[Done]):
+@dataclass(frozen=True, eq=False, repr=False)
+class Retable(CommandOnParagraph[Done]):
     """Gives a paragraph another table."""
 
     name = "retable"
@@ -308,8 +318,8 @@ class Retable(OfParagraph, Command[Done]):
     table: KnownTable
 
 
-@dataclass(frozen=True, eq=False)
-class Move(OfParagraph, Command[Done]):
+@dataclass(frozen=True, eq=False, repr=False)
+class Move(CommandOnParagraph[Done]):
     """Puts a paragraph elsewhere. AFTER is front, end, or the number of a paragraph."""
 
     name = "move"
@@ -317,10 +327,6 @@ class Move(OfParagraph, Command[Done]):
     kept = "the move of paragraph {paragraph}"
     result = answers.DONE
     after: After
-
-
-# Queries that add no field of their own take over what was made for those below them, since making a
-# dataclass takes most of the time in which this module is imported.
 
 
 class Print(OfParagraph, Request[str]):
@@ -355,7 +361,7 @@ class Marks(OfParagraph, Request[tuple[values.Mark, ...]]):
     result = answers.MARKS
 
 
-@dataclass(frozen=True, eq=False)
+@dataclass(frozen=True, eq=False, repr=False)
 class Where(OfParagraph, Request[int]):
     """Shows the first cell made for a place of the print, both counted from 0."""
 
@@ -365,7 +371,7 @@ class Where(OfParagraph, Request[int]):
     place: Place
 
 
-@dataclass(frozen=True, eq=False)
+@dataclass(frozen=True, eq=False, repr=False)
 class Whence(OfParagraph, Request[int]):
     """Shows the first place that a cell was made from, both counted from 0."""
 

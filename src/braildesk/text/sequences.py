@@ -16,8 +16,8 @@ from braildesk.text import limits
 _LONGEST = limits.PRINT_CHARACTERS + 3
 # about so many characters are put into normal form C at once
 _AT_ONCE = 1_000
-# where a sentence ends, with the blanks after it
-_SENTENCE = re.compile(r"[.!?\u2026][\u201d\u2019\u00bb\"')\]]*\s+")
+# where a sentence ends, with the blanks after it; compiled where it is looked for, which is rare
+_SENTENCE = r"[.!?\u2026][\u201d\u2019\u00bb\"')\]]*\s+"
 # those that may belong to the character before them: none of Latin, of punctuation and of braille
 _LATE = re.compile("[^\0-\u02ff\u2010-\u2027\u2800-\u28ff]")
 JOINING_JAMO = range(0x1160, 0x1200)
@@ -88,7 +88,7 @@ def composed(text: str) -> str:
 def parted(text: str, most: int) -> tuple[str, str]:
     """A text in two, the first no longer than so many characters: at a sentence, or at a blank."""
     front = text[:most]
-    ends = [found.end() for found in _SENTENCE.finditer(front)]
+    ends = [found.end() for found in re.finditer(_SENTENCE, front)]
     blank = front.rfind(" ") + 1
     seam = max(each for each in seams(text) if each <= most)
     # a sentence that ends far from there would leave a short paragraph

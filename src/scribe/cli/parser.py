@@ -14,7 +14,12 @@ from braildesk.version import version
 
 from scribe.cli.commands import COMMANDS
 from scribe.words import typed
-from scribe.words.console import LEAST_WIDTH, Console
+from scribe.words.console import (
+    LEAST_WIDTH,
+    USUAL_WIDTH,
+    Console,
+    width_of_output,
+)
 
 # The object on which a command calls add_parser.
 Subparsers = Any
@@ -45,6 +50,10 @@ class _Help(argparse.Action):
 
 class _Formatter(argparse.RawDescriptionHelpFormatter):
     """Paragraphs that flow in the width, with lines that begin with blanks as they are."""
+
+    def __init__(self, prog: str) -> None:
+        # two columns are left free, as argparse does by itself
+        super().__init__(prog, width=(width_of_output() or USUAL_WIDTH) - 2)
 
     def _fill_text(self, text: str, width: int, indent: str) -> str:
         lines: list[str] = []

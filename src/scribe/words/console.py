@@ -2,7 +2,6 @@
 
 import errno
 import os
-import shutil
 import sys
 import time
 from collections.abc import Callable, Iterable, Iterator
@@ -20,7 +19,7 @@ from scribe.words import encoding
 
 PROGRESS_SECONDS = 2.0
 LEAST_WIDTH = 10
-_USUAL_WIDTH = 80
+USUAL_WIDTH = 80
 _INDENT = "  "
 # a line that a request may have, CR LF and one byte more
 _LINE = limits.LINE_BYTES + 3
@@ -93,7 +92,7 @@ class Console:
     @property
     def columns(self) -> int:
         """The columns in which what is shown is laid out."""
-        return _USUAL_WIDTH if self.width is None else self.width
+        return USUAL_WIDTH if self.width is None else self.width
 
     @classmethod
     def of_process(cls) -> "Console":
@@ -106,7 +105,7 @@ class Console:
         source = _closed_input() if sys.stdin is None else sys.stdin.buffer
         try:
             writers = _utf8_writer(1), _utf8_writer(2)
-            return cls(source, *writers, width=_width_of_output(), cells=_usual_cells())
+            return cls(source, *writers, width=width_of_output(), cells=_usual_cells())
         except OSError as cause:
             raise OutputFailed(cause) from cause
 
@@ -205,10 +204,15 @@ class Heard(StringIO):
         return True
 
 
-def _width_of_output() -> int | None:
+def width_of_output() -> int | None:
     """The columns that COLUMNS says, or those of the terminal of the output, if it is one."""
-    found = shutil.get_terminal_size((0, 0)).columns
-    return max(found, LEAST_WIDTH) if found else None
+    found = 0
+    with suppress(KeyError, ValueError):
+        found = int(os.environ["COLUMNS"])
+    if found <= 0:
+        with suppress(OSError):
+            found = os.get_terminal_size(1).columns
+    return max(found, LEAST_WIDTH) if found > 0 else None
 
 
 def _usual_cells() -> Notation:
