@@ -11,7 +11,7 @@ from typing import Any
 
 import pytest
 
-from braildesk import Session
+from braildesk import Paragraph, Session
 from braildesk.pipe import Pipe
 from braildesk.protocol.requests import Mark, Type
 from scribe.cli import run_words
@@ -183,6 +183,21 @@ def test_a_command_opens_the_book_once_and_asks_each_thing_once(
     run(command, long, *words)
     assert work.started == 1
     assert work.names == wanted
+
+
+@pytest.mark.parametrize("command", ["heading", "strike"])
+def test_a_command_on_a_paragraph_reads_no_other_line_of_the_list(
+    long: Path, command: str, monkeypatch: pytest.MonkeyPatch
+) -> None:
+    read = []
+
+    def counted(*fields: Any) -> Paragraph:
+        read.append(fields)
+        return Paragraph(*fields)
+
+    monkeypatch.setattr("braildesk.protocol.answers.Paragraph", counted)
+    run(command, long, COUNT // 2)
+    assert [fields[0] for fields in read] == [COUNT // 2]
 
 
 @pytest.mark.parametrize("page, asked", [(1, 64), (20, 256), (50, COUNT)])

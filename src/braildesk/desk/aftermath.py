@@ -5,6 +5,7 @@ from pathlib import Path
 from typing import Any
 
 from braildesk import DeskError, Kind, Lost, Paragraph, Refused, Session
+from braildesk.desk.readings import paragraph_of
 from braildesk.protocol import requests, values
 from braildesk.protocol.requests import Request
 from braildesk.text.sequences import composed
@@ -97,4 +98,6 @@ def _has_typed(session: Session, command: requests.Type) -> bool:
 
 
 def _paragraph(session: Session, number: int) -> Paragraph:
-    return next(each for each in session.paragraphs() if each.id == number)
+    found = paragraph_of(session, number)
+    assert found is not None
+    return found

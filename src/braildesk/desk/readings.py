@@ -5,7 +5,8 @@ from dataclasses import dataclass
 from typing import Any, TypeVar
 
 from braildesk import Mark, Paragraph, Refused, Session
-from braildesk.protocol.requests import Braille, Marks, Print, Request
+from braildesk.protocol.answers import read_paragraph
+from braildesk.protocol.requests import Braille, List, Marks, Print, Request
 
 Answer = TypeVar("Answer")
 
@@ -30,6 +31,15 @@ def answers(
         if isinstance(answer, Refused):
             raise answer
         yield answer
+
+
+def paragraph_of(session: Session, number: int) -> Paragraph | None:
+    """The paragraph of a number, if it is there. No other line of the list is read."""
+    front = f"{number} "
+    lines = session.reply(List()).lines
+    return next(
+        (read_paragraph(line) for line in lines if line.startswith(front)), None
+    )
 
 
 def prints(session: Session, paragraphs: Sequence[Paragraph]) -> Iterator[str]:

@@ -49,7 +49,8 @@ def _mark(line: str) -> Mark:
     )
 
 
-def _paragraph(line: str) -> Paragraph:
+def read_paragraph(line: str) -> Paragraph:
+    """The paragraph of a line of the list."""
     id, table, style, volume, life, length = line.split(" ")
     return Paragraph(
         int(id),
@@ -70,4 +71,4 @@ NUMBER = Result(lambda reply: int(reply.lines[0]))
 VERSION = Result(lambda reply: reply.numbers[0])
 HISTORY = Result(lambda reply: tuple(map(_entry, reply.lines)))
 MARKS = Result(lambda reply: tuple(map(_mark, reply.lines)))
-PARAGRAPHS = Result(lambda reply: tuple(map(_paragraph, reply.lines)))
+PARAGRAPHS = Result(lambda reply: tuple(map(read_paragraph, reply.lines)))

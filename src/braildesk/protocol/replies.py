@@ -39,7 +39,10 @@ class Reader:
         self._rest = rest
         if end:
             for line in _decoded(whole):
-                self._take(line)
+                if line.startswith("| "):
+                    self._lines.append(line[2:])
+                else:
+                    self._end(line)
 
     @property
     def has_reply(self) -> bool:
@@ -50,10 +53,8 @@ class Reader:
         """The next reply that is there whole."""
         return self._replies.popleft() if self._replies else None
 
-    def _take(self, text: str) -> None:
-        if text.startswith("| "):
-            self._lines.append(text[2:])
-            return
+    def _end(self, text: str) -> None:
+        """Takes the line that ends a reply."""
         word, *numbers = text.split(" ")
         try:
             reply = Reply(tuple(self._lines), word, tuple(map(int, numbers)))

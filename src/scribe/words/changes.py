@@ -10,7 +10,7 @@ from braildesk.desk.correction import smallest_correction
 from braildesk.desk.history import Step, histories
 from braildesk.desk.marks import MarkedWords
 from braildesk.desk.places import NoPlace
-from braildesk.desk.readings import answers
+from braildesk.desk.readings import answers, paragraph_of
 from braildesk.protocol.requests import Command, Request
 from braildesk.protocol.values import After, Corrected, Done, Marked, Typed
 from braildesk.text.cells import Notation
@@ -159,9 +159,9 @@ def _flagged(
     width: int,
     **changed: Any,
 ) -> list[str]:
-    book = session.paragraphs()
+    before = paragraph_of(session, command.paragraph)
     done: Done = session.ask(command)
-    before = _paragraph(book, command.paragraph)
+    assert before is not None
     was, is_now = flag(before), flag(replace(before, **changed))
     change = f"{is_now}, as before" if was == is_now else f"{is_now} now, {was} before"
     return [
@@ -175,10 +175,10 @@ def _retabled(
     session: Session, command: requests.Retable, width: int, cells: Notation
 ) -> list[str]:
     number = command.paragraph
-    book = session.paragraphs()
+    before = paragraph_of(session, number)
     was = _before(session, requests.Braille(number)) or ""
     done: Done = session.ask(command)
-    before = _paragraph(book, number)
+    assert before is not None
     braille = session.braille_of(number)
     lines = difference(
         cells.write(was),
@@ -225,11 +225,6 @@ def _used(users: int) -> str:
 def _its_words(session: Session, number: int, width: int) -> list[str]:
     text = session.print_of(number)
     return [opening(visible(text), width)] if text else []
-
-
-def _paragraph(book: tuple[Paragraph, ...], number: int) -> Paragraph:
-    """The paragraph of a number that is in the book."""
-    return next(each for each in book if each.id == number)
 
 
 def _position(book: tuple[Paragraph, ...], number: int) -> str:
