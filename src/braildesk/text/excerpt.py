@@ -1,6 +1,5 @@
 """Some words of a text, and as many of those around them as a line has room for."""
 
-import re
 from collections.abc import Callable, Sequence
 
 from braildesk.text.cells import BLANKS, EMPTY_CELL
@@ -10,8 +9,6 @@ from braildesk.text.wrapping import columns, measure, wrap
 
 _CUT = "…"
 _INDENT = "  "
-# the blanks that are one column each: all but the tab
-_BLANK = re.compile(f"[ {EMPTY_CELL}]")
 #: How much of a text beside the words is worth the rest of a line.
 _BESIDE = 10
 _BRACKETS = len("[]")
@@ -22,6 +19,7 @@ class Excerpts:
 
     def __init__(self, text: str) -> None:
         self._text = text
+        self._spaced = _spaced(text)
         #: Whether each character stands for itself, in one column.
         self._is_plain = visible(text) == text and measure(text) is len
 
@@ -34,8 +32,10 @@ class Excerpts:
         if room < 0 or not self._is_plain:
             return _in_brackets(text, start, stop, width)
         half, rest = room // 2, len(text) - stop
-        front = _ending(text, start, room - rest if room - rest > half else half)
-        return f"{front}[{text[start:stop]}]{_opening(text, stop, room - len(front))}"
+        before = room - rest if room - rest > half else half
+        front = _ending(text, self._spaced, start, before)
+        after = _opening(text, self._spaced, stop, room - len(front))
+        return f"{front}[{text[start:stop]}]{after}"
 
     def lines(self, head: str, start: int, stop: int, width: int) -> list[str]:
         """A head and an excerpt after it, in as few lines of the width as have all of the words.
@@ -45,6 +45,9 @@ class Excerpts:
         """
         text, room = self._text, width - columns(head)
         size = stop - start + _BRACKETS
+        if self._is_plain and size + _BESIDE <= room:
+            # nearly all are of this kind
+            return [head + self.line(start, stop, room)]
         if not self._is_plain:
             size = columns(f"[{visible(text[start:stop])}]")
         others = len(text) - (stop - start)
@@ -72,7 +75,7 @@ def opening(text: str, width: int) -> str:
     """The first words of a text, in a line of a width."""
     size_of = measure(text)
     if size_of is len:
-        return _opening(text, 0, width)
+        return _opening(text, _spaced(text), 0, width)
     if size_of(text) <= width:
         return text
     return "".join(_fitting(sequences(text), width, size_of))
@@ -82,23 +85,25 @@ def ending(text: str, width: int) -> str:
     """The last words of a text, in a line of a width."""
     size_of = measure(text)
     if size_of is len:
-        return _ending(text, len(text), width)
+        return _ending(text, _spaced(text), len(text), width)
     if size_of(text) <= width:
         return text
     return "".join(reversed(_fitting(sequences(text)[::-1], width, size_of)))
 
 
-def _opening(text: str, start: int, width: int) -> str:
+def _spaced(text: str) -> str:
+    """A text with a space for each blank that is one column: for all but the tab."""
+    return text.replace(EMPTY_CELL, " ")
+
+
+def _opening(text: str, spaced: str, start: int, width: int) -> str:
     """The first words from a place on, where each character is a sequence of one column."""
     stop = start + width
     if len(text) <= stop:
         return text[start:]
     if width <= 0:
         return ""
-    blank = text.rfind(" ", start + 1, stop)
-    empty = text.rfind(EMPTY_CELL, start + 1, stop)
-    if empty > blank:
-        blank = empty
+    blank = spaced.rfind(" ", start + 1, stop)
     if blank >= 0:
         return text[start:blank] + _CUT
     if text[start] in BLANKS:
@@ -107,15 +112,16 @@ def _opening(text: str, start: int, width: int) -> str:
     return text[start : stop - 1] + _CUT
 
 
-def _ending(text: str, stop: int, width: int) -> str:
+def _ending(text: str, spaced: str, stop: int, width: int) -> str:
     """The last words up to a place, where each character is a sequence of one column."""
     front = stop - width
     if front <= 0:
         return text[:stop]
     if width <= 0:
         return ""
-    if blank := _BLANK.search(text, front, stop - 1):
-        return _CUT + text[blank.end() : stop]
+    blank = spaced.find(" ", front, stop - 1)
+    if blank >= 0:
+        return _CUT + text[blank + 1 : stop]
     if text[stop - 1] in BLANKS:
         return _CUT + (text[stop - 1] if width > 1 else "")
     return _CUT + text[front + 1 : stop]

@@ -35,15 +35,19 @@ def instead(sought: str, text: str) -> str:
 
 def word_lines(
     hit: Hit, width: int, where: Callable[[int], str] = lambda _: ""
-) -> Iterator[str]:
+) -> list[str]:
     """A line for each place of a print, or more if the words need them.
 
     It is said where that is on the pages, if this was asked for.
     """
     title, excerpts = _title(hit), Excerpts(hit.text)
-    for place in hit.places:
-        head = f"{title}{where(place.start)}, character {place.start + 1}: "
-        yield from excerpts.lines(head, place.start, place.stop, width)
+    return [
+        line
+        for start, stop in hit.places
+        for line in excerpts.lines(
+            f"{title}{where(start)}, character {start + 1}: ", start, stop, width
+        )
+    ]
 
 
 def cell_lines(
