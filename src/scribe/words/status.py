@@ -8,7 +8,6 @@ from contextlib import contextmanager
 from pathlib import Path
 
 from braildesk.desk import Problem
-from braildesk.protocol.sentences import ENDED_BY
 
 
 class Status(enum.IntEnum):
@@ -64,6 +63,9 @@ def stopped_by(cause: KeyboardInterrupt) -> str:
     number = number_of(cause)
     if number is signal.SIGINT:
         return "Stopped."
+    # imported here, since few commands are stopped
+    from braildesk.protocol.sentences import ENDED_BY
+
     return f"Stopped by {ENDED_BY.get(number, number.name)}."
 
 
