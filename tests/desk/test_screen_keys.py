@@ -490,6 +490,26 @@ def test_pasted_lines_of_a_new_paragraph_are_asked_about() -> None:
     assert joined.typed == Field(Purpose.AFTER, "One Two Three It. ", 14)
 
 
+def test_what_is_typed_on_at_the_question_about_a_long_text_goes_on_in_it() -> None:
+    text = "a" * 4_001
+    asked = step(typed(Purpose.AFTER, text, 4_001), "enter").state
+    assert asked.question and asked.question.parts
+    for on in (
+        step(step(asked, "r").state, "o").state,
+        pasted(asked, "ro").state,
+        pasted(asked, "ro", True).state,
+    ):
+        assert (on.typed, on.question) == (
+            Field(Purpose.AFTER, f"{text}ro", 4_003),
+            None,
+        )
+    assert (
+        step(asked, "r").state.message == "It stays as it is typed. Enter asks again."
+    )
+    for key in ("enter", "backspace", "up"):
+        assert step(asked, key).state.question == asked.question
+
+
 def test_a_blank_at_the_end_of_pasted_lines_parts_what_is_typed_on() -> None:
     asked = pasted(typed(Purpose.AFTER), "One.\nTwo moons ").state
     assert asked.question and asked.question.lines == ("One.", "Two moons")

@@ -166,6 +166,8 @@ def pasted(state: State, text: str, is_keys: bool = False) -> Step:
     typed, question = state.typed, state.question or _about_ended(state)
     if typed and question and question.lines and not state.pages and not state.is_lost:
         return Step(_typed_on(state, typed, question, text))
+    if question and question.parts is not None and not (state.pages or state.is_lost):
+        state, question = replace(state, question=None), None
     if typed is None or question or not state.is_typing or state.is_lost:
         return Step(state, PutBy(text) if text.strip() else None)
     lines = text.replace("\r", "\n").replace("\t", " ").split("\n")
@@ -207,6 +209,11 @@ def about_lines(purpose: Purpose, lines: Sequence[str]) -> Question:
     return Question(f"The pasted text has {count} lines. {asked}", tuple(lines))
 
 
+def _is_character(key: str) -> bool:
+    """Whether a key is a character of a text."""
+    return len(key) == 1 and key >= " " and not "\x7f" <= key < "\xa0"
+
+
 def _is_cut(text: str) -> bool:
     """Whether it came in bytes that aren't UTF-8."""
     return any("\ud800" <= each <= "\udfff" for each in text)
@@ -223,6 +230,9 @@ def _answered(state: State, question: Question, key: str) -> Step:
             return Step(state, GoOn(state.typed.purpose, *question.parts))
         if key in ("n", "escape"):
             return Step(state.saying(_STAYS_TYPED))
+        if _is_character(key):
+            # hands that don't read the question type on
+            return Step(_typing(state, state.typed, key).state.saying(_STAYS_TYPED))
     if question.lines and state.typed is not None:
         return _about_lines(state, state.typed, question, key)
     return Step(replace(state, question=question).saying(_NO_ANSWER))
@@ -249,7 +259,7 @@ def _about_lines(state: State, typed: Field, question: Question, key: str) -> St
         key = "\n"
     elif key == "backspace" and question.is_typed_on:
         key = "\x7f"
-    elif len(key) != 1 or key < " " or "\x7f" <= key < "\xa0":
+    elif not _is_character(key):
         return Step(asked.saying(_NO_ANSWER))
     return Step(_typed_on(asked, typed, question, key))
 
@@ -375,7 +385,7 @@ def _typing(state: State, typed: Field, key: str) -> Step:
     moved = typed.moved(key)
     if moved is not None:
         return Step(replace(state, typed=moved))
-    if len(key) == 1 and (key >= " " and not "\x7f" <= key < "\xa0"):
+    if _is_character(key):
         ended = _about_ended(state)
         if ended is not None:
             return Step(_typed_on(state, typed, ended, key))

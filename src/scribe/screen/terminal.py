@@ -336,11 +336,11 @@ class Screen:
             self._become(self._desk.press(self.state, stroke))
 
     def _is_typed_on(self, key: str) -> bool:
-        """Whether a key that answers a question about lines came too soon, and is a letter of them."""
+        """Whether a key that answers a question about what is typed came too soon, and is a letter."""
         question = self.state.question
-        if question is None or not question.lines or self._question.is_read:
+        if question is None or self._question.is_read or key not in ("y", "n"):
             return False
-        return key in ("y", "n")
+        return bool(question.lines) or question.parts is not None
 
     def _wait_for_held(self) -> None:
         if self._timer is not None:
