@@ -7,7 +7,7 @@ from typing import BinaryIO
 from zlib import crc32
 
 from braildesk import program as programs
-from braildesk.opening import MAGIC
+from braildesk.opening import MAGIC, has_work
 from braildesk.program import StrPath
 from braildesk.protocol.asked import real_path
 from braildesk.refusals import Failed, Unopened
@@ -162,6 +162,17 @@ class OpenFile:
                 return _put_beside(made, self.path, ".txt")
         except OSError as error:
             raise Failed(f"{error.strerror or error}.") from error
+
+    def put_log_by(self) -> str:
+        """Gives the log beside the file a new path, unless it has no work; nothing where it stays.
+
+        It goes with what the file held, and would damage what stands there now.
+        """
+        log = f"{self.path}-wal"
+        try:
+            return _put_beside(Path(log), self.path, ".log") if has_work(log) else ""
+        except OSError:
+            return ""
 
     def close(self) -> None:
         """Holds the file no longer."""

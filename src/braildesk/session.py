@@ -443,6 +443,11 @@ class Session:
                 "What was kept last isn't safe there, and its print could not be saved in a new"
                 f" file: {failed.sentence} Copy what you typed last."
             )
+        # while nobody else can open what stands there, and put the log into it
+        log = self._file.put_log_by()
+        if log:
+            shown = shortened(log, len(log))
+            kept += f" The log of what stood there before is now {shown}."
         self._is_closed = True
         self._pipe.drop()
         self._pipe.kill()

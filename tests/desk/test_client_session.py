@@ -660,7 +660,8 @@ def test_the_print_of_a_book_that_was_written_into_is_saved(
     assert caught.value.sentence == (
         f"Another program wrote into the file of the book, “{book}”, while it was open: it isn't that"
         " book any more. The print of all paragraphs, with what was kept last, is in the new file"
-        f" “{saved}”. Go on with a copy of the book, and import from that file what it lacks."
+        f" “{saved}”. Go on with a copy of the book, and import from that file what it lacks. The log of"
+        f" what stood there before is now “{book}-saved-1.log”."
     )
     # a command is not sent to such a file
     assert saved.read_text() == "One.\n\nTwo.\n"
@@ -717,8 +718,10 @@ def test_another_book_that_is_copied_into_the_file_of_an_open_one_is_noticed(
     )
     texts = ["One."] if moment == "before the first command" else ["One.", "Three."]
     assert sorted(Path(f"{book}-saved-1.txt").read_text().split()) == texts
-    # and what was copied there stays as it is
+    # and what was copied there stays as it is, without the log of what stood there before
     assert book.read_bytes() == other.read_bytes()
+    with Session(book) as session:
+        assert [session.print_of(each.id) for each in session.paragraphs()] == ["Two."]
 
 
 def test_a_book_that_is_touched_and_written_by_its_own_program_is_no_other_book(

@@ -291,7 +291,8 @@ def test_nothing_is_said_to_be_kept_in_a_file_into_which_another_book_was_copied
     assert sat.state.pages.lines[:3] == (
         f"Another program wrote into the file of the book, “{moon}”, while it was open: it isn't"
         " that book any more. The print of all paragraphs, with what was kept last, is in the new"
-        f" file “{saved}”. Go on with a copy of the book, and import from that file what it lacks.",
+        f" file “{saved}”. Go on with a copy of the book, and import from that file what it lacks. The"
+        f" log of what stood there before is now “{moon}-saved-1.log”.",
         "This was typed, and was not reported as kept:",
         "Soon.",
     )
