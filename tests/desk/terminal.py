@@ -111,6 +111,10 @@ class Terminal:
                 self.paste(name)
                 continue
             is_held = _is_held(name)
+            if self._pressed == "escape":
+                # on a busy machine Escape may be read late, and a key after it be taken as held
+                self.await_read()
+                self._pressed_at = time.monotonic()
             if self._pressed == "escape" or is_held and _is_held(self._pressed):
                 self._await_drawn()
             self._drawn_before, self._pressed_at = self._drawn, time.monotonic()
@@ -219,7 +223,9 @@ class Terminal:
 
     def ended(self) -> int:
         """The status with which scribe ends by itself, or the signal with a minus before it."""
+        end = time.monotonic() + WAIT_SECONDS
         while True:
+            assert time.monotonic() < end, self.lines
             try:
                 self._read()
             except pexpect.EOF:
