@@ -286,6 +286,25 @@ def test_volumes_are_proposed_set_and_taken_back(chapters: Path, sit: Sit) -> No
     assert not any(each.begins_volume for each in sat.state.book)
 
 
+def test_the_volumes_stay_in_sight_while_a_number_is_typed(
+    chapters: Path, sit: Sit
+) -> None:
+    sat = sit(chapters)
+    sat.press("V")
+    listed = sat.lines[1:4]
+    assert listed[0].startswith("1 volume, ")
+    sat.press("v", "f1")
+    assert sat.lines[1].startswith("Keys while typing.")
+    sat.press("escape", "1")
+    sat.state = sat.desk.paste(sat.state, "2")
+    assert (sat.lines[1:4], sat.lines[-1]) == (listed, "Most pages of a volume: 12")
+    sat.press("escape")
+    assert (sat.lines[1:4], sat.state.typed) == (listed, None)
+    assert sat.state.message == "Given up. The book is as it was."
+    sat.press("escape")
+    assert sat.state.pages is None
+
+
 def test_a_paragraph_that_no_volume_can_have_is_said(chapters: Path, sit: Sit) -> None:
     sat = sit(chapters)
     sat.state = replace(sat.state, page_size=PageSize(28, 8))

@@ -306,11 +306,8 @@ class State:
         """
         if not self.message:
             is_asked = self.question is not None or self.is_lost
-            return (
-                self.typed.said
-                if self.typed and self.is_typing and not is_asked
-                else ""
-            )
+            typed = self.typed if self.is_typing and not is_asked else None
+            return typed.said if typed else ""
         again = {1: "", 2: "Again: "}.get(self.times, f"{self.times} times now: ")
         return again + self.message
 
