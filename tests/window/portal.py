@@ -70,7 +70,8 @@ def _serve(words: list[str]) -> None:
 
     def called(*call: Any) -> None:
         *_, parameters, invocation = call
-        value = settings.get(tuple(parameters.unpack()))
+        space, key = parameters.unpack()
+        value = settings.get((space, key))
         if value is None:
             invocation.return_dbus_error(_NOT_FOUND, "There is no such setting.")
         else:

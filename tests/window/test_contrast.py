@@ -12,6 +12,7 @@ from PyQt6.QtGui import QGuiApplication, QImage, QPalette
 from PyQt6.QtWidgets import QApplication
 
 from scribe.window.contrast import Contrast
+from scribe.window.desk import Desk
 
 from conftest import Open
 from portal import CONTRAST, Key, OF_GNOME, Portal, SCHEME
@@ -44,7 +45,8 @@ def picture(part: Part) -> QImage:
     at = Atspi.Component.get_extents(part, Atspi.CoordType.SCREEN)
     screen = QGuiApplication.primaryScreen()
     assert screen is not None
-    return screen.grabWindow(0, at.x, at.y, at.width, at.height).toImage()
+    seen = screen.grabWindow(x=at.x, y=at.y, width=at.width, height=at.height)
+    return seen.toImage()
 
 
 def grounds(window: Reader) -> list[str]:
@@ -153,19 +155,45 @@ def test_a_window_waits_for_no_program_for_settings(
     assert window.end() == 0
 
 
+def wait(application: QApplication, seconds: float, is_so: Callable[[], bool]) -> bool:
+    """Whether something comes about within a time."""
+    end = time.monotonic() + seconds
+    while time.monotonic() < end and not is_so():
+        application.processEvents()
+    return is_so()
+
+
+def is_of(application: QApplication, palette: QPalette) -> bool:
+    """Whether an application has these colours."""
+    return bool(application.palette() == palette)
+
+
+def test_a_size_that_was_chosen_in_high_contrast_stays(
+    application: QApplication, desk: Desk, lends: Lend
+) -> None:
+    portal, before = lends((CONTRAST, "1")), application.palette()
+    contrast = Contrast(application)
+    contrast.follow()
+    assert wait(application, 60, lambda: not is_of(application, before))
+    desk.window.enlarge(2)
+    fields = desk.window.print, desk.window.cells, desk.window.page
+    sizes = [field.font().pointSizeF() for field in fields]
+    portal.set(CONTRAST, "0")
+    assert wait(application, 60, lambda: is_of(application, before))
+    assert [field.font().pointSizeF() for field in fields] == sizes
+
+
 def test_kde_has_colours_of_its_own(
     application: QApplication, lends: Lend, monkeypatch: pytest.MonkeyPatch
 ) -> None:
-    lends((CONTRAST, "1"))
-    before = application.palette()
-    for desktop, is_high in (("KDE", False), ("ubuntu:GNOME", True)):
-        monkeypatch.setenv("XDG_CURRENT_DESKTOP", desktop)
-        contrast = Contrast(application)
-        contrast.follow()
-        end = time.monotonic() + (0.5 if not is_high else 60)
-        while time.monotonic() < end and application.palette() == before:
-            application.processEvents()
-        assert (application.palette() != before) == is_high
-    application.setStyleSheet("")
-    application.setPalette(QPalette())
-    assert application.palette() == before
+    portal, before = lends((CONTRAST, "1")), application.palette()
+    monkeypatch.setenv("XDG_CURRENT_DESKTOP", "KDE")
+    of_kde = Contrast(application)
+    of_kde.follow()
+    assert not wait(application, 0.5, lambda: not is_of(application, before))
+    monkeypatch.setenv("XDG_CURRENT_DESKTOP", "ubuntu:GNOME")
+    of_gnome = Contrast(application)
+    of_gnome.follow()
+    assert wait(application, 60, lambda: not is_of(application, before))
+    portal.set(CONTRAST, "0")
+    assert wait(application, 60, lambda: is_of(application, before))

@@ -50,8 +50,8 @@ QPushButton:focus, QLineEdit:focus, QComboBox:focus, QSpinBox:focus {{
 }}
 QPushButton:disabled {{ border-style: dashed; }}
 QDialogButtonBox {{ dialogbuttonbox-buttons-have-icons: 0; }}
-QCheckBox::indicator:checked, QScrollBar::handle, QSplitter::handle, QMenuBar::item:selected,
-QMenu::item:selected, QMenu::separator, QPushButton:pressed {{
+QCheckBox::indicator:checked, QScrollBar::handle, QSplitter::handle, QMainWindow::separator,
+QMenuBar::item:selected, QMenu::item:selected, QMenu::separator, QPushButton:pressed {{
     background: palette(text); color: palette(base);
 }}
 QMenu::separator {{ height: 1px; }}

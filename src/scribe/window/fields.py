@@ -17,7 +17,7 @@ from PyQt6.QtGui import (
     QTextCharFormat,
     QTextCursor,
 )
-from PyQt6.QtWidgets import QFrame, QPlainTextEdit, QTextEdit, QWidget
+from PyQt6.QtWidgets import QFrame, QPlainTextEdit, QTextEdit
 
 from braildesk.text.spans import Span
 
@@ -59,6 +59,7 @@ class Field(QPlainTextEdit):
 
     def __init__(self, name: str, is_read_only: bool) -> None:
         self._lights: tuple[Sequence[Span], Span | None] = (), None
+        self._font: QFont | None = None
         super().__init__()
         self._described = ""
         self.selectionChanged.connect(lambda: self.light(*self._lights))
@@ -89,12 +90,22 @@ class Field(QPlainTextEdit):
             self._frame(False)
             self.setAccessibleDescription(self._described)
 
+    def show_in(self, family: str, size: float) -> None:
+        """Shows the text in a font, of a size in points."""
+        self._font = QFont(family)
+        self._font.setPointSizeF(size)
+        self.setFont(self._font)
+
     def changeEvent(self, event: QEvent | None) -> None:
-        """What is lit is lit in the colours of the desktop, which may be others now."""
-        if event is not None:
-            super().changeEvent(event)
-            if event.type() == QEvent.Type.PaletteChange:
-                self.light(*self._lights)
+        """What is lit has the colours of the desktop, which may be others now; the font stays."""
+        if event is None:
+            return
+        super().changeEvent(event)
+        if event.type() == QEvent.Type.PaletteChange:
+            self.light(*self._lights)
+        # a style that goes takes along what was set while it was there
+        if event.type() == QEvent.Type.StyleChange and self._font is not None:
+            self.setFont(self._font)
 
     def _frame(self, has_focus: bool) -> None:
         width = frame(self, has_focus)
@@ -269,10 +280,3 @@ def lines_of(text: str) -> list[str]:
         return [line for line in lines if line]
     stripped = (line.replace("\t", " ").strip() for line in lines)
     return [line for line in stripped if line]
-
-
-def with_font(widget: QWidget, family: str, size: float) -> None:
-    """Gives a text a font of a size in points."""
-    font = QFont(family)
-    font.setPointSizeF(size)
-    widget.setFont(font)

@@ -27,7 +27,6 @@ from scribe.window.fields import (
     Cells,
     Field,
     Print,
-    with_font,
 )
 from scribe.window.menus import Menus
 from scribe.window.paragraphs import WORDS, Paragraphs, Table
@@ -149,12 +148,12 @@ class Window(QMainWindow):
         for field in (self.print, self.cells, self.page):
             family, points = field.font().family(), field.font().pointSizeF()
             points = max(_LEAST_POINTS, min(points * _LARGER**by, _MOST_POINTS))
-            with_font(field, family, points)
+            field.show_in(family, points)
 
     def take_cells_font(self, font: QFont) -> None:
         """Shows cells in a font that somebody chose."""
         for field in (self.cells, self.page):
-            with_font(field, font.family(), font.pointSizeF())
+            field.show_in(font.family(), font.pointSizeF())
 
     def remember(self) -> None:
         """Keeps the fonts, the sizes and the places of this window for the next one."""
@@ -179,7 +178,7 @@ class Window(QMainWindow):
             family = settings.value(f"{name}/family", family, str)
             points = settings.value(f"{name}/points", points, float)
             points = max(_LEAST_POINTS, min(points, _MOST_POINTS))
-            with_font(field, family, points)
+            field.show_in(family, points)
         self.resize(960, 720)
         if (value := settings.value("geometry")) is not None:
             self.restoreGeometry(value)
