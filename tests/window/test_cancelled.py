@@ -2,7 +2,8 @@
 
 import errno
 import os
-from collections.abc import Callable, Sequence
+import time
+from collections.abc import Callable, Iterator, Sequence
 from pathlib import Path
 from threading import Event
 from typing import Any
@@ -21,6 +22,7 @@ from conftest import Open
 MANY = 300
 #: Stands in the place of the program, and waits where it is told.
 STAND_IN = Path(__file__).resolve().parents[1] / "desk" / "stand_in.py"
+_MOMENT_SECONDS = 0.2
 
 Cancelled = Callable[[str, Callable[[], None]], list[str]]
 
@@ -154,11 +156,20 @@ def test_a_table_that_is_cancelled_is_not_given_and_what_was_sent_is_said(
     assert desk.window.message.text == "Kept: paragraph 1 struck."
 
 
+@pytest.fixture
+def queue(tmp_path: Path) -> Iterator[Path]:
+    """A queue of the file system, at which what waits at the end is let on."""
+    path = tmp_path / "queue"
+    os.mkfifo(path)
+    yield path
+    both_ends = os.open(path, os.O_RDWR | os.O_NONBLOCK)
+    time.sleep(_MOMENT_SECONDS)
+    os.close(both_ends)
+
+
 def test_a_table_is_cancelled_while_the_book_takes_it(
-    moon: Path, at: Open, tmp_path: Path
+    moon: Path, at: Open, queue: Path
 ) -> None:
-    queue = tmp_path / "queue"
-    os.mkfifo(queue)
     window = at(
         moon,
         BRAILDESK=str(STAND_IN),
