@@ -5,8 +5,9 @@ import signal
 import subprocess
 import sys
 from argparse import Namespace
-from collections.abc import Sequence
+from collections.abc import Iterable, Mapping, Sequence
 from pathlib import Path
+from typing import cast
 
 import pytest
 
@@ -132,6 +133,44 @@ def test_a_token_with_more_cells_than_a_rule_gets_several_that_are_tried_togethe
     assert [*learned] == [("begword", "ababababab"), ("endword", "ab")]
     assert long.is_right
     assert not Learner(chooser, [long], len(chooser)).learn_chains([long])
+
+
+class Answers:
+    """Stands in for liblouis, with the pieces of a few texts."""
+
+    def __init__(self, its: Mapping[str, Sequence[tuple[str, str]]]) -> None:
+        self._pieces = {
+            text: [(piece, cells_of(braille)) for piece, braille in pieces]
+            for text, pieces in its.items()
+        }
+
+    def pieces(self, texts: Sequence[str]) -> list[list[tuple[str, tuple[int, ...]]]]:
+        return [self._pieces[text] for text in texts]
+
+    def ask(self, texts: Iterable[str]) -> list[tuple[int, ...]]:
+        return [
+            tuple(cell for _, cells in self._pieces[text] for cell in cells)
+            for text in texts
+        ]
+
+    def cells(self, text: str) -> tuple[int, ...] | None:
+        return self.ask([text])[0] if text in self._pieces else None
+
+
+def cells_of(braille: str) -> tuple[int, ...]:
+    return tuple(ord(cell) - 0x2800 for cell in braille)
+
+
+def test_a_word_after_a_rule_that_begins_at_the_blank_has_its_cells() -> None:
+    line = "b .a a"
+    chooser = Chooser(
+        read(SMALL_LETTERS + b"punctuation . 256\nalways \\s. 0-256\n").table
+    )
+    single = [("b", "⠃"), (" ", "⠀"), (".", "⠲"), ("a", "⠁")]
+    liblouis = Answers({line: [*single, (" ", "⠐"), ("a", "⠁")]})
+    ours = [chooser.cells(chooser.printed(line))]
+    found = agreement(cast(Liblouis, liblouis), chooser, [line], ours).differences
+    assert found == (Word(0, 5, "a", cells_of("⠁"), cells_of("⠐⠁")),)
 
 
 def test_several_rules_for_a_token_are_taken_back_where_they_spoil_more() -> None:

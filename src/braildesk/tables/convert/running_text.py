@@ -101,8 +101,8 @@ def _differences(
         theirs: Sequence[Cells] = _parted(want)
         if line in pieces:
             choices = chooser.choices(chooser.printed(line))
-            ours = _cut(line, [(start, cells) for start, _, cells, _ in choices])
-            theirs = _cut(line, _with_places(pieces[line]))
+            ours = _cut(line, [(line[at:to], cells) for at, to, cells, _ in choices])
+            theirs = _cut(line, pieces[line])
         start = 0
         for text, its, their in zip(line.split(" "), ours, theirs):
             if text and its != their:
@@ -121,25 +121,23 @@ def _parted(cells: Cells) -> list[Cells]:
     return [tuple(part) for part in parts]
 
 
-def _with_places(pieces: Iterable[tuple[str, Cells]]) -> list[tuple[int, Cells]]:
-    found = []
-    place = 0
+def _cut(line: str, pieces: Iterable[tuple[str, Cells]]) -> list[Cells]:
+    """The cells of each word.
+
+    A piece over blanks is parted at them if its cells are. Else it counts to the word in which it
+    begins, or before which it does.
+    """
+    found: list[list[int]] = [[]]
     for text, cells in pieces:
-        found.append((place, cells))
-        place += len(text)
-    return found
-
-
-def _cut(line: str, pieces: Sequence[tuple[int, Cells]]) -> list[Cells]:
-    """The cells of each word by where pieces begin: a piece counts to the word in which it begins."""
-    found = []
-    start = 0
-    for word in line.split(" "):
-        end = start + len(word)
-        inner = [its for place, its in pieces if start <= place < end]
-        found.append(_without_blanks([cell for its in inner for cell in its]))
-        start = end + 1
-    return found
+        parts = _parted(cells)
+        blanks = text.count(" ")
+        if len(parts) != blanks + 1:
+            before = len(text) - len(text.lstrip(" "))
+            parts = [()] * before + [cells] + [()] * (blanks - before)
+        found[-1] += parts[0]
+        found += map(list, parts[1:])
+    found += [[]] * (line.count(" ") + 1 - len(found))
+    return [_without_blanks(cells) for cells in found]
 
 
 def _without_blanks(cells: Sequence[int]) -> Cells:
@@ -170,7 +168,7 @@ def _in_company(liblouis: Liblouis, line: str) -> Iterator[str]:
     parts = _parted(cells or ())
     if len(parts) != len(words):
         (pieces,) = liblouis.pieces([line])
-        parts = _cut(line, _with_places(pieces))
+        parts = _cut(line, pieces)
     for place, (word, its) in enumerate(zip(words, parts)):
         if word and liblouis.cells(word) != its:
             for first, after in ((-1, 1), (0, 2), (-1, 2)):
