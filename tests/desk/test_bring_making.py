@@ -326,6 +326,15 @@ def test_a_mark_three_times_gets_a_rule(tmp_path: Path) -> None:
     assert "always ... 3-3-3" in lines_of(tmp_path, LETTERS + text)
 
 
+def test_an_opening_mark_after_a_number_has_its_cells_before_words(
+    tmp_path: Path,
+) -> None:
+    text = "punctuation ( 236\nmatch - ( %_ 56-236\ndecpoint ( 236\n"
+    lines = lines_of(tmp_path, LETTERS + DIGITS + text)
+    assert "always 1\\s( 1-0-236" in lines
+    assert "always 1\\s(\\s 1-0-56-236-0" in lines
+
+
 def test_a_quotation_mark_gets_a_rule_for_each_place(tmp_path: Path) -> None:
     text = LETTERS + 'punctuation " 4\nprepunc " 236\npostpunc " 356\n'
     lines = lines_of(tmp_path, text)

@@ -14,7 +14,15 @@ from typing import Final
 from braildesk.tables.convert.draft import Origin, ProgramTrial, TableDraft
 from braildesk.tables.convert.numbers import usual_digits
 from braildesk.tables.convert.oracle import most_common, stripped
-from braildesk.tables.convert.probes import CLOSING, Place, Probe, Probes, Side, Wanted
+from braildesk.tables.convert.probes import (
+    CLOSING,
+    OPENING,
+    Place,
+    Probe,
+    Probes,
+    Side,
+    Wanted,
+)
 from braildesk.tables.convert.subject import Subject, is_pattern
 from braildesk.tables.operands import Cells
 
@@ -194,8 +202,8 @@ class Marks:
         if len(characters) == 1 and characters in self.draft.mode:
             self._add_going_on(characters, wanted, origin)
             return
-        if characters.endswith(" "):
-            usual = _first(leading, inner)
+        if characters.endswith(" ") or characters[1:].endswith(tuple(OPENING)):
+            usual = _first(leading, inner, ending)
         elif characters[0] in JOINING:
             usual = _first(inner, ending, leading)
         else:
