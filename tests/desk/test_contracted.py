@@ -19,7 +19,7 @@ from braildesk.tables.convert import making
 from braildesk.tables.convert.causes import Difference, Judge
 from braildesk.tables.convert.chooser import Chooser
 from braildesk.tables.convert.draft import Origin, TableDraft
-from braildesk.tables.convert.examples import Example
+from braildesk.tables.convert.examples import Example, examples
 from braildesk.tables.convert.learning import Learned, Learner
 from braildesk.tables.convert.oracle import Liblouis
 from braildesk.tables.convert.running_text import Word, agreement
@@ -171,6 +171,26 @@ def test_a_word_after_a_rule_that_begins_at_the_blank_has_its_cells() -> None:
     ours = [chooser.cells(chooser.printed(line))]
     found = agreement(cast(Liblouis, liblouis), chooser, [line], ours).differences
     assert found == (Word(0, 5, "a", cells_of("⠁"), cells_of("⠐⠁")),)
+
+
+NUMBERS = SMALL_LETTERS + b"digit 1 1\nnumsign 3456\n"
+
+
+def test_cells_before_the_sign_of_a_number_are_those_of_what_stands_before() -> None:
+    chooser = Chooser(read(NUMBERS).table)
+    pieces = [("b", "⠃"), ("a", "⠁"), ("b", "⠃"), ("1", "⠠⠼⠁")]
+    text = "b bab1 b"
+    around = [("b", "⠃"), (" ", "⠀")], [(" ", "⠀"), ("b", "⠃")]
+    liblouis = Answers({text: [*around[0], *pieces, *around[1]]})
+    found = examples(cast(Liblouis, liblouis), chooser, {"bab1": 1}, "b", nothing)
+    found[0].choose(chooser)
+    learned = Learner(chooser, found, 100).learn([1, 1], nothing)
+    assert learned == {("always", "ab"): cells_of("⠁⠃⠠")}
+    assert found[0].is_right
+
+
+def nothing(done: int, of: int) -> None:
+    """Takes how many are done."""
 
 
 def test_several_rules_for_a_token_are_taken_back_where_they_spoil_more() -> None:

@@ -91,7 +91,27 @@ def _example(
         cell += len(cells)
     starts[-1] = cell
     wanted = tuple([one for _, cells in pieces for one in cells])
+    seen = chooser.printed(text)
+    _begin_with_signs(seen, wanted, starts)
     # the blank of the frame beside the token is within reach of its rules
     first = max(margin - 1, 0)
     last = len(text) - first
-    return Example(chooser.printed(text), wanted, starts, first, last, weight)
+    return Example(seen, wanted, starts, first, last, weight)
+
+
+def _begin_with_signs(seen: Print, wanted: Cells, starts: list[int]) -> None:
+    """Has each piece begin with the sign that the table has at its place, if it has that further on.
+
+    Cells before it, as those of a letter that a number follows in German, can be had by a rule for
+    what stands before.
+    """
+    after = starts[-1]
+    for place in range(len(seen.text) - 1, -1, -1):
+        first, sign = starts[place], seen.sign(place)
+        if first == NOWHERE:
+            continue
+        for at in range(first, after - len(sign) + 1 if sign else first):
+            if wanted[at : at + len(sign)] == sign:
+                starts[place] = at
+                break
+        after = first
