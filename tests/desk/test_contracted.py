@@ -22,6 +22,7 @@ from braildesk.tables.convert.draft import Origin, TableDraft
 from braildesk.tables.convert.examples import Example, examples
 from braildesk.tables.convert.learning import Learned, Learner
 from braildesk.tables.convert.oracle import Liblouis
+from braildesk.tables.convert.proposals import chains
 from braildesk.tables.convert.running_text import Word, agreement
 from braildesk.tables.convert.tailoring import Manuscript, Means, Tailored, tailor
 from braildesk.tables.convert.word_list import WordList, keep, kept, name_of
@@ -191,6 +192,43 @@ def test_cells_before_the_sign_of_a_number_are_those_of_what_stands_before() -> 
 
 def nothing(done: int, of: int) -> None:
     """Takes how many are done."""
+
+
+def test_several_rules_for_a_token_are_of_one_length_where_a_short_one_spoils_more() -> (
+    None
+):
+    chooser = Chooser(read(SMALL_LETTERS).table)
+    long = spelt(chooser, "abababababab", 1, doubled=True)
+    short = spelt(chooser, "bab", 2, doubled=False)
+    learned = Learner(chooser, [long, short], 100).learn_chains([long])
+    assert [*learned] == [("begword", "ababab"), ("endword", "ababab")]
+    assert long.is_right and short.is_right
+
+
+def test_several_rules_begin_with_the_blank_where_one_goes_on_from_it() -> None:
+    text = SMALL_LETTERS + b"punctuation . 256\nmidword \\s. 0-256\n"
+    chooser = Chooser(read(text).table)
+    seen = chooser.printed("b .ababababab b")
+    plain = chooser.cells(seen)
+    wanted = *plain[:3], *(one for one in plain[3:-2] for _ in "12"), *plain[-2:]
+    starts = [0, 1, 2, *range(3, 25, 2), 24, 25]
+    long = Example(seen, wanted, starts, 1, len(seen.text) - 1, 1)
+    long.choose(chooser)
+    learned = Learner(chooser, [long], 100).learn_chains([long])
+    assert [*learned] == [("midword", " .ababababa"), ("endword", "b")]
+    assert long.is_right
+
+
+def test_no_rule_of_several_covers_a_blank_beside_a_word() -> None:
+    text = SMALL_LETTERS + b"punctuation . 256\n"
+    chooser = Chooser(read(text).table)
+    seen = chooser.printed("b ababababab ababababab. b")
+    plain = chooser.cells(seen)
+    wanted = *plain[:2], *(one for one in plain[2:-2] for _ in "12"), *plain[-2:]
+    starts = [0, 1, *range(2, len(wanted) - 1, 2), len(wanted) - 1, len(wanted)]
+    example = Example(seen, wanted, starts, 1, len(seen.text) - 1, 1)
+    example.choose(chooser)
+    assert not [*chains(example)]
 
 
 def test_several_rules_for_a_token_are_taken_back_where_they_spoil_more() -> None:

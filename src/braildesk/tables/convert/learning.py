@@ -16,7 +16,7 @@ from typing import Final
 
 from braildesk.tables.convert.chooser import ALWAYS, WORD, Choice, Chooser, Rule
 from braildesk.tables.convert.examples import NOWHERE, Example, Progress
-from braildesk.tables.convert.proposals import chain, proposals
+from braildesk.tables.convert.proposals import chains, proposals
 from braildesk.tables.operands import Cells
 
 PENALTY: Final = 1.5
@@ -67,10 +67,12 @@ class Learner:
         """Rules that write a token together, as a long address, of which each alone sets nothing right."""
         learned: Learned = {}
         for example in examples:
-            rules = {} if example.is_right else chain(example)
-            has_room = len(self._chooser) + len(rules) <= self._most
-            if rules and has_room and self._set_more_right(rules):
-                learned |= rules
+            found = () if example.is_right else chains(example)
+            for rules in found:
+                has_room = len(self._chooser) + len(rules) <= self._most
+                if has_room and self._set_more_right(rules):
+                    learned |= rules
+                    break
         return learned
 
     def _set_more_right(self, rules: Learned) -> bool:

@@ -139,28 +139,62 @@ def _as_word(example: Example) -> Iterator[Proposal]:
         yield (WORD, example.seen.folded, cells), True
 
 
-def chain(example: Example) -> dict[tuple[str, str], Cells]:
-    """Rules one after another that write a token, each as long as a rule may be. None if there are no such.
+Chain = dict[tuple[str, str], Cells]
+"""Rules by their kinds and characters, one after another."""
+
+
+def chains(example: Example) -> Iterator[Chain]:
+    """Rules one after another that write a token: each as long as it may be, or all about as long.
 
     Liblouis writes some tokens by a way of their own, as addresses, and a rule has few cells. What
-    stands beside a digit has no kind of its own, so such a token has no chain.
+    stands beside a digit has no kind of its own, so such a token has no chain. What is left for the
+    last rule, if the others are long, is often a piece that other tokens have too. A chain that
+    begins with the blank before the token goes before rules that begin with the token.
     """
-    found: dict[tuple[str, str], Cells] = {}
-    text, start = example.seen.folded, _front(example)
-    while start < len(text) - _front(example):
-        sign = example.seen.sign(start)
-        for end in range(_farthest(example, start), start, -1):
-            kind = example.seen.kind(start, end)
-            if kind is None or NOWHERE in (example.starts[start], example.starts[end]):
+    for start in dict.fromkeys((_front(example), example.first)):
+        for evenness in (0, 1):
+            found = _chain(example, start, evenness)
+            if found:
+                yield found
+
+
+def _chain(example: Example, first: int, evenness: int) -> Chain:
+    """The chain of fewest rules: of these the one whose first rules are longest, or most even."""
+    last = len(example.seen.text) - _front(example)
+    chosen = {start: end for start, end, *_ in example.choices}
+    costs: dict[int, tuple[int, int]] = {last: (0, 0)}
+    rules: dict[int, tuple[str, int, Cells]] = {}
+    for start in range(last - 1, first - 1, -1):
+        # a shorter rule than what is chosen there now wouldn't be
+        for end in range(
+            _farthest(example, start), chosen.get(start, start + 1) - 1, -1
+        ):
+            rule = _link(example, start, end) if end in costs else None
+            if rule is None:
                 continue
-            cells = _cells_between(example, start, end, sign)
-            if cells is not None:
-                found[kind, text[start:end]] = cells
-                start = end
-                break
-        else:
-            return {}
+            count, unevenness = costs[end]
+            cost = count + 1, unevenness + evenness * (end - start) ** 2
+            if start not in costs or cost < costs[start]:
+                costs[start], rules[start] = cost, rule
+    found: Chain = {}
+    start = first
+    while start in rules:
+        kind, end, cells = rules[start]
+        found[kind, example.seen.folded[start:end]] = cells
+        start = end
     return found
+
+
+def _link(example: Example, start: int, end: int) -> tuple[str, int, Cells] | None:
+    """The rule of a chain from one place to another, with its end."""
+    kind = example.seen.kind(start, end)
+    if kind is None or NOWHERE in (example.starts[start], example.starts[end]):
+        return None
+    characters = example.seen.folded[start:end]
+    if " " in characters and not _is_sure(characters, kind):
+        return None
+    cells = _cells_between(example, start, end, example.seen.sign(start))
+    return None if cells is None else (kind, end, cells)
 
 
 def _front(example: Example) -> int:
