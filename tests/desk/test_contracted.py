@@ -24,7 +24,13 @@ from braildesk.tables.convert.learning import Learned, Learner
 from braildesk.tables.convert.oracle import Liblouis
 from braildesk.tables.convert.proposals import chains
 from braildesk.tables.convert.running_text import Word, agreement
-from braildesk.tables.convert.tailoring import Manuscript, Means, Tailored, tailor
+from braildesk.tables.convert.tailoring import (
+    Manuscript,
+    Means,
+    Tailored,
+    tailor,
+    weights_of,
+)
 from braildesk.tables.convert.word_list import WordList, keep, kept, name_of
 from braildesk.tables.tiling import braille, pieces
 
@@ -229,6 +235,10 @@ def test_no_rule_of_several_covers_a_blank_beside_a_word() -> None:
     example = Example(seen, wanted, starts, 1, len(seen.text) - 1, 1)
     example.choose(chooser)
     assert not [*chains(example)]
+
+
+def test_a_word_that_comes_often_counts_as_often() -> None:
+    assert weights_of({"a": 24, "b-a": 1}) == {"a": 25, "b-a": 2}
 
 
 def test_several_rules_for_a_token_are_taken_back_where_they_spoil_more() -> None:

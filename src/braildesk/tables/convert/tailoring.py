@@ -48,7 +48,7 @@ HELD_BACK: Final = 10
 FEWEST_PARAGRAPHS: Final = 20
 """With fewer paragraphs none is held back."""
 
-EACH_TIME: Final = 0.25
+EACH_TIME: Final = 1
 """What a token of the manuscript counts more than one of the list, each time that it comes."""
 
 FROM_LIST: Final = "Learned from the word list"
