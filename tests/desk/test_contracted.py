@@ -1,11 +1,13 @@
 """A table made for a manuscript, by words and by its own text, and a book's table that is tuned."""
 
+import re
 import shutil
 import signal
 import subprocess
 import sys
 from argparse import Namespace
 from collections.abc import Iterable, Mapping, Sequence
+from itertools import product
 from pathlib import Path
 from typing import cast
 
@@ -31,7 +33,14 @@ from braildesk.tables.convert.tailoring import (
     tailor,
     weights_of,
 )
-from braildesk.tables.convert.word_list import WordList, keep, kept, name_of
+from braildesk.tables.convert.word_list import (
+    WordList,
+    keep,
+    kept,
+    learned_from_list,
+    list_examples,
+    name_of,
+)
 from braildesk.tables.tiling import braille, pieces
 
 from scribe.cli.commands import tune as tune_command
@@ -239,6 +248,40 @@ def test_no_rule_of_several_covers_a_blank_beside_a_word() -> None:
 
 def test_a_word_that_comes_often_counts_as_often() -> None:
     assert weights_of({"a": 24, "b-a": 1}) == {"a": 25, "b-a": 2}
+
+
+def test_tokens_with_marks_within_are_made_of_a_list_of_many_words(
+    tmp_path: Path,
+) -> None:
+    words = ["".join(pair) for pair in product("abcdefg", repeat=2)]
+    (tmp_path / "words").write_text("\n".join(words))
+    found = WordList.of(tmp_path / "words")
+    assert [*found.weights] == words
+    joined = {token for token, weight in found.joined.items() if weight == 0.3}
+    assert found.joined.keys() - joined == {*"abcdefg"}
+    parts = {part for token in joined for part in re.findall("[a-z]+", token.lower())}
+    assert parts <= {*words, *"abcdefg"}
+    for form in ("[a-z]+[.][a-z]+", "/[a-z]+", "[A-Z][.][0-9]+", "[a-z]{2}[0-9]+"):
+        assert any(re.fullmatch(form, token) for token in joined)
+    assert WordList.of(tmp_path / "words") == found
+
+
+def test_tokens_of_a_list_leave_no_word_of_it_wrong() -> None:
+    text = SMALL_LETTERS + b"punctuation . 256\n"
+    chooser = Chooser(read(text).table)
+    words = WordList(Path("words"), {"ab": 1}, {"b.ab": 1, "a.ab": 1, "ab.b": 1})
+    pieces = {
+        "ab": [("ab", "⠆")],
+        **{
+            token: [(one, {"a": "⠁", "b": "⠃", ".": "⠲"}[one]) for one in token]
+            for token in words.joined
+        },
+    }
+    answers = cast(Liblouis, Answers(pieces))
+    found = list_examples(words, answers, chooser, "b", nothing)
+    learned = learned_from_list(words, chooser, found, 100, nothing)
+    assert learned["word", "ab"] == cells_of("⠆")
+    assert all(example.is_right for example in found)
 
 
 def test_several_rules_for_a_token_are_taken_back_where_they_spoil_more() -> None:

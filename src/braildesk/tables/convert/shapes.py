@@ -92,6 +92,18 @@ UNSEEN: Final = (
 )
 """Shapes of sentences, dates, sums, quotations, addresses and passages of capitals."""
 
+JOINED: Final = (
+    *_shapes("words with marks between", "{w}.{w}", "{w}/{w}", "{w}-{w}", "{w}_{w}"),
+    *_shapes("words with marks between", "{w}:{w}", "{w}={w}", "{w}@{w}", "{W}.{w}"),
+    *_shapes("words after a mark", "/{w}", "{w}/{w}/", ".{w}", "*.{w}", "'{w}'"),
+    *_shapes("letters beside a mark", "{w}.{l}", "{w}.{l}/", "{w}({l})", "{w}/{l}"),
+    *_shapes("letters beside a mark", "{l}.{w}", "{l}-{w}", "{l}.{l}.", "{w}-{l}"),
+    *_shapes("letters beside a mark", "-{l}", "({l})", "'{l}'", '"{l}"', "{l}."),
+    *_shapes("letters beside a mark", "{L}.{w}", "{L}.{W}", "{L}.{d}", "{L}.{L}.{L}."),
+    *_shapes("letters beside a number", "{w}{d}", "{l}{d}", "{d}{l}", "{w}{d}.{w}"),
+)
+"""Shapes of tokens with marks and numbers within, as technical texts have: names of files, and versions."""
+
 _SLOT: Final = re.compile(r"\{([wWAlLndt])\}")
 
 

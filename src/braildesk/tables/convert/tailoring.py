@@ -199,7 +199,7 @@ class _Tailoring:
         if known is not None:
             return borne_out(self._chooser, found, known)
         report = self._means.report("rounds of learning from the list")
-        learned = learned_from_list(self._chooser, found, self._most, report)
+        learned = learned_from_list(words, self._chooser, found, self._most, report)
         if folder:
             keep(folder, name, learned)
         return learned
@@ -218,7 +218,9 @@ class _Tailoring:
         )
         for example in own:
             example.choose(self._chooser)
-        others = [one for one in of_list if one.seen.text not in weights]
+        others = [
+            one for one in of_list if one.is_right and one.seen.text not in weights
+        ]
         report = self._means.report("rounds of learning from the manuscript")
         learner = Learner(self._chooser, [*others, *own], self._most)
         learned = learner.learn(BOOK_ROUNDS, report)

@@ -7,6 +7,7 @@ learned from, and a rule stays only if a word of the list bears it out.
 from __future__ import annotations
 
 import hashlib
+import string
 import zlib
 from collections.abc import Iterable, Sequence
 from dataclasses import dataclass
@@ -17,19 +18,45 @@ from braildesk.tables import Rule as TableRule, read
 from braildesk.tables.convert.chooser import Chooser
 from braildesk.tables.convert.draft import TableDraft
 from braildesk.tables.convert.examples import Example, Progress, examples
-from braildesk.tables.convert.learning import LIST_ROUNDS, Learned, Learner
+from braildesk.tables.convert.learning import (
+    JOINED_ROUNDS,
+    LIST_ROUNDS,
+    Learned,
+    Learner,
+)
 from braildesk.tables.convert.operands import write_characters, write_dots
 from braildesk.tables.convert.oracle import Liblouis
+from braildesk.tables.convert.shapes import JOINED, Material, lines_of
 from braildesk.tables.convert.words import forms_in
 
-METHOD: Final = 1
+METHOD: Final = 2
 """Counted up with each change of what is learned from a list."""
 
 MOST_FORMS: Final = 120_000
 """How many words are learned from; of a longer list they are taken by a digest."""
 
 LESS: Final = 0.3
-"""What a form with an apostrophe counts, so that those of a word don't outweigh the word."""
+"""What a form with a mark or a number within counts, so that those of a word don't outweigh the word."""
+
+LONE: Final = 100.0
+"""What a letter that stands alone counts, which tokens of few letters with marks are to leave as it is."""
+
+JOINED_OF_EACH: Final = 150
+"""How many tokens of each shape with marks or numbers within are made of a list of many words."""
+
+SEED: Final = 1
+
+
+def _made_of(forms: Sequence[str]) -> dict[str, float]:
+    """Letters alone and tokens with marks or numbers within, of the words of a list."""
+    words = [one.lower() for one in forms if one.isalpha() and one[1:].islower()]
+    letters = sorted({one for word in words for one in word if len(one.upper()) == 1})
+    upper = {one: one.upper() for one in letters}
+    each = min(JOINED_OF_EACH, len(words) // len(JOINED))
+    defined = {*letters, *upper.values(), *string.digits, *string.punctuation}
+    found = lines_of(JOINED, Material(words, letters, upper), defined, each, SEED)
+    alone = letters if found else []
+    return dict.fromkeys((one.line for one in found), LESS) | dict.fromkeys(alone, LONE)
 
 
 class Folder(Protocol):
@@ -44,10 +71,11 @@ class Folder(Protocol):
 
 @dataclass(frozen=True)
 class WordList:
-    """Words with what each counts."""
+    """Words with what each counts, and tokens that are made of them."""
 
     path: Path
     weights: dict[str, float]
+    joined: dict[str, float]
 
     @classmethod
     def of(cls, path: Path) -> WordList:
@@ -56,11 +84,11 @@ class WordList:
         each = -(-len(forms) // MOST_FORMS) or 1
         taken = [form for form in forms if zlib.crc32(form.encode()) % each == 0]
         weights = {form: 1 if form.isalpha() else LESS for form in taken}
-        return cls(path, weights)
+        return cls(path, weights, _made_of(taken))
 
     @property
     def digest(self) -> str:
-        return _digest("\n".join(self.weights))
+        return _digest("\n".join([*self.weights, "", *self.joined]))
 
 
 def list_examples(
@@ -70,8 +98,9 @@ def list_examples(
     frame: str,
     progress: Progress,
 ) -> list[Example]:
-    """The words of a list as examples."""
-    return examples(liblouis, chooser, words.weights, frame, progress)
+    """The words of a list as examples, and the tokens that are made of them."""
+    weights = words.weights | words.joined
+    return examples(liblouis, chooser, weights, frame, progress)
 
 
 def name_of(words: WordList, draft: TableDraft, version: str) -> str:
@@ -80,12 +109,25 @@ def name_of(words: WordList, draft: TableDraft, version: str) -> str:
 
 
 def learned_from_list(
-    chooser: Chooser, found: Sequence[Example], most: int, progress: Progress
+    words: WordList,
+    chooser: Chooser,
+    found: Sequence[Example],
+    most: int,
+    progress: Progress,
 ) -> Learned:
-    """Learns from the words of a list."""
+    """Learns from the words of a list, and then from the tokens too, so that no word is left wrong for them."""
     for example in found:
         example.choose(chooser)
-    return Learner(chooser, found, most).learn(LIST_ROUNDS, progress)
+    alone = [one for one in found if one.token.strip(" ") in words.weights]
+    rounds = len(LIST_ROUNDS) + len(JOINED_ROUNDS)
+    learned = Learner(chooser, alone, most).learn(
+        LIST_ROUNDS, lambda done, _: progress(done, rounds)
+    )
+    if len(alone) == len(found):
+        return learned
+    return learned | Learner(chooser, found, most).learn(
+        JOINED_ROUNDS, lambda done, _: progress(len(LIST_ROUNDS) + done, rounds)
+    )
 
 
 def keep(folder: Folder, name: str, rules: Learned) -> None:
