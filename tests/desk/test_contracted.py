@@ -151,64 +151,6 @@ def test_a_token_with_more_cells_than_a_rule_gets_several_that_are_tried_togethe
     assert not Learner(chooser, [long], len(chooser)).learn_chains([long])
 
 
-class Answers:
-    """Stands in for liblouis, with the pieces of a few texts."""
-
-    def __init__(self, its: Mapping[str, Sequence[tuple[str, str]]]) -> None:
-        self._pieces = {
-            text: [(piece, cells_of(braille)) for piece, braille in pieces]
-            for text, pieces in its.items()
-        }
-
-    def pieces(self, texts: Sequence[str]) -> list[list[tuple[str, tuple[int, ...]]]]:
-        return [self._pieces[text] for text in texts]
-
-    def ask(self, texts: Iterable[str]) -> list[tuple[int, ...]]:
-        return [
-            tuple(cell for _, cells in self._pieces[text] for cell in cells)
-            for text in texts
-        ]
-
-    def cells(self, text: str) -> tuple[int, ...] | None:
-        return self.ask([text])[0] if text in self._pieces else None
-
-
-def cells_of(braille: str) -> tuple[int, ...]:
-    return tuple(ord(cell) - 0x2800 for cell in braille)
-
-
-def test_a_word_after_a_rule_that_begins_at_the_blank_has_its_cells() -> None:
-    line = "b .a a"
-    chooser = Chooser(
-        read(SMALL_LETTERS + b"punctuation . 256\nalways \\s. 0-256\n").table
-    )
-    single = [("b", "⠃"), (" ", "⠀"), (".", "⠲"), ("a", "⠁")]
-    liblouis = Answers({line: [*single, (" ", "⠐"), ("a", "⠁")]})
-    ours = [chooser.cells(chooser.printed(line))]
-    found = agreement(cast(Liblouis, liblouis), chooser, [line], ours).differences
-    assert found == (Word(0, 5, "a", cells_of("⠁"), cells_of("⠐⠁")),)
-
-
-NUMBERS = SMALL_LETTERS + b"digit 1 1\nnumsign 3456\n"
-
-
-def test_cells_before_the_sign_of_a_number_are_those_of_what_stands_before() -> None:
-    chooser = Chooser(read(NUMBERS).table)
-    pieces = [("b", "⠃"), ("a", "⠁"), ("b", "⠃"), ("1", "⠠⠼⠁")]
-    text = "b bab1 b"
-    around = [("b", "⠃"), (" ", "⠀")], [(" ", "⠀"), ("b", "⠃")]
-    liblouis = Answers({text: [*around[0], *pieces, *around[1]]})
-    found = examples(cast(Liblouis, liblouis), chooser, {"bab1": 1}, "b", nothing)
-    found[0].choose(chooser)
-    learned = Learner(chooser, found, 100).learn([1, 1], nothing)
-    assert learned == {("always", "ab"): cells_of("⠁⠃⠠")}
-    assert found[0].is_right
-
-
-def nothing(done: int, of: int) -> None:
-    """Takes how many are done."""
-
-
 def test_several_rules_for_a_token_are_of_one_length_where_a_short_one_spoils_more() -> (
     None
 ):
@@ -244,6 +186,52 @@ def test_no_rule_of_several_covers_a_blank_beside_a_word() -> None:
     example = Example(seen, wanted, starts, 1, len(seen.text) - 1, 1)
     example.choose(chooser)
     assert not [*chains(example)]
+
+
+NUMBERS = SMALL_LETTERS + b"digit 1 1\nnumsign 3456\n"
+
+
+class Answers:
+    """Stands in for liblouis, with the pieces of a few texts."""
+
+    def __init__(self, its: Mapping[str, Sequence[tuple[str, str]]]) -> None:
+        self._pieces = {
+            text: [(piece, cells_of(braille)) for piece, braille in pieces]
+            for text, pieces in its.items()
+        }
+
+    def pieces(self, texts: Sequence[str]) -> list[list[tuple[str, tuple[int, ...]]]]:
+        return [self._pieces[text] for text in texts]
+
+    def ask(self, texts: Iterable[str]) -> list[tuple[int, ...]]:
+        return [
+            tuple(cell for _, cells in self._pieces[text] for cell in cells)
+            for text in texts
+        ]
+
+    def cells(self, text: str) -> tuple[int, ...] | None:
+        return self.ask([text])[0] if text in self._pieces else None
+
+
+def cells_of(braille: str) -> tuple[int, ...]:
+    return tuple(ord(cell) - 0x2800 for cell in braille)
+
+
+def test_cells_before_the_sign_of_a_number_are_those_of_what_stands_before() -> None:
+    chooser = Chooser(read(NUMBERS).table)
+    pieces = [("b", "⠃"), ("a", "⠁"), ("b", "⠃"), ("1", "⠠⠼⠁")]
+    text = "b bab1 b"
+    around = [("b", "⠃"), (" ", "⠀")], [(" ", "⠀"), ("b", "⠃")]
+    liblouis = Answers({text: [*around[0], *pieces, *around[1]]})
+    found = examples(cast(Liblouis, liblouis), chooser, {"bab1": 1}, "b", nothing)
+    found[0].choose(chooser)
+    learned = Learner(chooser, found, 100).learn([1, 1], nothing)
+    assert learned == {("always", "ab"): cells_of("⠁⠃⠠")}
+    assert found[0].is_right
+
+
+def nothing(done: int, of: int) -> None:
+    """Takes how many are done."""
 
 
 def test_a_word_that_comes_often_counts_as_often() -> None:
@@ -282,6 +270,18 @@ def test_tokens_of_a_list_leave_no_word_of_it_wrong() -> None:
     learned = learned_from_list(words, chooser, found, 100, nothing)
     assert learned["word", "ab"] == cells_of("⠆")
     assert all(example.is_right for example in found)
+
+
+def test_a_word_after_a_rule_that_begins_at_the_blank_has_its_cells() -> None:
+    line = "b .a a"
+    chooser = Chooser(
+        read(SMALL_LETTERS + b"punctuation . 256\nalways \\s. 0-256\n").table
+    )
+    single = [("b", "⠃"), (" ", "⠀"), (".", "⠲"), ("a", "⠁")]
+    liblouis = Answers({line: [*single, (" ", "⠐"), ("a", "⠁")]})
+    ours = [chooser.cells(chooser.printed(line))]
+    found = agreement(cast(Liblouis, liblouis), chooser, [line], ours).differences
+    assert found == (Word(0, 5, "a", cells_of("⠁"), cells_of("⠐⠁")),)
 
 
 def test_several_rules_for_a_token_are_taken_back_where_they_spoil_more() -> None:
@@ -549,7 +549,9 @@ begcapsword 6-6
 uplow Aa 1
 uplow Bb 12
 uplow Xx 1346
+uplow Ee 15
 digit 1 1
+digit 2 12
 space \\s 0
 punctuation . 256
 punctuation " 2356
@@ -575,13 +577,55 @@ word x 56-1346
 def test_a_cause_is_known_by_the_print_and_the_cells(
     line: str, word: str, ours: str, theirs: str, cause: Difference, tmp_path: Path
 ) -> None:
-    ours_there, theirs_there = (
-        tuple(ord(cell) - 0x2800 for cell in cells) for cells in (ours, theirs)
-    )
-    found = Word(0, line.rindex(word), word, ours_there, theirs_there)
+    found = Word(0, line.rindex(word), word, cells_of(ours), cells_of(theirs))
     with Liblouis(small(tmp_path)) as liblouis:
         judge = Judge(liblouis, read(CAUSES).table)
         assert judge.causes([line], [found]) == [cause]
+
+
+@pytest.mark.parametrize(
+    "pieces, ours, cause",
+    [
+        # liblouis has the sign where the table has it, and other letters
+        ([("a", "⠂"), ("B", "⠠⠃")], "⠁⠠⠃", Difference.RULES),
+        ([("a", "⠂"), ("1", "⠼⠁")], "⠁⠼⠁", Difference.RULES),
+        # what is before a number's sign is in reach of a rule for the letter
+        ([("a", "⠁"), ("1", "⠐⠼⠁")], "⠁⠼⠁", Difference.RULES),
+        # no rule leaves a sign out, covers it or has it elsewhere
+        ([("a", "⠁"), ("1", "⠁")], "⠁⠼⠁", Difference.SIGN),
+        ([("aB", "⠂")], "⠁⠠⠃", Difference.SIGN),
+        ([("a", "⠁⠠"), ("1", "⠁⠼")], "⠁⠼⠁", Difference.SIGN),
+        ([(".", "⠼⠲"), ("1", "⠁")], "⠲⠼⠁", Difference.FIRST_MARK),
+        # nor is there anything of the word before its first sign
+        ([("1", "⠐⠼⠁")], "⠼⠁", Difference.SIGN),
+        ([("X", "⠰⠠⠭")], "⠠⠰⠭", Difference.LETTER_SIGN),
+        # a rule for the mark doesn't see what follows the capital
+        ([(".", "⠲"), ("X", "⠰⠠⠭")], "⠲⠠⠰⠭", Difference.LETTER_SIGN),
+    ],
+)
+def test_what_no_rule_can_say_is_known_by_the_signs(
+    pieces: list[tuple[str, str]], ours: str, cause: Difference
+) -> None:
+    text = "".join(piece for piece, _ in pieces)
+    theirs = cells_of("".join(braille for _, braille in pieces))
+    twins = {
+        ".Aaa": [(".", "⠲"), ("A", "⠠⠁"), ("a", "⠁"), ("a", "⠁")],
+        "a2": [("a", "⠁"), ("2", "⠐⠼⠃")],
+    }
+    liblouis = Answers({text: pieces, **twins})
+    judge = Judge(cast(Liblouis, liblouis), read(CAUSES).table)
+    found = Word(0, 0, text, cells_of(ours), theirs)
+    assert judge.causes([text], [found]) == [cause]
+
+
+def test_what_is_before_the_sign_of_every_capital_is_within_reach() -> None:
+    pieces = {
+        ".X": [(".", "⠲"), ("X", "⠰⠠⠭")],
+        ".Aaa": [(".", "⠲"), ("A", "⠰⠠⠁"), ("a", "⠁"), ("a", "⠁")],
+    }
+    judge = Judge(cast(Liblouis, Answers(pieces)), read(CAUSES).table)
+    found = Word(0, 0, ".X", cells_of("⠲⠠⠰⠭"), cells_of("⠲⠰⠠⠭"))
+    assert judge.causes([".X"], [found]) == [Difference.RULES]
 
 
 @pytest.fixture
