@@ -2,8 +2,8 @@
 
     contracted.py FOLDER [TEXT ..]
 
-FOLDER has Debian's packages below `tree`, as contracted.sh puts them there. The method was made with
-the handbook alone; the other texts were held back until it was done. What is found is kept in
+FOLDER has Debian's packages below `tree`, as contracted.sh puts them there. A table is compared with
+the texts of its language, of these with those named if any are. What is found is kept in
 contracted.tsv, from which the tables of figures in contracted.md of src/braildesk/tables/convert are written.
 """
 
@@ -54,6 +54,9 @@ GUIDE = "doc/installation-guide-amd64/{}/*.html"
 STORY = "games/wesnoth/1.16/locale/{}/LC_MESSAGES/wesnoth-httt.mo"
 HELP = "help/{}/gnome-help/*.page"
 QUESTIONS = "doc/debian/FAQ/{}.html"
+REFERENCE = "debian-reference/*.{}.html"
+DEVELOPERS = "developers-reference/{}*.html"
+PICTURES = "gimp/2.0/help/{}/*.html"
 KEPT = Path(__file__).with_suffix(".tsv")
 COLUMNS = "made_for text words right within paragraphs held_back lines seconds".split()
 PAGE = (
@@ -80,16 +83,25 @@ TEXTS = (
     Text("story.en", STORY.format("de")),
     Text("help.en", HELP.format("C")),
     Text("questions.en", QUESTIONS.format("*.en")),
+    Text("reference.en", REFERENCE.format("en")),
+    Text("developers.en", DEVELOPERS.format("")),
+    Text("pictures.en", PICTURES.format("en"), MOST_WORDS),
     Text("handbook.de", HANDBOOK.format("de-DE"), MOST_WORDS),
     Text("install.de", GUIDE.format("de")),
     Text("story.de", STORY.format("de")),
     Text("help.de", HELP.format("de")),
     Text("questions.de", QUESTIONS.format("de/*")),
+    Text("reference.de", REFERENCE.format("de")),
+    Text("developers.de", DEVELOPERS.format("de/")),
+    Text("pictures.de", PICTURES.format("de"), MOST_WORDS),
     Text("handbook.fr", HANDBOOK.format("fr-FR"), MOST_WORDS),
     Text("install.fr", GUIDE.format("fr")),
     Text("story.fr", STORY.format("fr")),
     Text("help.fr", HELP.format("fr")),
     Text("questions.fr", QUESTIONS.format("fr/*")),
+    Text("reference.fr", REFERENCE.format("fr")),
+    Text("developers.fr", DEVELOPERS.format("fr/")),
+    Text("pictures.fr", PICTURES.format("fr"), MOST_WORDS),
 )
 TABLES = {"en": "en-ueb-g2.ctb", "de": "de-g2.ctb", "fr": "fr-bfu-g2.ctb"}
 LANGUAGES = {"en": "English", "de": "German", "fr": "French"}
@@ -101,6 +113,9 @@ TITLES = {
     "story": "*Heir to the Throne*, a story in a game",
     "help": "the help of GNOME",
     "questions": "*The Debian GNU/Linux FAQ*",
+    "reference": "*Debian Reference*",
+    "developers": "*Debian Developer's Reference*",
+    "pictures": "the manual of GIMP",
 }
 LISTS = {"en": "british-english", "de": "ngerman", "fr": "french"}
 
@@ -296,15 +311,14 @@ def share(one: Row, name: str) -> str:
 
 
 def main(folder: Path, names: list[str]) -> None:
-    for text in TEXTS:
+    texts = [text for text in TEXTS if not names or text.name in names]
+    for text in texts:
         whole = "\n\n".join(paragraphs_of(text, folder)) + "\n"
         path_of(text, folder, "txt").write_text(whole, encoding="utf-8")
-    for text in TEXTS:
-        if names and text.name not in names:
-            continue
+    for text in texts:
         print(f"== {text.name}", flush=True)
         made = of_making(text, folder)
-        for other in TEXTS:
+        for other in texts:
             if other.language != text.language:
                 continue
             found = row(text, other, compared(text, other, folder))
