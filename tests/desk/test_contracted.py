@@ -25,7 +25,7 @@ from braildesk.tables.convert.examples import Example, examples
 from braildesk.tables.convert.learning import Learned, Learner
 from braildesk.tables.convert.oracle import Liblouis
 from braildesk.tables.convert.proposals import chains
-from braildesk.tables.convert.running_text import Word, agreement
+from braildesk.tables.convert.running_text import Word, agreement, spoilers
 from braildesk.tables.convert.tailoring import (
     Manuscript,
     Means,
@@ -282,6 +282,25 @@ def test_a_word_after_a_rule_that_begins_at_the_blank_has_its_cells() -> None:
     ours = [chooser.cells(chooser.printed(line))]
     found = agreement(cast(Liblouis, liblouis), chooser, [line], ours).differences
     assert found == (Word(0, 5, "a", cells_of("⠁"), cells_of("⠐⠁")),)
+
+
+def test_rules_over_blanks_are_taken_back_where_whole_lines_show_that_they_spoil() -> (
+    None
+):
+    text = SMALL_LETTERS + b"punctuation . 256\nendword \\s. 0-56-256\n"
+    chooser = Chooser(read(text).table)
+    blank = (" ", "⠀")
+    at_end = [("a", "⠁"), blank, (".", "⠰⠲")]
+    within = [("b", "⠃"), (" .", "⠀⠢"), blank, ("a", "⠁")]
+    liblouis = Answers({"a .": at_end, "b . a": within})
+    rules = {("endword", " ."): (0, 50), ("midword", " . "): (0, 34, 0)}
+    older = {key: chooser.cells_of(*key) for key in rules}
+    for (kind, characters), cells in rules.items():
+        chooser.add((kind, characters, cells))
+    found = spoilers(cast(Liblouis, liblouis), chooser, older, ["a .", "b . a", "a c"])
+    assert found == {("endword", " .")}
+    assert chooser.cells_of("endword", " .") == older["endword", " ."]
+    assert chooser.cells_of("midword", " . ") == (0, 34, 0)
 
 
 def test_several_rules_for_a_token_are_taken_back_where_they_spoil_more() -> None:

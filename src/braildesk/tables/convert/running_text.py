@@ -3,7 +3,7 @@
 from __future__ import annotations
 
 from collections import Counter
-from collections.abc import Iterable, Iterator, Sequence
+from collections.abc import Iterable, Iterator, Mapping, Sequence
 from dataclasses import dataclass
 from typing import Final
 
@@ -108,6 +108,45 @@ def _differences(
             if text and its != their:
                 yield Word(place, start, text, its, their)
             start += len(text) + 1
+
+
+def spoilers(
+    liblouis: Liblouis,
+    chooser: Chooser,
+    older: Mapping[tuple[str, str], Cells | None],
+    lines: Sequence[str],
+) -> set[tuple[str, str]]:
+    """Takes back the rules without which no more words of whole lines have other cells than liblouis's.
+
+    They are given with the cells that they had before. What stands before a blank is seen in lines
+    alone, so a rule that begins with a blank may spoil words that no token shows.
+    """
+    found = set()
+    having = [line for line in lines if not chooser.lacking(line)]
+    for (kind, characters), before in older.items():
+        now = chooser.cells_of(kind, characters)
+        touched = [one for one in having if characters in chooser.printed(one).folded]
+        wrong = _count_wrong(liblouis, chooser, touched)
+        chooser.put_back(kind, characters, before)
+        if _count_wrong(liblouis, chooser, touched) <= wrong:
+            found.add((kind, characters))
+        else:
+            chooser.put_back(kind, characters, now)
+    return found
+
+
+def _count_wrong(liblouis: Liblouis, chooser: Chooser, lines: Iterable[str]) -> int:
+    """How many words of lines have other cells; of a line that isn't parted at its blanks, all."""
+    count = 0
+    for line in lines:
+        have, want = chooser.cells(chooser.printed(line)), liblouis.cells(line)
+        if want is not None and have != want:
+            ours, theirs = _parted(have), _parted(want)
+            words = len(line.split(" "))
+            is_clear = len(ours) == len(theirs) == words
+            unlike = sum(its != their for its, their in zip(ours, theirs))
+            count += unlike if is_clear else words
+    return count
 
 
 def _parted(cells: Cells) -> list[Cells]:

@@ -27,7 +27,12 @@ from braildesk.tables.convert.examples import Example, Progress, examples
 from braildesk.tables.convert.learning import BOOK_ROUNDS, Learned, Learner
 from braildesk.tables.convert.making import Made, make_to_learn
 from braildesk.tables.convert.oracle import Liblouis
-from braildesk.tables.convert.running_text import Agreement, agreement, tokens
+from braildesk.tables.convert.running_text import (
+    Agreement,
+    agreement,
+    spoilers,
+    tokens,
+)
 from braildesk.tables.convert.source import read_source
 from braildesk.tables.convert.subject import Subject, read_subject
 from braildesk.tables.convert.word_list import (
@@ -150,7 +155,9 @@ class _Tailoring:
         self._means: Final = means
         self._trial: Final = ProgramTrial(folder)
         self._made: Final = make_to_learn(subject, self._trial)
-        self._chooser: Final = Chooser(read(self._made.draft.text().encode()).table)
+        table = read(self._made.draft.text().encode()).table
+        self._chooser: Final = Chooser(table)
+        self._as_made: Final = Chooser(table)
         self._most: Final = MOST_LINES - ROOM_FOR_COMMENTS - len(self._made.draft.cells)
         carriers = subject.alphabet.carriers()
         self._frame: Final = carriers[0] * 2 if carriers else ""
@@ -160,11 +167,12 @@ class _Tailoring:
         of_list = self._list_examples()
         from_list = self._from_list(of_list)
         first, back = _parts(paragraphs)
-        learned = self._from_manuscript(first, of_list)
+        learned = self._from_manuscript(first, of_list, from_list)
         held_back = None
         if back:
             held_back = self._figures(from_list, learned, first, back)
-            learned |= self._from_manuscript(paragraphs, of_list)
+            known = from_list | learned
+            learned |= self._from_manuscript(paragraphs, of_list, known)
         own = self._figures(from_list, learned, paragraphs, paragraphs)
         return Tailored(
             self._made_with(from_list, learned, paragraphs),
@@ -205,9 +213,12 @@ class _Tailoring:
         return learned
 
     def _from_manuscript(
-        self, paragraphs: Sequence[str], of_list: Sequence[Example]
+        self, paragraphs: Sequence[str], of_list: Sequence[Example], known: Learned
     ) -> Learned:
-        """Learns from the tokens of paragraphs, so that no word of the list is spoiled."""
+        """Learns from the tokens of paragraphs, so that no word of the list is spoiled.
+
+        Some rules are known already.
+        """
         weights = weights_of(tokens(self._liblouis, paragraphs))
         own = examples(
             self._liblouis,
@@ -224,7 +235,14 @@ class _Tailoring:
         report = self._means.report("rounds of learning from the manuscript")
         learner = Learner(self._chooser, [*others, *own], self._most)
         learned = learner.learn(BOOK_ROUNDS, report)
-        return learned | learner.learn_chains(own)
+        learned |= learner.learn_chains(own)
+        older = {
+            key: known.get(key, self._as_made.cells_of(*key))
+            for key in learned
+            if " " in key[1]
+        }
+        spoiling = spoilers(self._liblouis, self._chooser, older, paragraphs)
+        return {key: its for key, its in learned.items() if key not in spoiling}
 
     def _figures(
         self,
