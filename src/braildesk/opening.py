@@ -7,7 +7,7 @@ import sqlite3
 import stat
 import struct
 import time
-from collections.abc import Callable
+from collections.abc import Callable, Iterable, Iterator
 from contextlib import closing
 from os import PathLike, fsencode, fspath
 from typing import BinaryIO, TypeVar
@@ -284,6 +284,46 @@ def _keeps_its_rows(database: sqlite3.Connection) -> bool:
         "SELECT lower(name), type FROM pragma_table_list WHERE schema = 'main'"
     )
     return all(kind == b"table" for name, kind in kinds if name in _TABLES)
+
+
+#: What of a book no command changes or takes away, in an order that a later book keeps.
+_LASTING = (
+    "SELECT id, original FROM main.para ORDER BY id",
+    "SELECT para, seq, kind, start, len, body, who FROM main.corr2 ORDER BY para, seq",
+    "SELECT id, para, note FROM main.mark ORDER BY id",
+)
+
+
+def goes_on(earlier: str | PathLike[str], later: str | PathLike[str]) -> bool:
+    """Whether one book has all of another, as after further commands; both were checked.
+
+    It is also said to have all if they can't be compared, as where one is of an older format.
+    """
+    try:
+        with closing(_whole(earlier)) as before, closing(_whole(later)) as after:
+            if _version(before) > _version(after):
+                return False
+            return all(_has_all(before.execute(q), after.execute(q)) for q in _LASTING)
+    except sqlite3.Error:
+        return True
+
+
+def _whole(path: str | PathLike[str]) -> sqlite3.Connection:
+    """What reads all of a book that was checked, however many rows it has."""
+    database = reader(path, True)
+    database.set_progress_handler(None, 0)
+    database.text_factory = bytes
+    return database
+
+
+def _version(database: sqlite3.Connection) -> int:
+    ((version,),) = database.execute("SELECT version FROM main.book")
+    return int(version)
+
+
+def _has_all(rows: Iterable[object], found: Iterator[object]) -> bool:
+    """Whether rows are among others, both in their order."""
+    return all(row in found for row in rows)
 
 
 Result = TypeVar("Result")

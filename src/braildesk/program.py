@@ -12,7 +12,7 @@ from pathlib import Path
 from braildesk import opening
 from braildesk.held import copy_held, held
 from braildesk.named_files import read_file
-from braildesk.opening import fault_in, has_work, waited
+from braildesk.opening import fault_in, goes_on, has_work, waited
 from braildesk.protocol.asked import (
     AskedOfFile,
     BookFile,
@@ -211,7 +211,9 @@ def _fault_with_log(path: str, log: str, program: str) -> Why | None:
         if fault is Why.COMPUTED:
             return fault
         is_whole = fault is None and _is_book(both, program)
-        is_of_another = not is_whole and _is_book(alone, program)
+        is_of_another = _is_book(alone, program) and not (
+            is_whole and goes_on(alone, both)
+        )
     return Why.OTHER_LOG if is_of_another else fault
 
 

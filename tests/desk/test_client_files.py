@@ -49,9 +49,14 @@ def killed_after(path: Path, text: str) -> None:
     """Leaves work in the file beside a book, by a session that is killed."""
     with Session(path) as session:
         session.add_paragraph("end", "en", text)
-        os.kill(session.pid, signal.SIGKILL)
-        with pytest.raises(braildesk.SessionEnded):
-            session.version()
+        kill(session)
+
+
+def kill(session: Session) -> None:
+    """Kills a session after its last command."""
+    os.kill(session.pid, signal.SIGKILL)
+    with pytest.raises(braildesk.SessionEnded):
+        session.version()
 
 
 def test_the_tables_of_a_book_are_read_with_their_texts(empty_book: Path) -> None:
@@ -974,15 +979,69 @@ def test_an_older_copy_beside_the_log_of_a_newer_book_is_said_to_be_that(
         assert caught.value.why == Why.OTHER_LOG
         assert caught.value.sentence == (
             f"The file “{log}” isn't that of “{book}” as it is: “{book}” is whole without it, and"
-            " damaged with it. It may be that an earlier copy was put in the place of the book."
-            f" Nothing was changed. Keep both files; to go on with “{book}” as it is, move “{log}”"
-            " away."
+            " with it would be damaged or lose what it has. It may be that another file was put in"
+            f" the place of the book. Nothing was changed. Keep both files; to go on with “{book}”"
+            f" as it is, move “{log}” away."
         )
     assert (book.read_bytes(), log.read_bytes()) == before
     # the program itself would put the two together
     assert str(book) not in asked.read_text().split()
     log.unlink()
     assert braildesk.check(book) == 1
+
+
+@pytest.mark.parametrize(
+    "done_in_copy",
+    [
+        lambda copy: copy.add_paragraph("end", "en", "of the copy"),
+        lambda copy: copy.correct(1, 0, 2, "of"),
+        lambda copy: copy.add_mark(1, 0, 1, "of the copy"),
+        lambda copy: [copy.strike(1), copy.restore(1), copy.strike(1)],
+    ],
+    ids=["paragraph", "correction", "mark", "later"],
+)
+def test_work_in_a_copy_is_not_replaced_by_the_log_of_the_book_whose_place_it_took(
+    book: Path, tmp_path: Path, done_in_copy: Callable[[Session], object]
+) -> None:
+    with Session(book) as session:
+        session.add_paragraph("end", "en", "in both")
+    copied = tmp_path / "copied"
+    braildesk.copy(book, copied)
+    with Session(copied) as session:
+        done_in_copy(session)
+    with Session(book) as session:
+        session.add_paragraph("end", "en", "left")
+        session.add_mark(1, 0, 1, "left")
+        kill(session)
+    copied.replace(book)
+    before = book.read_bytes(), Path(f"{book}-wal").read_bytes()
+    attempts: list[Callable[[], object]] = [
+        lambda: Session(book),
+        lambda: braildesk.check(book),
+        lambda: braildesk.copy(book, tmp_path / "another"),
+    ]
+    for attempt in attempts:
+        with pytest.raises(CannotOpen) as caught:
+            attempt()
+        assert caught.value.why == Why.OTHER_LOG
+    assert (book.read_bytes(), Path(f"{book}-wal").read_bytes()) == before
+
+
+def test_a_copy_from_before_the_work_in_a_log_is_completed_by_it(
+    book: Path, tmp_path: Path
+) -> None:
+    with Session(book) as session:
+        session.add_paragraph("end", "en", "in both")
+        session.add_mark(1, 0, 1, "in both")
+    copied = tmp_path / "copied"
+    braildesk.copy(book, copied)
+    with Session(book) as session:
+        session.correct(1, 0, 2, "of")
+        session.strike(1)
+        kill(session)
+    copied.replace(book)
+    with Session(book) as session:
+        assert (session.version(), session.print_of(1)) == (5, "of both")
 
 
 def test_a_new_book_is_not_made_beside_the_work_of_another(book: Path) -> None:

@@ -160,8 +160,9 @@ UNOPENED = MappingProxyType(
         " work would be looked for in another place, so it is opened by none. Nothing was changed."
         " Remove the other name; if one of them has a file ending in -wal beside it, keep that one.",
         Why.OTHER_LOG: "The file {log} isn't that of {path} as it is: {path} is whole without it,"
-        " and damaged with it. It may be that an earlier copy was put in the place of the book."
-        " Nothing was changed. Keep both files; to go on with {path} as it is, move {log} away.",
+        " and with it would be damaged or lose what it has. It may be that another file was put in"
+        " the place of the book. Nothing was changed. Keep both files; to go on with {path} as it"
+        " is, move {log} away.",
         Why.NO_LOG: "What stands at {log} is no file of its own, but a link, a folder, a pipe or"
         " another such thing, and the newest work of {path} would be looked for there. Nothing was"
         " changed. Move it away.",
