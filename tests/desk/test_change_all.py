@@ -1,6 +1,8 @@
 """`scribe change-all`: words replaced wherever they stand, by the smallest corrections."""
 
+import os
 import re
+import signal
 from io import BytesIO, StringIO
 from pathlib import Path
 
@@ -216,6 +218,34 @@ def test_where_it_is_stopped_it_is_said_what_is_in_the_book(
     assert said.getvalue() == (
         "Stopped. Of 4 places 2 are changed in the book, from its front on. The book is at"
         " version 7.\n"
+    )
+    assert prints(moons) == ["The moon and the Mooon.", "A moonlit mooon", "No mooon"]
+
+
+def test_where_the_session_ends_it_is_said_how_many_places_are_changed(
+    moons: Path, monkeypatch: pytest.MonkeyPatch
+) -> None:
+    left = [2]
+
+    def killed(
+        session: Session, number: int, text: str, place: Span, new: str, by: str | None
+    ) -> Change:
+        change = change_place(session, number, text, place, new, by)
+        left[0] -= 1
+        if not left[0]:
+            os.kill(session.pid, signal.SIGKILL)
+        return change
+
+    monkeypatch.setattr("braildesk.desk.change_all.change_place", killed)
+    shown, said = StringIO(), StringIO()
+    status = run_words(
+        ["change-all", str(moons), "mooon", "moon"], Console(BytesIO(), shown, said)
+    )
+    assert (status, said.getvalue()) == (
+        3,
+        "Of 4 places 2 are changed in the book, from its front on. The book is at version 7.\n"
+        "The session was ended by signal 9.\n"
+        "The book was opened again: it is at version 7, and what was changed last is in it.\n",
     )
     assert prints(moons) == ["The moon and the Mooon.", "A moonlit mooon", "No mooon"]
 

@@ -7,7 +7,15 @@ from dataclasses import dataclass
 from pathlib import Path
 from typing import TYPE_CHECKING, TypeAlias
 
-from braildesk import CannotOpen, Lost, Session, Why, check
+from braildesk import (
+    CannotOpen,
+    DeskError,
+    Displaced,
+    Lost,
+    Session,
+    Why,
+    check,
+)
 from braildesk.desk import USUAL_WAIT
 from braildesk.desk.places import ManyPlaces
 from braildesk.text.excerpt import excerpt_lines
@@ -84,7 +92,7 @@ def said_where_stopped(
     console: Console,
     so_far: Callable[[int, int], str],
 ) -> Iterator[None]:
-    """Says what is in the book if many changes are stopped among them.
+    """Says what is in the book if many changes are stopped among them, or their session ends.
 
     This is said by how many were made, each of which is a version, and the version of the book.
     """
@@ -98,6 +106,15 @@ def said_where_stopped(
         now = check(arguments.file, timeout=getattr(arguments, "wait", USUAL_WAIT))
         console.say(f"{stopped_by(cause)} {so_far(now - first, now)}")
         raise Interrupted.after(cause) from cause
+    except Displaced:
+        # another file may stand at the path, which doesn't say what was changed
+        raise
+    except Lost as lost:
+        with suppress(DeskError):
+            now = check(arguments.file, timeout=getattr(arguments, "wait", USUAL_WAIT))
+            if first < now <= lost.version + len(lost.unanswered):
+                console.say(so_far(now - first, now))
+        raise
 
 
 @contextmanager
