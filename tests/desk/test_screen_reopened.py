@@ -325,6 +325,52 @@ def test_a_command_to_a_book_that_is_gone_from_its_path_is_not_shown_as_kept(
         assert session.print_of(4) == "Soon."
 
 
+def another(moon: Path, texts: int) -> Path:
+    """A book made of a copy, by so many commands."""
+    other = moon.with_name("other.braildesk")
+    shutil.copyfile(moon, other)
+    with Session(other) as session:
+        for _ in range(texts):
+            session.correct(1, 0, 3, "Our")
+    return other
+
+
+@pytest.mark.parametrize("commands", [0, 1, 2])
+def test_another_book_is_not_shown_with_what_was_kept_in_the_one_before(
+    moon: Path, sit: Sit, commands: int
+) -> None:
+    other = another(moon, commands)
+    sat = sit(moon)
+    sat.press("enter", "x", "enter")
+    assert sat.state.kept == "kept: correction 2 of paragraph 1"
+    other.rename(moon)
+    sat.press("b", "enter")
+    version = 7 + commands
+    assert sat.state.message.startswith(
+        "The file that is at the path now is open. It is at"
+    )
+    assert (
+        sat.lines[0] == f"moon.braildesk, version {version}, table en, nothing kept yet"
+    )
+    # nor is what another did there taken back as what was done here
+    sat.press("u")
+    assert "was corrected" not in sat.state.message
+
+
+def test_an_earlier_copy_that_is_there_after_a_session_ended_has_nothing_kept(
+    moon: Path, sit: Sit
+) -> None:
+    other = another(moon, 0)
+    sat = sit(moon)
+    sat.press("s")
+    os.kill(sat.desk.pid, signal.SIGKILL)
+    once_free(moon).close()
+    other.rename(moon)
+    sat.state = sat.desk.lost(sat.state)
+    assert "it is at version 7" in sat.state.message
+    assert sat.lines[0].endswith("version 7, table en, nothing kept yet")
+
+
 def test_a_change_by_another_program_meanwhile_is_said(moon: Path, sit: Sit) -> None:
     sat = sit(moon)
 

@@ -1,12 +1,13 @@
 """The session of a window, and what is taken back there, without a window."""
 
+import shutil
 from collections.abc import Callable, Iterator, Sequence
 from pathlib import Path
 from typing import Any
 
 import pytest
 
-from braildesk import Session, Style, requests
+from braildesk import Displaced, Session, Style, requests
 from braildesk.desk.draft import Aim, Draft
 from braildesk.desk.search import Spot
 from braildesk.protocol.requests import Command
@@ -167,3 +168,40 @@ def test_what_is_known_after_a_table_a_restoring_and_an_undo_is_what_the_book_ha
     ]
     for act in acts:
         assert act().contents.paragraphs == book.session.paragraphs()
+
+
+def _another(moon: Path) -> Path:
+    """A book that had the same done to it, by another."""
+    other = moon.with_name("other.braildesk")
+    shutil.copyfile(moon, other)
+    with Session(other) as session:
+        session.set_style(1, Style.HEADING)
+    return other
+
+
+def test_what_was_done_is_not_taken_back_in_another_book(
+    book: OpenBook, moon: Path
+) -> None:
+    other = _another(moon)
+    book.done(requests.Style(1, Style.HEADING))
+    other.rename(moon)
+    with pytest.raises(Displaced) as caught:
+        book.done(requests.Move(1, "end"))
+    found, said = book.open_after(caught.value)
+    assert found is None and said == [caught.value.sentence]
+    book.opened_again()
+    with pytest.raises(NothingToTakeBack):
+        book.taken_back(lambda *_: None)
+    assert book.contents().paragraphs[0].style is Style.HEADING
+
+
+def test_what_was_done_is_not_taken_back_in_another_book_after_an_import(
+    book: OpenBook, moon: Path
+) -> None:
+    other = _another(moon)
+    book.done(requests.Style(1, Style.HEADING))
+    other.rename(moon)
+    with pytest.raises(Displaced):
+        book.close()
+    book.opened_again()
+    assert book.last_deed is None

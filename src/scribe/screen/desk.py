@@ -102,6 +102,7 @@ _PASTED = (
     "Pasted text goes in after Enter or o. No key of it was obeyed. U brings it back, for a new"
     " paragraph."
 )
+_OPEN_INSTEAD = "The file that is at the path now is open."
 _TYPE_ON = "What is typed is still here: type on."
 # the first words of a listed paragraph are kept as long as any line may be
 _WORDS = 300
@@ -422,18 +423,21 @@ class Desk:
             self.tables.put(table.name, table.text)
 
     def _opened_again(self, state: State) -> State:
-        book = self._session.paragraphs()
+        book, version = self._session.paragraphs(), self._session.last_version
         number = state.paragraph.id if state.paragraph else None
-        # what others did may be in the way of taking back what was done here
-        is_same = state.version == self._session.last_version
+        # what was kept isn't in an earlier copy, nor in another book
+        is_there = version >= state.version and not state.is_displaced
         state = replace(
             state,
-            version=self._session.last_version,
+            version=version,
             book=book,
             tables=self.tables.names,
             openings={},
             reading=None,
-            deeds=state.deeds if is_same else (),
+            kept=state.kept if is_there else "",
+            # what others did may be in the way of taking back what was done here
+            deeds=state.deeds if is_there and version == state.version else (),
+            is_displaced=False,
         )
         places = [n for n, each in enumerate(book) if each.id == number]
         return state.at(places[0], state.place) if places else state.at(0)
@@ -612,7 +616,7 @@ class Desk:
             )
             return self._offered(found.saying(f"{said} {now}"), waits)
         except Lost as lost:
-            return self._ended(state, lost.sentence)
+            return self._ended(_displaced_by(lost, state), lost.sentence)
         except DeskError as failed:
             return _closed(state, failed.sentence)
         except OSError as failure:
@@ -622,7 +626,7 @@ class Desk:
         """The book opened again after its session ended by itself, and what it has is said."""
         state = self.saved(state.saying(""))
         if isinstance(lost, Displaced):
-            return self._ended(state, lost.sentence)
+            return self._ended(_displaced_by(lost, state), lost.sentence)
         waits = draft_of(state) or self._unsent.waiting
         unsaved = state.message if waits != self._unsent.waiting else ""
         try:
@@ -799,7 +803,10 @@ class Desk:
             case GiveUp() | PutOff() | BringBack() | PutBy():
                 return self._with_text(state, action)
             case OpenAgain():
-                return self._opened_anew(state, "The book is open again.")
+                said = (
+                    _OPEN_INSTEAD if state.is_displaced else "The book is open again."
+                )
+                return self._opened_anew(state, said)
 
     def _left_out(self, state: State, action: LeaveImport) -> State:
         self.drafts.end_import(action.note)
@@ -1022,6 +1029,12 @@ def _changed_between(before: State, after: State) -> tuple[str, ...]:
         f"Another program changed the book meanwhile. It is at version {after.version:,} now,"
         " and is shown as it is.",
     )
+
+
+def _displaced_by(lost: Lost, state: State) -> State:
+    """The state, which says if what was kept isn't in the file that stands at the path now."""
+    is_displaced = state.is_displaced or isinstance(lost, Displaced)
+    return replace(state, is_displaced=is_displaced)
 
 
 def _closed(state: State, sentence: str) -> State:

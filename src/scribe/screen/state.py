@@ -196,6 +196,8 @@ class State:
     kept: str = ""
     #: The session with the book ended by itself.
     is_lost: bool = False
+    #: What was kept isn't in the file that stands at the path now.
+    is_displaced: bool = False
     #: What is going on beside the screen.
     away: (ExportTo | ImportFrom | ByPages | TakeBack | OfWholeBook | None) = None
     is_over: bool = False

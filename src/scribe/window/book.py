@@ -157,9 +157,19 @@ class OpenBook:
             session.close()
             raise
 
+    def opened_again(self) -> Contents:
+        """Opens the book after its session ended; only what nobody else changed is taken back."""
+        before = self._session.last_version
+        found = self.opened()
+        if found.version != before:
+            self._deeds = ()
+        return found
+
     def open_after(self, lost: Lost) -> tuple[Contents | None, list[str]]:
         """Opens the book again after its session was lost, and says what the book has."""
         if isinstance(lost, Displaced):
+            # in what stands there now something else would be taken back
+            self._deeds = ()
             return None, [lost.sentence]
         session, said = opened_again(self.path, lost)
         if session is None:
@@ -172,7 +182,11 @@ class OpenBook:
 
     def close(self) -> None:
         """Ends the session; what was kept is in the book."""
-        self._session.close()
+        try:
+            self._session.close()
+        except Displaced:
+            self._deeds = ()
+            raise
 
     def contents(self) -> Contents:
         """The book as it is now."""

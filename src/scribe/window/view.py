@@ -136,7 +136,7 @@ class View:
         if not desk.is_closed:
             desk.say("The book is open.")
             return
-        desk.taken_again(desk.work.result(desk.book.opened))
+        desk.taken_again(desk.work.result(desk.book.opened_again))
         desk.say(f"The book is open again, at version {desk.contents.version:,}.")
 
     def leave(self) -> None:
