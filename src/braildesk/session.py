@@ -86,6 +86,9 @@ class Session:
         self._is_saving = False
         self._lost: Lost | None = None
         self._acknowledged: Request[Any] | None = None
+        #: Whether what the file holds was kept by this session, or by one that it goes on for.
+        self._is_at_stake = False
+        self._strayed = ""
         self._answered = 0
 
     def __del__(self) -> None:
@@ -120,16 +123,30 @@ class Session:
             return
         self._settle()
         # looked at while nobody else can have it: once the program has ended, anybody may replace it
-        if self._acknowledged is not None and not self._file.is_at_its_path:
+        is_gone, is_foreign = not self._file.is_at_its_path, self._file.is_written_into
+        if is_gone and self._is_at_stake:
             raise self._displaced()
-        is_foreign = self._acknowledged is not None and self._file.is_written_into
-        if is_foreign or self._file.is_overwritten:
+        if is_foreign and self._is_at_stake or self._file.is_overwritten:
             raise self._overwritten()
+        if is_gone or is_foreign:
+            self._strayed = self._gone() if is_gone else self._written_over()
         self._is_closed = True
         ending = self._pipe.close()
         if ending.status:
             raise self._lose(SessionEnded, _ended(ending))
         self._file.close()
+
+    def guard(self) -> None:
+        """Has the session look after what an earlier one kept as after what it keeps itself."""
+        self._is_at_stake = True
+
+    @property
+    def strayed(self) -> str:
+        """What became of the file under a session that kept nothing, in a sentence, once it is closed.
+
+        Nothing if the book is in its file as before.
+        """
+        return self._strayed
 
     @property
     def last_version(self) -> int:
@@ -341,7 +358,7 @@ class Session:
 
         A session that only asks has nothing to lose there.
         """
-        is_at_stake = self._acknowledged is not None or isinstance(request, Command)
+        is_at_stake = self._is_at_stake or isinstance(request, Command)
         if is_at_stake and not self._is_saving and self._file.is_written_into:
             raise self._overwritten()
 
@@ -354,7 +371,7 @@ class Session:
         if reply.word != "no":
             self._seen = reply.numbers[0]
             if reply.word == "ok":
-                self._acknowledged = request
+                self._acknowledged, self._is_at_stake = request, True
 
     def _explained(self, refusal: Refused) -> Refused:
         """The refusal with what the book shows, if its sentence needs that."""
@@ -398,12 +415,7 @@ class Session:
         self._is_closed = True
         self._pipe.drop()
         self._pipe.close()
-        shown = shortened(self._book.path, len(self._book.path))
-        is_replaced = os.path.lexists(self._file.path)
-        what = "another one was put there" if is_replaced else "it was removed or moved"
-        cause = (
-            f"The file of the book is no longer at {shown}: {what} while it was open."
-        )
+        cause = self._gone()
         try:
             saved = self._file.save(self._program, self._seen)
             kept = (
@@ -426,11 +438,7 @@ class Session:
         The program answers from what it has in memory, whatever stands in the file.
         """
         self._is_saving, self._is_streaming = True, False
-        shown = shortened(self._book.path, len(self._book.path))
-        cause = (
-            f"Another program wrote into the file of the book, {shown}, while it was open: it isn't"
-            " that book any more."
-        )
+        cause = self._written_over()
         try:
             saved = self._file.save_text(self._all_print())
             kept = (
@@ -455,6 +463,23 @@ class Session:
         self._file.close()
         self._lost = self._lost_as(Displaced, cause, kept)
         return self._lost
+
+    def _gone(self) -> str:
+        """That the file isn't at its path any more."""
+        shown = shortened(self._book.path, len(self._book.path))
+        is_replaced = os.path.lexists(self._file.path)
+        what = "another one was put there" if is_replaced else "it was removed or moved"
+        return (
+            f"The file of the book is no longer at {shown}: {what} while it was open."
+        )
+
+    def _written_over(self) -> str:
+        """That others wrote into the file."""
+        shown = shortened(self._book.path, len(self._book.path))
+        return (
+            f"Another program wrote into the file of the book, {shown}, while it was open: it isn't"
+            " that book any more."
+        )
 
     def _all_print(self) -> str:
         """The print of all paragraphs, with an empty line between each and the next."""

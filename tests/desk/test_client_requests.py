@@ -161,7 +161,7 @@ VALUES: dict[str, object] = {
     "style": Style.HEADING,
     "begins": True,
 }
-OTHER_METHODS = {"ask", "reply", "each", "close", "tables", "take_over"}
+OTHER_METHODS = {"ask", "reply", "each", "close", "tables", "take_over", "guard"}
 
 
 def test_a_session_has_a_method_for_each_request() -> None:

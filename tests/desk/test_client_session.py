@@ -579,6 +579,12 @@ def linked(book: Path) -> None:
     book.symlink_to("elsewhere")
 
 
+def written_in(book: Path) -> None:
+    with open(book, "r+b") as file:
+        file.seek(-1, os.SEEK_END)
+        file.write(b"!")
+
+
 @pytest.mark.parametrize("moved", [removed, renamed, replaced, linked])
 @pytest.mark.parametrize("moment", ["before a command", "before the end"])
 def test_a_book_that_is_gone_from_its_path_is_saved_and_said(
@@ -606,6 +612,43 @@ def test_a_book_that_is_gone_from_its_path_is_saved_and_said(
     assert saved.stat().st_mode & 0o777 == 0o640
     with Session(saved) as session:
         assert [session.print_of(1), session.print_of(2)] == ["One.", "Two."]
+
+
+@pytest.mark.parametrize("moved", [removed, renamed, replaced, linked])
+def test_what_an_earlier_session_kept_is_saved_by_a_later_one_that_only_asks(
+    book: Path, moved: Callable[[Path], None]
+) -> None:
+    with Session(book) as session:
+        session.add_paragraph("end", "en", "One.")
+    with pytest.raises(Displaced):
+        with Session(book) as session:
+            session.guard()
+            assert session.print_of(1) == "One."
+            moved(book)
+    with Session(Path(f"{book}-saved-1")) as session:
+        assert session.print_of(1) == "One."
+
+
+@pytest.mark.parametrize(
+    "moved, said",
+    [
+        (lambda book: None, ""),
+        (removed, "The file of the book is no longer at “{}”: it was removed or moved"),
+        (
+            replaced,
+            "The file of the book is no longer at “{}”: another one was put there",
+        ),
+        (written_in, "Another program wrote into the file of the book, “{}”,"),
+    ],
+)
+def test_a_session_that_only_asked_says_what_became_of_the_file_once_it_is_closed(
+    book: Path, moved: Callable[[Path], None], said: str
+) -> None:
+    with Session(book) as session:
+        moved(book)
+    assert session.strayed.startswith(said.format(book))
+    assert bool(session.strayed) is bool(said)
+    assert not list(book.parent.glob("*-saved-*"))
 
 
 def test_a_book_that_is_gone_with_its_folder_says_that_it_is_not_saved(

@@ -7,7 +7,7 @@ from pathlib import Path
 
 import pytest
 
-from braildesk import Session
+from braildesk import Displaced, Session
 
 from sitting import Sat, Sit
 from stand_in import ANSWERED, HALF, KEPT, KILL_PROGRAM, READ, REPLY, SEND
@@ -371,6 +371,30 @@ def test_an_earlier_copy_that_is_there_after_a_session_ended_has_nothing_kept(
     assert sat.lines[0].endswith("version 7, table en, nothing kept yet")
 
 
+@pytest.mark.parametrize("ended", ["by a kill", "for an export"])
+def test_what_was_kept_before_a_session_ended_is_saved_from_the_next_one(
+    moon: Path, sit: Sit, ended: str
+) -> None:
+    other = another(moon, 0)
+    sat = sit(moon)
+    sat.press("O")
+    sat.write("Soon.")
+    sat.press("enter", "escape")
+    assert sat.state.kept == "kept: paragraph 4"
+    if ended == "by a kill":
+        killed(sat)
+    else:
+        sat.press("x")
+        sat.write(str(moon.parent / "pages"))
+        sat.press("enter")
+        sat.state = sat.desk.away(sat.state, lambda said: None)
+    other.rename(moon)
+    with pytest.raises(Displaced):
+        sat.desk.close()
+    with Session(moon.with_name("moon.braildesk-saved-1")) as session:
+        assert session.print_of(4) == "Soon."
+
+
 def test_a_change_by_another_program_meanwhile_is_said(moon: Path, sit: Sit) -> None:
     sat = sit(moon)
 
@@ -424,3 +448,27 @@ def test_the_book_is_opened_again_at_the_terminal(moon: Path, at: Open) -> None:
         terminal.wait(f"version {7 + number}, ")
     terminal.keys("q")
     assert terminal.ended() == 0
+
+
+@pytest.mark.parametrize(
+    "is_replaced, what",
+    [(False, "it was removed or moved"), (True, "another one was put there")],
+)
+def test_a_book_that_is_gone_is_not_said_to_be_at_a_version(
+    moon: Path, at: Open, is_replaced: bool, what: str
+) -> None:
+    terminal = at(moon)
+    terminal.wait("? shows the keys.")
+    if is_replaced:
+        another(moon, 1).rename(moon)
+    else:
+        moon.unlink()
+    terminal.keys("q")
+    assert terminal.ended() == 0
+    assert (
+        terminal.said.split()
+        == (
+            f"The file of the book is no longer at “{moon}”: {what} while it was open. Nothing was"
+            " changed in it here."
+        ).split()
+    )

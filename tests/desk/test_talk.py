@@ -526,6 +526,34 @@ def test_a_lost_session_says_what_was_kept_and_what_was_not_and_talks_on(
     assert braildesk.check(moon) == 9
 
 
+@pytest.mark.parametrize("kept", [True, False])
+def test_a_talk_whose_book_is_gone_says_no_version_of_it(
+    talk: Talk, moon: Path, kept: bool
+) -> None:
+    if kept:
+        talk.type("strike 1")
+    moon.unlink()
+    ran = talk.end("quit\r")
+    assert ran.status == (3 if kept else 0)
+    said = " ".join(ran.shown.split())
+    assert "while it was open." in said and "at version" not in said
+    saved = moon.with_name("moon.braildesk-saved-1")
+    assert saved.exists() is kept
+
+
+@pytest.mark.parametrize("is_gone", [True, False])
+def test_what_was_kept_before_the_session_of_a_talk_ended_is_saved_at_its_end(
+    talk: Talk, moon: Path, is_gone: bool
+) -> None:
+    talk.type("strike 1")
+    os.kill(talk.program(), signal.SIGKILL)
+    talk.type("list")
+    if is_gone:
+        moon.unlink()
+    assert talk.end("quit\r").status == (3 if is_gone else 0)
+    assert moon.with_name("moon.braildesk-saved-1").exists() is is_gone
+
+
 def test_a_talk_whose_book_can_not_be_opened_again_ends(talk: Talk, moon: Path) -> None:
     os.kill(talk.program(), signal.SIGKILL)
     moon.rename(moon.with_name("moved"))

@@ -205,3 +205,18 @@ def test_what_was_done_is_not_taken_back_in_another_book_after_an_import(
         book.close()
     book.opened_again()
     assert book.last_deed is None
+
+
+def test_what_was_kept_before_an_import_is_saved_from_the_session_after_it(
+    moon: Path,
+) -> None:
+    book = OpenBook(moon, None, 0.0)
+    before = book.opened()
+    book.done(requests.Style(1, Style.HEADING))
+    book.close()
+    book.imported(before)
+    moon.unlink()
+    with pytest.raises(Displaced):
+        book.close()
+    with Session(moon.with_name("moon.braildesk-saved-1")) as session:
+        assert session.paragraphs()[0].style is Style.HEADING

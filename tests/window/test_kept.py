@@ -114,6 +114,24 @@ def test_a_book_that_is_open_elsewhere_is_not_shown(moon: Path, at: Open) -> Non
     assert f"Another program has “{moon}” open." in said.decode()
 
 
+@pytest.mark.parametrize("is_kept", [True, False])
+def test_a_book_that_is_gone_is_not_said_to_be_at_a_version(
+    moon: Path, at: Open, is_kept: bool
+) -> None:
+    window = at(moon)
+    moon.unlink()
+    if is_kept:
+        window.press("Ctrl+t")
+        window.focus("text", "Message")
+    window.press("Ctrl+q")
+    shown, said = window.program.communicate(timeout=60)
+    assert window.program.returncode == (3 if is_kept else 0)
+    assert shown == b""
+    assert " ".join(said.decode().split()).startswith(
+        f"The file of the book is no longer at “{moon}”: it was removed or moved while it was open."
+    )
+
+
 def _session_of(window: Reader) -> int:
     """The number of the process of the session of a window."""
     task = Path(f"/proc/{window.program.pid}/task")

@@ -32,6 +32,7 @@ class FoundAgain:
 def opened_again(path: Path, lost: Lost) -> tuple[Session, FoundAgain]:
     """The book in another session, and what it has; raises `DeskError` or `OSError`."""
     session = Session(path, timeout=_PATIENCE)
+    session.guard()
     try:
         return session, found_again(session, lost)
     except DeskError as failed:

@@ -142,6 +142,11 @@ class Desk:
         """The number of the process of the session."""
         return self._session.pid
 
+    @property
+    def strayed(self) -> str:
+        """What became of the file of a book in which nothing was kept, once it is closed."""
+        return self._session.strayed
+
     def take_over(self) -> None:
         """Has the session belong to the thread that calls this, before or after work aside."""
         self._session.take_over()
@@ -259,7 +264,7 @@ class Desk:
         try:
             self._session.close()
             ending = done_in_background(self.path, action, report, self._check)
-            self._open()
+            self._open_further()
             before = state
             state = self._opened_again(state)
         except Lost as lost:
@@ -421,6 +426,11 @@ class Desk:
         self._session = session
         for table in found:
             self.tables.put(table.name, table.text)
+
+    def _open_further(self) -> None:
+        """Opens another session, in which what was kept before is at stake as well."""
+        self._open()
+        self._session.guard()
 
     def _opened_again(self, state: State) -> State:
         book, version = self._session.paragraphs(), self._session.last_version
@@ -605,7 +615,7 @@ class Desk:
         waits = draft_of(state) or self._unsent.waiting
         try:
             self._session.close()
-            self._open()
+            self._open_further()
             found = replace(state, typed=None, preview=None, question=None, pages=None)
             found = self._opened_again(replace(found, is_lost=False))
             is_same = found.version == state.version
@@ -630,7 +640,7 @@ class Desk:
         waits = draft_of(state) or self._unsent.waiting
         unsaved = state.message if waits != self._unsent.waiting else ""
         try:
-            self._open()
+            self._open_further()
             found_words = found_again(aftermath.found_again(self._session, lost))
             said = f"{lost.cause} {found_words} {unsaved}".strip()
             found = replace(state, pages=None).saying(said)

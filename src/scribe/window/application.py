@@ -43,6 +43,16 @@ class Application:
         """The version at which the book was last."""
         return self._desk.contents.version
 
+    @property
+    def loss(self) -> str:
+        """How the session ended, if the book wasn't opened again after that."""
+        return self._desk.loss
+
+    @property
+    def strayed(self) -> str:
+        """What became of the file of a book in which nothing was kept, once it is closed."""
+        return self._desk.book.session.strayed
+
     def run(self) -> None:
         """Shows the book until its window is closed; raises what ends it otherwise."""
         desk = self._desk

@@ -123,6 +123,7 @@ class OpenBook:
         #: By these what is typed is translated before the book has it.
         self.tables = Tables()
         self._session: Session
+        self._was_open = False
         self._deeds: tuple[Deed, ...] = ()
         # the paragraphs as they were listed last: a long book takes a while to list
         self._known: tuple[Paragraph, ...] = ()
@@ -574,6 +575,10 @@ class OpenBook:
 
     def _with(self, session: Session) -> Contents:
         self._session = session
+        if self._was_open:
+            # what was kept before is at stake in this session as well
+            session.guard()
+        self._was_open = True
         for table in session.tables():
             self.tables.put(table.name, table.text)
         return self.contents()

@@ -84,6 +84,8 @@ class Desk:
         self.says_pages = False
         #: The book can't be worked on, since its session ended and none could be opened.
         self.is_closed = False
+        #: How the session ended, in sentences, until the book is open again.
+        self.loss = ""
         self.acts: dict[str, Callable[[], None]] = {}
         self._left: LeftAt | None = None
         self._light: Highlighted | None = None
@@ -692,7 +694,7 @@ class Desk:
         except (DeskError, OSError) as failed:
             found, said = None, [lost.sentence, str(failed)]
         if found is None:
-            self.is_closed = True
+            self.is_closed, self.loss = True, " ".join(said)
             if self.is_typed():
                 said.append(f"What is typed is kept in {self.drafts.place}.")
             self.refuse(" ".join(said))
@@ -702,7 +704,7 @@ class Desk:
 
     def taken_again(self, contents: Contents) -> None:
         """Shows a book that was opened again; what is typed and isn't in it stays typed."""
-        self.is_closed = False
+        self.is_closed, self.loss = False, ""
         self.watch()
         draft, new, number = self.draft(), self.new, self.number
         place = self.window.print.place

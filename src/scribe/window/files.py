@@ -171,8 +171,8 @@ class Files:
 
         try:
             contents, lines = dialogs.long(desk.window, desk.work, title, whole)
-        except DeskError:
-            desk.is_closed = True
+        except DeskError as failed:
+            desk.is_closed, desk.loss = True, failed.sentence
             raise
         desk.watch()
         desk.window.model.all_unread()

@@ -6,6 +6,8 @@ from braildesk import DeskError, Displaced, Lost, Session
 from braildesk.desk import aftermath
 from braildesk.desk.aftermath import FoundAgain
 
+from scribe.words.console import Console
+
 
 def after_loss(path: Path, lost: Lost) -> list[str]:
     """What is said if a session was lost: what happened, and what is in the book."""
@@ -30,6 +32,14 @@ def opened_again(path: Path, lost: Lost) -> tuple[Session | None, list[str]]:
         why = f"The book could not be opened again: {failure.strerror}."
         return None, [lost.sentence, why]
     return session, [lost.cause, _found_unshown(found)]
+
+
+def tell_end(console: Console, name: str, version: int, strayed: str) -> None:
+    """Says at which version a closed book is, or what became of its file while nothing was kept."""
+    if strayed:
+        console.say(f"{strayed} Nothing was changed in it here.")
+    else:
+        console.show(f"{name} is at version {version:,}.")
 
 
 def _found_unshown(found: FoundAgain) -> str:

@@ -15,6 +15,7 @@ from scribe.cli.page_size import add_page_size, page_size_of
 from scribe.cli.parser import Subparsers, add_file, command_parser, words
 from scribe.prompt.typed_lines import are_typed
 from scribe.words import encoding
+from scribe.words.aftermath import tell_end
 from scribe.words.console import Console
 from scribe.words.status import Interrupted, Status, Stop
 
@@ -95,7 +96,7 @@ def _end(desk: "Desk", screen: "Screen", name: str, console: Console) -> Status:
         lines_said = screen.state.pages.lines if screen.state.pages else ()
         console.say(*(screen.unseen or lines_said))
         return Status.FAILED
-    console.show(f"{name} is at version {screen.state.version:,}.")
+    tell_end(console, name, screen.state.version, desk.strayed)
     console.say(*screen.unseen)
     if screen.ended_by is not None:
         raise Interrupted(screen.ended_by, is_said=True)

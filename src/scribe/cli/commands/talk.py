@@ -21,7 +21,7 @@ from scribe.cli.parser import (
 )
 from scribe.prompt.conversation import Conversation, Ended, request_line
 from scribe.prompt.typed_lines import GivenUp, Lines, PipedLines, TypedLines, are_typed
-from scribe.words.aftermath import opened_again
+from scribe.words.aftermath import opened_again, tell_end
 from scribe.words.console import Console
 from scribe.words.elsewhere import AT_PROMPT as KNOWN, hint
 from scribe.words.status import Status, Stop, in_sentences
@@ -93,7 +93,9 @@ def run(arguments: Namespace, console: Console) -> Status:
                 # nobody has read what was said, and the lines were written before it
                 return Status.FAILED
             conversation.session = session
-        console.show(f"The book is at version {session.last_version:,}.")
+        # what is said of the book is so once it is closed
+        session.close()
+        tell_end(console, "The book", session.last_version, session.strayed)
     return Status.DONE
 
 

@@ -5,6 +5,7 @@ from argparse import ArgumentParser, Namespace
 
 from scribe.cli.page_size import add_page_size, page_size_of
 from scribe.cli.parser import Subparsers, add_file, command_parser, words
+from scribe.words.aftermath import tell_end
 from scribe.words.console import Console
 from scribe.words.status import Status, Stop
 
@@ -51,5 +52,9 @@ def run(arguments: Namespace, console: Console) -> Status:
     size = page_size_of(arguments)
     application = Application(arguments.file, arguments.by, arguments.wait, size)
     application.run()
-    console.show(f"{arguments.file.name} is at version {application.version:,}.")
+    if application.loss:
+        console.say(application.loss)
+        return Status.FAILED
+    name, version = arguments.file.name, application.version
+    tell_end(console, name, version, application.strayed)
     return Status.DONE
