@@ -11,7 +11,7 @@ from braildesk.protocol.requests import Request
 from braildesk.text.sequences import composed
 
 # how long another program may have the book before that is said
-_PATIENCE = 2.0
+PATIENCE = 2.0
 
 
 @dataclass(frozen=True)
@@ -31,7 +31,7 @@ class FoundAgain:
 
 def opened_again(path: Path, lost: Lost) -> tuple[Session, FoundAgain]:
     """The book in another session, and what it has; raises `DeskError` or `OSError`."""
-    session = Session(path, timeout=_PATIENCE)
+    session = Session(path, timeout=PATIENCE)
     session.guard()
     try:
         return session, found_again(session, lost)

@@ -135,7 +135,7 @@ class Desk:
         self._stopped_by: signal.Signals | None = None
         #: The volumes that were laid out.
         self._layouts = pagelook.Layouts()
-        self._open()
+        self._open(self._wait)
 
     @property
     def pid(self) -> int:
@@ -415,9 +415,9 @@ class Desk:
             for number, text, marks in zip(numbers, found, found)
         }
 
-    def _open(self) -> None:
+    def _open(self, wait: float) -> None:
         """Opens the session, and reads the tables that the book has."""
-        session = Session(self.path, timeout=self._wait)
+        session = Session(self.path, timeout=wait)
         try:
             found = session.tables()
         except BaseException:
@@ -428,8 +428,11 @@ class Desk:
             self.tables.put(table.name, table.text)
 
     def _open_further(self) -> None:
-        """Opens another session, in which what was kept before is at stake as well."""
-        self._open()
+        """Opens another session, in which what was kept before is at stake as well.
+
+        What is left of the one before may have the book for another moment.
+        """
+        self._open(max(self._wait, aftermath.PATIENCE))
         self._session.guard()
 
     def _opened_again(self, state: State) -> State:
