@@ -7,7 +7,7 @@ from typing import BinaryIO
 from zlib import crc32
 
 from braildesk import program as programs
-from braildesk.opening import MAGIC, has_work
+from braildesk.opening import MAGIC, has_page, has_work
 from braildesk.program import StrPath
 from braildesk.protocol.asked import real_path
 from braildesk.refusals import Failed, Unopened
@@ -32,7 +32,7 @@ class _Noted:
 
     state: tuple[int, int, int]
     sum: int
-    front: bytes
+    front: bytes | None
 
 
 class OpenFile:
@@ -99,8 +99,8 @@ class OpenFile:
     def is_written_into(self) -> bool:
         """Whether others wrote into the file since it was noted, while the program waits.
 
-        The program writes there to empty its log, which has another front then. Who touches the
-        file, or changes its mode, changes its times alone.
+        The program writes there to empty its log, which has another front then, or is empty once it
+        ended. Who touches the file, or changes its mode, changes its times alone.
         """
         noted, descriptor = self._noted, self._descriptor
         if noted is None or descriptor is None:
@@ -108,19 +108,24 @@ class OpenFile:
         front = self._front() if self._is_lent else noted.front
         if (_state(descriptor), front) == (noted.state, noted.front):
             return False
+        was_lent, front = self._is_lent, self._front()
         self._noted, self._is_lent = _noted(descriptor, front), False
-        is_emptied = not front or front != noted.front
+        is_emptied = front is None or front != noted.front or was_lent and not front
         was, now = (noted.state[0], noted.sum), (self._noted.state[0], self._noted.sum)
         return not is_emptied and was != now
 
-    def _front(self) -> bytes:
-        """The front of the log, which is another one once the log was emptied; nothing if it isn't seen."""
+    def _front(self) -> bytes | None:
+        """The front of the log, which is another one once the log was emptied, and none if it isn't seen.
+
+        Of a log in which nothing is, as a program leaves it at its end, that is nothing.
+        """
         flags = os.O_RDONLY | os.O_NOFOLLOW | os.O_NONBLOCK | os.O_CLOEXEC
         try:
             with open(os.open(f"{self.path}-wal", flags), "rb", buffering=0) as log:
-                return log.read(_FRONT)
+                is_empty = not has_page(os.fstat(log.fileno()).st_size)
+                return b"" if is_empty else log.read(_FRONT)
         except OSError:
-            return b""
+            return None
 
     @staticmethod
     def _is_database(descriptor: int) -> bool:
@@ -187,7 +192,7 @@ def _state(descriptor: int) -> tuple[int, int, int]:
     return found.st_size, found.st_mtime_ns, found.st_ctime_ns
 
 
-def _noted(descriptor: int, front: bytes) -> _Noted:
+def _noted(descriptor: int, front: bytes | None) -> _Noted:
     state = _state(descriptor)
     return _Noted(state, _sum(descriptor, state[0]), front)
 

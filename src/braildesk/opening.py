@@ -180,9 +180,14 @@ def is_log(log: str) -> bool:
 def has_work(log: str) -> bool:
     """Whether a log is there that may hold what isn't in the book's file."""
     try:
-        return os.path.getsize(log) > _BEFORE_PAGE
+        return has_page(os.path.getsize(log))
     except FileNotFoundError:
         return False
+
+
+def has_page(size: int) -> bool:
+    """Whether a log of so many bytes may hold anything of a book."""
+    return size > _BEFORE_PAGE
 
 
 def has_journal(path: str) -> bool:
