@@ -85,7 +85,7 @@ mkdir -p "$scratch/crates/pages/src"
 tar -c --exclude=out crates | tar -x -C "$scratch"
 cp tests/comparisons/pages.rattle "$scratch/crates/pages/src/main.rt"
 [ ! -e HANDLES ] || cp HANDLES "$scratch"
-{ cat crates.txt; echo 'pages: desk_command desk_book desk_brf desk_ends anyhow'; } > "$scratch/crates.txt"
+{ cat crates.txt; echo 'pages: desk_model desk_book desk_brf desk_ends anyhow'; } > "$scratch/crates.txt"
 (cd "$scratch/crates/pages" && "$rt" try --cases "$scratch/cases" --data book="$scratch/book" --data table.utb="$scratch/table.utb") \
     > "$scratch/told" 2> "$scratch/errors" || { tail -n 40 "$scratch/told" "$scratch/errors" >&2; fail 'the pages differ, or the program pages failed'; }
 for pages in "$scratch"/cases/*.stdout; do

@@ -8,9 +8,9 @@ use Rattle.louis_table.specs.Table.{Means}
 use Rattle.desk_book.specs.declared.change.Effect.{Effect}
 use Rattle.desk_book.specs.declared.change.Effect.TheVariants.{AddTable, ReplaceTable, AddParagraph, ChangePrint, AddMark, ResolveMark, SetFlags, ChangeTable, Reorder}
 use Rattle.desk_memory.specs.declared.paragraphs.PrintChange.{PrintChange}
-use Rattle.desk_command.specs.declared.command.Anchor.{Anchor}
-use Rattle.desk_command.specs.declared.command.Command.{Command}
-use Rattle.desk_command.specs.declared.command.Command.TheVariants.{TypeIn}
+use Rattle.desk_model.specs.declared.command.Anchor.{Anchor}
+use Rattle.desk_model.specs.declared.command.Command.{Command}
+use Rattle.desk_model.specs.declared.command.Command.TheVariants.{TypeIn}
 use Rattle.desk_memory.specs.declared.paragraphs.Paragraph.{Paragraph as KeptParagraph}
 use Rattle.desk_model.specs.Book.{Book, Paragraph, text_of, paragraph_of}
 use Rattle.desk_book.specs.ChangePuts.{effect_puts, version_put}

@@ -7,9 +7,9 @@ use Rattle.desk_book.specs.declared.change.Effect.TheVariants.{ChangePrint}
 use Rattle.desk_memory.specs.declared.paragraphs.PrintChange.{PrintChange}
 use Rattle.desk_book.specs.declared.corrections.NewEntry.{NewEntry}
 use Rattle.desk_memory.specs.declared.paragraphs.Paragraph.{Paragraph as KeptParagraph}
-use Rattle.desk_command.specs.declared.refusal.Limit.TheVariants.{Entries, Version}
-use Rattle.desk_command.specs.declared.refusal.Refusal.{Refusal}
-use Rattle.desk_command.specs.declared.refusal.Refusal.TheVariants.{Full, NoMemory, NoParagraph, Struck, TooLong, Undefined}
+use Rattle.desk_model.specs.declared.refusal.Limit.TheVariants.{Entries, Version}
+use Rattle.desk_model.specs.declared.refusal.Refusal.{Refusal}
+use Rattle.desk_model.specs.declared.refusal.Refusal.TheVariants.{Full, NoMemory, NoParagraph, Struck, TooLong, Undefined}
 use Rattle.desk_model.specs.Book.{Book, Paragraph, paragraph_of}
 use Rattle.desk_memory.specs.Braille.{AreCellsOf}
 use Rattle.desk_model.specs.Limits.{most_entries, most_print, most_version}

@@ -2,8 +2,8 @@
 ghost use Rattle.std.specs.Prelude.{◌≡◌};
 
 use cell_core::Cells;
-use desk_command::{Style, Text};
 use desk_memory::{BoxedTable, KeptMark, Order, Paragraph, PrintChange, Room, TablesRoom};
+use desk_model::{Style, Text};
 use std::marker::Model;
 
 /// What a change does to a book. It has room for all that it adds.

@@ -10,11 +10,11 @@ ghost use Rattle.std.specs.Prelude.{◌≡◌, ◌+◌, ◌<◌, ◌≤◌, fals
 use super::book::Book;
 use super::change::Effect;
 use super::plan::{check_length, check_print, check_text, copy, text_of_print};
-use desk_command::{Command, LentText, Limit, Refusal};
 use desk_memory::{
     Correction, KeptEntry, MOST_ENTRIES, MOST_PRINT, Paragraph, PrintChange, cells_of,
     is_proofreader_name, newest, normal_form, replace_span,
 };
+use desk_model::{Command, LentText, Limit, Refusal};
 use louis_table::Characters;
 use louis_translate::RuleIndex;
 use std::alloc::{AllocError, Global};

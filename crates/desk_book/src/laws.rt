@@ -1,7 +1,7 @@
 //! What holds of every book.
 ghost use Rattle.desk_model.specs.Book.{Book};
 ghost use Rattle.desk_book.specs.Changes.{Carries, Change, change_puts};
-ghost use Rattle.desk_command.specs.declared.command.Command.{Command};
+ghost use Rattle.desk_model.specs.declared.command.Command.{Command};
 ghost use Rattle.desk_model.specs.Loans.{AreLent, LeadTo};
 ghost use Rattle.desk_model.specs.Sound.{IsSound};
 ghost use Rattle.std.specs.Prelude.{◌≡◌};

@@ -7,7 +7,7 @@
 //!
 //! ```rust
 //! use desk_book::Book;
-//! use desk_command::Command;
+//! use desk_model::Command;
 //!
 //! let book = Book::new(alloc)?;
 //! let command = Command::Table { name, text };

@@ -9,8 +9,8 @@ ghost use Rattle.std.specs.Prelude.{◌≡◌, ◌+◌, ◌<◌, ◌≤◌, ◌�
 use super::book::Book;
 use super::change::Effect;
 use super::plan::{check_text, copy};
-use desk_command::{Command, LentText, Limit, Refusal};
 use desk_memory::{KeptMark, MOST_MARKS, MOST_NOTE, count_of};
+use desk_model::{Command, LentText, Limit, Refusal};
 use louis_translate::{RuleIndex, choice_of_cell};
 use std::alloc::Global;
 

@@ -10,7 +10,7 @@ ghost use Rattle.desk_model.specs.Named.{number_of, paragraph_before};
 ghost use Rattle.desk_model.specs.Refusals.{DefinesUser, IsAccepted, IsFirstUser, IsMoved, IsRefused};
 ghost use Rattle.desk_model.specs.Step.{next_mark};
 ghost use Rattle.desk_model.specs.NormalForm.{IsUnbarred, IsFirstBarred};
-ghost use Rattle.desk_command.specs.Characters.{AreCharacters};
+ghost use Rattle.desk_model.specs.Characters.{AreCharacters};
 ghost use Rattle.louis_table.specs.Table.{Bad, Means};
 ghost use Rattle.louis_translate.specs.Position.{AreDefined, IsFirstUndefined};
 ghost use Rattle.std.specs.Str.{chars};
@@ -20,11 +20,11 @@ ghost use Rattle.std.specs.Prelude.{◌≡◌, ◌≢◌, ◌↔◌, ◌⊎◌, 
 use super::book::Book;
 use super::change::{Change, Effect};
 use cell_core::Cells;
-use desk_command::{Anchor, Command, LentBytes, LentText, Limit, Refusal, Style, Text};
 use desk_memory::{
     BookTable, BoxedTable, Items, MOST_PARAGRAPHS, MOST_PRINT, MOST_TABLES, MOST_VERSION,
     Paragraph, TablesRoom, cells_of, first_barred, is_table_name, normal_form,
 };
+use desk_model::{Anchor, Command, LentBytes, LentText, Limit, Refusal, Style, Text};
 use louis_table::{Characters, ReadFault};
 use louis_translate::{RuleBook, RuleIndex, undefined_place};
 use std::alloc::{AllocError, Global};

@@ -14,9 +14,8 @@ ghost use Rattle.std.specs.Prelude.{◌≡◌, ◌+◌, ◌-◌, ◌<◌, ◌≤
 use super::book::Book;
 use super::change::{Change, Effect};
 use cell_core::Cells;
-use desk_command::{Style, Text};
 use desk_memory::{BoxedTable, KeptEntry, KeptMark, Order, Paragraph, ParagraphMarks, PrintChange};
-use desk_model::Span;
+use desk_model::{Span, Style, Text};
 use desk_parts::{CachePut, MarkPut, NamedCorrPut, ParaPut, Put, TabPut};
 use std::marker::Model;
 

@@ -10,8 +10,8 @@ ghost use Rattle.std.specs.Prelude.{◌≡◌, ◌⊎◌, IfErr, IfOk, None, Som
 
 use super::book::Book;
 use cell_core::Cell;
-use desk_command::Refusal;
 use desk_memory::{History, List, Paragraph, ParagraphMarks};
+use desk_model::Refusal;
 use louis_translate::{RuleIndex, output_place, print_place};
 
 impl Book {

@@ -5,8 +5,8 @@ ghost use Rattle.std.specs.Prelude.{◌≡◌};
 use super::book::Book;
 use super::change::{Change, Effect};
 use cell_core::Cells;
-use desk_command::{Style, Text};
 use desk_memory::{BoxedTable, KeptMark, Order, Paragraph, PrintChange, Room, TablesRoom};
+use desk_model::{Style, Text};
 
 impl Book {
     /// The book at a version, with a new table.

@@ -9,8 +9,8 @@ use Rattle.std.proofs.lemmas.List.Elements.{All-nil, All-cons, All-append, All-s
 use Rattle.std.proofs.lemmas.Option.{slice_get_within}
 use Rattle.cell_core.specs.Ascii.{ascii_cell, ascii_masks}
 use Rattle.desk_model.specs.Book.{Book, Paragraph}
-use Rattle.desk_command.specs.declared.style.Style.{Style}
-use Rattle.desk_command.specs.declared.style.Style.TheVariants.{Body, Heading}
+use Rattle.desk_model.specs.declared.style.Style.{Style}
+use Rattle.desk_model.specs.declared.style.Style.TheVariants.{Body, Heading}
 use Rattle.desk_brf.specs.Embossed.{IsCellByte, IsTextLine}
 use Rattle.desk_brf.specs.Laying.{with_blanks}
 use Rattle.desk_brf.specs.Layout.{Layout, IsLayout, text_lines}

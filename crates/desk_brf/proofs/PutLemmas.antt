@@ -9,8 +9,8 @@ use Rattle.desk_brf.specs.Laying.{LaysLine, PutsLines, page_end, bytes_of_lines,
 use Rattle.desk_brf.specs.Pages.{with_ending}
 use Rattle.desk_brf.specs.Placing.{IsText, cells_of_pieces, first_indent, other_indent}
 use Rattle.desk_brf.specs.Words.{words}
-use Rattle.desk_command.specs.declared.style.Style.{Style}
-use Rattle.desk_command.specs.declared.style.Style.TheVariants.{Body, Heading}
+use Rattle.desk_model.specs.declared.style.Style.{Style}
+use Rattle.desk_model.specs.declared.style.Style.TheVariants.{Body, Heading}
 use Rattle.desk_brf.proofs.AsciiLemmas.{ascii-append, ascii-blanks}
 use Rattle.desk_brf.specs.Volume.{IsSixDot}
 use Rattle.desk_brf.proofs.ExistLemmas.{AreWords, placed-some}

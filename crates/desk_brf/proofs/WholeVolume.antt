@@ -8,8 +8,8 @@ use Rattle.std.proofs.lemmas.List.Concat.{flat_map-append}
 use Rattle.std.proofs.lemmas.List.Elements.{filter-append}
 use Rattle.cell_core.specs.Ascii.{ascii_cell}
 use Rattle.desk_model.specs.Book.{Book, Paragraph}
-use Rattle.desk_command.specs.declared.style.Style.{Style}
-use Rattle.desk_command.specs.declared.style.Style.TheVariants.{Body, Heading}
+use Rattle.desk_model.specs.declared.style.Style.{Style}
+use Rattle.desk_model.specs.declared.style.Style.TheVariants.{Body, Heading}
 use Rattle.desk_brf.specs.Embossed.{AreBrailles, dots_in}
 use Rattle.desk_brf.specs.Layout.{Layout, text_lines}
 use Rattle.desk_brf.specs.Placing.{AreTexts, IsAscii, IsText, cells_of_pieces, first_indent, other_indent}

@@ -2,7 +2,7 @@
 use Rattle.std.specs.Prelude.{◌≡◌, ℕ, ◌+◌, ◌-◌, ◌/◌, ◌%◌, ◌<◌, ◌≤◌, ◌==◌, if◌then◌else◌, Bool, true, List, [], ◌∷◌, ◌++◌, length, replicate, Option, Result, is_ok, IfOk}
 use Rattle.std.specs.List.{flat_map}
 use Rattle.desk_model.specs.Book.{Book, Paragraph}
-use Rattle.desk_command.specs.declared.style.Style.{Style}
+use Rattle.desk_model.specs.declared.style.Style.{Style}
 use Rattle.desk_ends.specs.Sending.{Transmits}
 use Rattle.desk_brf.specs.Layout.{Layout, text_lines}
 use Rattle.desk_brf.specs.Pages.{ArePages, number_line, with_ending}

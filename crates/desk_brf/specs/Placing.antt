@@ -2,8 +2,8 @@
 use Rattle.std.specs.Prelude.{◌≡◌, ℕ, ◌-◌, ◌<◌, ◌≤◌, List, [], ◌∷◌, ◌++◌, length, map, replicate, Some}
 use Rattle.std.specs.List.{join_with_byte}
 use Rattle.cell_core.specs.Ascii.{ascii_cell}
-use Rattle.desk_command.specs.declared.style.Style.{Style}
-use Rattle.desk_command.specs.declared.style.Style.TheVariants.{Body, Heading}
+use Rattle.desk_model.specs.declared.style.Style.{Style}
+use Rattle.desk_model.specs.declared.style.Style.TheVariants.{Body, Heading}
 
 -- the cells of pieces on a line: one blank cell, 0, stands between two
 abbrev pub cells_of_pieces : List (List ℕ) → List ℕ

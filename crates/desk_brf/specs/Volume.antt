@@ -3,8 +3,8 @@ use Rattle.std.specs.Prelude.{◌≡◌, ◌≢◌, ◌⊎◌, ℕ, ◌+◌, ◌
 use Rattle.cell_core.specs.Cell.{HasDot}
 use Rattle.desk_model.specs.Book.{Book, Paragraph}
 use Rattle.desk_model.specs.Translation.{IsBraille}
-use Rattle.desk_command.specs.declared.style.Style.{Style}
-use Rattle.desk_command.specs.declared.style.Style.TheVariants.{Body, Heading}
+use Rattle.desk_model.specs.declared.style.Style.{Style}
+use Rattle.desk_model.specs.declared.style.Style.TheVariants.{Body, Heading}
 use Rattle.desk_brf.specs.Layout.{Layout, text_lines}
 use Rattle.desk_brf.specs.Volumes.{volume_of}
 use Rattle.desk_brf.specs.Words.{words}

@@ -12,8 +12,8 @@ use super::page::put_line;
 use super::page_line::PageLine;
 use super::word::{skip_blanks, word_len};
 use cell_core::Cell;
-use desk_command::Style;
 use desk_ends::{Failure, Sink};
+use desk_model::Style;
 
 /// The blanks before the first line of a paragraph.
 fn first_indent(style: Style) -> usize

@@ -1,7 +1,7 @@
 -- What is read of the fields of a command or a query is what they say, what they say is read, and its own fields say it.
 use Rattle.std.proofs.Common.{◌≡◌, ℕ, Bool, true, false, cond, List, [], ◌∷◌, Some, None, codes, refl, sym, ap, subst, ◌∙◌}
 use Rattle.std.specs.Str.{bytes_eq}
-use Rattle.desk_command.specs.declared.command.Command.{Command}
+use Rattle.desk_model.specs.declared.command.Command.{Command}
 use Rattle.desk_line.specs.declared.directive.Directive.{Directive}
 use Rattle.desk_line.specs.declared.request.Query.{Query}
 use Rattle.desk_line.specs.Commands.{FitsForm, SaysDirective, form, form_fields, grammar_of}

@@ -10,10 +10,10 @@ use Rattle.std.proofs.lemmas.Slice.Eq.{bytes_eq-Decides}
 use Rattle.std.proofs.lemmas.Str.{digit_value_digit}
 use Rattle.std.proofs.lemmas.Str.Parse.{digit_from_value}
 use Rattle.louis_table.specs.Table.{most_lines}
-use Rattle.desk_command.specs.declared.command.Anchor.{Anchor}
-use Rattle.desk_command.specs.declared.command.Anchor.TheVariants.{Front, End, Para}
-use Rattle.desk_command.specs.declared.style.Style.{Style}
-use Rattle.desk_command.specs.declared.style.Style.TheVariants.{Body, Heading}
+use Rattle.desk_model.specs.declared.command.Anchor.{Anchor}
+use Rattle.desk_model.specs.declared.command.Anchor.TheVariants.{Front, End, Para}
+use Rattle.desk_model.specs.declared.style.Style.{Style}
+use Rattle.desk_model.specs.declared.style.Style.TheVariants.{Body, Heading}
 use Rattle.desk_line.specs.Fields.{IsName, IsNumber, IsAnchor, front, end, after, IsStyle, body, heading, IsFlag, on, off}
 use Rattle.desk_line.specs.Limits.{most_digits, most_number}
 use Rattle.desk_line.specs.Reading.{of_both, name_in, number_in, small_number, count_in, few_lines, anchor_in, style_in, flag_in}

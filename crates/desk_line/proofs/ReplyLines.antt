@@ -7,12 +7,12 @@ use Rattle.std.proofs.lemmas.Option.{slice_get-get_or}
 use Rattle.cell_core.specs.Cell.{braille_character}
 use Rattle.louis_table.specs.Lines.{pieces_of}
 use Rattle.louis_table.proofs.LineLaws.{pieces_of-line}
-use Rattle.desk_command.specs.declared.style.Style.{Style}
-use Rattle.desk_command.specs.declared.style.Style.TheVariants.{Body, Heading}
+use Rattle.desk_model.specs.declared.style.Style.{Style}
+use Rattle.desk_model.specs.declared.style.Style.TheVariants.{Body, Heading}
 use Rattle.desk_model.specs.Book.{Book, Entry, Corrects, Undoes, Mark, Paragraph}
 use Rattle.desk_model.specs.Name.{is_name_character, is_proofreader_character}
 use Rattle.desk_model.specs.Print.{print_of}
-use Rattle.desk_command.specs.Numbers.{code_of}
+use Rattle.desk_model.specs.Numbers.{code_of}
 use Rattle.desk_model.specs.Sound.{IsSound, IsSoundEntry, IsSoundMark, IsSoundParagraph}
 use Rattle.desk_model.specs.NormalForm.{IsUnbarred, is_barred}
 use Rattle.desk_model.proofs.Callers.{IsSoundParagraph-found, IsSoundTable-found, unbarred-print}

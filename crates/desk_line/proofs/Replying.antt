@@ -8,10 +8,10 @@ use Rattle.std.proofs.lemmas.List.{append-nil}
 use Rattle.std.proofs.lemmas.Result.{err_from_is_err_and}
 use Rattle.std.proofs.lemmas.Str.{chars-nil}
 use Rattle.desk_line.specs.Fields.{line_of_fields}
-use Rattle.desk_command.specs.declared.refusal.Refusal.{Refusal}
-use Rattle.desk_command.specs.declared.refusal.Refusal.TheVariants as refusals
+use Rattle.desk_model.specs.declared.refusal.Refusal.{Refusal}
+use Rattle.desk_model.specs.declared.refusal.Refusal.TheVariants as refusals
 use Rattle.desk_model.specs.declared.history_item.Done.TheVariants.{Corrected, TookBack}
-use Rattle.desk_command.specs.Numbers.{code_of}
+use Rattle.desk_model.specs.Numbers.{code_of}
 use Rattle.desk_model.specs.Book.{Book, Entry, Corrects, Undoes, Mark, Paragraph, Replacement, paragraph_of}
 use Rattle.desk_model.specs.Print.{print_of}
 use Rattle.desk_model.specs.HistoryItems.{TellsOf}

@@ -6,11 +6,11 @@ use Rattle.std.specs.Str.{chars, all_scalars, encode_utf8_all, is_utf8}
 use Rattle.std.specs.Fmt.{digits}
 use Rattle.louis_table.specs.declared.en.TheConstants.{EN}
 use Rattle.louis_table.specs.Lines.{lines_of}
-use Rattle.desk_command.specs.declared.command.Anchor.TheVariants.{End}
-use Rattle.desk_command.specs.declared.command.Command.TheVariants as commands
-use Rattle.desk_command.specs.declared.refusal.Limit.TheVariants as limits
-use Rattle.desk_command.specs.declared.refusal.Refusal.TheVariants as refusals
-use Rattle.desk_command.specs.declared.style.Style.TheVariants.{Body}
+use Rattle.desk_model.specs.declared.command.Anchor.TheVariants.{End}
+use Rattle.desk_model.specs.declared.command.Command.TheVariants as commands
+use Rattle.desk_model.specs.declared.refusal.Limit.TheVariants as limits
+use Rattle.desk_model.specs.declared.refusal.Refusal.TheVariants as refusals
+use Rattle.desk_model.specs.declared.style.Style.TheVariants.{Body}
 use Rattle.desk_model.specs.Book.{empty_book, Corrects, Undoes, new_mark}
 use Rattle.desk_line.specs.declared.answer.Answer.TheVariants as answers
 use Rattle.desk_line.specs.declared.directive.Directive.TheVariants.{Whole, Table}

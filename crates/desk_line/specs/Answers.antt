@@ -1,8 +1,8 @@
 -- What is answered to a request, and the reply to it.
 use Rattle.std.specs.Prelude.{◌≡◌, ℕ, List, Option}
-use Rattle.desk_command.specs.declared.command.Command.{Command}
-use Rattle.desk_command.specs.declared.refusal.Refusal.{Refusal}
-use Rattle.desk_command.specs.declared.refusal.Refusal.TheVariants as refusals
+use Rattle.desk_model.specs.declared.command.Command.{Command}
+use Rattle.desk_model.specs.declared.refusal.Refusal.{Refusal}
+use Rattle.desk_model.specs.declared.refusal.Refusal.TheVariants as refusals
 use Rattle.desk_model.specs.Book.{Book}
 use Rattle.desk_model.specs.Judging.{MayLackMemory}
 use Rattle.desk_model.specs.Named.{number_of}

@@ -5,14 +5,14 @@ use Rattle.std.specs.Str.{encode_utf8_all}
 use Rattle.louis_table.specs.Lines.{pieces_of}
 use Rattle.desk_ends.specs.Cells.{text_of}
 use Rattle.desk_ends.specs.Sending.{Transmits}
-use Rattle.desk_command.specs.declared.refusal.Refusal.{Refusal}
-use Rattle.desk_command.specs.declared.refusal.Refusal.TheVariants as refusals
-use Rattle.desk_command.specs.declared.style.Style.{Style}
-use Rattle.desk_command.specs.declared.style.Style.TheVariants.{Body, Heading}
+use Rattle.desk_model.specs.declared.refusal.Refusal.{Refusal}
+use Rattle.desk_model.specs.declared.refusal.Refusal.TheVariants as refusals
+use Rattle.desk_model.specs.declared.style.Style.{Style}
+use Rattle.desk_model.specs.declared.style.Style.TheVariants.{Body, Heading}
 use Rattle.desk_model.specs.Book.{Book, Paragraph, Entry, Corrects, Undoes, Mark, Replacement, paragraph_of}
 use Rattle.desk_model.specs.ParagraphMarks.{marks_on}
 use Rattle.desk_model.specs.Print.{print_of}
-use Rattle.desk_command.specs.Numbers.{code_of, limit_number}
+use Rattle.desk_model.specs.Numbers.{code_of, limit_number}
 use Rattle.desk_model.specs.Translation.{IsBraille, IsOutputPlace, IsPrintPlace, LacksPlace, LacksCell}
 use Rattle.desk_line.specs.declared.answer.Answer.{Answer}
 use Rattle.desk_line.specs.declared.answer.Answer.TheVariants.{Done, Refused, Asked, Syntax, NoMemory, Lost}

@@ -1,6 +1,6 @@
 //! The answer to a request.
 use super::request::Query;
-use desk_command::Refusal;
+use desk_model::Refusal;
 
 /// The answer to a request, from which `write_reply` makes the text of the reply.
 #[derive(Clone, Copy, Debug, PartialEq, Eq)]

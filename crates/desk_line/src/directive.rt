@@ -6,7 +6,7 @@ ghost use Rattle.louis_table.specs.declared.en.TheConstants.{EN};
 ghost use Rattle.std.specs.Prelude.{◌≡◌, []};
 
 use super::fields::{Field, Fields};
-use desk_command::{Command, LentBytes, LentText};
+use desk_model::{Command, LentBytes, LentText};
 use louis_table::EN;
 
 /// What the head line of a command says.

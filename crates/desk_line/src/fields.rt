@@ -4,7 +4,7 @@ ghost use Rattle.desk_line.specs.Reading.{first_and_others, is_end};
 ghost use Rattle.std.specs.Prelude.{◌≡◌, ◌∷◌};
 ghost use Rattle.std.specs.Str.{bytes_eq, chars};
 
-use desk_command::LentText;
+use desk_model::LentText;
 use std::marker::Model;
 
 /// A part of a head line. Contracts see its bytes.

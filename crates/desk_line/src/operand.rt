@@ -8,7 +8,7 @@ ghost use Rattle.std.specs.Str.Parse.{digits_value};
 
 use super::fields::{Field, Fields};
 use super::limits::{MOST_DIGITS, MOST_NUMBER};
-use desk_command::{Anchor, LentText, Style};
+use desk_model::{Anchor, LentText, Style};
 use louis_table::MOST_LINES;
 
 /// A number: 1 to 16 decimal digits, leading zeros too, of a value up to 2^53.

@@ -9,8 +9,8 @@ use super::shown::{put_braille, put_history, put_list, put_marks, put_place, put
 use super::text_output::{finish, nothing_waiting, put_line};
 use super::waiting::Waiting;
 use desk_book::Book;
-use desk_command::Refusal;
 use desk_ends::Sink;
+use desk_model::Refusal;
 use thiserror::Error;
 
 /// A reply was broken off, because a write failed.

@@ -1,5 +1,5 @@
 //! What is asked of a book.
-use desk_command::Command;
+use desk_model::Command;
 
 /// What is asked of a book. No query changes it or allocates.
 #[derive(Clone, Copy, Debug, PartialEq, Eq)]

@@ -13,8 +13,8 @@ use super::text_output::{put_bytes, put_cells, put_characters, put_fields};
 use super::waiting::Waiting;
 use cell_core::Cell;
 use desk_book::{Done, History, HistoryItem, List, ListItem, MarkItem, ParagraphMarks};
-use desk_command::Style;
 use desk_ends::Sink;
+use desk_model::Style;
 use itoa::Buffer;
 
 /// Puts a print.

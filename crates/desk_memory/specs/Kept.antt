@@ -12,8 +12,8 @@ use Rattle.louis_table.specs.Table.{Means}
 use Rattle.louis_translate.specs.declared.choices.Choice.{Choice}
 use Rattle.louis_translate.specs.Tiling.{Tiles}
 use Rattle.louis_translate.specs.Braille.{braille}
-use Rattle.desk_command.specs.declared.command.Anchor.{Anchor}
-use Rattle.desk_command.specs.declared.command.Anchor.TheVariants.{Front, End, Para}
+use Rattle.desk_model.specs.declared.command.Anchor.{Anchor}
+use Rattle.desk_model.specs.declared.command.Anchor.TheVariants.{Front, End, Para}
 use Rattle.desk_memory.specs.declared.tables.BookTable.{BookTable}
 use Rattle.desk_memory.specs.declared.marks.KeptMark.{KeptMark}
 use Rattle.desk_memory.specs.declared.paragraphs.Paragraph.{Paragraph as KeptParagraph}

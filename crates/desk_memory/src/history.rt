@@ -5,7 +5,7 @@ ghost use Rattle.desk_model.specs.Print.{newest as newest_lem};
 ghost use Rattle.std.specs.Prelude.{◌≡◌, ◌+◌, ◌≤◌, IfNone, IfOk, IfSome, None, length};
 
 use super::texts::count_of;
-use desk_command::Text;
+use desk_model::Text;
 use louis_table::Characters;
 use std::alloc::{AllocError, Global};
 

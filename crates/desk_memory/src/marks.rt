@@ -9,8 +9,7 @@ ghost use Rattle.desk_model.specs.Limits.{most_marks};
 ghost use Rattle.std.specs.Prelude.{◌≡◌, ◌+◌, ◌-◌, ◌<◌, ◌≤◌, ◌^◌, [], ◌∷◌, ◌++◌, ℕ, IfOk, None, length};
 
 use super::items::{Items, Room};
-use desk_command::Text;
-use desk_model::Span;
+use desk_model::{Span, Text};
 use std::alloc::{AllocError, Global};
 use std::marker::Model;
 

@@ -14,7 +14,7 @@ ghost use Rattle.std.specs.Prelude.{◌≡◌, ◌+◌, ◌<◌, ◌≤◌, ◌^
 use super::history::KeptEntry;
 use super::items::{Items, Room};
 use cell_core::Cells;
-use desk_command::{Anchor, Style, Text};
+use desk_model::{Anchor, Style, Text};
 use louis_table::Characters;
 use std::alloc::{AllocError, Global};
 use std::marker::Model;

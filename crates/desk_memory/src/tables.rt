@@ -7,7 +7,7 @@ ghost use Rattle.std.specs.Option.{option_copied};
 ghost use Rattle.std.specs.Prelude.{◌≡◌, ◌<◌, ◌≤◌, [], None, IfErr, IfOk, IsSome, OnOk, length, nat_eq, string_bytes};
 ghost use Rattle.std.specs.Str.{chars};
 
-use desk_command::{Bytes, Text};
+use desk_model::{Bytes, Text};
 use indexmap::IndexMap;
 use louis_table::{ReadFault, Table};
 use louis_translate::RuleIndex;

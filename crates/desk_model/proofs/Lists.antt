@@ -1,3 +1,4 @@
+pub mod CharacterLists
 pub mod Decisions
 pub mod Items
 pub mod Members

@@ -1,6 +1,6 @@
 -- Books after commands.
 use Rattle.std.specs.Prelude.{◌≡◌, List, [], ◌∷◌, None}
-use Rattle.desk_command.specs.declared.command.Command.{Command}
+use Rattle.desk_model.specs.declared.command.Command.{Command}
 use Rattle.desk_model.specs.Book.{Book}
 use Rattle.desk_model.specs.Refusals.{IsAccepted}
 use Rattle.desk_model.specs.Step.{Makes}

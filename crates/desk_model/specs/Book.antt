@@ -3,7 +3,7 @@ use Rattle.std.specs.Prelude.{ℕ, nat_eq, Bool, false, List, [], Option}
 use Rattle.std.specs.Map.{lookup}
 use Rattle.std.specs.List.{find}
 use Rattle.std.specs.Cmp.Lexicographic.{pointwise}
-use Rattle.desk_command.specs.declared.style.Style.{Style}
+use Rattle.desk_model.specs.declared.style.Style.{Style}
 
 -- so many characters of a print, from a place on, become a text
 pub record Replacement : Type 0 where

@@ -1,3 +1,5 @@
+pub mod Characters
+pub mod Numbers
 pub mod Book
 pub mod Print
 pub mod Marks

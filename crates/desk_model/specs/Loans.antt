@@ -1,7 +1,7 @@
 -- Which rows a change may lend: those of what its command changes, and no others.
 use Rattle.std.specs.Prelude.{◌≡◌, ◌⊎◌, ℕ, ℤ, ◌+◌, true, IsSome, List, [], ◌∷◌, ◌++◌, Some, encode_utf8_all, pos, min, length, map, option_map, slice_get, unwrap_or}
 use Rattle.std.specs.List.{All, Contains}
-use Rattle.desk_command.specs.declared.command.Command.{Command}
+use Rattle.desk_model.specs.declared.command.Command.{Command}
 use Rattle.desk_model.specs.Book.{Book, Mark, Paragraph, paragraph_of}
 use Rattle.desk_parts.specs.Puts.{Flags, Place, Print, PutRow, Resolved, RowPut, SetColumns, Span, Table, Version, with_puts}
 use Rattle.desk_model.specs.Named.{Retabled, named_by}

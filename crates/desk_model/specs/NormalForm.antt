@@ -2,7 +2,7 @@
 use Rattle.std.specs.Prelude.{◌≡◌, ℕ, ◌<◌, Bool, true, false, ◌||◌, not, ◌==◌, List, length, slice_index}
 use Rattle.std.specs.List.{filter, All}
 use Rattle.unicode_normalization.specs.Forms.{nfc}
-use Rattle.desk_command.specs.Characters.{AreCharacters}
+use Rattle.desk_model.specs.Characters.{AreCharacters}
 
 -- a line feed, a carriage return or U+0000, which no text of a book may hold
 abbrev pub is_barred : ℕ → Bool

@@ -1,7 +1,7 @@
 -- What comes of a command.
 use Rattle.std.specs.Prelude.{◌≡◌, ℕ, ◌⊎◌, Option}
-use Rattle.desk_command.specs.declared.command.Command.{Command}
-use Rattle.desk_command.specs.declared.refusal.Refusal.{Refusal}
+use Rattle.desk_model.specs.declared.command.Command.{Command}
+use Rattle.desk_model.specs.declared.refusal.Refusal.{Refusal}
 use Rattle.desk_model.specs.Book.{Book}
 use Rattle.desk_model.specs.Refusals.{IsAccepted, IsRefused}
 use Rattle.desk_model.specs.Step.{Makes}

@@ -5,11 +5,11 @@ use Rattle.std.specs.List.{filter, flat_map}
 use Rattle.std.specs.Cmp.Lexicographic.{slice_cmp}
 use Rattle.std.specs.FinMap.Entries.{put}
 use Rattle.std.specs.Option.{option_map_or}
-use Rattle.desk_command.specs.declared.command.Anchor.{Anchor}
-use Rattle.desk_command.specs.declared.command.Anchor.TheVariants.{Front, End, Para}
-use Rattle.desk_command.specs.declared.command.Command.{Command}
-use Rattle.desk_command.specs.declared.command.Command.TheVariants.{Table, TypeIn, Correct, Undo, Mark, Resolve, Strike, Restore, Style, Volume, Retable, Move}
-use Rattle.desk_command.specs.declared.style.Style.TheVariants.{Body}
+use Rattle.desk_model.specs.declared.command.Anchor.{Anchor}
+use Rattle.desk_model.specs.declared.command.Anchor.TheVariants.{Front, End, Para}
+use Rattle.desk_model.specs.declared.command.Command.{Command}
+use Rattle.desk_model.specs.declared.command.Command.TheVariants.{Table, TypeIn, Correct, Undo, Mark, Resolve, Strike, Restore, Style, Volume, Retable, Move}
+use Rattle.desk_model.specs.declared.style.Style.TheVariants.{Body}
 use Rattle.desk_model.specs.Book.{Replacement, Entry, Corrects, Undoes, Book, Paragraph, Mark as BookMark, new_mark, paragraph_of}
 use Rattle.desk_model.specs.Marks.{mark_moved, mark_moved_back}
 use Rattle.desk_model.specs.Print.{newest, with_entry}

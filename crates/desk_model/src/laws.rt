@@ -2,7 +2,7 @@
 ghost use Rattle.desk_model.specs.After.{After};
 ghost use Rattle.desk_model.specs.Book.{Book, empty_book};
 ghost use Rattle.desk_model.specs.Damage.{HasItsTables, IsDamaged, IsFirstDamage};
-ghost use Rattle.desk_command.specs.declared.command.Command.{Command};
+ghost use Rattle.desk_model.specs.declared.command.Command.{Command};
 ghost use Rattle.desk_model.specs.declared.new_tables.NewTables.{NewTables};
 ghost use Rattle.desk_parts.specs.declared.file_table.FileTable.{FileTable};
 ghost use Rattle.desk_parts.specs.FileRows.{AreTexts, FileRows, table_of};

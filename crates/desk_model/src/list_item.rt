@@ -1,5 +1,5 @@
 //! What the list of a book shows of a paragraph.
-use desk_command::Style;
+use super::style::Style;
 
 /// What the list of a book shows of a paragraph.
 #[derive(Clone, Copy, Debug)]

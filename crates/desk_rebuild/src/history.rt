@@ -8,11 +8,11 @@ ghost use Rattle.std.specs.Prelude.{◌≡◌, ◌⊎◌, ℕ, ◌+◌, ◌≤�
 ghost use Rattle.std.specs.Str.{chars};
 
 use super::damage::RowsFault;
-use desk_command::Text;
 use desk_memory::{
     Correction, Items, KeptEntry, MOST_ENTRIES, MOST_PRINT, Paragraph, first_barred,
     is_proofreader_name, newest, replace_span,
 };
+use desk_model::Text;
 use desk_parts::{CorrRow, NamedCorrRow};
 use louis_table::Characters;
 use std::alloc::{AllocError, Global};

@@ -15,9 +15,8 @@ ghost use Rattle.std.specs.Str.{chars};
 
 use super::damage::{RowsFault, Unsound, flag_of, of_table};
 use crate::ordered_rows::is_next;
-use desk_command::Text;
 use desk_memory::{KeptMark, MOST_MARKS, MOST_NOTE, Paragraph, count_of, first_barred};
-use desk_model::PartsFault;
+use desk_model::{PartsFault, Text};
 use desk_parts::{FileTable, MarkRow};
 use std::alloc::{AllocError, Global};
 

@@ -7,9 +7,9 @@ use Rattle.std.proofs.lemmas.List.{append-nil}
 use Rattle.sqlite_trees.specs.Tree.{Trees}
 use Rattle.sqlite.specs.State.{HasCleanDisk, State, Survives}
 use Rattle.sql_tables.specs.States.{ShowsAsBefore}
-use Rattle.desk_command.specs.declared.command.Command.{Command}
-use Rattle.desk_command.specs.declared.refusal.Refusal.{Refusal}
-use Rattle.desk_command.specs.declared.refusal.Refusal.TheVariants as refusals
+use Rattle.desk_model.specs.declared.command.Command.{Command}
+use Rattle.desk_model.specs.declared.refusal.Refusal.{Refusal}
+use Rattle.desk_model.specs.declared.refusal.Refusal.TheVariants as refusals
 use Rattle.desk_model.specs.Book.{Book}
 use Rattle.desk_book.specs.Changes.{Carries, Change}
 use Rattle.desk_model.specs.Judging.{MayLackMemory}

@@ -1,7 +1,7 @@
 -- Sessions: what was asked of a book, what became of it, and which of the commands a file has to keep.
 use Rattle.std.specs.Prelude.{◌≡◌, ◌≢◌, ◌⊎◌, ◌≤◌, ℕ, Bool, true, false, List, [], ◌∷◌, ◌++◌, length, map, Option}
 use Rattle.std.specs.List.{All, flat_map}
-use Rattle.desk_command.specs.declared.command.Command.{Command}
+use Rattle.desk_model.specs.declared.command.Command.{Command}
 use Rattle.desk_model.specs.After.{After}
 use Rattle.desk_model.specs.Book.{Book}
 use Rattle.desk_line.specs.declared.answer.Answer.{Answer}

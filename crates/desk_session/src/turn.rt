@@ -8,9 +8,9 @@ ghost use Rattle.std.specs.Prelude.{IsTrue, List, MatchResult, false, is_ok, tru
 
 use super::fault::Fault;
 use desk_book::Book;
-use desk_command::Command;
 use desk_ends::{Failure, Sink};
 use desk_line::{Answer, Request, write_reply};
+use desk_model::Command;
 use desk_store::Store;
 use sqlite::Alter;
 use std::alloc::Global;

@@ -5,7 +5,7 @@ use Rattle.sqlite_trees.specs.Tree.{Trees}
 use Rattle.sqlite.specs.State.{HasCleanDisk, State, Survives}
 use Rattle.sql_tables.specs.States.{IsSettled}
 use Rattle.desk_model.specs.Book.{Book}
-use Rattle.desk_command.specs.declared.command.Command.{Command}
+use Rattle.desk_model.specs.declared.command.Command.{Command}
 use Rattle.desk_model.specs.Loans.{AreLent, IsLent, LeadTo}
 use Rattle.desk_book.specs.Changes.{Carries, Change}
 use Rattle.desk_parts.specs.declared.file_table.FileTable.{FileTable}

@@ -12,7 +12,7 @@ use Rattle.desk_model.specs.Book.{Book}
 use Rattle.desk_book.specs.Changes.{Carries, Change, change_puts}
 use Rattle.desk_parts.specs.Puts.{LendsFirst}
 use Rattle.desk_model.specs.Shows.{Shows as RowsShow}
-use Rattle.desk_command.specs.declared.command.Command.{Command}
+use Rattle.desk_model.specs.declared.command.Command.{Command}
 use Rattle.desk_store.specs.BookFile.{rows_of}
 use Rattle.desk_rows.specs.Contents.{Contents}
 use Rattle.desk_rows.specs.Failing.{FailsToPut, of_items}

@@ -23,12 +23,12 @@ use Rattle.louis_translate.specs.Braille.{braille}
 use Rattle.desk_book.specs.declared.change.Effect.{Effect}
 use Rattle.desk_memory.specs.declared.paragraphs.PrintChange.{PrintChange}
 use Rattle.desk_book.specs.declared.change.Effect.TheVariants.{AddTable}
-use Rattle.desk_command.specs.declared.command.Anchor.{Anchor}
-use Rattle.desk_command.specs.declared.command.Command.{Command}
-use Rattle.desk_command.specs.declared.command.Command.TheVariants.{TypeIn}
+use Rattle.desk_model.specs.declared.command.Anchor.{Anchor}
+use Rattle.desk_model.specs.declared.command.Command.{Command}
+use Rattle.desk_model.specs.declared.command.Command.TheVariants.{TypeIn}
 use Rattle.desk_memory.specs.declared.marks.KeptMark.{KeptMark}
 use Rattle.desk_memory.specs.declared.paragraphs.Paragraph.{Paragraph as KeptParagraph}
-use Rattle.desk_command.specs.declared.style.Style.{Style}
+use Rattle.desk_model.specs.declared.style.Style.{Style}
 use Rattle.desk_memory.specs.declared.tables.BookTable.{BookTable}
 use Rattle.desk_model.specs.Book.{Book, Entry, Mark, Paragraph, text_of}
 use Rattle.desk_book.specs.Changes.{ChangesPrint, AreRenewed, AreCellsByTable, Carries, Change, IsKeptTyped, IsEffect, IsEffect-change_by, change_by, Does, Does-change_by}

@@ -2,7 +2,7 @@
 use Rattle.std.proofs.Common.{◌≡◌, ℕ, List, None, subst, sym}
 use Rattle.desk_book.specs.declared.change.Effect.{Effect}
 use Rattle.desk_memory.specs.declared.marks.KeptMark.{KeptMark}
-use Rattle.desk_command.specs.declared.command.Command.{Command}
+use Rattle.desk_model.specs.declared.command.Command.{Command}
 use Rattle.desk_model.specs.Book.{Book}
 use Rattle.desk_book.specs.Changes.{IsEffect}
 use Rattle.desk_memory.specs.Kept.{IsKept, KeptParagraphs, KeptTables, book_kept}

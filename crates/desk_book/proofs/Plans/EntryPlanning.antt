@@ -6,12 +6,12 @@ use Rattle.std.proofs.lemmas.List.{length-map}
 use Rattle.louis_table.specs.Meaning.{Meaning}
 use Rattle.louis_table.specs.Table.{Means}
 use Rattle.louis_translate.specs.Position.{AreDefined}
-use Rattle.desk_command.specs.declared.command.Command.{Command}
+use Rattle.desk_model.specs.declared.command.Command.{Command}
 use Rattle.desk_memory.specs.declared.paragraphs.Paragraph.{Paragraph as KeptParagraph}
 use Rattle.desk_memory.specs.declared.tables.BookTable.{BookTable}
-use Rattle.desk_command.specs.declared.refusal.Limit.TheVariants.{Entries}
-use Rattle.desk_command.specs.declared.refusal.Refusal.{Refusal}
-use Rattle.desk_command.specs.declared.refusal.Refusal.TheVariants.{Full, NoMemory, Undefined}
+use Rattle.desk_model.specs.declared.refusal.Limit.TheVariants.{Entries}
+use Rattle.desk_model.specs.declared.refusal.Refusal.{Refusal}
+use Rattle.desk_model.specs.declared.refusal.Refusal.TheVariants.{Full, NoMemory, Undefined}
 use Rattle.desk_model.specs.Book.{Book, Paragraph, paragraph_of, text_of}
 use Rattle.desk_book.specs.Corrections.{HaltsEntry, HaltsPrint, TakesEntry}
 use Rattle.desk_memory.specs.Display.{IsShown}

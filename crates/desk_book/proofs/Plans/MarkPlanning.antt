@@ -4,12 +4,12 @@ use Rattle.louis_table.specs.Meaning.{Meaning}
 use Rattle.louis_translate.specs.Braille.{braille}
 use Rattle.louis_translate.specs.Tiling.{Tiles}
 use Rattle.louis_translate.proofs.Tilings.{one_cover}
-use Rattle.desk_command.specs.declared.command.Command.{Command}
-use Rattle.desk_command.specs.declared.command.Command.TheVariants.{Mark}
+use Rattle.desk_model.specs.declared.command.Command.{Command}
+use Rattle.desk_model.specs.declared.command.Command.TheVariants.{Mark}
 use Rattle.desk_memory.specs.declared.paragraphs.Paragraph.{Paragraph as KeptParagraph}
-use Rattle.desk_command.specs.declared.refusal.Limit.TheVariants.{Marks, Version}
-use Rattle.desk_command.specs.declared.refusal.Refusal.{Refusal}
-use Rattle.desk_command.specs.declared.refusal.Refusal.TheVariants.{BadSpan, Full, NoMemory, TooLong}
+use Rattle.desk_model.specs.declared.refusal.Limit.TheVariants.{Marks, Version}
+use Rattle.desk_model.specs.declared.refusal.Refusal.{Refusal}
+use Rattle.desk_model.specs.declared.refusal.Refusal.TheVariants.{BadSpan, Full, NoMemory, TooLong}
 use Rattle.desk_model.specs.Book.{Book, Paragraph}
 use Rattle.desk_model.specs.Judging.{Passes}
 use Rattle.desk_model.specs.Limits.{most_marks, most_note, most_version}

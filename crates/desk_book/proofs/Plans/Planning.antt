@@ -5,12 +5,12 @@ use Rattle.std.proofs.lemmas.Bool.{both_ways}
 use Rattle.louis_table.specs.Table.{Means}
 use Rattle.louis_table.proofs.OneMeaning.{one_meaning}
 use Rattle.louis_translate.specs.Position.{AreDefined, IsFirstUndefined}
-use Rattle.desk_command.specs.declared.command.Command.{Command}
+use Rattle.desk_model.specs.declared.command.Command.{Command}
 use Rattle.desk_memory.specs.declared.paragraphs.Paragraph.{Paragraph as KeptParagraph}
 use Rattle.desk_memory.specs.declared.tables.BookTable.{BookTable}
-use Rattle.desk_command.specs.declared.refusal.Limit.TheVariants.{Version}
-use Rattle.desk_command.specs.declared.refusal.Refusal.{Refusal}
-use Rattle.desk_command.specs.declared.refusal.Refusal.TheVariants.{Full, NoMemory, NoParagraph, NoTable, NotStruck, Struck, TooLong, Undefined}
+use Rattle.desk_model.specs.declared.refusal.Limit.TheVariants.{Version}
+use Rattle.desk_model.specs.declared.refusal.Refusal.{Refusal}
+use Rattle.desk_model.specs.declared.refusal.Refusal.TheVariants.{Full, NoMemory, NoParagraph, NoTable, NotStruck, Struck, TooLong, Undefined}
 use Rattle.desk_model.specs.Book.{Book, Paragraph, paragraph_of, text_of}
 use Rattle.desk_model.specs.Judging.{Passes}
 use Rattle.desk_model.specs.Limits.{most_print, most_version}

@@ -6,10 +6,10 @@ use Rattle.louis_table.specs.Meaning.{Meaning}
 use Rattle.louis_table.specs.Table.{Bad, Means}
 use Rattle.louis_table.specs.declared.fault.TableFault.{TableFault}
 use Rattle.louis_table.proofs.OneMeaning.{means_or_bad, one_meaning}
-use Rattle.desk_command.specs.declared.command.Command.TheVariants.{Table}
-use Rattle.desk_command.specs.declared.refusal.Limit.TheVariants.{Tables}
-use Rattle.desk_command.specs.declared.refusal.Refusal.{Refusal}
-use Rattle.desk_command.specs.declared.refusal.Refusal.TheVariants.{BadName, Full, BadTable, Untranslatable, NoMemory}
+use Rattle.desk_model.specs.declared.command.Command.TheVariants.{Table}
+use Rattle.desk_model.specs.declared.refusal.Limit.TheVariants.{Tables}
+use Rattle.desk_model.specs.declared.refusal.Refusal.{Refusal}
+use Rattle.desk_model.specs.declared.refusal.Refusal.TheVariants.{BadName, Full, BadTable, Untranslatable, NoMemory}
 use Rattle.desk_model.specs.Book.{Book, text_of}
 use Rattle.desk_model.specs.Judging.{Passes}
 use Rattle.desk_model.specs.Limits.{most_tables}

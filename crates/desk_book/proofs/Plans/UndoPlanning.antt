@@ -5,13 +5,13 @@ use Rattle.louis_table.specs.Meaning.{Meaning}
 use Rattle.louis_translate.specs.Position.{AreDefined}
 use Rattle.desk_book.specs.declared.change.Effect.{Effect}
 use Rattle.desk_book.specs.declared.corrections.NewEntry.{NewEntry}
-use Rattle.desk_command.specs.declared.command.Command.{Command}
-use Rattle.desk_command.specs.declared.command.Command.TheVariants.{Undo}
+use Rattle.desk_model.specs.declared.command.Command.{Command}
+use Rattle.desk_model.specs.declared.command.Command.TheVariants.{Undo}
 use Rattle.desk_memory.specs.declared.history.Correction.{Correction}
 use Rattle.desk_memory.specs.declared.history.KeptEntry.TheVariants.{Undoes as KeptUndoes}
 use Rattle.desk_memory.specs.declared.paragraphs.Paragraph.{Paragraph as KeptParagraph}
-use Rattle.desk_command.specs.declared.refusal.Refusal.{Refusal}
-use Rattle.desk_command.specs.declared.refusal.Refusal.TheVariants.{NoMemory, NothingToUndo}
+use Rattle.desk_model.specs.declared.refusal.Refusal.{Refusal}
+use Rattle.desk_model.specs.declared.refusal.Refusal.TheVariants.{NoMemory, NothingToUndo}
 use Rattle.desk_model.specs.Book.{Book, Undoes, Paragraph, Replacement}
 use Rattle.desk_book.specs.Changes.{Does}
 use Rattle.desk_book.specs.Corrections.{HaltsEntry, HaltsPrint, IsEntered, TakesEntry}

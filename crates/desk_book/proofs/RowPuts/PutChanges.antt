@@ -12,7 +12,7 @@ use Rattle.std.proofs.lemmas.Bool.{cond_both, eqb-true, eq-eqb}
 use Rattle.std.proofs.lemmas.List.Elements.{All-contains_itself, All-head, All-tail, All-weaker}
 use Rattle.std.proofs.lemmas.List.FromFn.{length-range_with_len, get_or-range_with_len}
 use Rattle.std.proofs.lemmas.List.Sorted.{IsPermutation-refl}
-use Rattle.desk_command.specs.declared.style.Style.{Style}
+use Rattle.desk_model.specs.declared.style.Style.{Style}
 use Rattle.desk_model.specs.Book.{Book, Mark, Paragraph}
 use Rattle.desk_model.specs.Loans.{LeadTo, row_number}
 use Rattle.desk_book.specs.ChangePuts.{flags_put, resolved_put, version_put}

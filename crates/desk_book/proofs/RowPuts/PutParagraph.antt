@@ -32,7 +32,7 @@ use Rattle.desk_model.specs.Shows.{AreCached, IsCached, Shows, entry_row_of, ent
 use Rattle.desk_model.proofs.Rows.ParaRows.{paras_of}
 use Rattle.desk_model.specs.Sound.{IsSound, IsSoundParagraph}
 use Rattle.desk_model.specs.Step.{next_id, next_with_paragraphs}
-use Rattle.desk_command.specs.Characters.{AreCharacters}
+use Rattle.desk_model.specs.Characters.{AreCharacters}
 use Rattle.desk_model.proofs.Rows.BookRows.{encoded-text, name-characters, spelled-encoded}
 use Rattle.desk_model.proofs.Lists.Members.{Contains-cases, Contains-here, Contains-behind, Contains-map, Contains-none}
 use Rattle.desk_model.proofs.Books.ParagraphLists.{ids_of}

@@ -31,7 +31,7 @@ use Rattle.desk_model.specs.Shows.{AreCached, Shows, book_row_of, entry_row_of, 
 use Rattle.desk_model.proofs.Rows.ParaRows.{paras_of}
 use Rattle.desk_model.specs.Sound.{IsSound, IsSoundEntry, IsSoundMark, IsSoundParagraph}
 use Rattle.desk_model.specs.Step.{next_with_entry}
-use Rattle.desk_command.specs.Characters.{AreCharacters}
+use Rattle.desk_model.specs.Characters.{AreCharacters}
 use Rattle.desk_model.proofs.Rows.BookRows.{HasCharacters, encoded-text, entry-text, history-characters, spelled-encoded}
 use Rattle.desk_memory.proofs.Callers.{IsWithin-sound}
 use Rattle.desk_model.proofs.Lists.Members.{Contains-behind, Contains-cases, Contains-here, Contains-map, Contains-none}

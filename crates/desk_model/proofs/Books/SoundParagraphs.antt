@@ -8,7 +8,7 @@ use Rattle.std.proofs.lemmas.List.{length-map}
 use Rattle.std.proofs.lemmas.List.Elements.{All-cons, All-weaker}
 use Rattle.std.proofs.lemmas.List.Sorted.{All-permutation, IsPermutation-map, IsPermutation-trans, length_permutation}
 use Rattle.louis_translate.specs.Position.{AreDefined}
-use Rattle.desk_command.specs.declared.command.Anchor.{Anchor}
+use Rattle.desk_model.specs.declared.command.Anchor.{Anchor}
 use Rattle.desk_model.specs.Book.{Book, Paragraph, Mark, text_of, paragraph_of}
 use Rattle.desk_model.specs.Print.{corrected_print, print_of}
 use Rattle.desk_model.specs.Named.{paragraph_before}

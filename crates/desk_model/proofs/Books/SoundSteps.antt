@@ -11,9 +11,9 @@ use Rattle.std.proofs.lemmas.List.Sorted.{IsPermutation-refl}
 use Rattle.louis_table.specs.Meaning.{Meaning}
 use Rattle.louis_table.specs.Table.{Means}
 use Rattle.unicode_normalization.specs.Forms.{nfc}
-use Rattle.desk_command.specs.declared.command.Anchor.{Anchor}
-use Rattle.desk_command.specs.declared.command.Command.{Command}
-use Rattle.desk_command.specs.declared.command.Command.TheVariants.{Table, TypeIn, Correct, Undo, Mark, Resolve, Strike, Restore, Style, Volume, Retable, Move}
+use Rattle.desk_model.specs.declared.command.Anchor.{Anchor}
+use Rattle.desk_model.specs.declared.command.Command.{Command}
+use Rattle.desk_model.specs.declared.command.Command.TheVariants.{Table, TypeIn, Correct, Undo, Mark, Resolve, Strike, Restore, Style, Volume, Retable, Move}
 use Rattle.desk_model.specs.After.{After}
 use Rattle.std.specs.List.{range_with_len}
 use Rattle.std.proofs.lemmas.Bool.{cases_lt}
@@ -21,7 +21,7 @@ use Rattle.std.proofs.lemmas.List.{length-append, map-append}
 use Rattle.std.proofs.lemmas.List.Elements.{All-push}
 use Rattle.louis_translate.specs.Braille.{braille}
 use Rattle.louis_translate.specs.Position.{AreDefined}
-use Rattle.desk_command.specs.declared.refusal.Refusal.TheVariants.{BadSpan}
+use Rattle.desk_model.specs.declared.refusal.Refusal.TheVariants.{BadSpan}
 use Rattle.desk_model.specs.Book.{Book, Corrects, Mark as BookMark, Paragraph, Replacement, Undoes, new_mark, text_of, empty_book}
 use Rattle.desk_model.specs.Marks.{mark_moved, mark_moved_back}
 use Rattle.desk_model.specs.Print.{corrected_print, print_of, print_undone, with_entry, with_replacement}
@@ -36,7 +36,7 @@ use Rattle.desk_model.specs.Limits.{most_tables, most_print}
 use Rattle.desk_model.specs.Sound.{IsSoundHistory, IsSoundTable, IsSoundParagraph, IsSoundMark, IsSound}
 use Rattle.desk_model.specs.Step.{new_paragraph, with_change, with_paragraph, with_move, next_id, IsNewest, next_mark, next_with_entry, next_with_marks, next_with_paragraphs, replacement_by, Makes, next_with_table}
 use Rattle.desk_model.specs.NormalForm.{is_barred, IsClean, IsUnbarred, normal_form}
-use Rattle.desk_command.specs.Characters.{AreCharacters}
+use Rattle.desk_model.specs.Characters.{AreCharacters}
 use Rattle.desk_model.proofs.Lists.Options.{IsSomeAnd-of}
 use Rattle.desk_model.proofs.Commands.Accepted.{given_proofreader, given_unbarred, room_for_entry, room_for_mark, short_note, room_for_version, named_paragraph, named_table, shown_defined, short_print, room_for_paragraph, given_name, given_meaning, room_for_table, users_defined}
 use Rattle.desk_model.proofs.Commands.Turns.{changed-print, changed-translated}

@@ -7,9 +7,9 @@ use Rattle.louis_table.specs.Meaning.{Meaning}
 use Rattle.louis_table.specs.Table.{Bad, Means}
 use Rattle.louis_table.proofs.OneMeaning.{some_meaning}
 use Rattle.louis_translate.specs.Position.{AreDefined}
-use Rattle.desk_command.specs.declared.command.Command.{Command}
-use Rattle.desk_command.specs.declared.refusal.Limit.TheVariants.{Tables, Paragraphs, Entries, Marks, Version}
-use Rattle.desk_command.specs.declared.refusal.Refusal.TheVariants.{BadName, BadReader, BadText, NoParagraph, NoTable, TooLong, Full, BadTable, Undefined, Untranslatable}
+use Rattle.desk_model.specs.declared.command.Command.{Command}
+use Rattle.desk_model.specs.declared.refusal.Limit.TheVariants.{Tables, Paragraphs, Entries, Marks, Version}
+use Rattle.desk_model.specs.declared.refusal.Refusal.TheVariants.{BadName, BadReader, BadText, NoParagraph, NoTable, TooLong, Full, BadTable, Undefined, Untranslatable}
 use Rattle.desk_model.specs.Book.{Book, Paragraph, text_of, paragraph_of}
 use Rattle.desk_model.specs.Limits.{most_entries, most_marks, most_note, most_proofreader, most_version, most_tables, most_name, most_paragraphs, most_print}
 use Rattle.desk_model.specs.Name.{IsProofreaderName, IsTableName, is_name_character, is_proofreader_character}

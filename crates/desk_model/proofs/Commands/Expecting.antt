@@ -1,9 +1,9 @@
 -- Commands for which a version is expected.
 use Rattle.std.proofs.Common.{◌≡◌, ℕ, ◌+◌, Option, None, ap, arith}
-use Rattle.desk_command.specs.declared.command.Command.{Command}
-use Rattle.desk_command.specs.declared.command.Command.TheVariants.{Table, Undo, Mark}
-use Rattle.desk_command.specs.declared.refusal.Refusal.{Refusal}
-use Rattle.desk_command.specs.declared.refusal.Refusal.TheVariants.{Moved}
+use Rattle.desk_model.specs.declared.command.Command.{Command}
+use Rattle.desk_model.specs.declared.command.Command.TheVariants.{Table, Undo, Mark}
+use Rattle.desk_model.specs.declared.refusal.Refusal.{Refusal}
+use Rattle.desk_model.specs.declared.refusal.Refusal.TheVariants.{Moved}
 use Rattle.desk_model.specs.Book.{Book}
 use Rattle.desk_model.specs.Judging.{MayLackMemory}
 use Rattle.desk_model.specs.Refusals.{Holds, IsAccepted, IsMoved, IsRefused}

@@ -1,6 +1,6 @@
 -- Books after one list of commands and later another.
 use Rattle.std.proofs.Common.{◌↔◌, List, [], ◌∷◌, ◌++◌, refl, subst}
-use Rattle.desk_command.specs.declared.command.Command.{Command}
+use Rattle.desk_model.specs.declared.command.Command.{Command}
 use Rattle.desk_model.specs.After.{After}
 use Rattle.desk_model.specs.Book.{Book}
 

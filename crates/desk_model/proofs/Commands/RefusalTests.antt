@@ -9,10 +9,10 @@ use Rattle.louis_table.specs.Table.{Bad, Means}
 use Rattle.louis_translate.proofs.Tilings.{one_tiling}
 use Rattle.louis_translate.specs.Braille.{braille}
 use Rattle.louis_translate.specs.Position.{IsFirstUndefined}
-use Rattle.desk_command.specs.declared.command.Command.{Command}
-use Rattle.desk_command.specs.declared.refusal.Limit.{Limit}
-use Rattle.desk_command.specs.declared.refusal.Limit.TheVariants.{Tables, Paragraphs, Entries, Marks, Version}
-use Rattle.desk_command.specs.declared.refusal.Refusal.TheVariants.{BadName, BadReader, BadSpan, BadTable, BadText, NoMark, NoParagraph, NoTable, NotStruck, NothingToUndo, Resolved, Struck, TooLong}
+use Rattle.desk_model.specs.declared.command.Command.{Command}
+use Rattle.desk_model.specs.declared.refusal.Limit.{Limit}
+use Rattle.desk_model.specs.declared.refusal.Limit.TheVariants.{Tables, Paragraphs, Entries, Marks, Version}
+use Rattle.desk_model.specs.declared.refusal.Refusal.TheVariants.{BadName, BadReader, BadSpan, BadTable, BadText, NoMark, NoParagraph, NoTable, NotStruck, NothingToUndo, Resolved, Struck, TooLong}
 use Rattle.louis_table.specs.declared.fault.TableFault.{TableFault}
 use Rattle.desk_model.specs.Book.{Book, Mark as BookMark, Paragraph, mark_of, paragraph_of, text_of}
 use Rattle.desk_model.specs.Limits.{most_entries, most_marks, most_name, most_note, most_paragraphs, most_print, most_proofreader, most_tables, most_version}

@@ -6,9 +6,9 @@ use Rattle.std.specs.Prelude.{IsSome, IsSomeAnd, is_some, option_map}
 use Rattle.std.proofs.lemmas.Bool.{both_ways}
 use Rattle.louis_table.specs.Meaning.{Meaning}
 use Rattle.louis_translate.specs.Position.{AreDefined, IsFirstUndefined}
-use Rattle.desk_command.specs.declared.command.Command.{Command}
-use Rattle.desk_command.specs.declared.refusal.Limit.TheVariants.{Paragraphs, Version}
-use Rattle.desk_command.specs.declared.refusal.Refusal.TheVariants.{BadText, Full, Moved, NoParagraph, NoTable, Struck, TooLong}
+use Rattle.desk_model.specs.declared.command.Command.{Command}
+use Rattle.desk_model.specs.declared.refusal.Limit.TheVariants.{Paragraphs, Version}
+use Rattle.desk_model.specs.declared.refusal.Refusal.TheVariants.{BadText, Full, Moved, NoParagraph, NoTable, Struck, TooLong}
 use Rattle.desk_model.specs.Book.{Book, Paragraph, paragraph_of, text_of}
 use Rattle.desk_model.specs.Judging.{Passes}
 use Rattle.desk_model.specs.Limits.{most_note, most_paragraphs, most_print, most_version}

@@ -1,6 +1,6 @@
 -- The print after an undo.
 use Rattle.std.proofs.Common.{ℕ, refl, ap, ◌∙◌}
-use Rattle.desk_command.specs.declared.command.Command.TheVariants.{Undo}
+use Rattle.desk_model.specs.declared.command.Command.TheVariants.{Undo}
 use Rattle.desk_model.specs.Book.{Book, Paragraph, Undoes}
 use Rattle.desk_model.specs.Print.{with_entry}
 use Rattle.desk_model.specs.Restoration.{RestoresPrint}

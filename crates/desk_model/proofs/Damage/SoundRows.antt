@@ -17,8 +17,8 @@ use Rattle.std.proofs.lemmas.Simd.{map-map}
 use Rattle.std.proofs.lemmas.Str.{encodes-chars}
 use Rattle.std.proofs.Math.Utf8.{encodes}
 use Rattle.louis_table.specs.Table.{Means}
-use Rattle.desk_command.specs.declared.style.Style.{Style}
-use Rattle.desk_command.specs.declared.style.Style.TheVariants.{Body, Heading}
+use Rattle.desk_model.specs.declared.style.Style.{Style}
+use Rattle.desk_model.specs.declared.style.Style.TheVariants.{Body, Heading}
 use Rattle.desk_model.specs.Book.{Book}
 use Rattle.desk_model.specs.Damage.{IsDamagedBook, IsDamagedTab, IsFlag, IsSoundTabRow}
 use Rattle.desk_parts.specs.declared.file_table.FileTable.TheVariants as file

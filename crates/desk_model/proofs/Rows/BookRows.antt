@@ -21,7 +21,7 @@ use Rattle.desk_parts.specs.Rows.{Corr, Tab, Para, NamedCorr, Mark as MarkRow, P
 use Rattle.desk_model.specs.Shows.{AreCached, IsCached, IsUnnamed, Shows, book_row_of, entry_row_of, entry_rows_of, mark_row_of, para_of, tab_of}
 use Rattle.desk_model.proofs.Rows.ParaRows.{paras_of}
 use Rattle.desk_model.specs.Sound.{IsSound, IsSoundEntry, IsSoundMark, IsSoundParagraph, IsSoundTable}
-use Rattle.desk_command.specs.Characters.{AreCharacters}
+use Rattle.desk_model.specs.Characters.{AreCharacters}
 use Rattle.desk_model.proofs.Lists.Permutations.{IsPermutation-same}
 use Rattle.desk_model.proofs.Books.PrintCharacters.{HasText, print-all}
 use Rattle.desk_model.proofs.Books.SoundBooks.{IsSoundTable-found}

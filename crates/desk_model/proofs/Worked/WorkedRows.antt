@@ -18,12 +18,12 @@ use Rattle.louis_table.specs.Table.{Defines, Means}
 use Rattle.louis_table.proofs.OneMeaning.{LinesMean-Means}
 use Rattle.louis_table.proofs.ReadingLaws.{Reached-all, Reached-more, Reached-none}
 use Rattle.louis_translate.specs.Position.{IsFirstUndefined}
-use Rattle.desk_command.specs.declared.command.Command.{Command}
-use Rattle.desk_command.specs.declared.refusal.Limit.TheVariants.{Tables, Paragraphs, Entries, Marks, Version}
-use Rattle.desk_command.specs.declared.refusal.Refusal.{Refusal}
-use Rattle.desk_command.specs.declared.refusal.Refusal.TheVariants.{Moved, BadName, BadReader, BadText, NoParagraph, NoTable, NoMark, Struck, NotStruck, Resolved, BadSpan, NothingToUndo, TooLong, Full, BadTable, Undefined, Untranslatable, NoMemory}
-use Rattle.desk_command.specs.declared.command.Command.TheVariants.{Correct, Undo, Strike, Restore}
-use Rattle.desk_command.specs.declared.style.Style.TheVariants.{Body}
+use Rattle.desk_model.specs.declared.command.Command.{Command}
+use Rattle.desk_model.specs.declared.refusal.Limit.TheVariants.{Tables, Paragraphs, Entries, Marks, Version}
+use Rattle.desk_model.specs.declared.refusal.Refusal.{Refusal}
+use Rattle.desk_model.specs.declared.refusal.Refusal.TheVariants.{Moved, BadName, BadReader, BadText, NoParagraph, NoTable, NoMark, Struck, NotStruck, Resolved, BadSpan, NothingToUndo, TooLong, Full, BadTable, Undefined, Untranslatable, NoMemory}
+use Rattle.desk_model.specs.declared.command.Command.TheVariants.{Correct, Undo, Strike, Restore}
+use Rattle.desk_model.specs.declared.style.Style.TheVariants.{Body}
 use Rattle.desk_model.specs.Book.{Book, Paragraph, Replacement, Entry, Corrects, Undoes, Mark, new_mark}
 use Rattle.desk_model.specs.Print.{corrected_print, newest, stack}
 use Rattle.desk_model.specs.Marks.{mark_moved, mark_moved_back}
@@ -31,7 +31,7 @@ use Rattle.desk_model.specs.Judging.{Passes}
 use Rattle.desk_model.specs.Name.{IsProofreaderName, is_proofreader_character}
 use Rattle.desk_model.specs.Refusals.{IsRefused, new_print, print_to_translate, turn}
 use Rattle.desk_model.specs.Limits.{most_entries, most_print}
-use Rattle.desk_command.specs.Numbers.{code_of}
+use Rattle.desk_model.specs.Numbers.{code_of}
 use Rattle.desk_model.specs.Named.{number_of}
 use Rattle.desk_model.specs.Step.{Makes}
 use Rattle.desk_model.specs.NormalForm.{IsUnbarred, is_barred}

@@ -1,5 +1,5 @@
 use Rattle.std.proofs.Common.{◌≡◌, ◌++◌, take}
-use Rattle.desk_command.specs.declared.command.Anchor.TheVariants.{Para}
+use Rattle.desk_model.specs.declared.command.Anchor.TheVariants.{Para}
 use Rattle.desk_memory.specs.Kept.{with_id}
 use Rattle.desk_memory.proofs.paragraphs.put_behind.Given as goal
 

@@ -5,8 +5,8 @@ use Rattle.std.proofs.lemmas.Str.{IsUtf8-string_bytes, chars_from_encodes}
 use Rattle.std.specs.Str.{chars}
 use Rattle.std.specs.Prelude.{string_bytes}
 use Rattle.desk_memory.specs.declared.paragraphs.Paragraph.{Paragraph as KeptParagraph}
-use Rattle.desk_command.specs.declared.style.Style.{Style}
-use Rattle.desk_command.specs.declared.style.Style.TheVariants.{Body, Heading}
+use Rattle.desk_model.specs.declared.style.Style.{Style}
+use Rattle.desk_model.specs.declared.style.Style.TheVariants.{Body, Heading}
 use Rattle.desk_model.specs.Damage.{IsFlag, IsPrintText}
 use Rattle.desk_rebuild.specs.Paras.{AreDefinedBy, IsKeptOf, IsParaOn}
 use Rattle.desk_parts.specs.declared.file_table.FileTable.TheVariants as tables

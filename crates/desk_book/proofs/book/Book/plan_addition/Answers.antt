@@ -1,6 +1,6 @@
 use Rattle.std.proofs.Common.{ℕ, ◌<◌, List, None, length, refl, ◌∙◌, arith, inr}
 use Rattle.std.proofs.lemmas.Result.{err_from_is_err_and}
-use Rattle.desk_command.specs.declared.command.Command.TheVariants.{Table}
+use Rattle.desk_model.specs.declared.command.Command.TheVariants.{Table}
 use Rattle.desk_model.specs.Book.{Book}
 use Rattle.desk_model.specs.Judging.{Passes}
 use Rattle.desk_model.specs.Limits.{most_tables, most_version}

@@ -3,7 +3,7 @@ use Rattle.std.specs.Prelude.{IsSome}
 use Rattle.std.proofs.lemmas.Result.{err_from_is_err_and}
 use Rattle.louis_table.specs.Meaning.{Meaning}
 use Rattle.louis_table.specs.Table.{Means}
-use Rattle.desk_command.specs.declared.command.Command.TheVariants.{Table}
+use Rattle.desk_model.specs.declared.command.Command.TheVariants.{Table}
 use Rattle.desk_model.specs.Book.{Book, text_of}
 use Rattle.desk_book.specs.Changes.{AreRenewed}
 use Rattle.desk_model.specs.Judging.{Passes}

@@ -2,10 +2,10 @@ use Rattle.std.proofs.Common.{◌≡◌, ℕ, ◌<◌, true, false, List, [], So
 use Rattle.std.specs.Prelude.{option_map}
 use Rattle.std.proofs.lemmas.Result.{err_from_is_err_and}
 use Rattle.louis_translate.specs.Position.{AreDefined, IsFirstUndefined}
-use Rattle.desk_command.specs.declared.command.Command.TheVariants.{Retable}
+use Rattle.desk_model.specs.declared.command.Command.TheVariants.{Retable}
 use Rattle.desk_memory.specs.declared.paragraphs.Paragraph.{Paragraph as KeptParagraph}
 use Rattle.desk_memory.specs.declared.tables.BookTable.{BookTable}
-use Rattle.desk_command.specs.declared.refusal.Refusal.TheVariants.{Struck}
+use Rattle.desk_model.specs.declared.refusal.Refusal.TheVariants.{Struck}
 use Rattle.desk_model.specs.Book.{Book, Paragraph}
 use Rattle.desk_memory.specs.Braille.{AreCellsOf}
 use Rattle.desk_model.specs.Judging.{Passes}

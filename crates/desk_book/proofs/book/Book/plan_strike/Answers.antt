@@ -1,5 +1,5 @@
 use Rattle.std.proofs.Common.{true, refl}
-use Rattle.desk_command.specs.declared.command.Command.TheVariants.{Strike}
+use Rattle.desk_model.specs.declared.command.Command.TheVariants.{Strike}
 use Rattle.desk_model.specs.Book.{Paragraph}
 use Rattle.desk_model.proofs.Commands.Turns.{to_turn}
 use Rattle.desk_book.proofs.Plans.FlagPlanning.{flags_planned}

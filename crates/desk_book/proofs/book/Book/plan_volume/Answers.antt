@@ -1,5 +1,5 @@
 use Rattle.std.proofs.Common.{refl}
-use Rattle.desk_command.specs.declared.command.Command.TheVariants.{Volume}
+use Rattle.desk_model.specs.declared.command.Command.TheVariants.{Volume}
 use Rattle.desk_model.specs.Book.{Paragraph}
 use Rattle.desk_book.proofs.Plans.FlagPlanning.{flags_planned}
 use Rattle.desk_book.proofs.Plans.Planning.{past_named}

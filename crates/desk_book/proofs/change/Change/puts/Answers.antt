@@ -1,6 +1,6 @@
 use Rattle.std.proofs.Common.{◌≡◌, ℕ, ◌+◌, ◌∷◌, List, Option, ap, refl, subst, sym, ◌∙◌}
 use Rattle.desk_book.specs.declared.change.Effect.{Effect}
-use Rattle.desk_command.specs.declared.command.Command.{Command}
+use Rattle.desk_model.specs.declared.command.Command.{Command}
 use Rattle.desk_parts.specs.Puts.{RowPut}
 use Rattle.desk_model.specs.Book.{Book}
 use Rattle.desk_model.specs.Loans.{AreLent, LeadTo}

@@ -1,8 +1,8 @@
 use Rattle.std.proofs.Common.{◌≡◌, ◌+◌, [], length, Some, None, subst, sym, ap, ap₂, ◌∙◌, arith}
 use Rattle.std.specs.List.{Contains, insert, position}
 use Rattle.std.specs.Prelude.{nat_eq}
-use Rattle.desk_command.specs.declared.command.Anchor.{Anchor}
-use Rattle.desk_command.specs.declared.command.Anchor.TheVariants.{End, Para}
+use Rattle.desk_model.specs.declared.command.Anchor.{Anchor}
+use Rattle.desk_model.specs.declared.command.Anchor.TheVariants.{End, Para}
 use Rattle.desk_memory.specs.Kept.{ids, with_id}
 use Rattle.desk_model.specs.Named.{paragraph_before}
 use Rattle.desk_memory.proofs.Arranging.{ids-shown, length-order, length-shown}

@@ -1,5 +1,5 @@
 use Rattle.std.proofs.Common.{rules}
-use Rattle.desk_command.proofs.text.Text.into_string.Goals as goal
+use Rattle.desk_model.proofs.text.Bytes.from_vec.Goals as goal
 
 pub returns : goal.returns
 returns c = search rules

@@ -1,5 +1,5 @@
 use Rattle.std.proofs.Common.{rules}
-use Rattle.desk_command.proofs.text.Bytes.as_slice.Goals as goal
+use Rattle.desk_model.proofs.text.Text.into_string.Goals as goal
 
 pub returns : goal.returns
 returns c = search rules

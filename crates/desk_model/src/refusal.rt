@@ -1,5 +1,5 @@
 //! Why a command or a query is refused.
-ghost use Rattle.desk_command.specs.Numbers.{code_of, limit_number};
+ghost use Rattle.desk_model.specs.Numbers.{code_of, limit_number};
 ghost use Rattle.std.specs.Prelude.{◌≡◌};
 
 use louis_table::TableFault;
@@ -138,7 +138,7 @@ impl Refusal {
 }
 
 impl From<AllocError> for Refusal {
-    ghost use Rattle.desk_command.specs.declared.refusal.Refusal.TheVariants.{NoMemory};
+    ghost use Rattle.desk_model.specs.declared.refusal.Refusal.TheVariants.{NoMemory};
 
     ghost from_gives = { λ _ refusal. refusal ≡ NoMemory };
 
