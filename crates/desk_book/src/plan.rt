@@ -5,7 +5,7 @@ ghost use Rattle.desk_memory.specs.Braille.{AreCellsOf};
 ghost use Rattle.desk_model.specs.Judging.{MayLackMemory};
 ghost use Rattle.desk_model.specs.Limits.{most_paragraphs, most_print, most_tables, most_version};
 ghost use Rattle.desk_model.specs.Name.{IsTableName};
-ghost use Rattle.desk_book.specs.Plans.{AreNotAllThere, AreThere, IsKeptFor, IsNewParagraph, IsPlanned, IsTableFor, IsTurnedDown};
+ghost use Rattle.desk_book.specs.Plans.{AreNotAllThere, AreThere, IsNewParagraph, IsPlanned, IsTableFor, IsTurnedDown};
 ghost use Rattle.desk_model.specs.Named.{number_of, paragraph_before};
 ghost use Rattle.desk_model.specs.Refusals.{DefinesUser, IsAccepted, IsFirstUser, IsMoved, IsRefused};
 ghost use Rattle.desk_model.specs.Step.{next_mark};
@@ -261,15 +261,6 @@ impl Book {
         }
     }
 
-    /// The paragraph that a command names.
-    fn named(&self, id: u64) -> Result<&Paragraph, Refusal>
-        ensures found { IfOk result (λ kept. IsKeptFor self.now id kept.now) }
-        ensures missing { IfErr result (λ refusal.
-            (refusal ≡ Refusal.NoParagraph) × (paragraph_of self.now id ≡ None)) }
-    {
-        self.paragraphs.get(id).ok_or(Refusal::NoParagraph)
-    }
-
     /// The paragraph that a command puts something after is there.
     fn check_anchor(&self, anchor: Anchor) -> Result<(), Refusal>
         ensures there { OnOk result (AreThere self.now (paragraph_before anchor)) }
@@ -277,7 +268,7 @@ impl Book {
             (refusal ≡ Refusal.NoParagraph) × AreNotAllThere self.now (paragraph_before anchor)) }
     {
         if let Anchor::Para(id) = anchor {
-            self.named(id)?;
+            self.kept_paragraph(id)?;
         }
         Ok(())
     }
@@ -319,7 +310,7 @@ impl Book {
         ensures planned { IfOk result (IsPlanned self.now (Command.Strike id)) }
         ensures refused { IfErr result (IsTurnedDown self.now (Command.Strike id)) }
     {
-        let paragraph = self.named(id)?;
+        let paragraph = self.kept_paragraph(id)?;
         if paragraph.struck {
             return Err(Refusal::Struck);
         }
@@ -331,7 +322,7 @@ impl Book {
         ensures planned { IfOk result (IsPlanned self.now (Command.Restore id)) }
         ensures refused { IfErr result (IsTurnedDown self.now (Command.Restore id)) }
     {
-        let paragraph = self.named(id)?;
+        let paragraph = self.kept_paragraph(id)?;
         if !paragraph.struck {
             return Err(Refusal::NotStruck);
         }
@@ -343,7 +334,7 @@ impl Book {
         ensures planned { IfOk result (IsPlanned self.now (Command.Style id style)) }
         ensures refused { IfErr result (IsTurnedDown self.now (Command.Style id style)) }
     {
-        let paragraph = self.named(id)?;
+        let paragraph = self.kept_paragraph(id)?;
         self.check_version()?;
         Ok(with_style(id, paragraph, style))
     }
@@ -352,7 +343,7 @@ impl Book {
         ensures planned { IfOk result (IsPlanned self.now (Command.Volume id begins)) }
         ensures refused { IfErr result (IsTurnedDown self.now (Command.Volume id begins)) }
     {
-        let paragraph = self.named(id)?;
+        let paragraph = self.kept_paragraph(id)?;
         self.check_version()?;
         Ok(with_volume(id, paragraph, begins))
     }
@@ -361,7 +352,7 @@ impl Book {
         ensures planned { IfOk result (IsPlanned self.now (Command.Move id anchor)) }
         ensures refused { IfErr result (IsTurnedDown self.now (Command.Move id anchor)) }
     {
-        self.named(id)?;
+        self.kept_paragraph(id)?;
         self.check_anchor(anchor)?;
         self.check_version()?;
         Ok(Effect::Reorder {
@@ -373,7 +364,7 @@ impl Book {
         ensures planned { IfOk result (IsPlanned self.now (Command.Retable id table.now)) }
         ensures refused { IfErr result (IsTurnedDown self.now (Command.Retable id table.now)) }
     {
-        let paragraph = self.named(id)?;
+        let paragraph = self.kept_paragraph(id)?;
         let kept = self.table_named(table)?;
         if paragraph.struck {
             return Err(Refusal::Struck);

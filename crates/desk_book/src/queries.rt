@@ -3,6 +3,7 @@ ghost use Rattle.desk_model.specs.Book.{paragraph_of};
 ghost use Rattle.desk_model.specs.ParagraphMarks.{marks_on};
 ghost use Rattle.desk_model.specs.Print.{print_of};
 ghost use Rattle.desk_memory.specs.Display.{IsShown};
+ghost use Rattle.desk_book.specs.Plans.{IsKeptFor};
 ghost use Rattle.desk_model.specs.Translation.{IsBraille, IsOutputPlace, IsPrintPlace, LacksCell, LacksPlace};
 ghost use Rattle.louis_table.specs.Meaning.{Meaning};
 ghost use Rattle.std.specs.List.{enumerate_from};
@@ -16,8 +17,9 @@ use louis_translate::{RuleIndex, output_place, print_place};
 
 impl Book {
     /// A paragraph as it is kept.
-    fn kept_paragraph(&self, id: u64) -> Result<&Paragraph, Refusal>
-        ensures found { IfOk result (λ kept. (meaning : Meaning) × IsShown self.now id kept.now meaning) }
+    pub(crate) fn kept_paragraph(&self, id: u64) -> Result<&Paragraph, Refusal>
+        ensures found { IfOk result (λ kept. IsKeptFor self.now id kept.now) }
+        ensures shown { IfOk result (λ kept. (meaning : Meaning) × IsShown self.now id kept.now meaning) }
         ensures missing { IfErr result (λ refusal. (refusal ≡ Refusal.NoParagraph) × (paragraph_of self.now id ≡ None)) }
     {
         self.paragraphs.get(id).ok_or(Refusal::NoParagraph)

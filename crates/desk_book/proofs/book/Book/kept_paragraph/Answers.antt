@@ -5,11 +5,16 @@ use Rattle.std.specs.Prelude.{nat_eq}
 use Rattle.desk_model.specs.Book.{Book, paragraph_of}
 use Rattle.desk_memory.specs.Display.{IsShown}
 use Rattle.desk_memory.proofs.Callers.{IsShown-found, missing-kept, table-kept}
-use Rattle.desk_book.proofs.Kept.KeptLookups.{IfErr-ok_or, IfOk-ok_or}
+use Rattle.desk_book.proofs.Kept.KeptLookups.{IfErr-ok_or, IfOk-ok_or, IsKeptFor-lookup}
 use Rattle.desk_book.proofs.book.Book.kept_paragraph.Goals as goal
 
 pub returns-clause-found : goal.returns-clause-found
 returns-clause-found c =
+    IfOk-ok_or _ _ _ c.ok_or.ensures.value _
+    (λ x e. IsKeptFor-lookup _ _ _ _ c.args.self.now c.self.view_is c.self.invariant c.args.id x.now (sym c.get.ensures ∙ ap option_copied e))
+
+pub returns-clause-shown : goal.returns-clause-shown
+returns-clause-shown c =
     let book = c.self.inside in
     IfOk-ok_or _ _ _ c.ok_or.ensures.value _
     (λ kept e.

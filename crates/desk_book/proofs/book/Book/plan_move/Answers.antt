@@ -21,10 +21,10 @@ named : (book : Book) (id : ℕ) (anchor : Anchor) (kept : KeptParagraph) → Is
 named book id anchor kept found there =
     past_paragraphs book (Move id anchor) (passes_to book (Move id anchor) 30 refl) (AreThere-cons book id kept (paragraph_before anchor) found there)
 
-pub returns-in_err-named : goal.returns-in_err-named
-returns-in_err-named c =
+pub returns-in_err-kept_paragraph : goal.returns-in_err-kept_paragraph
+returns-in_err-kept_paragraph c =
     let p = err_from_is_err_and c.from_residual.result c.from_residual.ensures.1 in
-    rw (p.1, p.2) (record { planned = tt; refused = unnamed c.args.self.now (Move c.args.id c.args.anchor) _ c.args.id (paragraph_before c.args.anchor) refl refl c.in_err-named.ensures.missing })
+    rw (p.1, p.2) (record { planned = tt; refused = unnamed c.args.self.now (Move c.args.id c.args.anchor) _ c.args.id (paragraph_before c.args.anchor) refl refl c.in_err-kept_paragraph.ensures.missing })
 
 pub returns-in_err-check_anchor : goal.returns-in_err-check_anchor
 returns-in_err-check_anchor c =
@@ -39,20 +39,20 @@ returns-in_err-check_anchor c =
 pub returns-in_err-check_version : goal.returns-in_err-check_version
 returns-in_err-check_version c =
     let p = err_from_is_err_and c.from_residual-in_err-check_version.result c.from_residual-in_err-check_version.ensures.1 in
-    let passes = named c.args.self.now c.args.id c.args.anchor _ c.in_ok-named.ensures.found c.in_ok-check_anchor.ensures.there in
+    let passes = named c.args.self.now c.args.id c.args.anchor _ c.in_ok-kept_paragraph.ensures.found c.in_ok-check_anchor.ensures.there in
     let told = c.in_err-check_version.ensures.full in
     rw (p.1, p.2) (record { planned = tt; refused = full_version c.args.self.now (Move c.args.id c.args.anchor) 40 _ passes refl told.1 told.0 })
 
 pub returns-in_err-order_with_move : goal.returns-in_err-order_with_move
 returns-in_err-order_with_move c =
     let p = err_from_is_err_and c.from_residual-in_err-order_with_move.result c.from_residual-in_err-order_with_move.ensures.1 in
-    let passes = named c.args.self.now c.args.id c.args.anchor _ c.in_ok-named.ensures.found c.in_ok-check_anchor.ensures.there in
+    let passes = named c.args.self.now c.args.id c.args.anchor _ c.in_ok-kept_paragraph.ensures.found c.in_ok-check_anchor.ensures.there in
     let left = past_version c.args.self.now (Move c.args.id c.args.anchor) 40 passes refl c.in_ok-check_version.ensures.left in
     rw p.1 (record { planned = tt; refused = no_memory c.args.self.now (Move c.args.id c.args.anchor) _ 200 refl (to_turn c.args.self.now (Move c.args.id c.args.anchor) 170 200 refl left) p.2 })
 
 pub returns-clause-planned : goal.returns-clause-planned
 returns-clause-planned c =
-    let found = c.in_ok-named.ensures.found in
+    let found = c.in_ok-kept_paragraph.ensures.found in
     let passes = named c.args.self.now c.args.id c.args.anchor _ found c.in_ok-check_anchor.ensures.there in
     let left = past_version c.args.self.now (Move c.args.id c.args.anchor) 40 passes refl c.in_ok-check_version.ensures.left in
     let order : c.in_ok-order_with_move.field-0 ≡ ids_of (with_move c.args.id c.args.anchor c.args.self.now) =
