@@ -34,7 +34,8 @@ mod settle;
 
 pub use book::Book;
 pub use change::Change;
-pub use desk_memory::{History, List, MOST_VERSION, ParagraphMarks};
+pub use desk_memory::{History, List, ParagraphMarks};
 pub use desk_model::{Done, HistoryItem, ListItem, MarkItem, NewTables, PartsFault};
+pub use desk_rebuild::version_of;
 pub use filling::Filling;
 pub use puts::Puts;

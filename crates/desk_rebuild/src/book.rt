@@ -27,7 +27,7 @@ use desk_parts::{CacheRow, CorrRow, EntryRows, FileTable, NamedCorrRow, Parts};
 use std::alloc::{AllocError, Global};
 
 /// The version in the row of `book`, if a book may have it.
-fn version_of(version: i64) -> Option<u64>
+pub fn version_of(version: i64) -> Option<u64>
     ensures { MatchOption result (¬ IsWithin 0 most_version version)
         (λ number. IsWithin 0 most_version version × (pos number ≡ version)) }
 {

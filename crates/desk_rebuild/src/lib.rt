@@ -25,4 +25,4 @@ mod ordered_rows;
 mod paras;
 mod tabs;
 
-pub use book::{KeptBook, rebuild};
+pub use book::{KeptBook, rebuild, version_of};

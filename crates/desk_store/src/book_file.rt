@@ -20,7 +20,7 @@ ghost use Rattle.desk_rows.specs.States.{ShowsContents};
 ghost use Rattle.desk_rows.specs.Tables.{is_there};
 
 use crate::fault::OpenFault;
-use desk_book::MOST_VERSION;
+use desk_book::version_of;
 use desk_parts::{BookRow, CacheRow, EntryRows, FileTable, Parts};
 use desk_rows::{DatabaseFault, has_table, read_rows, read_tabs};
 use sqlite::{Alter, Connection};
@@ -47,7 +47,7 @@ pub(crate) fn has_any<S: Alter>(conn: &Connection<S>, tables: &[FileTable]) -> b
 fn is_sound(row: &BookRow) -> bool
     ensures { MatchBool result (IsSoundBookRow row.now) (¬ IsSoundBookRow row.now) }
 {
-    row.id == 1 && row.format >= 1 && (0..=MOST_VERSION as i64).contains(&row.version)
+    row.id == 1 && row.format >= 1 && version_of(row.version).is_some()
 }
 
 /// The row of `book`, which has to be the only one, sound, and of a format that is read.
