@@ -4,7 +4,8 @@ use Rattle.desk_model.specs.declared.command.Command.{Command}
 use Rattle.desk_model.specs.declared.refusal.Refusal.{Refusal}
 use Rattle.desk_model.specs.Book.{Book}
 use Rattle.desk_model.specs.Named.{named_by}
-use Rattle.desk_model.specs.Refusals.{Holds, turn}
+use Rattle.desk_model.specs.Refusals.{Holds}
+use Rattle.desk_model.specs.Turns.{turn}
 
 -- no refusal that comes before turn n holds
 abbrev pub Passes : Book → Option ℕ → Command → ℕ → Type 0

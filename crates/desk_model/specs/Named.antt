@@ -9,6 +9,8 @@ use Rattle.desk_model.specs.Book.{Book, Paragraph, paragraph_of}
 use Rattle.desk_model.specs.NormalForm.{normal_form}
 use Rattle.desk_model.specs.Print.{print_of, print_undone, with_replacement}
 use Rattle.desk_model.specs.Step.{next_id, next_mark, replacement_by}
+use Rattle.desk_model.specs.Turns.{bad_table_turn, turn, undefined_turn}
+use Rattle.desk_model.specs.declared.refusal.Refusal.TheVariants.{NoMemory, TooLong}
 
 -- ---- what it may name
 
@@ -104,7 +106,7 @@ next_entry id book = option_map (λ paragraph. length paragraph.history + 1) (pa
 -- The text of a table is checked while it is read, a typed text after it is made, of an undo the print alone, and nothing after a
 -- new mark, the braille by another table and a new order.
 abbrev pub named_by : Command → Named
-named_by (Table name text) = record nothing_named { table_given = Some (name, text); turn_after_asking = Some 170 }
+named_by (Table name text) = record nothing_named { table_given = Some (name, text); turn_after_asking = Some bad_table_turn }
 named_by (TypeIn anchor table text) = record nothing_named {
   text_given = Some text;
   text_stored = Some (normal_form text);
@@ -114,7 +116,7 @@ named_by (TypeIn anchor table text) = record nothing_named {
   table_named = Some table;
   paragraph_translated = Some (Typed (normal_form text) table);
   number_answered = λ book. Some (next_id book);
-  turn_after_asking = Some 110;
+  turn_after_asking = Some (turn TooLong);
 }
 named_by (Correct id start count text who) = record nothing_named {
   text_given = Some text;
@@ -126,7 +128,7 @@ named_by (Correct id start count text who) = record nothing_named {
   span_named = Some (Characters id (start + count));
   paragraph_translated = Some (Changed id (λ p. Some (with_replacement (print_of p) (replacement_by start count text))));
   number_answered = next_entry id;
-  turn_after_asking = Some 110;
+  turn_after_asking = Some (turn TooLong);
 }
 named_by (Undo id) = record nothing_named {
   history_grown = Some id;
@@ -135,7 +137,7 @@ named_by (Undo id) = record nothing_named {
   paragraph_undone = Some id;
   paragraph_translated = Some (Changed id print_undone);
   number_answered = next_entry id;
-  turn_after_asking = Some 180;
+  turn_after_asking = Some undefined_turn;
 }
 named_by (Mark id cell count note) = record nothing_named {
   text_given = Some note;
@@ -144,7 +146,7 @@ named_by (Mark id cell count note) = record nothing_named {
   live_paragraph = Some id;
   span_named = Some (Cells id cell count);
   number_answered = λ book. Some (next_mark book);
-  turn_after_asking = Some 200;
+  turn_after_asking = Some (turn NoMemory);
 }
 named_by (Resolve id) = record nothing_named { mark_named = Some id }
 named_by (Strike id) = record nothing_named { flags_set = Some id; paragraphs_named = id ∷ []; live_paragraph = Some id }
@@ -156,12 +158,12 @@ named_by (Retable id table) = record nothing_named {
   table_named = Some table;
   live_paragraph = Some id;
   paragraph_translated = Some (Retabled id table);
-  turn_after_asking = Some 200;
+  turn_after_asking = Some (turn NoMemory);
 }
 named_by (Move id anchor) = record nothing_named {
   place_given = Some anchor;
   paragraphs_named = id ∷ paragraph_before anchor;
-  turn_after_asking = Some 200;
+  turn_after_asking = Some (turn NoMemory);
 }
 
 -- ---- what follows from what is named

@@ -10,7 +10,6 @@ use Rattle.desk_model.specs.declared.refusal.Limit.{Limit}
 use Rattle.desk_model.specs.declared.refusal.Limit.TheVariants.{Tables, Paragraphs, Entries, Marks, Version}
 use Rattle.desk_model.specs.declared.refusal.Refusal.{Refusal}
 use Rattle.desk_model.specs.declared.refusal.Refusal.TheVariants.{Moved, BadName, BadReader, BadText, NoParagraph, NoTable, NoMark, Struck, NotStruck, Resolved, BadSpan, NothingToUndo, TooLong, Full, BadTable, Undefined, Untranslatable, NoMemory}
-use Rattle.desk_model.specs.Numbers.{limit_number}
 use Rattle.desk_model.specs.Book.{Book, Paragraph, text_of, paragraph_of, mark_of}
 use Rattle.desk_model.specs.Print.{newest, print_of}
 use Rattle.desk_model.specs.Limits.{most_entries, most_marks, most_note, most_version, most_tables, most_paragraphs, most_print}
@@ -18,6 +17,7 @@ use Rattle.desk_model.specs.Name.{IsProofreaderName, IsTableName}
 use Rattle.desk_model.specs.Named.{Cells, Changed, Characters, Retabled, Span, Translated, Typed, named_by}
 use Rattle.desk_model.specs.NormalForm.{IsFirstBarred}
 use Rattle.desk_model.specs.Translation.{LacksCells}
+use Rattle.desk_model.specs.Turns.{turn}
 
 -- ---- what makes refusals hold, where that takes more than a line
 
@@ -161,27 +161,6 @@ Holds book expect command (Untranslatable id place) = IsUntranslatable book comm
 Holds book expect command NoMemory = ⊥
 
 -- ---- which is reported
-
--- the order in which refusals are reported, with gaps for others
-abbrev pub turn : Refusal → ℕ
-turn (Moved version) = 0
-turn BadName = 10
-turn BadReader = 15
-turn (BadText place) = 20
-turn NoParagraph = 30
-turn NoTable = 40
-turn NoMark = 50
-turn Struck = 60
-turn NotStruck = 70
-turn Resolved = 80
-turn BadSpan = 90
-turn NothingToUndo = 100
-turn TooLong = 110
-turn (Full limit) = 110 + 10 * limit_number limit
-turn (BadTable fault) = 170
-turn (Undefined place) = 180
-turn (Untranslatable id place) = 190
-turn NoMemory = 200
 
 -- the refusal is the first that holds
 pub record IsRefused (book : Book) (expect : Option ℕ) (command : Command) (refusal : Refusal) : Type 0 where

@@ -11,7 +11,7 @@ use Rattle.desk_memory.specs.declared.history.Correction.{Correction}
 use Rattle.desk_memory.specs.declared.history.KeptEntry.TheVariants.{Undoes as KeptUndoes}
 use Rattle.desk_memory.specs.declared.paragraphs.Paragraph.{Paragraph as KeptParagraph}
 use Rattle.desk_model.specs.declared.refusal.Refusal.{Refusal}
-use Rattle.desk_model.specs.declared.refusal.Refusal.TheVariants.{NoMemory, NothingToUndo}
+use Rattle.desk_model.specs.declared.refusal.Refusal.TheVariants.{NoMemory, NoParagraph, NotStruck, NothingToUndo, TooLong}
 use Rattle.desk_model.specs.Book.{Book, Undoes, Paragraph, Replacement}
 use Rattle.desk_book.specs.Changes.{Does}
 use Rattle.desk_book.specs.Corrections.{HaltsEntry, HaltsPrint, IsEntered, TakesEntry}
@@ -26,6 +26,7 @@ use Rattle.desk_model.specs.Refusals.{IsLongerThan}
 use Rattle.desk_memory.specs.Display.{IsShown}
 use Rattle.desk_model.specs.Sound.{AreSoundEntries}
 use Rattle.desk_model.specs.Step.{next_with_entry}
+use Rattle.desk_model.specs.Turns.{turn, undefined_turn}
 use Rattle.desk_model.proofs.Lists.Options.{IsSomeAnd-value}
 use Rattle.desk_book.proofs.Plans.EntryPlanned.{ChangesPrint-entered}
 use Rattle.desk_model.proofs.Books.SoundBooks.{short-sound}
@@ -38,8 +39,8 @@ module _ (book : Book) (id : ℕ) where
   abbrev command : Command
   command = Undo id
 
-  start_here : Passes book None command 30
-  start_here = passes_to book command 30 refl
+  start_here : Passes book None command (turn NoParagraph)
+  start_here = passes_to book command (turn NoParagraph) refl
 
   module _ (kept : KeptParagraph) (meaning : Meaning) (shown : IsShown book id kept meaning) (free : kept.struck ≡ false) where
     abbrev p : Paragraph
@@ -54,8 +55,8 @@ module _ (book : Book) (id : ℕ) where
     pub sound_kept : AreSoundEntries kept.original (entries_kept kept.history)
     sound_kept = subst (λ (q : Paragraph). AreSoundEntries q.original q.history) shown.kept_is shown.sound.history.entries
 
-    fit : Passes book None command 100
-    fit = to_turn book command 70 100 refl (unstruck book command id refl refl refl start_here kept meaning shown free)
+    fit : Passes book None command (turn NothingToUndo)
+    fit = to_turn book command (turn NotStruck) (turn NothingToUndo) refl (unstruck book command id refl refl refl start_here kept meaning shown free)
 
     module _ (number : ℕ) (c : Correction) (force : IsNewestInForce kept.history number c) where
       abbrev r : Replacement
@@ -92,8 +93,8 @@ module _ (book : Book) (id : ℕ) where
       undone : print_undone p ≡ Some before
       undone = ap (option_map (λ (correction : ℕ × Replacement). print_of (with_entry (Undoes correction.0) p))) newest_is
 
-      passed : Passes book None command 110
-      passed = Passes-past book None command NothingToUndo 110 refl fit
+      passed : Passes book None command (turn TooLong)
+      passed = Passes-past book None command NothingToUndo (turn TooLong) refl fit
           (λ n. let none = sym newest_is ∙ IsSomeAnd-value (λ (q : Paragraph). newest q.history ≡ None) shown.found n in cc)
 
       no_text : ¬ IsLongerThan most_print None
@@ -112,11 +113,11 @@ module _ (book : Book) (id : ℕ) where
 
         pub no_memory_here : TakesEntry book kept (length print) → (told : Refusal) → told ≡ NoMemory → IsTurnedDown book command told
         no_memory_here takes told =
-            lacking book command id p shown.found kept shown.kept_is print shown.translated.text meaning shown.translated.found shown.translated.means refl print_undone refl made no_text no_note passed refl refl refl refl 180 refl (lit≤ tt) takes told
+            lacking book command id p shown.found kept shown.kept_is print shown.translated.text meaning shown.translated.found shown.translated.means refl print_undone refl made no_text no_note passed refl refl refl refl undefined_turn refl (lit≤ tt) takes told
 
         pub undefined_here : TakesEntry book kept (length print) → (told : Refusal) → HaltsPrint meaning print told → IsTurnedDown book command told
         undefined_here takes told =
-            undefined book command id p shown.found kept shown.kept_is print shown.translated.text meaning shown.translated.found shown.translated.means refl print_undone refl made no_text no_note passed refl refl refl refl 180 refl (lit≤ tt) takes told
+            undefined book command id p shown.found kept shown.kept_is print shown.translated.text meaning shown.translated.found shown.translated.means refl print_undone refl made no_text no_note passed refl refl refl refl undefined_turn refl (lit≤ tt) takes told
 
         pub planned_here : (new : NewEntry) (effect : Effect) → new.print.items ≡ print → IsEntered book id kept meaning new effect → new.entry ≡ KeptUndoes number
             → new.start ≡ c.start → new.removed ≡ length c.text → new.added ≡ length c.taken → IsPlanned book command effect

@@ -22,11 +22,12 @@ use Rattle.desk_model.specs.Print.{newest}
 use Rattle.desk_model.proofs.Lists.Options.{IsSomeAnd-some}
 use Rattle.desk_model.specs.Judging.{Passes}
 use Rattle.desk_model.specs.Named.{Changed, Named, Retabled, Translated, Typed, named_by}
-use Rattle.desk_model.specs.Refusals.{Holds, turn, IsRefused, IsAccepted, IsFull, IsLongerThan, IsMoved, IsUndefined, IsUntranslatable, LacksSpan, new_print, print_and_table, print_made}
+use Rattle.desk_model.specs.Refusals.{Holds, IsRefused, IsAccepted, IsFull, IsLongerThan, IsMoved, IsUndefined, IsUntranslatable, LacksSpan, new_print, print_and_table, print_made}
+use Rattle.desk_model.specs.Turns.{bad_table_turn, bad_text_turn, turn, undefined_turn, untranslatable_turn}
 
 -- ---- limits
 
-pub limit_turn : (limit : Limit) → (110 < turn (Full limit)) × (turn (Full limit) < 170)
+pub limit_turn : (limit : Limit) → (turn TooLong < turn (Full limit)) × (turn (Full limit) < bad_table_turn)
 limit_turn Tables = (omega arith, omega arith)
 limit_turn Paragraphs = (omega arith, omega arith)
 limit_turn Entries = (omega arith, omega arith)
@@ -44,7 +45,7 @@ same_limit limit other e = absurd (omega arith)
 -- ---- the first refusal, and none
 
 module _ (book : Book) (expect : Option ℕ) (command : Command) where
-  turn-below : (other : Refusal) → Holds book expect command other → turn other < 200
+  turn-below : (other : Refusal) → Holds book expect command other → turn other < turn NoMemory
   turn-below (Full Tables) h = omega arith
   turn-below (Full Paragraphs) h = omega arith
   turn-below (Full Entries) h = omega arith
@@ -70,7 +71,7 @@ module _ (book : Book) (expect : Option ℕ) (command : Command) where
   pub IsRefused-passes : (n : ℕ) (refusal : Refusal) → Passes book expect command n → turn refusal ≡ n → Holds book expect command refusal → IsRefused book expect command refusal
   IsRefused-passes n refusal p at h = record { holds = h; first = λ other g. let after = p other g in omega arith }
 
-  pub IsAccepted-passes : Passes book expect command 200 → IsAccepted book expect command
+  pub IsAccepted-passes : Passes book expect command (turn NoMemory) → IsAccepted book expect command
   IsAccepted-passes p other h = let after = p other h in let before = turn-below other h in omega arith
 
   pub Passes-accepted : IsAccepted book expect command → (n : ℕ) → Passes book expect command n
@@ -88,14 +89,14 @@ is_new (Some (Retabled id table)) = false
 -- each turn, with whether a refusal of it may hold of a command that gives and names this
 abbrev pub turns : Named → List (ℕ × Bool)
 turns named =
-    (0, true) ∷ (10, is_some named.table_given) ∷ (15, is_some named.proofreader_given) ∷ (20, is_some named.text_given)
-    ∷ (30, list_any (λ id. true) named.paragraphs_named) ∷ (40, is_some named.table_named) ∷ (50, is_some named.mark_named)
-    ∷ (60, is_some named.live_paragraph) ∷ (70, is_some named.struck_paragraph) ∷ (80, is_some named.mark_named)
-    ∷ (90, is_some named.span_named) ∷ (100, is_some named.paragraph_undone)
-    ∷ (110, is_some named.text_stored || (is_new named.paragraph_translated || is_some named.note_given))
-    ∷ (120, is_some named.table_given) ∷ (130, named.adds_paragraph) ∷ (140, is_some named.history_grown)
-    ∷ (150, is_some named.note_given) ∷ (160, true) ∷ (170, is_some named.table_given)
-    ∷ (180, is_some named.paragraph_translated) ∷ (190, is_some named.table_given) ∷ []
+    (0, true) ∷ (turn BadName, is_some named.table_given) ∷ (turn BadReader, is_some named.proofreader_given) ∷ (bad_text_turn, is_some named.text_given)
+    ∷ (turn NoParagraph, list_any (λ id. true) named.paragraphs_named) ∷ (turn NoTable, is_some named.table_named) ∷ (turn NoMark, is_some named.mark_named)
+    ∷ (turn Struck, is_some named.live_paragraph) ∷ (turn NotStruck, is_some named.struck_paragraph) ∷ (turn Resolved, is_some named.mark_named)
+    ∷ (turn BadSpan, is_some named.span_named) ∷ (turn NothingToUndo, is_some named.paragraph_undone)
+    ∷ (turn TooLong, is_some named.text_stored || (is_new named.paragraph_translated || is_some named.note_given))
+    ∷ (turn (Full Tables), is_some named.table_given) ∷ (turn (Full Paragraphs), named.adds_paragraph) ∷ (turn (Full Entries), is_some named.history_grown)
+    ∷ (turn (Full Marks), is_some named.note_given) ∷ (turn (Full Version), true) ∷ (bad_table_turn, is_some named.table_given)
+    ∷ (undefined_turn, is_some named.paragraph_translated) ∷ (untranslatable_turn, is_some named.table_given) ∷ []
 
 -- the turn is before n or not before m, or no refusal of it may hold
 abbrev pub is_skipped : (n m : ℕ) → ℕ × Bool → Bool

@@ -14,9 +14,10 @@ use Rattle.desk_model.specs.declared.refusal.Refusal.{Refusal}
 use Rattle.desk_model.specs.declared.refusal.Refusal.TheVariants.{Moved, BadName, BadReader, BadText, NoParagraph, NoTable, NoMark, Struck, NotStruck, Resolved, BadSpan, NothingToUndo, TooLong, Full, BadTable, Undefined, Untranslatable, NoMemory}
 use Rattle.desk_model.specs.Book.{Book, Paragraph, text_of}
 use Rattle.desk_model.specs.Named.{named_by}
-use Rattle.desk_model.specs.Refusals.{DefinesUser, Holds, IsRefused, IsUndefined, IsUntranslatable, turn}
+use Rattle.desk_model.specs.Refusals.{DefinesUser, Holds, IsRefused, IsUndefined, IsUntranslatable}
 use Rattle.desk_model.specs.Print.{print_of}
 use Rattle.desk_model.specs.NormalForm.{IsFirstBarred}
+use Rattle.desk_model.specs.Turns.{turn}
 use Rattle.desk_model.proofs.Commands.Judging.{limit_turn, same_limit}
 use Rattle.desk_model.proofs.Commands.Turns.{defined_not_first, same_some}
 

@@ -5,17 +5,18 @@ use Rattle.desk_model.specs.declared.command.Command.TheVariants.{Undo, Mark}
 use Rattle.desk_model.specs.declared.refusal.Limit.{Limit}
 use Rattle.desk_model.specs.declared.refusal.Limit.TheVariants.{Tables, Paragraphs, Entries, Marks, Version}
 use Rattle.desk_model.specs.declared.refusal.Refusal.{Refusal}
-use Rattle.desk_model.specs.declared.refusal.Refusal.TheVariants.{Moved, BadName, BadReader, BadText, NoParagraph, NoTable, NoMark, Struck, NotStruck, Resolved, BadSpan, NothingToUndo, TooLong, Full, BadTable, Undefined, Untranslatable}
+use Rattle.desk_model.specs.declared.refusal.Refusal.TheVariants.{BadName, BadReader, BadSpan, BadTable, BadText, Full, Moved, NoMark, NoMemory, NoParagraph, NoTable, NotStruck, NothingToUndo, Resolved, Struck, TooLong, Undefined, Untranslatable}
 use Rattle.desk_model.specs.After.{After}
 use Rattle.desk_model.specs.Book.{Book, Paragraph, Replacement, Undoes, new_mark, paragraph_of}
 use Rattle.desk_model.specs.Judging.{Passes}
 use Rattle.desk_model.specs.Marks.{mark_moved_back}
 use Rattle.desk_model.specs.Outcome.{HasOneOutcome}
 use Rattle.desk_model.specs.Print.{newest}
-use Rattle.desk_model.specs.Refusals.{Holds, IsAccepted, IsRefused, turn}
+use Rattle.desk_model.specs.Refusals.{Holds, IsAccepted, IsRefused}
 use Rattle.desk_model.specs.Sound.{IsSound}
 use Rattle.desk_model.specs.Translation.{AreMarked}
 use Rattle.desk_model.specs.Step.{Makes, next_with_entry, next_with_marks, next_mark}
+use Rattle.desk_model.specs.Turns.{bad_table_turn, bad_text_turn, turn, undefined_turn, untranslatable_turn}
 use Rattle.desk_model.proofs.Commands.Accepted.{named_paragraph}
 use Rattle.desk_model.proofs.Commands.Judging.{IsAccepted-passes, IsRefused-passes, NoneHolds, Passes-past, Passes-start, skips}
 use Rattle.desk_model.proofs.Commands.MarkedPlaces.{one_span, some_span}
@@ -55,32 +56,32 @@ module _ (book : Book) (expect : Option ℕ) (command : Command) where
   full_or : (limit : Limit) → skips command (turn (Full limit) + 1) (turn (Full limit) + 10) ≡ true → Judged (turn (Full limit)) → Judged (turn (Full limit) + 10)
   full_or limit skip = turned (turn (Full limit)) (turn (Full limit) + 10) (Full limit) refl (is_full book command limit) (past (Full limit) (turn (Full limit) + 10) skip)
 
-  to_lookups : Judged 60
+  to_lookups : Judged (turn Struck)
   to_lookups =
-      let moved : Judged 10 = turned_by 0 (Passes book expect command 10) Moved (λ v. refl) (moved_or book command expect) (past (Moved 0) 10 refl) (inr (Passes-start book expect command)) in
-      let named : Judged 15 = turned 10 15 BadName refl (bad_name book command) (past BadName 15 refl) moved in
-      let proofreader : Judged 20 = turned 15 20 BadReader refl (bad_reader book command) (past BadReader 20 refl) named in
-      let text : Judged 30 = turned_by 20 (Passes book expect command 30) BadText (λ place. refl) (bad_text book command) (past (BadText 0) 30 refl) proofreader in
-      let paragraph : Judged 40 = turned 30 40 NoParagraph refl (lacks_paragraph book command) (past NoParagraph 40 refl) text in
-      let table : Judged 50 = turned 40 50 NoTable refl (lacks_table book command) (past NoTable 50 refl) paragraph in
-      turned 50 60 NoMark refl (lacks_mark book command) (past NoMark 60 refl) table
+      let moved : Judged (turn BadName) = turned_by 0 (Passes book expect command (turn BadName)) Moved (λ v. refl) (moved_or book command expect) (past (Moved 0) (turn BadName) refl) (inr (Passes-start book expect command)) in
+      let named : Judged (turn BadReader) = turned (turn BadName) (turn BadReader) BadName refl (bad_name book command) (past BadName (turn BadReader) refl) moved in
+      let proofreader : Judged bad_text_turn = turned (turn BadReader) bad_text_turn BadReader refl (bad_reader book command) (past BadReader bad_text_turn refl) named in
+      let text : Judged (turn NoParagraph) = turned_by bad_text_turn (Passes book expect command (turn NoParagraph)) BadText (λ place. refl) (bad_text book command) (past (BadText 0) (turn NoParagraph) refl) proofreader in
+      let paragraph : Judged (turn NoTable) = turned (turn NoParagraph) (turn NoTable) NoParagraph refl (lacks_paragraph book command) (past NoParagraph (turn NoTable) refl) text in
+      let table : Judged (turn NoMark) = turned (turn NoTable) (turn NoMark) NoTable refl (lacks_table book command) (past NoTable (turn NoMark) refl) paragraph in
+      turned (turn NoMark) (turn Struck) NoMark refl (lacks_mark book command) (past NoMark (turn Struck) refl) table
 
-  to_limits : Judged 120
+  to_limits : Judged (turn (Full Tables))
   to_limits =
-      let struck : Judged 70 = turned 60 70 Struck refl (is_struck book command) (past Struck 70 refl) to_lookups in
-      let live : Judged 80 = turned 70 80 NotStruck refl (is_not_struck book command) (past NotStruck 80 refl) struck in
-      let resolved : Judged 90 = turned 80 90 Resolved refl (is_resolved book command) (past Resolved 90 refl) live in
-      let span : Judged 100 = turned 90 100 BadSpan refl (bad_span book command) (past BadSpan 100 refl) resolved in
-      let nothing : Judged 110 = turned 100 110 NothingToUndo refl (nothing_to_undo book command) (past NothingToUndo 110 refl) span in
-      turned 110 120 TooLong refl (too_long book command) (past TooLong 120 refl) nothing
+      let struck : Judged (turn NotStruck) = turned (turn Struck) (turn NotStruck) Struck refl (is_struck book command) (past Struck (turn NotStruck) refl) to_lookups in
+      let live : Judged (turn Resolved) = turned (turn NotStruck) (turn Resolved) NotStruck refl (is_not_struck book command) (past NotStruck (turn Resolved) refl) struck in
+      let resolved : Judged (turn BadSpan) = turned (turn Resolved) (turn BadSpan) Resolved refl (is_resolved book command) (past Resolved (turn BadSpan) refl) live in
+      let span : Judged (turn NothingToUndo) = turned (turn BadSpan) (turn NothingToUndo) BadSpan refl (bad_span book command) (past BadSpan (turn NothingToUndo) refl) resolved in
+      let nothing : Judged (turn TooLong) = turned (turn NothingToUndo) (turn TooLong) NothingToUndo refl (nothing_to_undo book command) (past NothingToUndo (turn TooLong) refl) span in
+      turned (turn TooLong) (turn (Full Tables)) TooLong refl (too_long book command) (past TooLong (turn (Full Tables)) refl) nothing
 
   told_or_accepted : Told ⊎ IsAccepted book expect command
   told_or_accepted =
-      let limits : Judged 170 = full_or Version refl (full_or Marks refl (full_or Entries refl (full_or Paragraphs refl (full_or Tables refl to_limits)))) in
-      let table : Judged 180 = turned_by 170 (Passes book expect command 180) BadTable (λ fault. refl) (bad_table book command) (past (BadTable (record { line = 0; cause = 0 })) 180 refl) limits in
-      let shown : Judged 190 = turned_by 180 (Passes book expect command 190) Undefined (λ place. refl) (undefined book command) (past (Undefined 0) 190 refl) table in
-      turned_by 190 (IsAccepted book expect command) (λ at. Untranslatable at.0 at.1) (λ at. refl) (untranslatable book command)
-      (λ p none. IsAccepted-passes book expect command (past (Untranslatable 0 0) 200 refl p (λ id place. none (id, place)))) shown
+      let limits : Judged bad_table_turn = full_or Version refl (full_or Marks refl (full_or Entries refl (full_or Paragraphs refl (full_or Tables refl to_limits)))) in
+      let table : Judged undefined_turn = turned_by bad_table_turn (Passes book expect command undefined_turn) BadTable (λ fault. refl) (bad_table book command) (past (BadTable (record { line = 0; cause = 0 })) undefined_turn refl) limits in
+      let shown : Judged untranslatable_turn = turned_by undefined_turn (Passes book expect command untranslatable_turn) Undefined (λ place. refl) (undefined book command) (past (Undefined 0) untranslatable_turn refl) table in
+      turned_by untranslatable_turn (IsAccepted book expect command) (λ at. Untranslatable at.0 at.1) (λ at. refl) (untranslatable book command)
+      (λ p none. IsAccepted-passes book expect command (past (Untranslatable 0 0) (turn NoMemory) refl p (λ id place. none (id, place)))) shown
 
 -- ---- the next book
 
