@@ -6,7 +6,8 @@ use Rattle.std.proofs.lemmas.List.Elements.{All-head, All-tail, All-contains}
 use Rattle.std.proofs.lemmas.Map.Entries.{All-lookup}
 use Rattle.louis_table.specs.declared.definition.Definition.{Definition}
 use Rattle.louis_table.specs.declared.rule.Rule.{Rule}
-use Rattle.louis_table.specs.Meaning.{Meaning, definition_of}
+use Rattle.louis_table.specs.declared.sign.Sign.TheVariants.{Number, Capital, CapitalWord, NoContraction}
+use Rattle.louis_table.specs.Meaning.{Meaning, definition_of, sign_cells}
 use Rattle.louis_table.specs.Profile.{WithNumericMode}
 use Rattle.louis_table.proofs.CellLimits.{HasFewCells, few_cells}
 use Rattle.louis_translate.specs.declared.choices.Choice.{Choice}
@@ -30,19 +31,19 @@ choice-few most false x y h k = k
 module _ (meaning : Meaning) (few : HasFewCells meaning) (print : List ℕ) where
   capital-few : (i : ℕ) → length (capital_sign meaning print i) ≤ 20000000
   capital-few i =
-      let word = cond (run_start meaning print i == i) meaning.begcapsword [] in
-      choice-few 20000000 (nat_lt 0 (length meaning.begcapsword) && takes_one_sign meaning print i) word meaning.capsletter
-      (choice-few 20000000 (run_start meaning print i == i) meaning.begcapsword [] few.begcapsword (omega arith)) few.capsletter
+      let before_word = sign_cells meaning CapitalWord in
+      choice-few 20000000 (nat_lt 0 (length before_word) && takes_one_sign meaning print i) (cond (run_start meaning print i == i) before_word []) (sign_cells meaning Capital)
+      (choice-few 20000000 (run_start meaning print i == i) before_word [] (few.signs CapitalWord) (omega arith)) (few.signs Capital)
 
   sign_at-few : (i : ℕ) → length (sign_at meaning print i) ≤ 20000000
   sign_at-few i =
-      let number = cond (follows_number meaning print i) [] meaning.numsign in
-      let other = cond (ends_number meaning print i) meaning.nocontractsign [] in
+      let number = cond (follows_number meaning print i) [] (sign_cells meaning Number) in
+      let other = cond (ends_number meaning print i) (sign_cells meaning NoContraction) [] in
       let letter = cond (is_capital_at meaning print i) (capital_sign meaning print i) other in
       choice-few 20000000 (is_digit_at meaning print i) number letter
-      (choice-few 20000000 (follows_number meaning print i) [] meaning.numsign (omega arith) few.numsign)
+      (choice-few 20000000 (follows_number meaning print i) [] (sign_cells meaning Number) (omega arith) (few.signs Number))
       (choice-few 20000000 (is_capital_at meaning print i) (capital_sign meaning print i) other (capital-few i)
-      (choice-few 20000000 (ends_number meaning print i) meaning.nocontractsign [] few.nocontractsign (omega arith)))
+      (choice-few 20000000 (ends_number meaning print i) (sign_cells meaning NoContraction) [] (few.signs NoContraction) (omega arith)))
 
   rule_at-few : (rules : List Rule) (k : ℕ) → All FewOfRule rules → length (option_map_or (λ (r : Rule). r.cells) (slice_get rules k) []) ≤ 1000000
   rule_at-few [] k all = omega arith

@@ -13,12 +13,12 @@ use Rattle.louis_table.specs.declared.definition.Class.TheVariants.{Letter}
 use Rattle.louis_table.specs.declared.definition.Definition.{Definition}
 use Rattle.louis_table.specs.declared.rule.Rule.{Rule}
 use Rattle.louis_table.specs.declared.sign.Sign.{Sign}
-use Rattle.louis_table.specs.declared.sign.Sign.TheVariants as signs
 use Rattle.louis_table.specs.Characters.{Spells, Writes, itself, escape, number}
 use Rattle.louis_table.specs.Fields.{Begins, HasFields}
 use Rattle.louis_table.specs.Meaning.{Meaning, definition_of, fold_of, sign_cells}
 use Rattle.louis_table.specs.Profile.{Profile}
 use Rattle.louis_table.specs.Table.{Entry, Defines, Pairs, Replaces, Announces, Collects, PairDots, RuleDots, Gives, definition_line, pair_line, rule_line, sign_line, set_line, GiveFrom, IsFault, long_line, line_too_many, HasCause, on_line, definitions_in, cells_in_definition, cells_for, rule_cells, rules_in, is_same_sign, MeansIn, text_lines, most_lines, most_line_characters}
+use Rattle.louis_table.proofs.MeaningLaws.{sign_cells-map}
 
 split_at : {X : Type 0} (n : ℕ) (xs : List X) → n < length xs → (before : List X) × (x : X) × (after : List X) × (xs ≡ before ++ x ∷ after) × (length before ≡ n)
 split_at n [] lt = absurd (omega (arith, lt))
@@ -222,10 +222,7 @@ module _ (meaning : Meaning) (known : All FewDefined meaning.definitions) where
 pub record HasFewCells (meaning : Meaning) : Type 0 where
   pub definitions : All (λ d. length d.1.cells ≤ 1000) meaning.definitions
   pub rules : All (λ rule. length rule.cells ≤ 1000000) meaning.rules
-  pub numsign : length meaning.numsign ≤ 20000000
-  pub capsletter : length meaning.capsletter ≤ 20000000
-  pub begcapsword : length meaning.begcapsword ≤ 20000000
-  pub nocontractsign : length meaning.nocontractsign ≤ 20000000
+  pub signs : (sign : Sign) → length (sign_cells meaning sign) ≤ 20000000
 
 pub few_cells : (profile : Profile) (bytes : List ℕ) (meaning : Meaning) → MeansIn profile bytes meaning → HasFewCells meaning
 few_cells profile bytes meaning means =
@@ -236,18 +233,14 @@ few_cells profile bytes meaning means =
     (All-weaker (λ (e : ℕ × Entry). FewCells e.1) (λ (e : ℕ × Entry). All FewDefined (definitions_in e.1)) (λ e h. definition-few e.1 h) means.entries all)) in
     let count = entries-count profile 1 (text_lines bytes) means.entries means.given in
     let lines = lines-few profile (text_lines bytes) means.is_sound in
-    let each_sign : (sign : Sign) → length (sign_cells meaning sign) ≤ 20000000 = λ sign.
-    let e = ap length (means.made.signs sign) in
-    let each = joined-few (λ (e : ℕ × Entry). cells_for sign e.1) 1000 means.entries
-    (All-weaker (λ (e : ℕ × Entry). FewCells e.1) (λ (e : ℕ × Entry). length (cells_for sign e.1) ≤ 1000) (λ e h. sign-few sign e.1 h) means.entries all) in
-    omega (arith, e, each, count, lines) in
     record {
       definitions = known;
       rules = subst (All FewOfRule) (sym means.made.rules)
           (all_joined FewOfRule (rules_in meaning) means.entries
           (All-weaker (λ (e : ℕ × Entry). FewCells e.1) (λ (e : ℕ × Entry). All FewOfRule (rules_in meaning e)) (λ e h. rule-few meaning known e.0 e.1 h) means.entries all));
-      numsign = each_sign signs.Number;
-      capsletter = each_sign signs.Capital;
-      begcapsword = each_sign signs.CapitalWord;
-      nocontractsign = each_sign signs.NoContraction;
+      signs = λ sign.
+          let e = ap length (sign_cells-map meaning (λ sign. flat_map (λ e. cells_for sign e.1) means.entries) means.made.signs sign) in
+          let each = joined-few (λ (e : ℕ × Entry). cells_for sign e.1) 1000 means.entries
+          (All-weaker (λ (e : ℕ × Entry). FewCells e.1) (λ (e : ℕ × Entry). length (cells_for sign e.1) ≤ 1000) (λ e h. sign-few sign e.1 h) means.entries all) in
+          omega (arith, e, each, count, lines);
     }

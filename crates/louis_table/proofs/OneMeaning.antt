@@ -10,14 +10,10 @@ use Rattle.louis_table.specs.declared.definition.Definition.{Definition}
 use Rattle.louis_table.specs.declared.fault.ReadFault.{ReadFault}
 use Rattle.louis_table.specs.declared.fault.ReadFault.TheVariants as faults
 use Rattle.louis_table.specs.declared.rule.Rule.{Rule}
-use Rattle.louis_table.specs.declared.sign.Sign.{Sign}
-use Rattle.louis_table.specs.declared.sign.Sign.TheVariants as signs
-use Rattle.louis_table.specs.declared.character_set.CharacterSet.{CharacterSet}
-use Rattle.louis_table.specs.declared.character_set.CharacterSet.TheVariants as sets
 use Rattle.louis_table.specs.declared.pending.PendingEntry.{PendingEntry}
 use Rattle.louis_table.specs.declared.pending.PendingEntry.TheVariants as writtens
 use Rattle.louis_table.specs.Lines.{lines_of}
-use Rattle.louis_table.specs.Meaning.{Meaning, definition_of, fold_of, sign_cells, set_characters}
+use Rattle.louis_table.specs.Meaning.{Meaning, definition_of, fold_of}
 use Rattle.louis_table.specs.Profile.{Profile, WithNumericMode}
 use Rattle.louis_table.specs.Steps.Table.{no_meaning, with_given, is_known}
 use Rattle.louis_table.specs.Steps.Draft.{written_in}
@@ -52,36 +48,16 @@ same_entries profile n (line ∷ lines) es fs (inr (d, left, given, i, g)) (inr 
     i ∙ (ap (λ (x : Entry). (n, x) ∷ left) first ∙ (ap (λ (xs : List (ℕ × Entry)). (n, f) ∷ xs) others ∙ sym e))
 
 -- a meaning, by its parts
-abbrev whole : List (ℕ × Definition) → List (ℕ × ℕ) → List Rule → List ℕ → List ℕ → List ℕ → List ℕ → List ℕ → List ℕ → Meaning
-whole definitions partners rules numsign capsletter begcapsword nocontractsign mode_chars nocontract_chars =
-    record {
-      definitions = definitions;
-      partners = partners;
-      rules = rules;
-      numsign = numsign;
-      capsletter = capsletter;
-      begcapsword = begcapsword;
-      nocontractsign = nocontractsign;
-      mode_chars = mode_chars;
-      nocontract_chars = nocontract_chars;
-    }
+abbrev whole : List (ℕ × Definition) → List (ℕ × ℕ) → List Rule → List (List ℕ) → List (List ℕ) → Meaning
+whole definitions partners rules signs sets = record { definitions = definitions; partners = partners; rules = rules; signs = signs; sets = sets }
 
--- the same signs and sets
-pub record Agree (t u : Meaning) : Type 0 where
-  pub signs : (sign : Sign) → sign_cells t sign ≡ sign_cells u sign
-  pub sets : (set : CharacterSet) → set_characters t set ≡ set_characters u set
-
-same_parts : (t u : Meaning) → t.definitions ≡ u.definitions → t.partners ≡ u.partners → t.rules ≡ u.rules → Agree t u → t ≡ u
-same_parts t u d p r a =
-    ap (λ x. whole x t.partners t.rules t.numsign t.capsletter t.begcapsword t.nocontractsign t.mode_chars t.nocontract_chars) d
-    ∙ (ap (λ x. whole u.definitions x t.rules t.numsign t.capsletter t.begcapsword t.nocontractsign t.mode_chars t.nocontract_chars) p
-    ∙ (ap (λ x. whole u.definitions u.partners x t.numsign t.capsletter t.begcapsword t.nocontractsign t.mode_chars t.nocontract_chars) r
-    ∙ (ap (λ x. whole u.definitions u.partners u.rules x t.capsletter t.begcapsword t.nocontractsign t.mode_chars t.nocontract_chars) (a.signs signs.Number)
-    ∙ (ap (λ x. whole u.definitions u.partners u.rules u.numsign x t.begcapsword t.nocontractsign t.mode_chars t.nocontract_chars) (a.signs signs.Capital)
-    ∙ (ap (λ x. whole u.definitions u.partners u.rules u.numsign u.capsletter x t.nocontractsign t.mode_chars t.nocontract_chars) (a.signs signs.CapitalWord)
-    ∙ (ap (λ x. whole u.definitions u.partners u.rules u.numsign u.capsletter u.begcapsword x t.mode_chars t.nocontract_chars) (a.signs signs.NoContraction)
-    ∙ (ap (λ x. whole u.definitions u.partners u.rules u.numsign u.capsletter u.begcapsword u.nocontractsign x t.nocontract_chars) (a.sets sets.NumericMode)
-    ∙ ap (λ x. whole u.definitions u.partners u.rules u.numsign u.capsletter u.begcapsword u.nocontractsign u.mode_chars x) (a.sets sets.NoContraction))))))))
+same_parts : (t u : Meaning) → t.definitions ≡ u.definitions → t.partners ≡ u.partners → t.rules ≡ u.rules → t.signs ≡ u.signs → t.sets ≡ u.sets → t ≡ u
+same_parts t u d p r s c =
+    ap (λ x. whole x t.partners t.rules t.signs t.sets) d
+    ∙ (ap (λ x. whole u.definitions x t.rules t.signs t.sets) p
+    ∙ (ap (λ x. whole u.definitions u.partners x t.signs t.sets) r
+    ∙ (ap (λ x. whole u.definitions u.partners u.rules x t.sets) s
+    ∙ ap (λ x. whole u.definitions u.partners u.rules u.signs x) c)))
 
 -- rules depend only on the definitions and the partners
 rules_by : (t u : Meaning) (entries : List (ℕ × Entry)) → t.definitions ≡ u.definitions → t.partners ≡ u.partners → flat_map (rules_in t) entries ≡ flat_map (rules_in u) entries
@@ -91,7 +67,7 @@ rules_by t u entries d p =
     ∙ (ap (λ (ps : List (ℕ × ℕ)). flat_map (rules_in (bare u.definitions ps)) entries) p ∙ sym (as_bare u entries)))
   where
     bare : List (ℕ × Definition) → List (ℕ × ℕ) → Meaning
-    bare definitions partners = whole definitions partners [] [] [] [] [] [] []
+    bare definitions partners = whole definitions partners [] [] []
 
     as_bare : (t : Meaning) (entries : List (ℕ × Entry)) → flat_map (rules_in t) entries ≡ flat_map (rules_in (bare t.definitions t.partners)) entries
     as_bare t [] = refl
@@ -106,8 +82,7 @@ made_once : (entries : List (ℕ × Entry)) (t u : Meaning) → IsMadeOf entries
 made_once entries t u m n =
     let definitions = m.definitions ∙ sym n.definitions in
     let partners = m.partners ∙ sym n.partners in
-    same_parts t u definitions partners (m.rules ∙ (rules_by t u entries definitions partners ∙ sym n.rules))
-    (record { signs = λ sign. m.signs sign ∙ sym (n.signs sign); sets = λ set. m.sets set ∙ sym (n.sets set) })
+    same_parts t u definitions partners (m.rules ∙ (rules_by t u entries definitions partners ∙ sym n.rules)) (m.signs ∙ sym n.signs) (m.sets ∙ sym n.sets)
 
 -- what the lines give makes one meaning
 given_once : (profile : Profile) (n : ℕ) (lines : List (List ℕ)) (es fs : List (ℕ × Entry)) (t u : Meaning) → GiveFrom profile n lines es → GiveFrom profile n lines fs → IsMadeOf es t → IsMadeOf fs u
@@ -170,17 +145,6 @@ means_or_bad = means_or_bad_in WithNumericMode
 same_rules : (meaning : Meaning) (rules : List Rule) (entries : List (ℕ × Entry)) → flat_map (rules_in meaning) entries ≡ flat_map (rules_in (record meaning { rules = rules })) entries
 same_rules meaning rules entries = rules_by meaning (record meaning { rules = rules }) entries refl refl
 
--- nor do signs and sets depend on rules
-sign_again : (meaning : Meaning) (rules : List Rule) (sign : Sign) → sign_cells (record meaning { rules = rules }) sign ≡ sign_cells meaning sign
-sign_again meaning rules signs.Number = refl
-sign_again meaning rules signs.Capital = refl
-sign_again meaning rules signs.CapitalWord = refl
-sign_again meaning rules signs.NoContraction = refl
-
-set_again : (meaning : Meaning) (rules : List Rule) (set : CharacterSet) → set_characters (record meaning { rules = rules }) set ≡ set_characters meaning set
-set_again meaning rules sets.NumericMode = refl
-set_again meaning rules sets.NoContraction = refl
-
 made_of : (lines : List (List ℕ)) (meaning : Meaning) (rules : List PendingEntry) (g : Gathers lines meaning rules) → meaning.rules ≡ flat_map (complete_rules meaning) rules → IsMadeOf g.entries meaning
 made_of lines meaning rules g e =
     record {
@@ -241,8 +205,8 @@ module _ (bytes rest : List ℕ) (u : IsUtf8 bytes) (e : rest ≡ without_byte_o
           let made : IsMadeOf g.entries finished_meaning = record {
             definitions = g.definitions;
             partners = g.partners;
-            signs = λ sign. sign_again l.meaning (flat_map (complete_rules l.meaning) l.all) sign ∙ g.signs sign;
-            sets = λ set. set_again l.meaning (flat_map (complete_rules l.meaning) l.all) set ∙ g.sets set;
+            signs = g.signs;
+            sets = g.sets;
             rules = ap (flat_map (complete_rules l.meaning)) g.written ∙ (finished_entries l.meaning g.entries ∙ same_rules l.meaning (flat_map (complete_rules l.meaning) l.all) g.entries);
           } in
           undefined_character u l.gives.is_sound g.entries finished_meaning g.given made
@@ -281,8 +245,8 @@ LinesGive-rules lines meaning written rules l =
         given = l.gathered.given;
         definitions = l.gathered.definitions;
         partners = l.gathered.partners;
-        signs = λ sign. sign_again meaning rules sign ∙ l.gathered.signs sign;
-        sets = λ set. set_again meaning rules set ∙ l.gathered.sets set;
+        signs = l.gathered.signs;
+        sets = l.gathered.sets;
         written = l.gathered.written;
       };
     }

@@ -1,15 +1,16 @@
 -- What is a table without numeric mode is the same table with it.
 use Rattle.std.proofs.Common.{◌≡◌, ℕ, ◌+◌, Bool, false, cond, List, [], ◌∷◌, ◌++◌, Some, None, Result, Ok, Err, Contains, refl, sym, ap, subst, ◌∙◌, ◌⊎◌, inl, inr, arith}
 use Rattle.std.specs.List.{flat_map}
+use Rattle.std.proofs.lemmas.Bool.{cases_Bool}
 use Rattle.std.proofs.lemmas.List.Elements.{Contains-append_left, Contains-append_right, Contains-append_cases}
 use Rattle.louis_table.specs.declared.character_set.CharacterSet.{CharacterSet}
 use Rattle.louis_table.specs.declared.character_set.CharacterSet.TheVariants as sets
 use Rattle.louis_table.specs.declared.opcode.Opcode.{Opcode}
 use Rattle.louis_table.specs.declared.opcode.Opcode.TheVariants.{Define, UpLow, Replace, Announce, Collect}
 use Rattle.louis_table.specs.declared.sign.Sign.{Sign}
-use Rattle.louis_table.specs.declared.sign.Sign.TheVariants as signs
+use Rattle.louis_table.specs.declared.sign.Sign.TheVariants.{NoContraction}
 use Rattle.louis_table.specs.Fields.{Begins}
-use Rattle.louis_table.specs.Meaning.{Meaning}
+use Rattle.louis_table.specs.Meaning.{Meaning, sign_cells, set_characters}
 use Rattle.louis_table.specs.Opcode.{name_of, HasOpcode}
 use Rattle.louis_table.specs.Profile.{Profile, WithoutNumericMode, WithNumericMode}
 use Rattle.louis_table.specs.Steps.Opcode.{opcode_named}
@@ -17,6 +18,7 @@ use Rattle.louis_table.specs.Steps.Line.{as_some}
 use Rattle.louis_table.specs.Table.{Entry, SaysNothing, Gives, definition_line, pair_line, rule_line, sign_line, set_line, GiveFrom, SomeGives, cells_for, characters_for, is_same_sign, HasCharacters, HasDots, IsFault, unknown_opcode, missing_operand, bad_characters, bad_dots, defined_before, defined_twice, given_before, long_line, line_too_many, many_characters, many_cells, HasCause, on_line, text_lines, Means, MeansIn}
 use Rattle.louis_table.proofs.FieldLaws.{Begins-field_at}
 use Rattle.louis_table.proofs.EntryLaws.{has_opcode, opcode_named-name_of, opcode_line, line_gives-nothing}
+use Rattle.louis_table.proofs.MeaningLaws.{same_sign, sign_cells-map, set_characters-map}
 use Rattle.louis_table.proofs.VerdictLaws.{only_one}
 use Rattle.louis_table.proofs.OneMeaning.{in_last}
 
@@ -162,21 +164,22 @@ none_together f none n (line ∷ lines) entries (inr (entry, rest, gives, e, g))
     ap (flat_map (λ e. f e.1)) e
     ∙ (ap (λ (xs : List ℕ). xs ++ flat_map (λ e. f e.1) rest) (none line entry gives) ∙ none_together f none (n + 1) lines rest g)
 
-other_sign : (sign : Sign) → HasOpcode WithoutNumericMode (Announce sign) → is_same_sign signs.NoContraction sign ≡ false
-other_sign signs.Number has = refl
-other_sign signs.Capital has = refl
-other_sign signs.CapitalWord has = refl
-other_sign signs.NoContraction has = absurd has
+other_sign : (sign : Sign) → HasOpcode WithoutNumericMode (Announce sign) → is_same_sign NoContraction sign ≡ false
+other_sign sign has =
+    elim (cases_Bool (is_same_sign NoContraction sign)) [
+      | inl same ↦ absurd (subst (λ (s : Sign). HasOpcode WithoutNumericMode (Announce s)) (sym (same_sign NoContraction sign same)) has)
+      | inr other ↦ other
+    ]
 
 no_set : (set : CharacterSet) → ¬ HasOpcode WithoutNumericMode (Collect set)
 no_set sets.NumericMode has = has
 no_set sets.NoContraction has = has
 
-no_cells : (line : List ℕ) (entry : Entry) → Gives WithoutNumericMode line entry → cells_for signs.NoContraction entry ≡ []
-no_cells line entry (definition_line class characters dots c cells has h s d e) = ap (cells_for signs.NoContraction) e
-no_cells line entry (pair_line characters dots upper lower upper_cells lower_cells has h s d e) = ap (cells_for signs.NoContraction) e
-no_cells line entry (rule_line kind characters dots text cells has h s d e) = ap (cells_for signs.NoContraction) e
-no_cells line entry (sign_line sign dots cells has h d e) = ap (cells_for signs.NoContraction) e ∙ ap (λ (b : Bool). cond b cells []) (other_sign sign has)
+no_cells : (line : List ℕ) (entry : Entry) → Gives WithoutNumericMode line entry → cells_for NoContraction entry ≡ []
+no_cells line entry (definition_line class characters dots c cells has h s d e) = ap (cells_for NoContraction) e
+no_cells line entry (pair_line characters dots upper lower upper_cells lower_cells has h s d e) = ap (cells_for NoContraction) e
+no_cells line entry (rule_line kind characters dots text cells has h s d e) = ap (cells_for NoContraction) e
+no_cells line entry (sign_line sign dots cells has h d e) = ap (cells_for NoContraction) e ∙ ap (λ (b : Bool). cond b cells []) (other_sign sign has)
 no_cells line entry (set_line set characters text has h s e) = absurd (no_set set has)
 
 no_characters : (set : CharacterSet) (line : List ℕ) (entry : Entry) → Gives WithoutNumericMode line entry → characters_for set entry ≡ []
@@ -199,9 +202,11 @@ same_with_numeric_mode bytes t m =
       is_complete = m.is_complete;
     }
 
-pub nothing_of_numeric_mode : (bytes : List ℕ) (t : Meaning) → MeansIn WithoutNumericMode bytes t → (t.nocontractsign ≡ []) × (t.mode_chars ≡ []) × (t.nocontract_chars ≡ [])
+pub nothing_of_numeric_mode : (bytes : List ℕ) (t : Meaning) → MeansIn WithoutNumericMode bytes t → (sign_cells t NoContraction ≡ []) × ((set : CharacterSet) → set_characters t set ≡ [])
 nothing_of_numeric_mode bytes t m = (
-  m.made.signs signs.NoContraction ∙ none_together (cells_for signs.NoContraction) no_cells 1 (text_lines bytes) m.entries m.given,
-  m.made.sets sets.NumericMode ∙ none_together (characters_for sets.NumericMode) (no_characters sets.NumericMode) 1 (text_lines bytes) m.entries m.given,
-  m.made.sets sets.NoContraction ∙ none_together (characters_for sets.NoContraction) (no_characters sets.NoContraction) 1 (text_lines bytes) m.entries m.given,
+  sign_cells-map t (λ sign. flat_map (λ e. cells_for sign e.1) m.entries) m.made.signs NoContraction
+      ∙ none_together (cells_for NoContraction) no_cells 1 (text_lines bytes) m.entries m.given,
+  λ set.
+      set_characters-map t (λ set. flat_map (λ e. characters_for set e.1) m.entries) m.made.sets set
+      ∙ none_together (characters_for set) (no_characters set) 1 (text_lines bytes) m.entries m.given,
 )

@@ -7,21 +7,21 @@ use Rattle.std.specs.Str.{chars}
 use Rattle.std.proofs.lemmas.List.{append-nil, length_push, length-append}
 use Rattle.std.proofs.lemmas.Bool.{cases_lt}
 use Rattle.std.proofs.lemmas.Grind.{flat_map-append}
+use Rattle.std.proofs.Math.Path.{fun_ext}
 use Rattle.louis_table.specs.declared.definition.Class.TheVariants.{Letter}
 use Rattle.louis_table.specs.declared.definition.Definition.{Definition}
 use Rattle.louis_table.specs.declared.sign.Sign.{Sign}
-use Rattle.louis_table.specs.declared.sign.Sign.TheVariants as signs
 use Rattle.louis_table.specs.declared.character_set.CharacterSet.{CharacterSet}
-use Rattle.louis_table.specs.declared.character_set.CharacterSet.TheVariants as sets
 use Rattle.louis_table.specs.declared.pending.PendingEntry.{PendingEntry}
 use Rattle.louis_table.specs.Lines.{lines_of}
-use Rattle.louis_table.specs.Meaning.{Meaning, sign_cells, set_characters}
-use Rattle.louis_table.specs.Steps.Table.{no_meaning, HasDefinedPartners, with_given}
+use Rattle.louis_table.specs.Meaning.{Meaning, every_sign, every_set}
+use Rattle.louis_table.specs.Steps.Table.{no_meaning, HasDefinedPartners, signs_with, sets_with, with_given}
 use Rattle.louis_table.specs.Steps.Draft.{written_in, written_by}
 use Rattle.louis_table.specs.Steps.Read.{Gathers, LinesGive, IsTold, judge}
 use Rattle.louis_table.specs.Profile.{WithNumericMode}
 use Rattle.louis_table.specs.Table.{most_lines, Entry, Defines, Pairs, Replaces, Announces, Collects, SaysNothing, Gives, GiveFrom, definitions_in, partners_in, cells_for, characters_for, IsFault, HasCause, on_line, IsToldNoLater}
 use Rattle.louis_table.proofs.EntryLaws.{Says}
+use Rattle.louis_table.proofs.MeaningLaws.{signs_with-each, sets_with-each}
 use Rattle.louis_table.proofs.VerdictLaws.{any_gives, lookup-flat_map, judge-Fault, IsFault-judge, judge-few, judge-given}
 
 -- ---- one more line
@@ -44,28 +44,6 @@ flat_map-push : {X A : Type 0} (f : X → List A) (xs : List X) (x : X) (old : L
 flat_map-push {A = A} f xs x old e =
     ap (λ (ys : List A). ys ++ f x) e ∙ (ap (λ (ys : List A). flat_map f xs ++ ys) (sym (append-nil (f x))) ∙ sym (flat_map-append f xs (x ∷ [])))
 
--- an entry adds the cells that it gives to a sign, and the characters that it gives to a set
-more_cells : (old : Meaning) (entry : Entry) (sign : Sign) → sign_cells (with_given old (Some entry)) sign ≡ sign_cells old sign ++ cells_for sign entry
-more_cells old entry signs.Number = refl
-more_cells old entry signs.Capital = refl
-more_cells old entry signs.CapitalWord = refl
-more_cells old entry signs.NoContraction = refl
-
-more_characters : (old : Meaning) (entry : Entry) (set : CharacterSet) → set_characters (with_given old (Some entry)) set ≡ set_characters old set ++ characters_for set entry
-more_characters old entry sets.NumericMode = refl
-more_characters old entry sets.NoContraction = refl
-
--- a table that says nothing has no signs and no sets
-no_cells : (sign : Sign) → sign_cells no_meaning sign ≡ []
-no_cells signs.Number = refl
-no_cells signs.Capital = refl
-no_cells signs.CapitalWord = refl
-no_cells signs.NoContraction = refl
-
-no_characters : (set : CharacterSet) → set_characters no_meaning set ≡ []
-no_characters sets.NumericMode = refl
-no_characters sets.NoContraction = refl
-
 -- what the line gives is gathered with the rest
 Gathers-more : (before : List (List ℕ)) (line : List ℕ) (old new : Meaning) (rules all : List PendingEntry) (given : Option Entry) → Gathers before old rules → Says line (Ok given)
     → new ≡ with_given old given → all ≡ rules ++ written_in (length before + 1) given → Gathers (before ++ line ∷ []) new all
@@ -75,8 +53,8 @@ Gathers-more before line old new rules all None g s e w =
       given = GiveFrom-nothing 1 before line g.entries g.given s;
       definitions = ap (λ (m : Meaning). m.definitions) e ∙ g.definitions;
       partners = ap (λ (m : Meaning). m.partners) e ∙ g.partners;
-      signs = λ sign. ap (λ (m : Meaning). sign_cells m sign) e ∙ g.signs sign;
-      sets = λ set. ap (λ (m : Meaning). set_characters m set) e ∙ g.sets set;
+      signs = ap (λ (m : Meaning). m.signs) e ∙ g.signs;
+      sets = ap (λ (m : Meaning). m.sets) e ∙ g.sets;
       written = w ∙ (append-nil rules ∙ g.written);
     }
 Gathers-more before line old new rules all (Some entry) g s e w =
@@ -85,8 +63,16 @@ Gathers-more before line old new rules all (Some entry) g s e w =
       given = GiveFrom-entry 1 (length before + 1) before line g.entries entry (omega arith) g.given s;
       definitions = ap (λ (m : Meaning). m.definitions) e ∙ flat_map-push (λ (x : ℕ × Entry). definitions_in x.1) g.entries (length before + 1, entry) old.definitions g.definitions;
       partners = ap (λ (m : Meaning). m.partners) e ∙ flat_map-push (λ (x : ℕ × Entry). partners_in x.1) g.entries (length before + 1, entry) old.partners g.partners;
-      signs = λ sign. ap (λ (m : Meaning). sign_cells m sign) e ∙ (more_cells old entry sign ∙ flat_map-push (λ (x : ℕ × Entry). cells_for sign x.1) g.entries (length before + 1, entry) (sign_cells old sign) (g.signs sign));
-      sets = λ set. ap (λ (m : Meaning). set_characters m set) e ∙ (more_characters old entry set ∙ flat_map-push (λ (x : ℕ × Entry). characters_for set x.1) g.entries (length before + 1, entry) (set_characters old set) (g.sets set));
+      signs = ap (λ (m : Meaning). m.signs) e
+          ∙ (ap (λ (all : List (List ℕ)). signs_with all entry) g.signs
+          ∙ (signs_with-each (λ sign. flat_map (λ x. cells_for sign x.1) g.entries) entry
+          ∙ ap (λ (f : Sign → List ℕ). map f every_sign) (fun_ext (λ sign.
+          flat_map-push (λ (x : ℕ × Entry). cells_for sign x.1) g.entries (length before + 1, entry) _ refl))));
+      sets = ap (λ (m : Meaning). m.sets) e
+          ∙ (ap (λ (all : List (List ℕ)). sets_with all entry) g.sets
+          ∙ (sets_with-each (λ set. flat_map (λ x. characters_for set x.1) g.entries) entry
+          ∙ ap (λ (f : CharacterSet → List ℕ). map f every_set) (fun_ext (λ set.
+          flat_map-push (λ (x : ℕ × Entry). characters_for set x.1) g.entries (length before + 1, entry) _ refl))));
       written = w ∙ flat_map-push (λ (x : ℕ × Entry). written_by x.0 x.1) g.entries (length before + 1, entry) rules g.written;
     }
 
@@ -158,8 +144,8 @@ Reached-none lines meaning rules e w =
         given = refl;
         definitions = ap (λ (m : Meaning). m.definitions) e;
         partners = ap (λ (m : Meaning). m.partners) e;
-        signs = λ sign. ap (λ (m : Meaning). sign_cells m sign) e ∙ no_cells sign;
-        sets = λ set. ap (λ (m : Meaning). set_characters m set) e ∙ no_characters set;
+        signs = ap (λ (m : Meaning). m.signs) e;
+        sets = ap (λ (m : Meaning). m.sets) e;
         written = w;
       };
     }

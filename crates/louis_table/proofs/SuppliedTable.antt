@@ -8,12 +8,13 @@ use Rattle.std.proofs.lemmas.List.{length_push}
 use Rattle.std.proofs.lemmas.List.Elements.{All-cons, All-nil}
 use Rattle.std.proofs.lemmas.Str.{chars-IsAscii, IsUtf8-from_ascii}
 use Rattle.std.proofs.lemmas.Str.Ascii.{IsAscii-from_all}
+use Rattle.louis_table.specs.declared.character_set.CharacterSet.TheVariants.{NumericMode, NoContraction}
 use Rattle.louis_table.specs.declared.en.TheConstants.{EN}
 use Rattle.louis_table.specs.declared.pending.PendingEntry.{PendingEntry}
 use Rattle.louis_table.specs.declared.pending.PendingEntry.TheVariants as pending
 use Rattle.louis_table.specs.Lines.{lines_of}
 use Rattle.louis_table.specs.Meaning.{Meaning}
-use Rattle.louis_table.specs.SuppliedTable.{english}
+use Rattle.louis_table.specs.SuppliedTable.{english, english_set}
 use Rattle.louis_table.specs.Table.{Entry, Means, text_lines}
 use Rattle.louis_table.specs.Steps.Characters.{characters_in}
 use Rattle.louis_table.specs.Steps.Opcode.{opcode_named}
@@ -82,7 +83,7 @@ same_lines (line ∷ lines) h =
 
 english_sets : List PendingEntry
 english_sets =
-    pending.Set (record { line = 59; characters = english.mode_chars }) ∷ pending.Set (record { line = 61; characters = english.nocontract_chars }) ∷ []
+    pending.Set (record { line = 59; characters = english_set NumericMode }) ∷ pending.Set (record { line = 61; characters = english_set NoContraction }) ∷ []
 
 english_read : after_lines (Some (no_meaning, [])) 0 (lines_of EN.now) ≡ Some (english, english_sets)
 unfolding english_sets judge judge_line line_gives opcode_named entry_at characters_in entry_verdict pair_in

@@ -9,9 +9,7 @@ use Rattle.std.proofs.lemmas.List.Elements.{Contains-append_left, Contains-appen
 use Rattle.cell_core.specs.Dots.{Dots}
 use Rattle.louis_table.specs.declared.definition.Definition.{Definition}
 use Rattle.louis_table.specs.declared.sign.Sign.{Sign}
-use Rattle.louis_table.specs.declared.sign.Sign.TheVariants as signs
 use Rattle.louis_table.specs.declared.character_set.CharacterSet.{CharacterSet}
-use Rattle.louis_table.specs.declared.character_set.CharacterSet.TheVariants as sets
 use Rattle.louis_table.specs.declared.pending.PendingEntry.{PendingEntry}
 use Rattle.louis_table.specs.Fields.{IsField}
 use Rattle.louis_table.specs.Characters.{Spells}
@@ -20,9 +18,10 @@ use Rattle.louis_table.specs.Steps.Table.{is_known, IsNewFor, CanTake, HasDefine
 use Rattle.louis_table.specs.Steps.Line.{as_some, repeats, announces, is_large, verdict_by, entry_verdict, line_verdict, line_gives, judge_line}
 use Rattle.louis_table.specs.Steps.Read.{Gathers, within_limits, judge}
 use Rattle.louis_table.specs.Profile.{WithNumericMode}
-use Rattle.louis_table.specs.Table.{most_lines, most_line_characters, Entry, Defines, Pairs, Replaces, Announces, Collects, SaysNothing, Gives, definition_line, pair_line, rule_line, sign_line, set_line, GiveFrom, definitions_in, is_same_sign, is_same_set, cells_for, characters_for, IsDefinedIn, GivesAgain, SomeGives, IsFault, unknown_opcode, missing_operand, bad_characters, bad_dots, defined_before, defined_twice, given_before, long_line, line_too_many, many_characters, many_cells}
+use Rattle.louis_table.specs.Table.{most_lines, most_line_characters, Entry, Defines, Pairs, Replaces, Announces, Collects, SaysNothing, Gives, definition_line, pair_line, rule_line, sign_line, set_line, GiveFrom, definitions_in, cells_for, characters_for, IsDefinedIn, GivesAgain, SomeGives, IsFault, unknown_opcode, missing_operand, bad_characters, bad_dots, defined_before, defined_twice, given_before, long_line, line_too_many, many_characters, many_cells}
 use Rattle.louis_table.proofs.CharacterLaws.{chosen}
 use Rattle.louis_table.proofs.EntryLaws.{Says, FailsBy, IsLargeBy, or_right, or_left, or_cases, line_gives-Says, line_gives-nothing, line_gives-entry, unknown_fails, missing_fails, characters_fail, dots_fail, many_characters_large, many_cells_large, large_fault}
+use Rattle.louis_table.proofs.MeaningLaws.{own_sign, own_set, same_sign, same_set, sign_cells-map, set_characters-map}
 
 -- ---- lines and entries
 
@@ -137,40 +136,6 @@ module _ (lines : List (List ℕ)) (meaning : Meaning) (written : List PendingEn
 
 -- ---- the signs and sets that entries give
 
-same_sign : (one other : Sign) → is_same_sign one other ≡ true → one ≡ other
-same_sign signs.Number signs.Number e = refl
-same_sign signs.Number signs.Capital e = absurd cc
-same_sign signs.Number signs.CapitalWord e = absurd cc
-same_sign signs.Number signs.NoContraction e = absurd cc
-same_sign signs.Capital signs.Number e = absurd cc
-same_sign signs.Capital signs.Capital e = refl
-same_sign signs.Capital signs.CapitalWord e = absurd cc
-same_sign signs.Capital signs.NoContraction e = absurd cc
-same_sign signs.CapitalWord signs.Number e = absurd cc
-same_sign signs.CapitalWord signs.Capital e = absurd cc
-same_sign signs.CapitalWord signs.CapitalWord e = refl
-same_sign signs.CapitalWord signs.NoContraction e = absurd cc
-same_sign signs.NoContraction signs.Number e = absurd cc
-same_sign signs.NoContraction signs.Capital e = absurd cc
-same_sign signs.NoContraction signs.CapitalWord e = absurd cc
-same_sign signs.NoContraction signs.NoContraction e = refl
-
-own_sign : (sign : Sign) → is_same_sign sign sign ≡ true
-own_sign signs.Number = refl
-own_sign signs.Capital = refl
-own_sign signs.CapitalWord = refl
-own_sign signs.NoContraction = refl
-
-same_set : (one other : CharacterSet) → is_same_set one other ≡ true → one ≡ other
-same_set sets.NumericMode sets.NumericMode e = refl
-same_set sets.NumericMode sets.NoContraction e = absurd cc
-same_set sets.NoContraction sets.NumericMode e = absurd cc
-same_set sets.NoContraction sets.NoContraction e = refl
-
-own_set : (set : CharacterSet) → is_same_set set set ≡ true
-own_set sets.NumericMode = refl
-own_set sets.NoContraction = refl
-
 abbrev are_some : List ℕ → Bool
 are_some xs = not (eqb (length xs) 0)
 
@@ -241,10 +206,10 @@ Gives-some_text line entry set text (set_line other characters others has h s e)
 
 module _ (lines : List (List ℕ)) (meaning : Meaning) (written : List PendingEntry) (g : Gathers lines meaning written) where
   sign_cells-any : (sign : Sign) → are_some (sign_cells meaning sign) ≡ any_gives (λ entry. are_some (cells_for sign entry)) g.entries
-  sign_cells-any sign = ap are_some (g.signs sign) ∙ are_some-flat_map (cells_for sign) g.entries
+  sign_cells-any sign = ap are_some (sign_cells-map meaning (λ sign. flat_map (λ e. cells_for sign e.1) g.entries) g.signs sign) ∙ are_some-flat_map (cells_for sign) g.entries
 
   set_characters-any : (set : CharacterSet) → are_some (set_characters meaning set) ≡ any_gives (λ entry. are_some (characters_for set entry)) g.entries
-  set_characters-any set = ap are_some (g.sets set) ∙ are_some-flat_map (characters_for set) g.entries
+  set_characters-any set = ap are_some (set_characters-map meaning (λ set. flat_map (λ e. characters_for set e.1) g.entries) g.sets set) ∙ are_some-flat_map (characters_for set) g.entries
 
   -- an earlier line gives the sign or the set of the entry
   pub announces-SomeGives : (entry : Entry) → announces meaning entry ≡ true → SomeGives WithNumericMode lines (GivesAgain entry)

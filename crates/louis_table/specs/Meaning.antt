@@ -1,5 +1,5 @@
 -- What a table says.
-use Rattle.std.specs.Prelude.{◌≡◌, ◌≢◌, ℕ, List, [], Option, Some, nat_eq, slice_get, unwrap_or}
+use Rattle.std.specs.Prelude.{◌≡◌, ◌≢◌, ℕ, List, [], ◌∷◌, Option, Some, nat_eq, slice_get, slice_index_or, unwrap_or}
 use Rattle.std.specs.Map.{lookup}
 use Rattle.louis_table.specs.declared.character_set.CharacterSet.{CharacterSet}
 use Rattle.louis_table.specs.declared.character_set.CharacterSet.TheVariants as sets
@@ -9,18 +9,34 @@ use Rattle.louis_table.specs.declared.sign.Sign.{Sign}
 use Rattle.louis_table.specs.declared.sign.Sign.TheVariants as signs
 
 -- the definitions of characters and the lower characters of capitals, each in the order of their lines,
--- the rules, their characters folded, in the order of theirs, the cells of the signs, and the characters of the sets
+-- the rules, their characters folded, in the order of theirs, the cells of each sign, and the characters of each set
 -- as they are written; a sign or a set that the table lacks is empty
 pub record Meaning : Type 0 where
   pub definitions : List (ℕ × Definition)
   pub partners : List (ℕ × ℕ)
   pub rules : List Rule
-  pub numsign : List ℕ
-  pub capsletter : List ℕ
-  pub begcapsword : List ℕ
-  pub nocontractsign : List ℕ
-  pub mode_chars : List ℕ
-  pub nocontract_chars : List ℕ
+  pub signs : List (List ℕ)
+  pub sets : List (List ℕ)
+
+-- the signs, in the order in which a meaning has their cells
+abbrev pub every_sign : List Sign
+every_sign = signs.Number ∷ signs.Capital ∷ signs.CapitalWord ∷ signs.NoContraction ∷ []
+
+-- where a sign stands among them
+abbrev pub sign_place : Sign → ℕ
+sign_place signs.Number = 0
+sign_place signs.Capital = 1
+sign_place signs.CapitalWord = 2
+sign_place signs.NoContraction = 3
+
+-- the sets, in the order in which a meaning has their characters
+abbrev pub every_set : List CharacterSet
+every_set = sets.NumericMode ∷ sets.NoContraction ∷ []
+
+-- where a set stands among them
+abbrev pub set_place : CharacterSet → ℕ
+set_place sets.NumericMode = 0
+set_place sets.NoContraction = 1
 
 -- the definition of a character, if there is one
 abbrev pub definition_of : Meaning → ℕ → Option Definition
@@ -36,15 +52,11 @@ fold_of meaning character = unwrap_or (partner_of meaning character) character
 
 -- the cells of a sign
 abbrev pub sign_cells : Meaning → Sign → List ℕ
-sign_cells meaning signs.Number = meaning.numsign
-sign_cells meaning signs.Capital = meaning.capsletter
-sign_cells meaning signs.CapitalWord = meaning.begcapsword
-sign_cells meaning signs.NoContraction = meaning.nocontractsign
+sign_cells meaning sign = slice_index_or meaning.signs (sign_place sign) []
 
 -- the characters of a set
 abbrev pub set_characters : Meaning → CharacterSet → List ℕ
-set_characters meaning sets.NumericMode = meaning.mode_chars
-set_characters meaning sets.NoContraction = meaning.nocontract_chars
+set_characters meaning set = slice_index_or meaning.sets (set_place set) []
 
 -- each definition and each rule has a cell
 pub record HasCells (meaning : Meaning) : Type 0 where

@@ -4,7 +4,11 @@ use Rattle.std.specs.Prelude.{ℕ, ◌+◌, List, [], ◌∷◌, ◌++◌, map}
 use Rattle.louis_table.specs.declared.definition.Class.{Class}
 use Rattle.louis_table.specs.declared.definition.Class.TheVariants.{Space, Punctuation, Digit, Letter}
 use Rattle.louis_table.specs.declared.definition.Definition.{Definition}
-use Rattle.louis_table.specs.Meaning.{Meaning}
+use Rattle.louis_table.specs.declared.character_set.CharacterSet.{CharacterSet}
+use Rattle.louis_table.specs.declared.character_set.CharacterSet.TheVariants as sets
+use Rattle.louis_table.specs.declared.sign.Sign.{Sign}
+use Rattle.louis_table.specs.declared.sign.Sign.TheVariants.{Number, Capital, CapitalWord, NoContraction}
+use Rattle.louis_table.specs.Meaning.{Meaning, every_sign, every_set}
 
 -- a character of a class, by these cells
 abbrev pub defined : Class → ℕ × List ℕ → ℕ × Definition
@@ -42,16 +46,24 @@ marks =
     (8220, 38 ∷ []) ∷ (8221, 52 ∷ []) ∷ (34, 32 ∷ 54 ∷ []) ∷ (8211, 32 ∷ 36 ∷ []) ∷
     (8212, 32 ∷ 36 ∷ []) ∷ []
 
+-- the cells of each sign
+abbrev pub english_sign : Sign → List ℕ
+english_sign Number = 60 ∷ []
+english_sign Capital = 32 ∷ []
+english_sign CapitalWord = 32 ∷ 32 ∷ []
+english_sign NoContraction = 48 ∷ []
+
+-- the characters of each set
+abbrev pub english_set : CharacterSet → List ℕ
+english_set sets.NumericMode = 46 ∷ 44 ∷ []
+english_set sets.NoContraction = 97 ∷ 98 ∷ 99 ∷ 100 ∷ 101 ∷ 102 ∷ 103 ∷ 104 ∷ 105 ∷ 106 ∷ []
+
 -- uncontracted English: its definitions, its capitals, its signs and its sets
 abbrev pub english : Meaning
 english = record {
   definitions = defined Space (32, 0 ∷ []) ∷ (both_letters 65 letter_masks ++ (map (defined Digit) digits ++ map (defined Punctuation) marks));
   partners = small_letters 65 letter_masks;
   rules = [];
-  numsign = 60 ∷ [];
-  capsletter = 32 ∷ [];
-  begcapsword = 32 ∷ 32 ∷ [];
-  nocontractsign = 48 ∷ [];
-  mode_chars = 46 ∷ 44 ∷ [];
-  nocontract_chars = 97 ∷ 98 ∷ 99 ∷ 100 ∷ 101 ∷ 102 ∷ 103 ∷ 104 ∷ 105 ∷ 106 ∷ [];
+  signs = map english_sign every_sign;
+  sets = map english_set every_set;
 }

@@ -1,5 +1,5 @@
 -- What a table text means, and what is bad in it.
-use Rattle.std.specs.Prelude.{◌≡◌, ◌≢◌, ℕ, ◌+◌, ◌<◌, ◌≤◌, ◌⊎◌, ◌==◌, if◌then◌else◌, List, [], ◌∷◌, ◌++◌, length, map, take, drop, count_by, codes, nat_eq, slice_index, Bool, true, false, Option, Some, None}
+use Rattle.std.specs.Prelude.{◌≡◌, ◌≢◌, ℕ, ◌+◌, ◌<◌, ◌≤◌, ◌⊎◌, ◌==◌, if◌then◌else◌, List, [], ◌∷◌, ◌++◌, length, map, take, drop, count_by, codes, nat_eq, slice_index, Bool, Option, Some, None}
 use Rattle.std.specs.List.{flat_map, starts_with, Contains}
 use Rattle.std.specs.Str.{chars, IsUtf8}
 use Rattle.std.specs.Str.Lossy.{utf8_valid_len}
@@ -10,9 +10,7 @@ use Rattle.louis_table.specs.declared.definition.Definition.{Definition}
 use Rattle.louis_table.specs.declared.rule.RuleKind.{RuleKind}
 use Rattle.louis_table.specs.declared.rule.Rule.{Rule}
 use Rattle.louis_table.specs.declared.sign.Sign.{Sign}
-use Rattle.louis_table.specs.declared.sign.Sign.TheVariants as signs
 use Rattle.louis_table.specs.declared.character_set.CharacterSet.{CharacterSet}
-use Rattle.louis_table.specs.declared.character_set.CharacterSet.TheVariants as sets
 use Rattle.louis_table.specs.declared.opcode.Opcode.{Opcode}
 use Rattle.louis_table.specs.declared.opcode.Opcode.TheVariants.{Define, UpLow, Replace, Announce, Collect}
 use Rattle.louis_table.specs.Lines.{lines_of}
@@ -20,7 +18,7 @@ use Rattle.louis_table.specs.Fields.{IsGap, Begins, HasFields}
 use Rattle.louis_table.specs.Characters.{Spells}
 use Rattle.louis_table.specs.Profile.{Profile, WithNumericMode}
 use Rattle.louis_table.specs.Opcode.{name_of, HasOpcode}
-use Rattle.louis_table.specs.Meaning.{Meaning, definition_of, fold_of, sign_cells, set_characters}
+use Rattle.louis_table.specs.Meaning.{Meaning, every_sign, sign_place, every_set, set_place, definition_of, fold_of}
 
 -- ---- the limits
 
@@ -170,29 +168,11 @@ partners_in (Collects set text) = []
 
 -- the two signs are one
 abbrev pub is_same_sign : Sign → Sign → Bool
-is_same_sign signs.Number signs.Number = true
-is_same_sign signs.Number signs.Capital = false
-is_same_sign signs.Number signs.CapitalWord = false
-is_same_sign signs.Number signs.NoContraction = false
-is_same_sign signs.Capital signs.Number = false
-is_same_sign signs.Capital signs.Capital = true
-is_same_sign signs.Capital signs.CapitalWord = false
-is_same_sign signs.Capital signs.NoContraction = false
-is_same_sign signs.CapitalWord signs.Number = false
-is_same_sign signs.CapitalWord signs.Capital = false
-is_same_sign signs.CapitalWord signs.CapitalWord = true
-is_same_sign signs.CapitalWord signs.NoContraction = false
-is_same_sign signs.NoContraction signs.Number = false
-is_same_sign signs.NoContraction signs.Capital = false
-is_same_sign signs.NoContraction signs.CapitalWord = false
-is_same_sign signs.NoContraction signs.NoContraction = true
+is_same_sign one other = nat_eq (sign_place one) (sign_place other)
 
 -- the two sets are one
 abbrev pub is_same_set : CharacterSet → CharacterSet → Bool
-is_same_set sets.NumericMode sets.NumericMode = true
-is_same_set sets.NumericMode sets.NoContraction = false
-is_same_set sets.NoContraction sets.NumericMode = false
-is_same_set sets.NoContraction sets.NoContraction = true
+is_same_set one other = nat_eq (set_place one) (set_place other)
 
 -- the cells that an entry gives to the sign
 abbrev pub cells_for : Sign → Entry → List ℕ
@@ -235,8 +215,8 @@ pub record IsMadeOf (entries : List (ℕ × Entry)) (meaning : Meaning) : Type 0
   pub definitions : meaning.definitions ≡ flat_map (λ e. definitions_in e.1) entries
   pub partners : meaning.partners ≡ flat_map (λ e. partners_in e.1) entries
   pub rules : meaning.rules ≡ flat_map (rules_in meaning) entries
-  pub signs : (sign : Sign) → sign_cells meaning sign ≡ flat_map (λ e. cells_for sign e.1) entries
-  pub sets : (set : CharacterSet) → set_characters meaning set ≡ flat_map (λ e. characters_for set e.1) entries
+  pub signs : meaning.signs ≡ map (λ sign. flat_map (λ e. cells_for sign e.1) entries) every_sign
+  pub sets : meaning.sets ≡ map (λ set. flat_map (λ e. characters_for set e.1) entries) every_set
 
 -- ---- what is bad in entries
 

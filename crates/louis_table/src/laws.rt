@@ -1,11 +1,13 @@
 //! What holds of every table text.
-ghost use Rattle.louis_table.specs.Meaning.{HasCells, Meaning};
+ghost use Rattle.louis_table.specs.Meaning.{HasCells, Meaning, set_characters, sign_cells};
 ghost use Rattle.louis_table.specs.Profile.{Profile, WithoutNumericMode};
 ghost use Rattle.louis_table.specs.SuppliedTable.{english};
 ghost use Rattle.louis_table.specs.Table.{Bad, BadIn, Means, MeansIn, most_line_characters, most_lines, most_rule_characters, most_set_characters};
+ghost use Rattle.louis_table.specs.declared.character_set.CharacterSet.{CharacterSet};
 ghost use Rattle.louis_table.specs.declared.en.TheConstants.{EN};
 ghost use Rattle.louis_table.specs.declared.line_entry.TheConstants.{MOST_RULE_CHARACTERS, MOST_SET_CHARACTERS};
 ghost use Rattle.louis_table.specs.declared.read.TheConstants.{MOST_LINES, MOST_LINE_CHARACTERS};
+ghost use Rattle.louis_table.specs.declared.sign.Sign.TheVariants.{NoContraction};
 ghost use Rattle.std.specs.Prelude.{◌≡◌, ◌⊎◌, ℕ, List, []};
 
 /// Bytes are a table with one meaning, or have one fault that is reported, and never both.
@@ -21,7 +23,7 @@ pub fn one_meaning()
 pub fn profiles()
     ensures same { (bytes : List ℕ) (t : Meaning) → MeansIn WithoutNumericMode bytes t → Means bytes t }
     ensures nothing_new { (bytes : List ℕ) (t : Meaning) → MeansIn WithoutNumericMode bytes t
-        → (t.nocontractsign ≡ []) × (t.mode_chars ≡ []) × (t.nocontract_chars ≡ []) }
+        → (sign_cells t NoContraction ≡ []) × ((set : CharacterSet) → set_characters t set ≡ []) }
     ensures one { (profile : Profile) (bytes : List ℕ) (t u : Meaning)
         → MeansIn profile bytes t → MeansIn profile bytes u → t ≡ u }
     ensures one_fault { (profile : Profile) (bytes : List ℕ) (n c m d : ℕ)

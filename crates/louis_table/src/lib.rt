@@ -30,10 +30,12 @@ mod sign;
 mod table;
 
 pub use char_map::CharMap;
+pub use character_set::CharacterSet;
 pub use definition::{Class, Definition};
 pub use en::EN;
 pub use fault::{ReadFault, TableFault};
 pub use line_entry::{MOST_RULE_CHARACTERS, MOST_SET_CHARACTERS};
 pub use read::{MOST_LINE_CHARACTERS, MOST_LINES};
 pub use rule::{Characters, Rule, RuleKind};
+pub use sign::Sign;
 pub use table::Table;

@@ -1,8 +1,11 @@
 //! Signs that stand before some kinds of print.
 
-/// A sign of a table.
+/// How many signs there are.
+pub(crate) const SIGNS: usize = 4;
+
+/// A sign of a table, by which contracts name its cells.
 #[derive(Clone, Copy)]
-pub(crate) enum Sign {
+pub enum Sign {
     /// Before a number.
     Number,
     /// Before one capital.

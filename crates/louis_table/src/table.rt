@@ -3,13 +3,15 @@ ghost use Rattle.std.specs.Prelude.{◌≡◌, ◌≢◌, ◌∷◌, ◌++◌, [
 ghost use Rattle.louis_table.specs.Meaning.{definition_of, fold_of, partner_of, set_characters, sign_cells};
 ghost use Rattle.louis_table.specs.Steps.Table.{CanTake, is_known, no_meaning, with_definition, with_given, with_partner};
 ghost use Rattle.louis_table.specs.Table.{Announces, Collects, Pairs};
+ghost use Rattle.louis_table.specs.declared.character_set.CharacterSet.TheVariants as sets;
+ghost use Rattle.louis_table.specs.declared.sign.Sign.TheVariants as signs;
 ghost use Rattle.std.specs.Option.{option_copied};
 
 use super::char_map::CharMap;
-use super::character_set::CharacterSet;
+use super::character_set::{CharacterSet, SETS};
 use super::definition::{Class, Definition};
 use super::rule::{Characters, Rule};
-use super::sign::Sign;
+use super::sign::{SIGNS, Sign};
 use cell_core::{Cell, Cells};
 use std::alloc::{AllocError, Global};
 use std::marker::Model;
@@ -19,12 +21,8 @@ pub struct Table {
     definitions: CharMap<Definition>,
     partners: CharMap<char>,
     rules: Vec<Rule>,
-    numsign: Cells,
-    capsletter: Cells,
-    begcapsword: Cells,
-    nocontractsign: Cells,
-    mode_chars: Characters,
-    nocontract_chars: Characters,
+    signs: [Cells; SIGNS],
+    sets: [Characters; SETS],
 }
 
 impl Model for Table {
@@ -36,12 +34,8 @@ impl Model for Table {
       definitions = t.definitions;
       partners = t.partners;
       rules = t.rules.items;
-      numsign = t.numsign;
-      capsletter = t.capsletter;
-      begcapsword = t.begcapsword;
-      nocontractsign = t.nocontractsign;
-      mode_chars = t.mode_chars;
-      nocontract_chars = t.nocontract_chars;
+      signs = t.signs;
+      sets = t.sets;
     } };
 }
 
@@ -52,12 +46,8 @@ impl Drop for Table {
             definitions: _,
             partners: _,
             rules: _,
-            numsign: _,
-            capsletter: _,
-            begcapsword: _,
-            nocontractsign: _,
-            mode_chars: _,
-            nocontract_chars: _,
+            signs: _,
+            sets: _,
         } = self;
     }
 }
@@ -71,12 +61,16 @@ impl Table {
             definitions: CharMap::new(alloc),
             partners: CharMap::new(alloc),
             rules: Vec::new(alloc),
-            numsign: Cells::from_vec(Vec::new(alloc)),
-            capsletter: Cells::from_vec(Vec::new(alloc)),
-            begcapsword: Cells::from_vec(Vec::new(alloc)),
-            nocontractsign: Cells::from_vec(Vec::new(alloc)),
-            mode_chars: Characters::from_vec(Vec::new(alloc)),
-            nocontract_chars: Characters::from_vec(Vec::new(alloc)),
+            signs: [
+                Cells::from_vec(Vec::new(alloc)),
+                Cells::from_vec(Vec::new(alloc)),
+                Cells::from_vec(Vec::new(alloc)),
+                Cells::from_vec(Vec::new(alloc)),
+            ],
+            sets: [
+                Characters::from_vec(Vec::new(alloc)),
+                Characters::from_vec(Vec::new(alloc)),
+            ],
         }
     }
 
@@ -133,12 +127,7 @@ impl Table {
         requires { sign_cells self.old sign ≡ [] }
         ensures { self.new ≡ with_given self.old (Some (Announces sign cells)) }
     {
-        match sign {
-            Sign::Number => self.numsign = cells,
-            Sign::Capital => self.capsletter = cells,
-            Sign::CapitalWord => self.begcapsword = cells,
-            Sign::NoContraction => self.nocontractsign = cells,
-        }
+        self.signs[sign as usize] = cells;
     }
 
     /// Gives a set that has no characters yet its characters.
@@ -146,10 +135,7 @@ impl Table {
         requires { set_characters self.old set ≡ [] }
         ensures { self.new ≡ with_given self.old (Some (Collects set characters)) }
     {
-        match set {
-            CharacterSet::NumericMode => self.mode_chars = characters,
-            CharacterSet::NoContraction => self.nocontract_chars = characters,
-        }
+        self.sets[set as usize] = characters;
     }
 
     /// The table with these rules in place of its own.
@@ -168,25 +154,19 @@ impl Table {
     }
 
     /// The cells of a sign, empty if the table lacks it.
+    #[inline(always)]
     pub(crate) fn sign(&self, sign: Sign) -> &[Cell]
         ensures { result.now ≡ sign_cells self.now sign }
     {
-        match sign {
-            Sign::Number => self.numsign(),
-            Sign::Capital => self.capsletter(),
-            Sign::CapitalWord => self.begcapsword(),
-            Sign::NoContraction => self.nocontractsign(),
-        }
+        self.signs[sign as usize].as_slice()
     }
 
     /// The characters of a set, empty if the table lacks it.
+    #[inline(always)]
     pub(crate) fn set(&self, set: CharacterSet) -> &[char]
         ensures { result.now ≡ set_characters self.now set }
     {
-        match set {
-            CharacterSet::NumericMode => self.mode_chars(),
-            CharacterSet::NoContraction => self.nocontract_chars(),
-        }
+        self.sets[set as usize].as_slice()
     }
 
     /// The definition of a character, if the table has one.
@@ -230,45 +210,45 @@ impl Table {
 
     /// The sign before a number, empty if the table lacks it.
     pub fn numsign(&self) -> &[Cell]
-        ensures { result.now ≡ self.now.numsign }
+        ensures { result.now ≡ sign_cells self.now signs.Number }
     {
-        self.numsign.as_slice()
+        self.sign(Sign::Number)
     }
 
     /// The sign before one capital, empty if the table lacks it.
     pub fn capsletter(&self) -> &[Cell]
-        ensures { result.now ≡ self.now.capsletter }
+        ensures { result.now ≡ sign_cells self.now signs.Capital }
     {
-        self.capsletter.as_slice()
+        self.sign(Sign::Capital)
     }
 
     /// The sign before a run of capitals, empty if the table lacks it.
     pub fn begcapsword(&self) -> &[Cell]
-        ensures { result.now ≡ self.now.begcapsword }
+        ensures { result.now ≡ sign_cells self.now signs.CapitalWord }
     {
-        self.begcapsword.as_slice()
+        self.sign(Sign::CapitalWord)
     }
 
     /// The sign before a character that follows a number and would read as part of it, empty if the table lacks it.
     pub fn nocontractsign(&self) -> &[Cell]
-        ensures { result.now ≡ self.now.nocontractsign }
+        ensures { result.now ≡ sign_cells self.now signs.NoContraction }
     {
-        self.nocontractsign.as_slice()
+        self.sign(Sign::NoContraction)
     }
 
     /// The characters that stand within a number besides its digits, as they are written, none if the table lacks
     /// them.
     pub fn mode_chars(&self) -> &[char]
-        ensures { result.now ≡ self.now.mode_chars }
+        ensures { result.now ≡ set_characters self.now sets.NumericMode }
     {
-        self.mode_chars.as_slice()
+        self.set(CharacterSet::NumericMode)
     }
 
     /// The characters that need the sign of no contraction when they follow a number, as they are written, none if the
     /// table lacks them.
     pub fn nocontract_chars(&self) -> &[char]
-        ensures { result.now ≡ self.now.nocontract_chars }
+        ensures { result.now ≡ set_characters self.now sets.NoContraction }
     {
-        self.nocontract_chars.as_slice()
+        self.set(CharacterSet::NoContraction)
     }
 }

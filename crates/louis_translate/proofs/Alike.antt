@@ -5,7 +5,10 @@ use Rattle.std.proofs.lemmas.Bool.Decides.{nat_tests}
 use Rattle.std.specs.List.{list_any}
 use Rattle.std.specs.Option.{option_map_or}
 use Rattle.std.proofs.Math.Path.{fun_ext}
-use Rattle.louis_table.specs.Meaning.{Meaning}
+use Rattle.louis_table.specs.declared.character_set.CharacterSet.{CharacterSet}
+use Rattle.louis_table.specs.declared.character_set.CharacterSet.TheVariants as sets
+use Rattle.louis_table.specs.declared.sign.Sign.TheVariants as signs
+use Rattle.louis_table.specs.Meaning.{Meaning, sign_cells, set_characters}
 use Rattle.louis_translate.specs.Position.{class_at, class_before, is_digit}
 use Rattle.louis_translate.specs.Sign.{is_capital_at, is_digit_at, is_mode_char, is_mode_char_at, is_nocontract_char, is_nocontract_char_at, is_in_numeric_mode, follows_number, ends_number, capital_sign, plain_sign_at, sign_at}
 use Rattle.louis_translate.specs.Tiling.{TilesBy}
@@ -31,12 +34,12 @@ or_false false = refl
 never : {A : Type 0} (i : ℕ) (x y : A) → cond (suc i == 0) x y ≡ y
 never i x y = grind (arith, nat_tests)
 
-module _ (meaning : Meaning) (print : List ℕ) (modes : meaning.mode_chars ≡ []) (others : meaning.nocontract_chars ≡ []) where
+module _ (meaning : Meaning) (print : List ℕ) (none : (set : CharacterSet) → set_characters meaning set ≡ []) where
   no_mode_char : (i : ℕ) → is_mode_char_at meaning print i ≡ false
-  no_mode_char i = nowhere (is_mode_char meaning) print i (λ c. ap (list_any (λ d. nat_eq d c)) modes)
+  no_mode_char i = nowhere (is_mode_char meaning) print i (λ c. ap (list_any (λ d. nat_eq d c)) (none sets.NumericMode))
 
   no_nocontract_char : (i : ℕ) → is_nocontract_char_at meaning print i ≡ false
-  no_nocontract_char i = nowhere (is_nocontract_char meaning) print i (λ c. ap (list_any (λ d. nat_eq d c)) others)
+  no_nocontract_char i = nowhere (is_nocontract_char meaning) print i (λ c. ap (list_any (λ d. nat_eq d c)) (none sets.NoContraction))
 
   digits_alone : (i : ℕ) → is_in_numeric_mode meaning print i ≡ is_digit_at meaning print i
   digits_alone i =
@@ -58,10 +61,10 @@ module _ (meaning : Meaning) (print : List ℕ) (modes : meaning.mode_chars ≡ 
 
   pub same_sign : (i : ℕ) → plain_sign_at meaning print i ≡ sign_at meaning print i
   same_sign i =
-      ap (λ (b : Bool). cond (is_digit_at meaning print i) (cond b [] meaning.numsign)
+      ap (λ (b : Bool). cond (is_digit_at meaning print i) (cond b [] (sign_cells meaning signs.Number))
       (cond (is_capital_at meaning print i) (capital_sign meaning print i) [])) (sym (after_digit i))
-      ∙ ap (λ (b : Bool). cond (is_digit_at meaning print i) (cond (follows_number meaning print i) [] meaning.numsign)
-      (cond (is_capital_at meaning print i) (capital_sign meaning print i) (cond b meaning.nocontractsign []))) (sym (no_end i))
+      ∙ ap (λ (b : Bool). cond (is_digit_at meaning print i) (cond (follows_number meaning print i) [] (sign_cells meaning signs.Number))
+      (cond (is_capital_at meaning print i) (capital_sign meaning print i) (cond b (sign_cells meaning signs.NoContraction) []))) (sym (no_end i))
 
   pub alike : AreAlike meaning print
   alike =

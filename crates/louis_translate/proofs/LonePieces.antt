@@ -4,7 +4,8 @@ use Rattle.std.specs.Prelude.{MatchOption, if◌then◌else◌, map, option_map,
 use Rattle.std.specs.Option.{option_and_then, option_map_or}
 use Rattle.std.proofs.lemmas.Option.{slice_get_within}
 use Rattle.louis_table.specs.declared.definition.Definition.{Definition}
-use Rattle.louis_table.specs.Meaning.{Meaning, definition_of}
+use Rattle.louis_table.specs.declared.sign.Sign.TheVariants.{NoContraction}
+use Rattle.louis_table.specs.Meaning.{Meaning, definition_of, sign_cells}
 use Rattle.louis_translate.specs.declared.choices.Choice.{Choice}
 use Rattle.louis_translate.specs.Position.{class_of, is_digit}
 use Rattle.louis_translate.specs.Sign.{ends_number, is_capital, is_capital_at, is_digit_at, sign_at}
@@ -44,7 +45,7 @@ module _ (meaning : Meaning) (print : List ℕ) (i character cell : ℕ) (there 
 
   pub no_sign : IsFree meaning print i → sign_at meaning print i ≡ []
   no_sign free = rw (no_digit, no_capital) (elim free [
-    | inl none ↦ none_either (ends_number meaning print i) meaning.nocontractsign none
+    | inl none ↦ none_either (ends_number meaning print i) (sign_cells meaning NoContraction) none
     | inr off ↦ rw (ends_number-never meaning print i within no_digit off) refl
   ])
 

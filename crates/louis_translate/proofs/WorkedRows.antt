@@ -1,7 +1,10 @@
 -- A small table and prints of it, worked by the definitions alone: they say what these rows say, and not only what the code does.
 use Rattle.std.proofs.Common.{◌≡◌, ℕ, true, false, List, [], ◌∷◌, ◌++◌, refl}
-use Rattle.std.specs.Prelude.{Some, None}
-use Rattle.louis_table.specs.Meaning.{Meaning}
+use Rattle.std.specs.Prelude.{Some, None, map}
+use Rattle.louis_table.specs.declared.character_set.CharacterSet.TheVariants as sets
+use Rattle.louis_table.specs.declared.sign.Sign.TheVariants as signs
+use Rattle.louis_table.specs.Meaning.{Meaning, every_sign, every_set}
+use Rattle.louis_table.specs.Table.{Announces, Collects, cells_for, characters_for}
 use Rattle.louis_table.specs.declared.definition.Class.TheVariants.{Space, Punctuation, Digit, Letter}
 use Rattle.louis_table.specs.declared.rule.RuleKind.TheVariants.{Word}
 use Rattle.louis_translate.specs.Position.{fits}
@@ -14,12 +17,8 @@ small = record {
   definitions = (32, record { class = Space; cells = 0 ∷ [] }) ∷ (97, record { class = Letter; cells = 1 ∷ [] }) ∷ (53, record { class = Digit; cells = 17 ∷ [] }) ∷ [];
   partners = [];
   rules = record { line = 4; kind = Word; chars = 97 ∷ []; cells = 63 ∷ [] } ∷ [];
-  numsign = 60 ∷ [];
-  capsletter = [];
-  begcapsword = [];
-  nocontractsign = [];
-  mode_chars = [];
-  nocontract_chars = [];
+  signs = map (λ sign. cells_for sign (Announces signs.Number (60 ∷ []))) every_sign;
+  sets = map (λ set. []) every_set;
 }
 
 -- the print `a 55a`
@@ -54,9 +53,8 @@ braille-of-print = refl
 abbrev with_mode : Meaning
 with_mode = record small {
   definitions = small.definitions ++ (46, record { class = Punctuation; cells = 50 ∷ [] }) ∷ [];
-  nocontractsign = 48 ∷ [];
-  mode_chars = 46 ∷ [];
-  nocontract_chars = 97 ∷ [];
+  signs = map (λ sign. cells_for sign (Announces signs.Number (60 ∷ [])) ++ cells_for sign (Announces signs.NoContraction (48 ∷ []))) every_sign;
+  sets = map (λ set. characters_for set (Collects sets.NumericMode (46 ∷ [])) ++ characters_for set (Collects sets.NoContraction (97 ∷ []))) every_set;
 }
 
 -- the print `5.5.a .5`

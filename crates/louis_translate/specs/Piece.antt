@@ -2,7 +2,8 @@
 -- the places where they do.
 use Rattle.std.specs.Prelude.{◌≡◌, ◌⊎◌, ◌<◌, ◌+◌, ℕ, List, [], ◌∷◌, Option, Some, None, false, length, slice_get}
 use Rattle.louis_table.specs.declared.definition.Definition.{Definition}
-use Rattle.louis_table.specs.Meaning.{Meaning, definition_of}
+use Rattle.louis_table.specs.declared.sign.Sign.TheVariants.{NoContraction}
+use Rattle.louis_table.specs.Meaning.{Meaning, definition_of, sign_cells}
 use Rattle.louis_translate.specs.declared.choices.Choice.{Choice}
 use Rattle.louis_translate.specs.Braille.{chosen_cells}
 use Rattle.louis_translate.specs.Choice.{IsChosen}
@@ -31,7 +32,7 @@ AreLoneCells meaning cells =
 -- no sign after a number can stand at a place: the table has none, or no number reaches the place;
 -- after a lone cell at such a place the next place is one too
 abbrev pub IsFree : Meaning → List ℕ → ℕ → Type 0
-IsFree meaning print i = (meaning.nocontractsign ≡ []) ⊎ (follows_number meaning print i ≡ false)
+IsFree meaning print i = (sign_cells meaning NoContraction ≡ []) ⊎ (follows_number meaning print i ≡ false)
 
 -- at the place of the print the definition of its character is chosen, which makes this cell and has no sign; and the next
 -- place is free of a sign after a number

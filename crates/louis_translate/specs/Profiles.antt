@@ -1,6 +1,8 @@
 -- What a table that says nothing of numeric mode gives, by the signs with that mode and without.
 use Rattle.std.specs.Prelude.{◌≡◌, ◌↔◌, ℕ, List, []}
-use Rattle.louis_table.specs.Meaning.{Meaning}
+use Rattle.louis_table.specs.declared.character_set.CharacterSet.{CharacterSet}
+use Rattle.louis_table.specs.declared.sign.Sign.TheVariants.{NoContraction}
+use Rattle.louis_table.specs.Meaning.{Meaning, sign_cells, set_characters}
 use Rattle.louis_translate.specs.declared.choices.Choice.{Choice}
 use Rattle.louis_translate.specs.Sign.{plain_sign_at, sign_at}
 use Rattle.louis_translate.specs.Tiling.{TilesBy, Tiles}
@@ -8,9 +10,8 @@ use Rattle.louis_translate.specs.Braille.{braille_by, braille, IsOutputPlaceBy, 
 
 -- the table says nothing of numeric mode
 pub record HasNoNumericMode (meaning : Meaning) : Type 0 where
-  pub no_sign : meaning.nocontractsign ≡ []
-  pub no_mode_chars : meaning.mode_chars ≡ []
-  pub no_nocontract_chars : meaning.nocontract_chars ≡ []
+  pub no_sign : sign_cells meaning NoContraction ≡ []
+  pub no_sets : (set : CharacterSet) → set_characters meaning set ≡ []
 
 -- a print has the same signs, tilings, cells, output places and print places by both
 pub record AreAlike (meaning : Meaning) (print : List ℕ) : Type 0 where

@@ -2,7 +2,9 @@
 use Rattle.std.specs.Prelude.{◌≡◌, ℕ, ◌+◌, ◌-◌, ◌<◌, ◌≤◌, Bool, true, false, ◌&&◌, ◌||◌, not, ◌==◌, nat_eq, nat_le, nat_lt, if◌then◌else◌, List, [], length, take, drop, slice_get, is_some}
 use Rattle.std.specs.List.{list_all, list_any, prefix_len, range_with_len, suffix_len}
 use Rattle.std.specs.Option.{option_map_or}
-use Rattle.louis_table.specs.Meaning.{Meaning, partner_of}
+use Rattle.louis_table.specs.declared.character_set.CharacterSet.TheVariants as sets
+use Rattle.louis_table.specs.declared.sign.Sign.TheVariants as signs
+use Rattle.louis_table.specs.Meaning.{Meaning, partner_of, sign_cells, set_characters}
 use Rattle.louis_translate.specs.Position.{class_at, class_before, is_digit, is_letter}
 
 -- ---- capitals
@@ -45,9 +47,9 @@ takes_one_sign meaning print i =
 -- before its others; else `capsletter`
 abbrev pub capital_sign : Meaning → List ℕ → ℕ → List ℕ
 capital_sign meaning print i =
-    if nat_lt 0 (length meaning.begcapsword) && takes_one_sign meaning print i
-    then (if run_start meaning print i == i then meaning.begcapsword else [])
-    else meaning.capsletter
+    if nat_lt 0 (length (sign_cells meaning signs.CapitalWord)) && takes_one_sign meaning print i
+    then (if run_start meaning print i == i then sign_cells meaning signs.CapitalWord else [])
+    else sign_cells meaning signs.Capital
 
 -- ---- numbers
 
@@ -57,7 +59,7 @@ is_digit_at meaning print i = is_digit (class_at meaning print i)
 
 -- the table says that the character continues a number
 abbrev pub is_mode_char : Meaning → ℕ → Bool
-is_mode_char meaning character = list_any (λ c. nat_eq c character) meaning.mode_chars
+is_mode_char meaning character = list_any (λ c. nat_eq c character) (set_characters meaning sets.NumericMode)
 
 -- the place has a character that continues a number
 abbrev pub is_mode_char_at : Meaning → List ℕ → ℕ → Bool
@@ -90,7 +92,7 @@ follows_number meaning print i = if i == 0 then false else is_in_numeric_mode me
 
 -- the table says that the character takes a sign right after a number
 abbrev pub is_nocontract_char : Meaning → ℕ → Bool
-is_nocontract_char meaning character = list_any (λ c. nat_eq c character) meaning.nocontract_chars
+is_nocontract_char meaning character = list_any (λ c. nat_eq c character) (set_characters meaning sets.NoContraction)
 
 -- the place has a character that takes a sign right after a number
 abbrev pub is_nocontract_char_at : Meaning → List ℕ → ℕ → Bool
@@ -107,7 +109,7 @@ ends_number meaning print i =
 abbrev pub plain_sign_at : Meaning → List ℕ → ℕ → List ℕ
 plain_sign_at meaning print i =
     if is_digit_at meaning print i
-    then (if is_digit (class_before meaning print i) then [] else meaning.numsign)
+    then (if is_digit (class_before meaning print i) then [] else sign_cells meaning signs.Number)
     else (if is_capital_at meaning print i then capital_sign meaning print i else [])
 
 -- the signs with numeric mode: one before a digit that no number reaches, those before capitals, and one before a
@@ -115,7 +117,7 @@ plain_sign_at meaning print i =
 abbrev pub sign_at : Meaning → List ℕ → ℕ → List ℕ
 sign_at meaning print i =
     if is_digit_at meaning print i
-    then (if follows_number meaning print i then [] else meaning.numsign)
+    then (if follows_number meaning print i then [] else sign_cells meaning signs.Number)
     else (if is_capital_at meaning print i
     then capital_sign meaning print i
-    else (if ends_number meaning print i then meaning.nocontractsign else []))
+    else (if ends_number meaning print i then sign_cells meaning signs.NoContraction else []))

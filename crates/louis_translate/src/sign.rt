@@ -1,4 +1,6 @@
 //! The signs before numbers, capitals and what follows a number.
+ghost use Rattle.louis_table.specs.Meaning.{sign_cells};
+ghost use Rattle.louis_table.specs.declared.sign.Sign.TheVariants.{Capital, Number};
 ghost use Rattle.louis_translate.specs.Position.{class_at as class_at_lem};
 ghost use Rattle.louis_translate.specs.Sign.{capital_sign as capital_sign_lem, ends_number as ends_number_lem, follows_number as follows_number_lem, is_capital_at as is_capital_at_lem, is_digit_at, is_mode_char as is_mode_char_lem, is_nocontract_char as is_nocontract_char_lem, run_end, run_start, sign_at};
 ghost use Rattle.std.specs.Bool.{OnTrue};
@@ -45,7 +47,7 @@ fn is_capital_at(table: &Table, print: &[char], place: usize) -> bool
 #[inline(always)]
 fn stands_alone(table: &Table, print: &[char], place: usize) -> bool
     requires { place < length print.now }
-    ensures { OnTrue result (capital_sign_lem table.now print.now place ≡ table.now.capsletter) }
+    ensures { OnTrue result (capital_sign_lem table.now print.now place ≡ sign_cells table.now Capital) }
 {
     if follows_capital(table, print, place) {
         return false;
@@ -143,7 +145,7 @@ fn ends_number(table: &Table, print: &[char], place: usize, follows: bool) -> bo
 
 /// The sign before a digit, which follows a number or doesn't.
 fn number_sign(table: &Table, follows: bool) -> &[Cell]
-    ensures { result.now ≡ if follows then [] else table.now.numsign }
+    ensures { result.now ≡ if follows then [] else sign_cells table.now Number }
 {
     if follows { &[] } else { table.numsign() }
 }

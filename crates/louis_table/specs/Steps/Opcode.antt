@@ -1,12 +1,11 @@
 -- The opcode of a name, looked for in the list of all.
-use Rattle.std.specs.Prelude.{ℕ, if◌then◌else◌, List, [], ◌∷◌, map, Option, Some, None}
+use Rattle.std.specs.Prelude.{ℕ, if◌then◌else◌, List, [], ◌∷◌, ◌++◌, map, Option, Some, None}
 use Rattle.std.specs.Str.{bytes_eq}
 use Rattle.louis_table.specs.declared.definition.Class.TheVariants.{Space, Punctuation, Digit, Letter}
 use Rattle.louis_table.specs.declared.rule.RuleKind.TheVariants.{Always, Word, BegWord, MidWord, EndWord}
-use Rattle.louis_table.specs.declared.sign.Sign.TheVariants as signs
-use Rattle.louis_table.specs.declared.character_set.CharacterSet.TheVariants as sets
 use Rattle.louis_table.specs.declared.opcode.Opcode.{Opcode}
 use Rattle.louis_table.specs.declared.opcode.Opcode.TheVariants.{Define, UpLow, Replace, Announce, Collect}
+use Rattle.louis_table.specs.Meaning.{every_sign, every_set}
 use Rattle.louis_table.specs.Opcode.{name_of}
 
 -- the first of the opcodes that has the name
@@ -19,8 +18,7 @@ abbrev pub opcodes : List (List ℕ × Opcode)
 opcodes = map (λ opcode. (name_of opcode, opcode)) (
     Define Space ∷ Define Punctuation ∷ Define Digit ∷ Define Letter ∷ UpLow
     ∷ Replace Always ∷ Replace Word ∷ Replace BegWord ∷ Replace MidWord ∷ Replace EndWord
-    ∷ Announce signs.Number ∷ Announce signs.Capital ∷ Announce signs.CapitalWord ∷ Announce signs.NoContraction
-    ∷ Collect sets.NumericMode ∷ Collect sets.NoContraction ∷ [])
+    ∷ map Announce every_sign ++ map Collect every_set)
 
 -- the opcode with the name
 unfoldable pub opcode_named : List ℕ → Option Opcode

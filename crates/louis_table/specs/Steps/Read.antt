@@ -1,15 +1,13 @@
 -- What lines give, one after another, and what is reported of them.
-use Rattle.std.specs.Prelude.{◌≡◌, ℕ, ◌+◌, ◌||◌, ◌⊎◌, nat_lt, nat_le, if◌then◌else◌, List, length, Option, Some, None, Result, Ok, Err}
+use Rattle.std.specs.Prelude.{◌≡◌, ℕ, ◌+◌, ◌||◌, ◌⊎◌, nat_lt, nat_le, if◌then◌else◌, List, length, map, Option, Some, None, Result, Ok, Err}
 use Rattle.std.specs.List.{flat_map}
-use Rattle.louis_table.specs.declared.sign.Sign.{Sign}
-use Rattle.louis_table.specs.declared.character_set.CharacterSet.{CharacterSet}
 use Rattle.louis_table.specs.declared.pending.PendingEntry.{PendingEntry}
 use Rattle.louis_table.specs.declared.draft.Draft.{Draft}
 use Rattle.louis_table.specs.declared.fault.LineFault.{LineFault}
 use Rattle.louis_table.specs.declared.fault.LineFault.TheVariants as line_faults
 use Rattle.louis_table.specs.declared.fault.ReadFault.{ReadFault}
 use Rattle.louis_table.specs.declared.fault.ReadFault.TheVariants as faults
-use Rattle.louis_table.specs.Meaning.{Meaning, sign_cells, set_characters}
+use Rattle.louis_table.specs.Meaning.{Meaning, every_sign, every_set}
 use Rattle.louis_table.specs.Profile.{WithNumericMode}
 use Rattle.louis_table.specs.Table.{most_lines, most_line_characters, Entry, GiveFrom, HasCause, IsToldNoLater, definitions_in, partners_in, cells_for, characters_for}
 use Rattle.louis_table.specs.Steps.Fault.{cause_number}
@@ -42,8 +40,8 @@ pub record Gathers (lines : List (List ℕ)) (meaning : Meaning) (all : List Pen
   pub given : GiveFrom WithNumericMode 1 lines entries
   pub definitions : meaning.definitions ≡ flat_map (λ e. definitions_in e.1) entries
   pub partners : meaning.partners ≡ flat_map (λ e. partners_in e.1) entries
-  pub signs : (sign : Sign) → sign_cells meaning sign ≡ flat_map (λ e. cells_for sign e.1) entries
-  pub sets : (set : CharacterSet) → set_characters meaning set ≡ flat_map (λ e. characters_for set e.1) entries
+  pub signs : meaning.signs ≡ map (λ sign. flat_map (λ e. cells_for sign e.1) entries) every_sign
+  pub sets : meaning.sets ≡ map (λ set. flat_map (λ e. characters_for set e.1) entries) every_set
   pub written : all ≡ flat_map (λ e. written_by e.0 e.1) entries
 
 -- lines without a fault that give this

@@ -1,10 +1,8 @@
 -- A table that grows entry by entry.
-use Rattle.std.specs.Prelude.{◌≡◌, ◌≢◌, ℕ, Bool, [], ◌∷◌, ◌++◌, Option, Some, None, is_some}
+use Rattle.std.specs.Prelude.{◌≡◌, ◌≢◌, ℕ, Bool, List, [], ◌∷◌, ◌++◌, map, slice_index_or, slice_set, Option, Some, None, is_some}
 use Rattle.louis_table.specs.declared.definition.Definition.{Definition}
-use Rattle.louis_table.specs.declared.sign.Sign.TheVariants as signs
-use Rattle.louis_table.specs.declared.character_set.CharacterSet.TheVariants as sets
-use Rattle.louis_table.specs.Meaning.{Meaning, definition_of, partner_of, sign_cells, set_characters}
-use Rattle.louis_table.specs.Table.{Entry, Defines, Pairs, Replaces, Announces, Collects, definitions_in, partners_in, cells_for, characters_for}
+use Rattle.louis_table.specs.Meaning.{Meaning, every_sign, sign_place, every_set, set_place, definition_of, partner_of, sign_cells, set_characters}
+use Rattle.louis_table.specs.Table.{Entry, Defines, Pairs, Replaces, Announces, Collects, definitions_in, partners_in}
 
 -- the meaning defines the character
 abbrev pub is_known : Meaning → ℕ → Bool
@@ -19,12 +17,8 @@ no_meaning =
       definitions = [];
       partners = [];
       rules = [];
-      numsign = [];
-      capsletter = [];
-      begcapsword = [];
-      nocontractsign = [];
-      mode_chars = [];
-      nocontract_chars = [];
+      signs = map (λ sign. []) every_sign;
+      sets = map (λ set. []) every_set;
     }
 
 -- the meaning with one more definition
@@ -35,18 +29,34 @@ with_definition meaning character definition = record meaning { definitions = me
 abbrev pub with_partner : Meaning → ℕ → ℕ → Meaning
 with_partner meaning upper lower = record meaning { partners = meaning.partners ++ (upper, lower) ∷ [] }
 
+-- the lists, with more at the end of the one at a place
+abbrev pub with_more : List (List ℕ) → ℕ → List ℕ → List (List ℕ)
+with_more lists place more = slice_set lists place (slice_index_or lists place [] ++ more)
+
+-- the cells of the signs, with those that an entry gives
+abbrev pub signs_with : List (List ℕ) → Entry → List (List ℕ)
+signs_with old (Defines character definition) = old
+signs_with old (Pairs upper upper_cells lower lower_cells) = old
+signs_with old (Replaces kind text cells) = old
+signs_with old (Announces sign cells) = with_more old (sign_place sign) cells
+signs_with old (Collects set text) = old
+
+-- the characters of the sets, with those that an entry gives
+abbrev pub sets_with : List (List ℕ) → Entry → List (List ℕ)
+sets_with old (Defines character definition) = old
+sets_with old (Pairs upper upper_cells lower lower_cells) = old
+sets_with old (Replaces kind text cells) = old
+sets_with old (Announces sign cells) = old
+sets_with old (Collects set text) = with_more old (set_place set) text
+
 -- the meaning with what an entry gives to it, without rules
 abbrev pub with_entry : Meaning → Entry → Meaning
 with_entry meaning entry = record {
   definitions = meaning.definitions ++ definitions_in entry;
   partners = meaning.partners ++ partners_in entry;
   rules = meaning.rules;
-  numsign = meaning.numsign ++ cells_for signs.Number entry;
-  capsletter = meaning.capsletter ++ cells_for signs.Capital entry;
-  begcapsword = meaning.begcapsword ++ cells_for signs.CapitalWord entry;
-  nocontractsign = meaning.nocontractsign ++ cells_for signs.NoContraction entry;
-  mode_chars = meaning.mode_chars ++ characters_for sets.NumericMode entry;
-  nocontract_chars = meaning.nocontract_chars ++ characters_for sets.NoContraction entry;
+  signs = signs_with meaning.signs entry;
+  sets = sets_with meaning.sets entry;
 }
 
 -- the same of what a line gives
