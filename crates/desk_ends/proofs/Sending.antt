@@ -1,6 +1,6 @@
 -- What several sends do, one after another.
 use Rattle.std.proofs.Common.{◌≡◌, ℕ, Bool, true, false, List, [], ◌++◌, Option, refl, sym, ap, subst, ◌∙◌, append_assoc}
-use Rattle.std.specs.Prelude.{Result, Ok, Err, is_ok, OnOk, OnErr}
+use Rattle.std.specs.Prelude.{IsErrAnd, Result, Ok, Err, is_ok, OnOk, OnErr}
 use Rattle.std.specs.Io.KnownBytes.{Appends, Keeps}
 use Rattle.std.proofs.KnownBytes.{Appends-nil, Appends-kept, Appends-trans}
 use Rattle.std.proofs.lemmas.Bool.{both_ways}
@@ -20,6 +20,11 @@ at_err (Err x) P h e = h
 pub on_ok : {T E : Type 0} (r : Result T E) (P : Type 0) → P → OnOk r P
 on_ok (Ok x) P h = h
 on_ok (Err x) P h = tt
+
+-- the exit of a `?`
+pub fails-at : {T E : Type 0} (r : Result T E) (Q : E → Type 0) → IsErrAnd r Q → is_ok r ≡ false
+fails-at (Ok x) Q h = absurd h
+fails-at (Err y) Q h = refl
 
 pub Keeps-Appends : (a b : Option (List ℕ)) → Keeps a b → Appends a b []
 Keeps-Appends a b h = Appends-kept a a b [] (Appends-nil a) h
@@ -105,6 +110,20 @@ module _ (F : Type 0) (a b c : Option (List ℕ)) (block held rest whole : List 
           holds = λ t. absurd (both_ways ok' f' t);
           fails = λ _. s.fails f;
         }
+
+-- a text is put after the block by a first piece and others
+module _ {F : Type 0} {a b : Option (List ℕ)} (block : List ℕ) {held text : List ℕ} (piece after : List ℕ) {ok : Bool}
+    (parts : text ≡ piece ++ after) (s : Transmits F a b (block ++ piece) held ok) where
+  pub Sending-first : ok ≡ true → Sending a b held after (block ++ text)
+  Sending-first = Sending-more F a a b block held text (block ++ text) ok (Sending-none a block text (block ++ text) refl) piece after parts s
+
+  pub Sending-no_first : {keep : List ℕ} {ok' : Bool} → ok ≡ false → ok' ≡ false → Transmits F a b (block ++ text) keep ok'
+  Sending-no_first {keep} {ok'} = Sending-fails F a a b block held text (block ++ text) ok (Sending-none a block text (block ++ text) refl) piece after parts s keep ok'
+
+-- a text that is equal is put
+pub Transmits-same : {F : Type 0} {a b : Option (List ℕ)} (block : List ℕ) {held this that : List ℕ} {ok : Bool} → this ≡ that
+    → Transmits F a b (block ++ this) held ok → Transmits F a b (block ++ that) held ok
+Transmits-same {F} {a} {b} block {held} {this} {that} {ok} e s = subst (λ (t : List ℕ). Transmits F a b (block ++ t) held ok) e s
 
 -- all pieces are sent
 pub Sending-done : (F : Type 0) (a b : Option (List ℕ)) (block whole : List ℕ) (ok : Bool) → Sending a b block [] whole → ok ≡ true → Transmits F a b whole block ok

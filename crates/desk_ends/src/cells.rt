@@ -1,22 +1,13 @@
 //! Cells as text, sent in blocks.
 ghost use Rattle.cell_core.specs.Cell.{braille_character};
 ghost use Rattle.desk_ends.specs.Cells.{text_of};
-ghost use Rattle.desk_ends.specs.Sending.{Puts, Sends};
-ghost use Rattle.std.specs.Prelude.{OnOk, [], encode_utf8, is_ok, length, ◌+◌, ◌++◌, ◌≤◌, ◌∷◌};
+ghost use Rattle.desk_ends.specs.Sending.{Puts};
+ghost use Rattle.std.specs.Prelude.{encode_utf8, is_ok, ◌++◌};
 
-use super::block::{BLOCK_BYTES, Block, CELL_BYTES};
+use super::block::Block;
+use super::bytes::make_room;
 use super::ends::{Failure, Sink};
-use super::texts::send;
 use cell_core::Cell;
-
-/// Sends the block and a line feed.
-pub fn send_block<K: Sink>(sink: &mut K, block: &mut Block) -> Result<(), Failure>
-    ensures { Sends K.Sink sink.old sink.new (block.old ++ 10 ∷ []) (is_ok result) }
-{
-    make_room(sink, block)?;
-    block.push(b'\n');
-    send(sink, block.as_slice())
-}
 
 /// Puts the cells, as characters, after the block, and sends it whenever it is full. Most choices make one cell, so one
 /// has a way of its own, without a loop.
@@ -52,18 +43,5 @@ pub fn put_cell<K: Sink>(sink: &mut K, block: &mut Block, cell: Cell) -> Result<
 {
     make_room(sink, block)?;
     block.push_cell(cell);
-    Ok(())
-}
-
-/// Sends the block if it has no room for one more cell.
-#[inline(always)]
-fn make_room<K: Sink>(sink: &mut K, block: &mut Block) -> Result<(), Failure>
-    ensures sent { Puts K.Sink sink.old sink.new block.old block.new (is_ok result) }
-    ensures room { OnOk result (length block.new + CELL_BYTES ≤ BLOCK_BYTES) }
-{
-    if !block.has_room() {
-        send(sink, block.as_slice())?;
-        block.clear();
-    }
     Ok(())
 }

@@ -14,6 +14,7 @@
 
 mod block;
 mod buffered_writer;
+mod bytes;
 mod cells;
 mod chunk;
 mod ends;
@@ -25,7 +26,8 @@ mod texts;
 
 pub use block::Block;
 pub use buffered_writer::BufferedWriter;
-pub use cells::{put_cell, put_cells, send_block};
+pub use bytes::{put_byte, put_bytes, send_block};
+pub use cells::{put_cell, put_cells};
 pub use ends::{Failure, Memory, Sink, Source};
 pub use input::Input;
 pub use limits::{CHUNK_BYTES, MOST_INPUT, MOST_LINE_BYTES};

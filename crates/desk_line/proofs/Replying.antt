@@ -1,12 +1,13 @@
 -- What is put for a reply is its text.
-use Rattle.std.proofs.Common.{◌≡◌, ◌≢◌, ◌⊎◌, inl, inr, ℕ, Bor, Bool, true, false, eqb, arith, Some, None, List, [], ◌∷◌, ◌++◌, length, Option, refl, sym, ap, ◌∙◌, append_assoc}
-use Rattle.std.specs.Prelude.{codes, decimal, map, Result, IfErr, IsErrAnd}
+use Rattle.std.proofs.Common.{◌≡◌, ◌≢◌, ◌⊎◌, inl, inr, ℕ, Bor, Bool, true, false, eqb, arith, Some, None, List, [], ◌∷◌, ◌++◌, length, Option, refl, sym, ap, ◌∙◌}
+use Rattle.std.specs.Prelude.{codes, decimal}
 use Rattle.std.specs.List.{flat_map}
 use Rattle.std.specs.Str.{chars}
 use Rattle.std.proofs.lemmas.Bool.{both_ways, eqb-true}
 use Rattle.std.proofs.lemmas.List.{append-nil}
-use Rattle.std.proofs.lemmas.Result.{err_from_is_err_and}
 use Rattle.std.proofs.lemmas.Str.{chars-nil}
+use Rattle.desk_ends.specs.Sending.{Transmits}
+use Rattle.desk_ends.proofs.Sending.{Transmits-same}
 use Rattle.desk_line.specs.Fields.{line_of_fields}
 use Rattle.desk_model.specs.declared.refusal.Refusal.{Refusal}
 use Rattle.desk_model.specs.declared.refusal.Refusal.TheVariants as refusals
@@ -18,10 +19,7 @@ use Rattle.desk_model.specs.HistoryItems.{TellsOf}
 use Rattle.desk_model.specs.Translation.{LacksCell, LacksPlace}
 use Rattle.desk_line.specs.declared.request.Query.{Query}
 use Rattle.desk_line.specs.declared.request.Query.TheVariants as queries
-use Rattle.desk_line.specs.declared.waiting.Waiting.{Waiting}
-use Rattle.desk_line.specs.Reply.{AddsQueryReply, AddsShown, Refuses, no_paragraph, no_place, no_cell, paragraph_asked, ShowsLines, correction_line, details, entry_line, line_of, list_line, mark_line, style_word, refusal_line, refused, shown, shown_line, shown_text, word_and, word_if}
-use Rattle.desk_line.specs.Waiting.{Adds}
-use Rattle.desk_line.proofs.Putting.{Adds-nothing, Adds-same, Adds-then}
+use Rattle.desk_line.specs.Reply.{Refuses, no_paragraph, no_place, no_cell, paragraph_asked, ShowsLines, correction_line, details, entry_line, line_of, list_line, mark_line, style_word, refusal_line, shown_line, shown_text, word_and, word_if}
 
 -- a refusal by its code and its details
 pub refusal-text : (refusal : Refusal) (code : ℕ) (numbers : List ℕ) → code ≡ code_of refusal → numbers ≡ details refusal
@@ -33,60 +31,11 @@ refusal-text refusal code numbers c d =
 abbrev pub end_text : ℕ → List ℕ
 end_text n = word_and (codes "end") (n ∷ [])
 
--- three pieces: a bar and a blank, a line and a line feed
-module _ (F : Type 0) (a b c d : Option (List ℕ)) (u v w x : Waiting) (line : List ℕ) where
-  pub Adds-framed : Adds F a b u v (codes "| ") → Adds F b c v w line → Adds F c d w x (10 ∷ []) → Adds F a d u x (shown_line line)
-  Adds-framed f g h =
-      Adds-then F a c d u w x (codes "| " ++ line) (10 ∷ []) (Adds-then F a b c u v w (codes "| ") line f g) h
-
 -- one line of a query
-pub shown-one : (F : Type 0) (a b : Option (List ℕ)) (u v : Waiting) (book : Book) (query : Query) (line : List ℕ)
-    → ShowsLines book query (line ∷ []) → Adds F a b u v (shown_line line) → AddsShown F a b u v book query
-shown-one F a b u v book query line shows f =
-    (line ∷ [], shows, Adds-same F a b u v (shown_line line) (flat_map shown_line (line ∷ [])) (sym (append-nil (shown_line line))) f)
-
--- the lines of a query and its end
-pub replies-shown : (F : Type 0) (a b c : Option (List ℕ)) (u v w : Waiting) (book : Book) (query : Query) → AddsShown F a b u v book query
-    → Adds F b c v w (end_text book.version) → AddsQueryReply F a c u w book query
-replies-shown F a b c u v w book query s f = (
-  flat_map shown_line s.0 ++ end_text book.version,
-  shown s.0 s.1 refl,
-  Adds-then F a b c u v w (flat_map shown_line s.0) (end_text book.version) s.2 f,
-)
-
--- a query that is refused
-pub replies-refused : (F : Type 0) (a b c : Option (List ℕ)) (u v w : Waiting) (book : Book) (query : Query) (refusal : Refusal)
-    → Refuses book query refusal → Adds F a b u v [] → Adds F b c v w (refusal_line refusal) → AddsQueryReply F a c u w book query
-replies-refused F a b c u v w book query refusal r f g =
-    (refusal_line refusal, refused refusal r refl, Adds-then F a b c u v w [] (refusal_line refusal) f g)
-
--- ---- lines of several things
-
--- lines were put, and these are left of all
-abbrev pub PutsLines : {A : Type 0} → (show : A → List ℕ) → (F : Type 0) → (a b : Option (List ℕ)) → (u v : Waiting) → (left all : List A) → Type 0
-PutsLines show F a b u v left all =
-    (text : List ℕ) × Adds F a b u v text × (text ++ flat_map shown_line (map show left) ≡ flat_map shown_line (map show all))
-
-module _ {A : Type 0} (show : A → List ℕ) (F : Type 0) (a : Option (List ℕ)) (u : Waiting) where
-  pub PutsLines-none : (left all : List A) → left ≡ all → PutsLines show F a a u u left all
-  PutsLines-none left all e = ([], Adds-nothing F a u, ap (λ (xs : List A). flat_map shown_line (map show xs)) e)
-
-  -- one more
-  pub PutsLines-more : (b c : Option (List ℕ)) (v w : Waiting) (left all : List A) → PutsLines show F a b u v left all
-      → (first : A) (others : List A) → left ≡ first ∷ others → Adds F b c v w (shown_line (show first)) → PutsLines show F a c u w others all
-  PutsLines-more b c v w left all puts first others e adds = (
-    puts.0 ++ shown_line (show first),
-    Adds-then F a b c u v w puts.0 (shown_line (show first)) puts.1 adds,
-    append_assoc puts.0 (shown_line (show first)) (flat_map shown_line (map show others))
-        ∙ (ap (λ (xs : List A). puts.0 ++ flat_map shown_line (map show xs)) (sym e) ∙ puts.2),
-  )
-
-  -- none is left
-  pub PutsLines-all : (b : Option (List ℕ)) (v : Waiting) (left all : List A) → PutsLines show F a b u v left all → left ≡ []
-      → Adds F a b u v (flat_map shown_line (map show all))
-  PutsLines-all b v left all puts e =
-      Adds-same F a b u v puts.0 (flat_map shown_line (map show all))
-      (sym (append-nil puts.0) ∙ (ap (λ (xs : List A). puts.0 ++ flat_map shown_line (map show xs)) (sym e) ∙ puts.2)) puts.1
+pub shown-one : {F : Type 0} {a b : Option (List ℕ)} (was : List ℕ) {held : List ℕ} (book : Book) (query : Query) (line : List ℕ) {whole : Bool}
+    → ShowsLines book query (line ∷ []) → Transmits F a b (was ++ shown_line line) held whole
+    → (lines : List (List ℕ)) × ShowsLines book query lines × Transmits F a b (was ++ flat_map shown_line lines) held whole
+shown-one was book query line shows s = (line ∷ [], shows, Transmits-same was (sym (append-nil (shown_line line))) s)
 
 -- ---- one line
 
@@ -161,11 +110,6 @@ none-there (x ∷ xs) r e t = let z = eqb-true (length (x ∷ xs)) 0 (sym e ∙ 
 
 pub some-there : (xs : List ℕ) (r : Bool) → r ≡ eqb (length xs) 0 → r ≡ false → xs ≢ []
 some-there xs r e f n = absurd (both_ways r f (e ∙ ap (λ (l : List ℕ). eqb (length l) 0) n))
-
--- a refusal at the exit of a `?`, before which nothing was put
-pub refused-at : {T : Type 0} (F : Type 0) (a : Option (List ℕ)) (u : Waiting) (book : Book) (query : Query) (refusal : Refusal) (r : Result T Refusal)
-    → IsErrAnd r (λ told. told ≡ refusal) → Refuses book query refusal → IfErr r (λ told. Refuses book query told × Adds F a a u u [])
-refused-at F a u book query refusal r is h = let p = err_from_is_err_and r is in rw (p.1, p.2) (h, Adds-nothing F a u)
 
 -- the refusals of a place, and of a cell
 pub place-refused : (book : Book) (id place : ℕ) (query : Query) (refusal : Refusal) → query ≡ queries.WhereIs id place

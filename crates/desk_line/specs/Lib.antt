@@ -1,7 +1,6 @@
 pub mod Limits
 pub mod Lines
 pub mod Fields
-pub mod Waiting
 pub mod Reply
 pub mod Grammar
 pub mod Commands

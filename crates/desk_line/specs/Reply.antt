@@ -4,7 +4,8 @@ use Rattle.std.specs.List.{All, flat_map, enumerate_from}
 use Rattle.std.specs.Str.{encode_utf8_all}
 use Rattle.louis_table.specs.Lines.{pieces_of}
 use Rattle.desk_ends.specs.Cells.{text_of}
-use Rattle.desk_ends.specs.Sending.{Transmits}
+use Rattle.desk_ends.specs.declared.ends.Sink.{Ghosts}
+use Rattle.desk_ends.specs.Sending.{Puts, Transmits}
 use Rattle.desk_model.specs.declared.refusal.Refusal.{Refusal}
 use Rattle.desk_model.specs.declared.refusal.Refusal.TheVariants as refusals
 use Rattle.desk_model.specs.declared.style.Style.{Style}
@@ -19,9 +20,7 @@ use Rattle.desk_line.specs.declared.answer.Answer.TheVariants.{Done, Refused, As
 use Rattle.desk_line.specs.declared.request.Query.{Query}
 use Rattle.desk_line.specs.declared.request.Query.TheVariants.{Print, Braille, History, Marks, WhereIs, Whence, Version}
 use Rattle.desk_line.specs.declared.request.Query.TheVariants as queries
-use Rattle.desk_line.specs.declared.waiting.Waiting.{Waiting}
 use Rattle.desk_line.specs.Fields.{line_of_fields}
-use Rattle.desk_line.specs.Waiting.{Adds}
 
 -- ---- lines
 
@@ -174,20 +173,20 @@ pub record EndsAfterBars (text : List ℕ) : Type 0 where
 
 -- ---- what is sent
 
--- the lines that a query shows come after whatever text was sent
-abbrev pub AddsShown : Type 0 → (now new : Option (List ℕ)) → (was waiting : Waiting) → Book → Query → Type 0
-AddsShown CanFail now new was waiting book query =
-    (lines : List (List ℕ)) × ShowsLines book query lines × Adds CanFail now new was waiting (flat_map shown_line lines)
+-- the lines that a query shows went to the sink so, after what was held back before
+abbrev pub PutsShown : {K : Type 0} → Ghosts K → K → K → (was held : List ℕ) → Book → Query → Bool → Type 0
+PutsShown sink old new was held book query whole =
+    (lines : List (List ℕ)) × ShowsLines book query lines × Puts sink old new (was ++ flat_map shown_line lines) held whole
 
 -- the same of the reply to a query
-abbrev pub AddsQueryReply : Type 0 → (now new : Option (List ℕ)) → (was waiting : Waiting) → Book → Query → Type 0
-AddsQueryReply CanFail now new was waiting book query =
-    (text : List ℕ) × RepliesToQuery book query text × Adds CanFail now new was waiting text
+abbrev pub PutsQueryReply : {K : Type 0} → Ghosts K → K → K → (was held : List ℕ) → Book → Query → Bool → Type 0
+PutsQueryReply sink old new was held book query whole =
+    (text : List ℕ) × RepliesToQuery book query text × Puts sink old new (was ++ text) held whole
 
 -- and of the reply to a request
-abbrev pub AddsReply : Type 0 → (now new : Option (List ℕ)) → (was waiting : Waiting) → Book → Answer → Type 0
-AddsReply CanFail now new was waiting book answer =
-    (text : List ℕ) × IsReply book answer text × Adds CanFail now new was waiting text
+abbrev pub PutsReply : {K : Type 0} → Ghosts K → K → K → (was held : List ℕ) → Book → Answer → Bool → Type 0
+PutsReply sink old new was held book answer whole =
+    (text : List ℕ) × IsReply book answer text × Puts sink old new (was ++ text) held whole
 
 -- what went out is a beginning of a reply to the request, and all of it if that succeeded, as it does
 -- unless the end can fail

@@ -30,9 +30,8 @@ mod reply;
 mod request;
 mod shown;
 mod text_output;
-mod waiting;
 
 pub use answer::Answer;
 pub use read::{RequestHead, begin_request, lines_after, read_request};
-pub use reply::{Broken, write_reply};
+pub use reply::{Broken, send_reply, write_reply};
 pub use request::{Query, Request};

@@ -4,63 +4,83 @@ ghost use Rattle.desk_model.specs.ListItems.{IsListed};
 ghost use Rattle.desk_model.specs.ParagraphMarks.{TellsOf as TellsOfMark};
 ghost use Rattle.desk_model.specs.HistoryItems.{TellsOf};
 ghost use Rattle.desk_ends.specs.Cells.{text_of};
+ghost use Rattle.desk_ends.specs.Sending.{Puts};
 ghost use Rattle.desk_line.specs.Reply.{entry_line, list_line, mark_line, shown_line, shown_text};
-ghost use Rattle.desk_line.specs.Waiting.{Adds};
 ghost use Rattle.std.specs.List.{flat_map};
-ghost use Rattle.std.specs.Prelude.{decimal, map, ◌≡◌};
+ghost use Rattle.std.specs.Prelude.{decimal, is_ok, map, ◌++◌, ◌≡◌};
 
-use super::text_output::{put_bytes, put_cells, put_characters, put_fields};
-use super::waiting::Waiting;
+use super::text_output::{put_characters, put_fields};
 use cell_core::Cell;
 use desk_book::{Done, History, HistoryItem, List, ListItem, MarkItem, ParagraphMarks};
-use desk_ends::Sink;
+use desk_ends::{Block, Failure, Sink, put_byte, put_bytes, put_cells};
 use desk_model::Style;
 use itoa::Buffer;
 
 /// Puts a print.
-pub(crate) fn put_print<K: Sink>(sink: &mut K, waiting: &mut Waiting, print: &[char])
-    ensures { Adds K.can_fail (K.contents sink.old) (K.contents sink.new)
-        waiting.old waiting.new (shown_line (shown_text print.now)) }
+pub(crate) fn put_print<K: Sink>(
+    sink: &mut K,
+    block: &mut Block,
+    print: &[char],
+) -> Result<(), Failure>
+    ensures { Puts K.Sink sink.old sink.new
+        (block.old ++ shown_line (shown_text print.now)) block.new (is_ok result) }
 {
-    put_bytes(sink, waiting, b"| ");
-    put_characters(sink, waiting, print);
-    put_bytes(sink, waiting, b"\n");
+    put_bytes(sink, block, b"| ")?;
+    put_characters(sink, block, print)?;
+    put_byte(sink, block, b'\n')
 }
 
 /// Puts braille.
-pub(crate) fn put_braille<K: Sink>(sink: &mut K, waiting: &mut Waiting, cells: &[Cell])
-    ensures { Adds K.can_fail (K.contents sink.old) (K.contents sink.new)
-        waiting.old waiting.new (shown_line (text_of cells.now)) }
+pub(crate) fn put_braille<K: Sink>(
+    sink: &mut K,
+    block: &mut Block,
+    cells: &[Cell],
+) -> Result<(), Failure>
+    ensures { Puts K.Sink sink.old sink.new
+        (block.old ++ shown_line (text_of cells.now)) block.new (is_ok result) }
 {
-    put_bytes(sink, waiting, b"| ");
-    put_cells(sink, waiting, cells);
-    put_bytes(sink, waiting, b"\n");
+    put_bytes(sink, block, b"| ")?;
+    put_cells(sink, block, cells)?;
+    put_byte(sink, block, b'\n')
 }
 
 /// Puts the number of a place or of a cell.
-pub(crate) fn put_place<K: Sink>(sink: &mut K, waiting: &mut Waiting, place: usize)
-    ensures { Adds K.can_fail (K.contents sink.old) (K.contents sink.new)
-        waiting.old waiting.new (shown_line (decimal place)) }
+pub(crate) fn put_place<K: Sink>(
+    sink: &mut K,
+    block: &mut Block,
+    place: usize,
+) -> Result<(), Failure>
+    ensures { Puts K.Sink sink.old sink.new
+        (block.old ++ shown_line (decimal place)) block.new (is_ok result) }
 {
     let mut digits = Buffer::new();
-    put_fields(sink, waiting, &[digits.format(place).as_bytes()]);
+    put_fields(sink, block, &[digits.format(place).as_bytes()])
 }
 
 /// Puts the entries of a history.
-pub(crate) fn put_history<K: Sink>(sink: &mut K, waiting: &mut Waiting, history: History<'_>)
-    ensures { Adds K.can_fail (K.contents sink.old) (K.contents sink.new)
-        waiting.old waiting.new (flat_map shown_line (map entry_line history.entry)) }
+pub(crate) fn put_history<K: Sink>(
+    sink: &mut K,
+    block: &mut Block,
+    history: History<'_>,
+) -> Result<(), Failure>
+    ensures { Puts K.Sink sink.old sink.new
+        (block.old ++ flat_map shown_line (map entry_line history.entry)) block.new (is_ok result) }
 {
     for item in history {
-        put_entry(sink, waiting, &item);
+        put_entry(sink, block, &item)?;
     }
+    Ok(())
 }
 
 /// Puts an entry of a history.
-fn put_entry<K: Sink>(sink: &mut K, waiting: &mut Waiting, item: &HistoryItem<'_>)
+fn put_entry<K: Sink>(
+    sink: &mut K,
+    block: &mut Block,
+    item: &HistoryItem<'_>,
+) -> Result<(), Failure>
     ensures { (entry : Entry) → TellsOf entry item.now.done
-        → Adds K.can_fail (K.contents sink.old) (K.contents sink.new)
-        waiting.old waiting.new (shown_line (entry_line (item.now.number, entry))) }
+        → Puts K.Sink sink.old sink.new
+        (block.old ++ shown_line (entry_line (item.now.number, entry))) block.new (is_ok result) }
 {
     let mut number = Buffer::new();
     let number = number.format(item.number).as_bytes();
@@ -77,39 +97,44 @@ fn put_entry<K: Sink>(sink: &mut K, waiting: &mut Waiting, item: &HistoryItem<'_
             let size = size.format(count).as_bytes();
             let text = text.as_bytes();
             if who.is_empty() {
-                put_fields(sink, waiting, &[number, b"correct", first, size, text]);
+                put_fields(sink, block, &[number, b"correct", first, size, text])
             } else {
                 let who = who.as_bytes();
                 put_fields(
                     sink,
-                    waiting,
+                    block,
                     &[number, b"correct-by", who, first, size, text],
-                );
+                )
             }
         }
         Done::TookBack(undone) => {
             let mut digits = Buffer::new();
             let undone = digits.format(undone).as_bytes();
-            put_fields(sink, waiting, &[number, b"undo", undone]);
+            put_fields(sink, block, &[number, b"undo", undone])
         }
     }
 }
 
 /// Puts the marks of a paragraph.
-pub(crate) fn put_marks<K: Sink>(sink: &mut K, waiting: &mut Waiting, marks: ParagraphMarks<'_>)
-    ensures { Adds K.can_fail (K.contents sink.old) (K.contents sink.new)
-        waiting.old waiting.new (flat_map shown_line (map mark_line marks.entry)) }
+pub(crate) fn put_marks<K: Sink>(
+    sink: &mut K,
+    block: &mut Block,
+    marks: ParagraphMarks<'_>,
+) -> Result<(), Failure>
+    ensures { Puts K.Sink sink.old sink.new
+        (block.old ++ flat_map shown_line (map mark_line marks.entry)) block.new (is_ok result) }
 {
     for mark in marks {
-        put_mark(sink, waiting, &mark);
+        put_mark(sink, block, &mark)?;
     }
+    Ok(())
 }
 
 /// Puts a mark.
-fn put_mark<K: Sink>(sink: &mut K, waiting: &mut Waiting, mark: &MarkItem<'_>)
+fn put_mark<K: Sink>(sink: &mut K, block: &mut Block, mark: &MarkItem<'_>) -> Result<(), Failure>
     ensures { (told : BookMark) → TellsOfMark told mark.now
-        → Adds K.can_fail (K.contents sink.old) (K.contents sink.new)
-        waiting.old waiting.new (shown_line (mark_line told)) }
+        → Puts K.Sink sink.old sink.new
+        (block.old ++ shown_line (mark_line told)) block.new (is_ok result) }
 {
     let mut id = Buffer::new();
     let mut start = Buffer::new();
@@ -120,24 +145,33 @@ fn put_mark<K: Sink>(sink: &mut K, waiting: &mut Waiting, mark: &MarkItem<'_>)
     let state: &[u8] = if mark.resolved { b"resolved" } else { b"open" };
     let touch: &[u8] = if mark.touched { b"touched" } else { b"kept" };
     let note = mark.note.as_bytes();
-    put_fields(sink, waiting, &[id, start, end, state, touch, note]);
+    put_fields(sink, block, &[id, start, end, state, touch, note])
 }
 
 /// Puts the paragraphs of a book.
-pub(crate) fn put_list<K: Sink>(sink: &mut K, waiting: &mut Waiting, list: List<'_>)
-    ensures { Adds K.can_fail (K.contents sink.old) (K.contents sink.new)
-        waiting.old waiting.new (flat_map shown_line (map list_line list.entry)) }
+pub(crate) fn put_list<K: Sink>(
+    sink: &mut K,
+    block: &mut Block,
+    list: List<'_>,
+) -> Result<(), Failure>
+    ensures { Puts K.Sink sink.old sink.new
+        (block.old ++ flat_map shown_line (map list_line list.entry)) block.new (is_ok result) }
 {
     for paragraph in list {
-        put_listed(sink, waiting, &paragraph);
+        put_listed(sink, block, &paragraph)?;
     }
+    Ok(())
 }
 
 /// Puts a paragraph of the list.
-fn put_listed<K: Sink>(sink: &mut K, waiting: &mut Waiting, paragraph: &ListItem<'_>)
+fn put_listed<K: Sink>(
+    sink: &mut K,
+    block: &mut Block,
+    paragraph: &ListItem<'_>,
+) -> Result<(), Failure>
     ensures { (told : BookParagraph) → IsListed told paragraph.now
-        → Adds K.can_fail (K.contents sink.old) (K.contents sink.new)
-        waiting.old waiting.new (shown_line (list_line told)) }
+        → Puts K.Sink sink.old sink.new
+        (block.old ++ shown_line (list_line told)) block.new (is_ok result) }
 {
     let mut id = Buffer::new();
     let mut length = Buffer::new();
@@ -154,5 +188,5 @@ fn put_listed<K: Sink>(sink: &mut K, waiting: &mut Waiting, paragraph: &ListItem
     };
     let life: &[u8] = if paragraph.struck { b"struck" } else { b"live" };
     let length = length.format(paragraph.length).as_bytes();
-    put_fields(sink, waiting, &[id, table, style, volume, life, length]);
+    put_fields(sink, block, &[id, table, style, volume, life, length])
 }

@@ -1,191 +1,112 @@
-//! Puts texts into the output buffer, and allocates nothing.
-ghost use Rattle.cell_core.specs.Cell.{braille_character};
-ghost use Rattle.desk_ends.specs.Cells.{text_of};
-ghost use Rattle.desk_ends.specs.Sending.{Transmits};
-ghost use Rattle.desk_ends.specs.declared.block.TheConstants.{BLOCK_BYTES, CELL_BYTES};
+//! Puts texts after the output buffer, and allocates nothing.
+ghost use Rattle.desk_ends.specs.Sending.{Puts};
 ghost use Rattle.desk_line.specs.Reply.{line_of, shown_text, word_and};
-ghost use Rattle.desk_line.specs.Waiting.{Adds, IsSent};
 ghost use Rattle.std.specs.Char.{encode_utf8};
-ghost use Rattle.std.specs.Prelude.{[], codes, decimal, false, is_ok, length, map, List, Option, ℕ, ◌+◌, ◌<◌, ◌≤◌, ◌≡◌, ◌∷◌};
+ghost use Rattle.std.specs.Prelude.{codes, decimal, is_ok, map, ◌++◌, ◌<◌, ◌≤◌, ◌∷◌};
 
-use super::reply::Broken;
-use super::waiting::Waiting;
-use cell_core::Cell;
-use desk_ends::{Block, Sink, send};
+use desk_ends::{Block, Failure, Sink, put_byte, put_bytes};
 use itoa::Buffer;
-
-/// Sends the output buffer.
-fn pass_on<K: Sink>(sink: &mut K, waiting: &mut Waiting)
-    ensures sent { (before : Option (List ℕ)) (text : List ℕ)
-        → IsSent K.can_fail before (K.contents sink.old) waiting.old text
-        → IsSent K.can_fail before (K.contents sink.new) waiting.new text }
-    ensures none { waiting.new.block ≡ [] }
-{
-    if waiting.is_broken {
-        waiting.block.clear();
-        return;
-    }
-    waiting.is_broken = send(sink, waiting.block.as_slice()).is_err();
-    waiting.block.clear();
-}
-
-/// Sends the output buffer if no further cell would fit.
-#[inline(always)]
-fn make_room<K: Sink>(sink: &mut K, waiting: &mut Waiting)
-    ensures sent { (before : Option (List ℕ)) (text : List ℕ)
-        → IsSent K.can_fail before (K.contents sink.old) waiting.old text
-        → IsSent K.can_fail before (K.contents sink.new) waiting.new text }
-    ensures room { length waiting.new.block + CELL_BYTES ≤ BLOCK_BYTES }
-{
-    if waiting.block.has_room() {
-        return;
-    }
-    pass_on(sink, waiting);
-}
-
-/// Puts a byte.
-#[inline(always)]
-fn put_byte<K: Sink>(sink: &mut K, waiting: &mut Waiting, byte: u8)
-    ensures { Adds K.can_fail (K.contents sink.old) (K.contents sink.new)
-        waiting.old waiting.new (byte ∷ []) }
-{
-    make_room(sink, waiting);
-    waiting.block.push(byte);
-}
-
-/// Puts bytes.
-pub(crate) fn put_bytes<K: Sink>(sink: &mut K, waiting: &mut Waiting, bytes: &[u8])
-    ensures { Adds K.can_fail (K.contents sink.old) (K.contents sink.new)
-        waiting.old waiting.new bytes.now }
-{
-    for byte in bytes {
-        put_byte(sink, waiting, *byte);
-    }
-}
-
-/// Puts a number in decimal digits.
-fn put_number<K: Sink>(sink: &mut K, waiting: &mut Waiting, number: u64)
-    ensures { Adds K.can_fail (K.contents sink.old) (K.contents sink.new)
-        waiting.old waiting.new (decimal number) }
-{
-    let mut digits = Buffer::new();
-    put_bytes(sink, waiting, digits.format(number).as_bytes());
-}
 
 /// Puts a character in UTF-8.
 #[inline(always)]
-fn put_character<K: Sink>(sink: &mut K, waiting: &mut Waiting, character: char)
-    ensures { Adds K.can_fail (K.contents sink.old) (K.contents sink.new)
-        waiting.old waiting.new (encode_utf8 character) }
+fn put_character<K: Sink>(sink: &mut K, block: &mut Block, character: char) -> Result<(), Failure>
+    ensures { Puts K.Sink sink.old sink.new
+        (block.old ++ encode_utf8 character) block.new (is_ok result) }
 {
     if character.is_ascii() {
-        put_byte(sink, waiting, character as u8)
+        put_byte(sink, block, character as u8)
     } else if character < '\u{800}' {
-        put_pair(sink, waiting, character)
+        put_pair(sink, block, character)
     } else {
-        put_wide(sink, waiting, character)
+        put_wide(sink, block, character)
     }
 }
 
 /// Puts a character of two bytes in UTF-8: 0xC0 and its upper five bits, 0x80 and its lower six.
 #[inline(always)]
-fn put_pair<K: Sink>(sink: &mut K, waiting: &mut Waiting, character: char)
+fn put_pair<K: Sink>(sink: &mut K, block: &mut Block, character: char) -> Result<(), Failure>
     requires wide { 128 ≤ character }
     requires short { character < 2048 }
-    ensures { Adds K.can_fail (K.contents sink.old) (K.contents sink.new)
-        waiting.old waiting.new (encode_utf8 character) }
+    ensures { Puts K.Sink sink.old sink.new
+        (block.old ++ encode_utf8 character) block.new (is_ok result) }
 {
     let code = character as u32;
-    put_byte(sink, waiting, 0xC0 + (code / 64) as u8);
-    put_byte(sink, waiting, 0x80 + (code % 64) as u8);
+    put_byte(sink, block, 0xC0 + (code / 64) as u8)?;
+    put_byte(sink, block, 0x80 + (code % 64) as u8)
 }
 
 /// Puts a character in UTF-8, however many bytes it has.
-fn put_wide<K: Sink>(sink: &mut K, waiting: &mut Waiting, character: char)
-    ensures { Adds K.can_fail (K.contents sink.old) (K.contents sink.new)
-        waiting.old waiting.new (encode_utf8 character) }
+fn put_wide<K: Sink>(sink: &mut K, block: &mut Block, character: char) -> Result<(), Failure>
+    ensures { Puts K.Sink sink.old sink.new
+        (block.old ++ encode_utf8 character) block.new (is_ok result) }
 {
     let mut room = [0u8; 4];
-    put_bytes(sink, waiting, character.encode_utf8(&mut room).as_bytes());
+    put_bytes(sink, block, character.encode_utf8(&mut room).as_bytes())
 }
 
 /// Puts characters in UTF-8.
 #[inline(never)]
-pub(crate) fn put_characters<K: Sink>(sink: &mut K, waiting: &mut Waiting, characters: &[char])
-    ensures { Adds K.can_fail (K.contents sink.old) (K.contents sink.new)
-        waiting.old waiting.new (shown_text characters.now) }
+pub(crate) fn put_characters<K: Sink>(
+    sink: &mut K,
+    block: &mut Block,
+    characters: &[char],
+) -> Result<(), Failure>
+    ensures { Puts K.Sink sink.old sink.new
+        (block.old ++ shown_text characters.now) block.new (is_ok result) }
 {
     for character in characters {
-        put_character(sink, waiting, *character);
+        put_character(sink, block, *character)?;
     }
-}
-
-/// Puts a cell as a character of the block Braille Patterns.
-#[inline(always)]
-fn put_cell<K: Sink>(sink: &mut K, waiting: &mut Waiting, cell: Cell)
-    ensures { Adds K.can_fail (K.contents sink.old) (K.contents sink.new)
-        waiting.old waiting.new (encode_utf8 (braille_character cell)) }
-{
-    make_room(sink, waiting);
-    waiting.block.push_cell(cell);
-}
-
-/// Puts cells as characters of the block Braille Patterns.
-pub(crate) fn put_cells<K: Sink>(sink: &mut K, waiting: &mut Waiting, cells: &[Cell])
-    ensures { Adds K.can_fail (K.contents sink.old) (K.contents sink.new)
-        waiting.old waiting.new (text_of cells.now) }
-{
-    for cell in cells {
-        put_cell(sink, waiting, *cell);
-    }
+    Ok(())
 }
 
 /// Puts a line of a word and numbers after it.
-pub(crate) fn put_line<K: Sink>(sink: &mut K, waiting: &mut Waiting, word: &[u8], numbers: &[u64])
-    ensures { Adds K.can_fail (K.contents sink.old) (K.contents sink.new)
-        waiting.old waiting.new (word_and word.now numbers.now) }
+pub(crate) fn put_line<K: Sink>(
+    sink: &mut K,
+    block: &mut Block,
+    word: &[u8],
+    numbers: &[u64],
+) -> Result<(), Failure>
+    ensures { Puts K.Sink sink.old sink.new
+        (block.old ++ word_and word.now numbers.now) block.new (is_ok result) }
 {
-    put_bytes(sink, waiting, word);
+    put_bytes(sink, block, word)?;
     for number in numbers {
-        put_byte(sink, waiting, b' ');
-        put_number(sink, waiting, *number);
+        put_number(sink, block, *number)?;
     }
-    put_byte(sink, waiting, b'\n');
+    put_byte(sink, block, b'\n')
 }
 
 /// Puts a line of a bar and fields after it.
-pub(crate) fn put_fields<K: Sink>(sink: &mut K, waiting: &mut Waiting, fields: &[&[u8]])
-    ensures { Adds K.can_fail (K.contents sink.old) (K.contents sink.new)
-        waiting.old waiting.new (line_of (codes "|" ∷ map (λ field. field.now) fields.now)) }
+pub(crate) fn put_fields<K: Sink>(
+    sink: &mut K,
+    block: &mut Block,
+    fields: &[&[u8]],
+) -> Result<(), Failure>
+    ensures { Puts K.Sink sink.old sink.new
+        (block.old ++ line_of (codes "|" ∷ map (λ field. field.now) fields.now)) block.new (is_ok result) }
 {
-    put_byte(sink, waiting, b'|');
+    put_byte(sink, block, b'|')?;
     for field in fields {
-        put_byte(sink, waiting, b' ');
-        put_bytes(sink, waiting, field);
+        put_field(sink, block, field)?;
     }
-    put_byte(sink, waiting, b'\n');
+    put_byte(sink, block, b'\n')
 }
 
-/// An empty output buffer.
-pub(crate) fn nothing_waiting() -> Waiting
-    ensures block { result.block ≡ [] }
-    ensures going { result.is_broken ≡ false }
+/// Puts a blank and a number in decimal digits.
+fn put_number<K: Sink>(sink: &mut K, block: &mut Block, number: u64) -> Result<(), Failure>
+    ensures { Puts K.Sink sink.old sink.new
+        (block.old ++ 32 ∷ decimal number) block.new (is_ok result) }
 {
-    Waiting {
-        block: Block::new(),
-        is_broken: false,
-    }
+    let mut digits = Buffer::new();
+    put_field(sink, block, digits.format(number).as_bytes())
 }
 
-/// Sends the end of a text, and says whether all of the text was sent.
-pub(crate) fn finish<K: Sink>(sink: &mut K, waiting: &mut Waiting) -> Result<(), Broken>
-    ensures { (before : Option (List ℕ)) (text : List ℕ)
-        → IsSent K.can_fail before (K.contents sink.old) waiting.old text
-        → Transmits K.can_fail before (K.contents sink.new) text [] (is_ok result) }
+/// Puts a blank and a field.
+fn put_field<K: Sink>(sink: &mut K, block: &mut Block, field: &[u8]) -> Result<(), Failure>
+    ensures { Puts K.Sink sink.old sink.new
+        (block.old ++ 32 ∷ field.now) block.new (is_ok result) }
 {
-    pass_on(sink, waiting);
-    if waiting.is_broken {
-        return Err(Broken);
-    }
-    Ok(())
+    put_byte(sink, block, b' ')?;
+    put_bytes(sink, block, field)
 }

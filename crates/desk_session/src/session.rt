@@ -8,7 +8,7 @@ ghost use Rattle.std.specs.Prelude.{false, true, ◌≡◌};
 use super::reader::{Buffers, next_request};
 use super::turn::{answer_found, is_lost, reply};
 use desk_book::Book;
-use desk_ends::{Input, Sink, Source};
+use desk_ends::{Block, Input, Sink, Source};
 use desk_store::Store;
 use sqlite::Alter;
 use std::alloc::Global;
@@ -50,6 +50,7 @@ pub fn serve<R: Source, W: Sink, S: Alter>(
 {
     let mut input = Input::new();
     let mut buffers = Buffers::new(alloc);
+    let mut block = Block::new();
     let mut book = book;
     loop {
         let found = match next_request(alloc, source, &mut input, &mut buffers) {
@@ -59,7 +60,7 @@ pub fn serve<R: Source, W: Sink, S: Alter>(
         };
         let (answer, next) = answer_found(alloc, store, book, found);
         book = next;
-        let sent = reply(sink, &book, &answer);
+        let sent = reply(sink, &mut block, &book, &answer);
         if is_lost(&answer) {
             return (Ended::Lost, book);
         }

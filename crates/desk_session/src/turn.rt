@@ -8,8 +8,8 @@ ghost use Rattle.std.specs.Prelude.{IsTrue, List, MatchResult, false, is_ok, tru
 
 use super::fault::Fault;
 use desk_book::Book;
-use desk_ends::{Failure, Sink};
-use desk_line::{Answer, Request, write_reply};
+use desk_ends::{Block, Failure, Sink};
+use desk_line::{Answer, Request, send_reply};
 use desk_model::Command;
 use desk_store::Store;
 use sqlite::Alter;
@@ -79,14 +79,17 @@ fn carry_out<S: Alter>(
     (Answer::Done { number }, book.settle(change))
 }
 
-/// Replies to a request, and flushes the reply.
-pub(crate) fn reply<K: Sink>(sink: &mut K, book: &Book, answer: &Answer) -> Result<(), Failure>
+/// Replies to a request through the output buffer, and flushes the reply.
+pub(crate) fn reply<K: Sink>(
+    sink: &mut K,
+    block: &mut Block,
+    book: &Book,
+    answer: &Answer,
+) -> Result<(), Failure>
     ensures { SendsReply K.can_fail (K.contents sink.old) (K.contents sink.new) (K.flushed sink.new)
         book.now answer.now (is_ok result) }
 {
-    if write_reply(sink, book, answer).is_err() {
-        return Err(Failure);
-    }
+    send_reply(sink, block, book, answer)?;
     sink.flush()
 }
 

@@ -1,20 +1,29 @@
-use Rattle.std.proofs.Common.{[], ◌∷◌, ℕ, ap}
+use Rattle.std.proofs.Common.{[], ◌∷◌, ◌++◌, ℕ, ap, is_ok, refl}
 use Rattle.std.specs.Prelude.{codes}
-use Rattle.desk_line.specs.Reply.{word_and}
-use Rattle.desk_line.proofs.Putting.{Adds-same}
-use Rattle.desk_line.proofs.Replying.{end_text, replies-refused, replies-shown}
+use Rattle.std.specs.List.{flat_map}
+use Rattle.desk_ends.proofs.Sending.{Sending-first, Sending-last, Sending-no_first, fails-at}
+use Rattle.desk_line.specs.Reply.{refusal_line, refused, shown, shown_line, word_and}
+use Rattle.desk_line.proofs.Replying.{end_text}
 use Rattle.desk_line.proofs.reply.put_query.Goals as goal
+
+pub returns-in_err-put-in-Ok : goal.returns-in_err-put-in-Ok
+returns-in_err-put-in-Ok g c =
+    let put = c.in-Ok.ensures in
+    let lines = flat_map shown_line put.0 in
+    let end = end_text c.args.book.now.version in
+    (lines ++ end, shown put.0 put.1 refl, Sending-no_first c.args.block.now lines end refl put.2 (ap is_ok c.in_err-put-in-Ok.was) (fails-at c.from_residual.result _ c.from_residual.ensures.1))
+
+pub returns-in_ok-put-in-Ok : goal.returns-in_ok-put-in-Ok
+returns-in_ok-put-in-Ok g c =
+    let put = c.in-Ok.ensures in
+    let lines = flat_map shown_line put.0 in
+    let end = word_and (codes "end") (c.version.result ∷ []) in (
+      lines ++ end,
+      shown put.0 put.1 (ap (λ (v : ℕ). lines ++ word_and (codes "end") (v ∷ [])) c.version.ensures.version),
+      Sending-last g.K.Sink.can_fail _ _ _ c.put_shown.new.block _ end _ _ (Sending-first c.args.block.now lines end refl put.2 (ap is_ok c.in_ok-put-in-Ok.was)) c.put_line.ensures,
+    )
 
 pub returns-in-Err : goal.returns-in-Err
 returns-in-Err g c =
-    replies-refused g.K.Sink.can_fail (g.K.Sink.contents c.args.sink.now) (g.K.Sink.contents c.put_shown.new.sink) (g.K.Sink.contents c.put_refusal.new.sink)
-    c.args.waiting.now c.put_shown.new.waiting c.put_refusal.new.waiting c.args.book.now c.args.query c.in-Err.refusal
-    c.in-Err.ensures.refused.0 c.in-Err.ensures.refused.1 c.put_refusal.ensures
-
-pub returns : goal.returns
-returns g c =
-    replies-shown g.K.Sink.can_fail (g.K.Sink.contents c.args.sink.now) (g.K.Sink.contents c.put_shown.new.sink) (g.K.Sink.contents c.put_line.new.sink)
-    c.args.waiting.now c.put_shown.new.waiting c.put_line.new.waiting c.args.book.now c.args.query c.in_default.ensures.shown
-    (Adds-same g.K.Sink.can_fail (g.K.Sink.contents c.put_shown.new.sink) (g.K.Sink.contents c.put_line.new.sink) c.put_shown.new.waiting c.put_line.new.waiting
-    (word_and (codes "end") (c.version.result ∷ [])) (end_text c.args.book.now.version)
-    (ap (λ (v : ℕ). word_and (codes "end") (v ∷ [])) c.version.ensures.version) c.put_line.ensures)
+    let told = c.in-Err.ensures in
+    (refusal_line c.in-Err.refusal, refused c.in-Err.refusal told.0 refl, rw (told.1, told.2) at c.put_refusal.ensures)

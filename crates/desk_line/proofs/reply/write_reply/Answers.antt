@@ -1,14 +1,11 @@
-use Rattle.std.proofs.Common.{[]}
-use Rattle.std.proofs.KnownBytes.{Appends-nil}
-use Rattle.desk_line.specs.Waiting.{going}
+use Rattle.std.proofs.Common.{◌≡◌, Err, Ok, Result, is_ok, refl}
+use Rattle.std.specs.Result.{result_or}
+use Rattle.desk_line.specs.declared.reply.Broken.{Broken}
 use Rattle.desk_line.proofs.reply.write_reply.Goals as goal
 
+same-end : {T E : Type 0} (r : Result T E) (broken : Broken) → is_ok (result_or r (Err broken)) ≡ is_ok r
+same-end (Ok x) broken = refl
+same-end (Err failure) broken = refl
+
 pub returns : goal.returns
-returns g c =
-    let reply = c.put_reply.ensures in
-    let before = g.K.Sink.contents c.args.sink.now in
-    record {
-      text = reply.0;
-      is = reply.1;
-      sent = c.finish.ensures before reply.0 (reply.2 before [] (going [] (Appends-nil before) c.nothing_waiting-waiting.ensures.block c.nothing_waiting-waiting.ensures.going));
-    }
+returns g c = rw (c.or.ensures, same-end c.send_reply.result (record {})) c.send_reply.ensures

@@ -2,16 +2,15 @@ use Rattle.std.proofs.Common.{ap, sym, ◌∙◌, subst}
 use Rattle.std.specs.Str.{chars}
 use Rattle.std.proofs.lemmas.Str.{encodes-chars}
 use Rattle.desk_model.specs.HistoryItems.{TellsOf}
-use Rattle.desk_line.specs.Reply.{entry_line, shown_line, shown_text}
-use Rattle.desk_line.proofs.Putting.{Adds-same}
+use Rattle.desk_ends.proofs.Sending.{Transmits-same}
+use Rattle.desk_line.specs.Reply.{shown_text}
 use Rattle.desk_line.proofs.Replying.{unnamed-fields, named-fields, undo-fields, none-there, some-there}
 use Rattle.desk_line.proofs.shown.put_entry.Goals as goal
 
 pub returns-then-is_empty : goal.returns-then-is_empty
 returns-then-is_empty g c = λ entry tells.
     let at = c.in-Corrected in
-    Adds-same g.K.Sink.can_fail (g.K.Sink.contents c.args.sink.now) (g.K.Sink.contents c.put_fields.new.sink) c.args.waiting.now c.put_fields.new.waiting _
-    (shown_line (entry_line (c.args.item.now.number, entry)))
+    Transmits-same c.args.block.now
     (unnamed-fields entry c.args.item.now.number at.start at.count at.text at.who (subst (TellsOf entry) at.is tells) (none-there at.who.now c.is_empty.result c.is_empty.ensures c.if-is_empty.true)
     c.as_bytes-number.result.now c.as_bytes-first.result.now c.as_bytes-size.result.now c.as_bytes-text.result.now
     (c.as_bytes-number.ensures.value ∙ c.format.ensures.text) (c.as_bytes-first.ensures.value ∙ c.format-in-Corrected.ensures.text)
@@ -22,8 +21,7 @@ returns-then-is_empty g c = λ entry tells.
 pub returns-else-is_empty : goal.returns-else-is_empty
 returns-else-is_empty g c = λ entry tells.
     let at = c.in-Corrected in
-    Adds-same g.K.Sink.can_fail (g.K.Sink.contents c.args.sink.now) (g.K.Sink.contents c.put_fields-else-is_empty.new.sink) c.args.waiting.now c.put_fields-else-is_empty.new.waiting _
-    (shown_line (entry_line (c.args.item.now.number, entry)))
+    Transmits-same c.args.block.now
     (named-fields entry c.args.item.now.number at.start at.count at.text at.who (subst (TellsOf entry) at.is tells) (some-there at.who.now c.is_empty.result c.is_empty.ensures c.if-is_empty.false)
     c.as_bytes-number.result.now c.as_bytes-who.result.now c.as_bytes-first.result.now c.as_bytes-size.result.now c.as_bytes-text.result.now
     (c.as_bytes-number.ensures.value ∙ c.format.ensures.text)
@@ -35,8 +33,7 @@ returns-else-is_empty g c = λ entry tells.
 
 pub returns-in-TookBack : goal.returns-in-TookBack
 returns-in-TookBack g c = λ entry tells.
-    Adds-same g.K.Sink.can_fail (g.K.Sink.contents c.args.sink.now) (g.K.Sink.contents c.put_fields-in-TookBack.new.sink) c.args.waiting.now c.put_fields-in-TookBack.new.waiting _
-    (shown_line (entry_line (c.args.item.now.number, entry)))
+    Transmits-same c.args.block.now
     (undo-fields entry c.args.item.now.number c.in-TookBack.undone (subst (TellsOf entry) c.in-TookBack.is tells) c.as_bytes-number.result.now c.as_bytes-undone.result.now
     (c.as_bytes-number.ensures.value ∙ c.format.ensures.text) (c.as_bytes-undone.ensures.value ∙ c.format-in-TookBack.ensures.text))
     c.put_fields-in-TookBack.ensures

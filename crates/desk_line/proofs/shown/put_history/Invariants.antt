@@ -1,7 +1,9 @@
+use Rattle.std.proofs.Common.{◌++◌}
+use Rattle.desk_ends.proofs.Sending.{Sending}
 use Rattle.desk_line.specs.Reply.{entry_line}
-use Rattle.desk_line.proofs.Replying.{PutsLines}
+use Rattle.desk_line.proofs.Putting.{shown_lines}
 use Rattle.desk_line.proofs.shown.put_history.Given as goal
 
 abbrev pub invariant-loop-item : goal.invariant-loop-item
 invariant-loop-item g l =
-    PutsLines entry_line g.K.Sink.can_fail (g.K.Sink.contents l.fn.sink) (g.K.Sink.contents l.sink) l.fn.waiting l.waiting l.item-iterator l.fn.history
+    Sending (g.K.Sink.contents l.fn.sink) (g.K.Sink.contents l.sink) l.block (shown_lines entry_line l.item-iterator) (l.fn.block ++ shown_lines entry_line l.fn.history)

@@ -1,7 +1,9 @@
+use Rattle.std.proofs.Common.{◌++◌}
+use Rattle.desk_ends.proofs.Sending.{Sending}
 use Rattle.desk_line.specs.Reply.{list_line}
-use Rattle.desk_line.proofs.Replying.{PutsLines}
+use Rattle.desk_line.proofs.Putting.{shown_lines}
 use Rattle.desk_line.proofs.shown.put_list.Given as goal
 
 abbrev pub invariant-loop-paragraph : goal.invariant-loop-paragraph
 invariant-loop-paragraph g l =
-    PutsLines list_line g.K.Sink.can_fail (g.K.Sink.contents l.fn.sink) (g.K.Sink.contents l.sink) l.fn.waiting l.waiting l.paragraph-iterator l.fn.list
+    Sending (g.K.Sink.contents l.fn.sink) (g.K.Sink.contents l.sink) l.block (shown_lines list_line l.paragraph-iterator) (l.fn.block ++ shown_lines list_line l.fn.list)

@@ -2,8 +2,8 @@ use Rattle.std.proofs.Common.{◌≡◌, Bool, Bor, List, ℕ, ap, codes, sym, �
 use Rattle.std.specs.Prelude.{decimal}
 use Rattle.std.specs.Str.{chars}
 use Rattle.std.proofs.lemmas.Str.{encodes-chars}
-use Rattle.desk_line.specs.Reply.{list_line, shown_line, shown_text, style_word, word_if}
-use Rattle.desk_line.proofs.Putting.{Adds-same}
+use Rattle.desk_ends.proofs.Sending.{Transmits-same}
+use Rattle.desk_line.specs.Reply.{shown_text, style_word, word_if}
 use Rattle.desk_line.proofs.Replying.{list_line-fields}
 use Rattle.desk_line.proofs.shown.put_listed.Goals as goal
 use Rattle.desk_line.proofs.shown.put_listed.Goals.{in-Body, in-Heading, then-paragraph, else-paragraph, then-paragraph-2, else-paragraph-2}
@@ -24,7 +24,7 @@ returns g c = λ told is.
       | then-paragraph-2 w ↦ ap (λ (b : Bor (List ℕ)). b.now) w.life-is ∙ ap life_word (sym w.if-paragraph-2.true ∙ is.struck)
       | else-paragraph-2 w ↦ ap (λ (b : Bor (List ℕ)). b.now) w.life-is ∙ ap life_word (sym w.if-paragraph-2.false ∙ is.struck)
     ] in
-    Adds-same g.K.Sink.can_fail (g.K.Sink.contents c.args.sink.now) (g.K.Sink.contents c.put_fields.new.sink) c.args.waiting.now c.put_fields.new.waiting _ (shown_line (list_line told))
+    Transmits-same c.args.block.now
     (list_line-fields told c.as_bytes-id.result.now c.as_bytes-table.result.now c.match-paragraph.style.now c.if-paragraph.volume.now c.if-paragraph-2.life.now c.as_bytes-length.result.now
     (c.as_bytes-id.ensures.value ∙ (c.format.ensures.text ∙ ap decimal is.id))
     (sym (encodes-chars c.as_bytes-table.result.now c.as_bytes-table.ensures.utf8) ∙ ap shown_text (ap chars c.as_bytes-table.ensures.value ∙ is.table))

@@ -2,8 +2,8 @@ use Rattle.std.proofs.Common.{◌≡◌, Bool, Bor, List, ℕ, ap, codes, sym, �
 use Rattle.std.specs.Prelude.{decimal}
 use Rattle.std.specs.Str.{chars}
 use Rattle.std.proofs.lemmas.Str.{encodes-chars}
-use Rattle.desk_line.specs.Reply.{mark_line, shown_line, shown_text, word_if}
-use Rattle.desk_line.proofs.Putting.{Adds-same}
+use Rattle.desk_ends.proofs.Sending.{Transmits-same}
+use Rattle.desk_line.specs.Reply.{shown_text, word_if}
 use Rattle.desk_line.proofs.Replying.{mark-fields}
 use Rattle.desk_line.proofs.shown.put_mark.Goals as goal
 use Rattle.desk_line.proofs.shown.put_mark.Goals.{then-mark, else-mark, then-mark-2, else-mark-2}
@@ -20,7 +20,7 @@ returns g c = λ told is.
       | then-mark-2 w ↦ ap (λ (b : Bor (List ℕ)). b.now) w.touch-is ∙ ap touch_word (sym w.if-mark-2.true ∙ is.touched)
       | else-mark-2 w ↦ ap (λ (b : Bor (List ℕ)). b.now) w.touch-is ∙ ap touch_word (sym w.if-mark-2.false ∙ is.touched)
     ] in
-    Adds-same g.K.Sink.can_fail (g.K.Sink.contents c.args.sink.now) (g.K.Sink.contents c.put_fields.new.sink) c.args.waiting.now c.put_fields.new.waiting _ (shown_line (mark_line told))
+    Transmits-same c.args.block.now
     (mark-fields told c.as_bytes-id.result.now c.as_bytes-start.result.now c.as_bytes-end.result.now c.if-mark.state.now c.if-mark-2.touch.now c.as_bytes-note.result.now
     (c.as_bytes-id.ensures.value ∙ (c.format.ensures.text ∙ ap decimal is.id)) (c.as_bytes-start.ensures.value ∙ (c.format-2.ensures.text ∙ ap decimal is.start))
     (c.as_bytes-end.ensures.value ∙ (c.format-3.ensures.text ∙ ap decimal is.end)) state touch

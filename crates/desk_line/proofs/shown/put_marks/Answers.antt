@@ -1,20 +1,25 @@
-use Rattle.desk_line.specs.Reply.{mark_line}
-use Rattle.desk_line.proofs.Replying.{PutsLines-all, PutsLines-more, PutsLines-none}
+use Rattle.std.proofs.Common.{◌++◌, is_ok, true, refl, ap}
+use Rattle.desk_ends.proofs.Sending.{Sending-done, Sending-fails, Sending-more, Sending-none, fails-at}
+use Rattle.desk_line.specs.Reply.{mark_line, shown_line}
+use Rattle.desk_line.proofs.Putting.{shown_lines}
 use Rattle.desk_line.proofs.shown.put_marks.Goals as goal
 
 pub loop-mark-init : goal.loop-mark-init
 loop-mark-init g c =
-    PutsLines-none mark_line g.K.Sink.can_fail (g.K.Sink.contents c.args.sink.now) c.args.waiting.now _ c.args.marks c.into_iter-mark-iterator.ensures.into_iter_gives
+    Sending-none _ c.args.block.now _ _ (ap (λ things. c.args.block.now ++ shown_lines mark_line things) c.into_iter-mark-iterator.ensures.into_iter_gives)
+
+pub returns-in_err-put_mark : goal.returns-in_err-put_mark
+returns-in_err-put_mark g c =
+    let step = c.in-Some.ensures.steps in
+    Sending-fails g.K.Sink.can_fail _ _ _ c.loop-mark.block _ _ _ _ c.loop-mark.invariant (shown_line (mark_line step.0)) (shown_lines mark_line c.next.new.self) (ap (shown_lines mark_line) step.1)
+    (c.put_mark.ensures step.0 step.2) _ _ (ap is_ok c.in_err-put_mark.was) (fails-at c.from_residual.result _ c.from_residual.ensures.1)
 
 pub loop-mark-preserved : goal.loop-mark-preserved
 loop-mark-preserved g c =
     let step = c.in-Some.ensures.steps in
-    PutsLines-more mark_line g.K.Sink.can_fail (g.K.Sink.contents c.args.sink.now) c.args.waiting.now
-    (g.K.Sink.contents c.loop-mark.sink) (g.K.Sink.contents c.put_mark.new.sink) c.loop-mark.waiting c.put_mark.new.waiting
-    c.loop-mark.mark-iterator c.args.marks c.loop-mark.invariant step.0 c.next.new.self step.1
-    (c.put_mark.ensures step.0 step.2)
+    Sending-more g.K.Sink.can_fail _ _ _ c.loop-mark.block _ _ _ _ c.loop-mark.invariant (shown_line (mark_line step.0)) (shown_lines mark_line c.next.new.self) (ap (shown_lines mark_line) step.1)
+    (c.put_mark.ensures step.0 step.2) (ap is_ok c.in_ok-put_mark.was)
 
 pub returns : goal.returns
 returns g c =
-    PutsLines-all mark_line g.K.Sink.can_fail (g.K.Sink.contents c.args.sink.now) c.args.waiting.now (g.K.Sink.contents c.loop-mark.sink) c.loop-mark.waiting
-    c.loop-mark.mark-iterator c.args.marks c.loop-mark.invariant c.in-None.ensures.steps.0
+    Sending-done g.K.Sink.can_fail _ _ c.loop-mark.block _ true (rw c.in-None.ensures.steps.0 at c.loop-mark.invariant) refl

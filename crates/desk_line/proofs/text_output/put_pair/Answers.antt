@@ -1,16 +1,16 @@
-use Rattle.std.proofs.Common.{[], ◌∷◌, ◌+◌, ◌/◌, ◌%◌, sym}
-use Rattle.std.specs.Char.{encode_utf8}
-use Rattle.desk_line.proofs.Putting.{Adds-same, Adds-then, encode-two}
+use Rattle.std.proofs.Common.{[], ◌∷◌, ◌+◌, ◌/◌, ◌%◌, is_ok, ap}
+use Rattle.desk_ends.proofs.Sending.{Sending-first, Sending-last, Sending-no_first, fails-at}
+use Rattle.desk_line.proofs.Putting.{encode-two}
 use Rattle.desk_line.proofs.text_output.put_pair.Goals as goal
+
+pub returns-in_err-put_byte : goal.returns-in_err-put_byte
+returns-in_err-put_byte g c =
+    Sending-no_first c.args.block.now ((192 + c.args.character / 64) ∷ []) ((128 + c.args.character % 64) ∷ []) (encode-two c.args.character c.requires.wide c.requires.short) c.put_byte.ensures
+    (ap is_ok c.in_err-put_byte.was) (fails-at c.from_residual.result _ c.from_residual.ensures.1)
 
 pub returns : goal.returns
 returns g c =
-    let F = g.K.Sink.can_fail in
-    let start = g.K.Sink.contents c.args.sink.now in
-    let last = g.K.Sink.contents c.put_byte-2.new.sink in
-    let upper = 192 + c.args.character / 64 in
-    let lower = 128 + c.args.character % 64 in
-    Adds-same F start last c.args.waiting.now c.put_byte-2.new.waiting (upper ∷ lower ∷ []) (encode_utf8 c.args.character)
-    (sym (encode-two c.args.character c.requires.wide c.requires.short))
-    (Adds-then F start (g.K.Sink.contents c.put_byte.new.sink) last c.args.waiting.now c.put_byte.new.waiting c.put_byte-2.new.waiting
-    (upper ∷ []) (lower ∷ []) c.put_byte.ensures c.put_byte-2.ensures)
+    let lower = (128 + c.args.character % 64) ∷ [] in
+    Sending-last g.K.Sink.can_fail _ _ _ c.put_byte.new.block _ lower _ _
+    (Sending-first c.args.block.now ((192 + c.args.character / 64) ∷ []) lower (encode-two c.args.character c.requires.wide c.requires.short) c.put_byte.ensures
+    (ap is_ok c.in_ok-put_byte.was)) c.put_byte-2.ensures
