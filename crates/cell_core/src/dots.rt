@@ -1,7 +1,8 @@
 //! Dots operands: cells joined by hyphens, each as the digits of its dots.
 ghost use Rattle.cell_core.specs.Dots.{Dots, most_cells};
 ghost use Rattle.cell_core.specs.Reading.{HasRead, cell_in, cells_in, with_digits};
-ghost use Rattle.std.specs.Prelude.{◌≡◌, ◌≤◌, ◌<◌, ◌↔◌, ℕ, List, length, take, IfOk, IfNone, IfSome, IsErrOf, Some, None};
+ghost use Rattle.std.specs.Prelude.{◌≡◌, ◌≤◌, ◌<◌, ◌↔◌, ℕ, List, length, take, IfOk};
+ghost use Rattle.std.specs.Prelude.{IfNone, IfSome, IsErrOf, Some, None};
 
 use super::cell::Cell;
 use std::alloc::Global;
@@ -53,8 +54,8 @@ fn read_cell(text: &[u8]) -> Option<Cell>
     }
 }
 
-/// Reads a dots operand, and says of how many cells it is. The first cells are in `cells`, as many as
-/// there is room for.
+/// Reads a dots operand, and says of how many cells it is. The first cells are in `cells`, as many
+/// as there is room for.
 fn read_cells(text: &str, cells: &mut [Cell; MOST_CELLS]) -> Option<usize>
     ensures none { IfNone result (cells_in text.now ≡ None) }
     ensures some { IfSome result (λ count. HasRead text.now cells.new count) }
@@ -72,8 +73,9 @@ fn read_cells(text: &str, cells: &mut [Cell; MOST_CELLS]) -> Option<usize>
 
 /// The cells that a dots operand names, in order.
 ///
-/// A dots operand is cells joined by hyphens. A cell is the digit `0` for the cell without dots, or the
-/// digits of its dots from 1 to 8 in any order, each once. Nothing is allocated before all is checked.
+/// A dots operand is cells joined by hyphens. A cell is the digit `0` for the cell without dots, or
+/// the digits of its dots from 1 to 8 in any order, each once. Nothing is allocated before all is
+/// checked.
 ///
 /// # Errors
 ///

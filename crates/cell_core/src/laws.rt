@@ -22,8 +22,8 @@ pub fn digits_are_dots()
         → (mask < 2 ^ 8) × ((dot : ℕ) → 1 ≤ dot → dot ≤ 8 → (HasDot mask dot ↔ Contains text (48 + dot))) }
 {}
 
-/// A cell has at most one byte in Braille ASCII, and each byte from 0x20 to 0x5F is that of a cell without the dots 7
-/// and 8, so `to_ascii` and `from_ascii` undo each other both ways.
+/// A cell has at most one byte in Braille ASCII, and each byte from 0x20 to 0x5F is that of a cell
+/// without the dots 7 and 8, so `to_ascii` and `from_ascii` undo each other both ways.
 pub fn one_byte()
     ensures one { (byte other mask : ℕ) → ascii_cell byte ≡ Some mask → ascii_cell other ≡ Some mask → byte ≡ other }
     ensures some { (byte : ℕ) → 0x20 ≤ byte → byte ≤ 0x5F

@@ -1,7 +1,7 @@
 //! Braille cells: their dots, masks and characters, and the dots operands of table lines.
 //!
-//! A cell is a set of the dots 1 to 8, and contracts see it as its mask, in which dot k has the value
-//! 2^(k-1).
+//! A cell is a set of the dots 1 to 8, and contracts see it as its mask, in which dot k has the
+//! value 2^(k-1).
 //!
 //! ```rust
 //! use cell_core::{Cell, read_dots};

@@ -1,5 +1,6 @@
 -- What a change puts into the rows of its book's file.
-use Rattle.std.specs.Prelude.{ℕ, ◌+◌, ◌-◌, ◌≤◌, ◌==◌, pos, Bool, false, if◌then◌else◌, List, [], ◌∷◌, length, map, drop, slice_get, Option, Some, None, encode_utf8_all}
+use Rattle.std.specs.Prelude.{ℕ, ◌+◌, ◌-◌, ◌≤◌, ◌==◌, pos, Bool, false, if◌then◌else◌, List, [], ◌∷◌}
+use Rattle.std.specs.Prelude.{length, map, drop, slice_get, Option, Some, None, encode_utf8_all}
 use Rattle.std.specs.List.{All, enumerate_from, flat_map}
 use Rattle.std.specs.Option.{option_map_or}
 use Rattle.desk_book.specs.declared.change.Effect.{Effect}
@@ -35,7 +36,8 @@ entry_row id seq (Corrects c) = record {
   who = encode_utf8_all c.who;
 }
 entry_row id seq (Undoes undone) = record {
-  entry = record { para = row_number id; seq = row_number seq; kind = pos 1; start = row_number undone; len = pos 0; body = [] };
+  entry = record
+      { para = row_number id; seq = row_number seq; kind = pos 1; start = row_number undone; len = pos 0; body = [] };
   who = [];
 }
 
@@ -141,7 +143,8 @@ version_put version = SetColumns tables.Book (pos 1) (Version (row_number versio
 
 -- what the effect puts after the version: the row that comes, or the columns that change, with the
 -- cells of each paragraph that is translated anew, the places of those that stand elsewhere, and
--- the spans of all marks on a new print, even of those that stay, so that no mark is looked at twice
+-- the spans of all marks on a new print, even of those that stay, so that no mark is looked at
+-- twice
 abbrev pub effect_puts : Book → Effect → List RowPut
 effect_puts book (effect.AddTable name table room) = tab_put name table ∷ []
 effect_puts book (effect.ReplaceTable name table cells) = tab_put name table ∷ cells_from 0 cells.items

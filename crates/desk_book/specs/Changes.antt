@@ -1,12 +1,15 @@
--- What a change does, and what it has in it, so that nothing is left to be asked for when it is applied to its book.
+-- What a change does, and what it has in it, so that nothing is left to be asked for when it is
+-- applied to its book.
 use Rattle.std.specs.Coded.{Coded, code_by, coded×, coded_option, coded_ℕ}
-use Rattle.std.specs.Prelude.{refl, ◌≡◌, ◌≢◌, ℕ, ◌+◌, ◌<◌, ◌≤◌, List, [], ◌∷◌, ◌++◌, length, map, Option, Some, None, IsSome, MatchOption}
+use Rattle.std.specs.Prelude.{refl, ◌≡◌, ◌≢◌, ℕ, ◌+◌, ◌<◌, ◌≤◌, List, [], ◌∷◌, ◌++◌, length}
+use Rattle.std.specs.Prelude.{map, Option, Some, None, IsSome, MatchOption}
 use Rattle.std.specs.List.{All, insert}
 use Rattle.std.specs.List.Sorted.{IsPermutation}
 use Rattle.louis_table.specs.Meaning.{Meaning}
 use Rattle.louis_table.specs.Table.{Means}
 use Rattle.desk_book.specs.declared.change.Effect.{Effect}
-use Rattle.desk_book.specs.declared.change.Effect.TheVariants.{AddTable, ReplaceTable, AddParagraph, ChangePrint, AddMark, ResolveMark, SetFlags, ChangeTable, Reorder}
+use Rattle.desk_book.specs.declared.change.Effect.TheVariants.{AddTable, ReplaceTable, AddParagraph, ChangePrint}
+use Rattle.desk_book.specs.declared.change.Effect.TheVariants.{AddMark, ResolveMark, SetFlags, ChangeTable, Reorder}
 use Rattle.desk_memory.specs.declared.paragraphs.PrintChange.{PrintChange}
 use Rattle.desk_model.specs.declared.command.Anchor.{Anchor}
 use Rattle.desk_model.specs.declared.command.Command.{Command}
@@ -25,7 +28,8 @@ use Rattle.desk_model.specs.Print.{print_of, with_entry}
 use Rattle.desk_model.specs.Named.{HasCharacters, named_by, number_of}
 use Rattle.desk_model.specs.Refusals.{IsAccepted}
 use Rattle.desk_memory.specs.Room.{Suffices}
-use Rattle.desk_model.specs.Step.{Makes, new_paragraph, next_id, next_mark, next_with_entry, next_with_marks, next_with_paragraphs, next_with_table, with_change, with_resolved}
+use Rattle.desk_model.specs.Step.{Makes, new_paragraph, next_id, next_mark, next_with_entry, next_with_marks}
+use Rattle.desk_model.specs.Step.{next_with_paragraphs, next_with_table, with_change, with_resolved}
 use Rattle.desk_model.specs.NormalForm.{normal_form}
 use Rattle.desk_memory.specs.Braille.{AreCellsOf}
 
@@ -58,10 +62,11 @@ pub record AreCellsByTable (book : Book) (id : ℕ) (table cells : List ℕ) : T
   pub means : Means source meaning
   pub cells_are : AreCellsOf meaning (print_of paragraph) cells
 
--- the change gives the paragraph with this id one entry more and the print and cells that follow from it, and moves its
--- marks
+-- the change gives the paragraph with this id one entry more and the print and cells that follow
+-- from it, and moves its marks
 pub record ChangesPrint (book next : Book) (id : ℕ) (change : PrintChange) : Type 0 where
-  pub next_is : next ≡ next_with_entry book id (entry_kept change.entry) (mark_moved_by change.start change.removed change.added)
+  pub next_is : next
+      ≡ next_with_entry book id (entry_kept change.entry) (mark_moved_by change.start change.removed change.added)
   pub paragraph : Paragraph
   pub there : paragraph_of book id ≡ Some paragraph
   pub room : Suffices (length paragraph.history) change.room
@@ -76,9 +81,10 @@ pub record ChangesPrint (book next : Book) (id : ℕ) (change : PrintChange) : T
   pub within : change.start + change.removed ≤ most_print
   pub short : change.added ≤ most_print
 
--- the change adds a paragraph that was just typed by the command, with room for it and for its id, at its place in the
--- order
-pub record AddsParagraph (book next : Book) (command : Command) (kept : KeptParagraph) (room order_room : Option ℕ) (place : ℕ) : Type 0 where
+-- the change adds a paragraph that was just typed by the command, with room for it and for its id,
+-- at its place in the order
+pub record AddsParagraph (book next : Book) (command : Command) (kept : KeptParagraph) (room order_room : Option ℕ)
+    (place : ℕ) : Type 0 where
   pub anchor : Anchor
   pub text : List ℕ
   pub command_is : command ≡ TypeIn anchor kept.table text
@@ -87,21 +93,26 @@ pub record AddsParagraph (book next : Book) (command : Command) (kept : KeptPara
   pub room_is : Suffices (length book.paragraphs) room
   pub order_room_is : Suffices (length book.paragraphs) order_room
   pub within : place ≤ length book.paragraphs
-  pub order : insert (map (λ other. other.id) book.paragraphs) place (next_id book) ≡ map (λ other. other.id) next.paragraphs
+  pub order : insert (map (λ other. other.id) book.paragraphs) place (next_id book)
+      ≡ map (λ other. other.id) next.paragraphs
 
 -- the command gives the table with this name this text, and changes nothing else
 abbrev pub GivesText : Book → Command → Book → (name text : List ℕ) → Type 0
-GivesText book command next name text = ((named_by command).table_given ≡ Some (name, text)) × (next ≡ next_with_table book name text)
+GivesText book command next name text =
+    ((named_by command).table_given ≡ Some (name, text)) × (next ≡ next_with_table book name text)
 
 -- the command gives the paragraph with this id the table with this name, and changes nothing else
 abbrev pub GivesTable : Book → Command → Book → ℕ → List ℕ → Type 0
 GivesTable book command next id table =
-    GetsTable command id table × (next ≡ next_with_paragraphs book (with_change id (λ p. record p { table = table }) book.paragraphs))
+    GetsTable command id table
+    × (next ≡ next_with_paragraphs book (with_change id (λ p. record p { table = table }) book.paragraphs))
 
--- the command puts a paragraph elsewhere: the next book has the same paragraphs, and changes in nothing but their order
+-- the command puts a paragraph elsewhere: the next book has the same paragraphs, and changes in
+-- nothing but their order
 abbrev pub MovesParagraph : Book → Command → Book → Type 0
 MovesParagraph book command next =
-    Reorders command × IsPermutation book.paragraphs next.paragraphs × (next ≡ next_with_paragraphs book next.paragraphs)
+    Reorders command × IsPermutation book.paragraphs next.paragraphs
+    × (next ≡ next_with_paragraphs book next.paragraphs)
 
 -- the effect makes the next book by the command, with room for all that it adds
 abbrev pub Does : Book → Command → Book → Effect → Type 0
@@ -115,9 +126,11 @@ Does book command next (AddParagraph paragraph room order_room place) =
     AddsParagraph book next command paragraph room order_room place
 Does book command next (ChangePrint id change) = GetsEntry command id × ChangesPrint book next id change
 Does book command next (AddMark mark room index_room) =
-    (next ≡ next_with_marks book (book.marks ++ mark_kept (next_mark book, mark) ∷ [])) × Suffices (length book.marks) room
+    (next ≡ next_with_marks book (book.marks ++ mark_kept (next_mark book, mark) ∷ []))
+    × Suffices (length book.marks) room
     × (length book.marks < most_marks) × Suffices (length (marks_on mark.paragraph book.marks)) index_room
-Does book command next (ResolveMark id) = GetsResolved command id × (next ≡ next_with_marks book (with_resolved id book.marks))
+Does book command next (ResolveMark id) =
+    GetsResolved command id × (next ≡ next_with_marks book (with_resolved id book.marks))
 Does book command next (SetFlags id style begins struck) =
     GetsFlags command id
     × (next ≡ next_with_paragraphs book
@@ -136,8 +149,9 @@ pub record IsEffect (book : Book) (version : ℕ) (effect : Effect) (next : Book
   pub at : version ≡ next.version
   pub does : Does book command next effect
 
--- a change as its callers see it: the version that it gives its book, and the number that the command answers. What it
--- does is named here alone, so that nothing that is said of a change depends on it
+-- a change as its callers see it: the version that it gives its book, and the number that the
+-- command answers. What it does is named here alone, so that nothing that is said of a change
+-- depends on it
 pub record Change : Type 0 where
   pub version : ℕ
   pub number : Option ℕ
@@ -206,7 +220,8 @@ pub Does-change_by : (book : Book) (command : Command) (next : Book)
 unfolding change_by
 Does-change_by book command next version number effect carries = carries.does
 
--- what the change puts into the rows of its book's file, in order: the version, and what its effect puts
+-- what the change puts into the rows of its book's file, in order: the version, and what its effect
+-- puts
 pub change_puts : Book → Change → List RowPut
 change_puts book change = version_put change.version ∷ effect_puts book change.effect
 

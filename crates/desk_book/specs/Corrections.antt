@@ -9,7 +9,8 @@ use Rattle.desk_book.specs.declared.corrections.NewEntry.{NewEntry}
 use Rattle.desk_memory.specs.declared.paragraphs.Paragraph.{Paragraph as KeptParagraph}
 use Rattle.desk_model.specs.declared.refusal.Limit.TheVariants.{Entries, Version}
 use Rattle.desk_model.specs.declared.refusal.Refusal.{Refusal}
-use Rattle.desk_model.specs.declared.refusal.Refusal.TheVariants.{Full, NoMemory, NoParagraph, Struck, TooLong, Undefined}
+use Rattle.desk_model.specs.declared.refusal.Refusal.TheVariants.{Full, NoMemory, NoParagraph, Struck}
+use Rattle.desk_model.specs.declared.refusal.Refusal.TheVariants.{TooLong, Undefined}
 use Rattle.desk_model.specs.Book.{Book, Paragraph, paragraph_of}
 use Rattle.desk_memory.specs.Braille.{AreCellsOf}
 use Rattle.desk_model.specs.Limits.{most_entries, most_print, most_version}
@@ -19,10 +20,12 @@ use Rattle.desk_memory.specs.Room.{Suffices}
 abbrev pub IsUnfit : Book → ℕ → Refusal → Type 0
 IsUnfit book id refusal =
     ((refusal ≡ NoParagraph) × (paragraph_of book id ≡ None))
-    ⊎ ((refusal ≡ Struck) × ((paragraph : Paragraph) × (paragraph_of book id ≡ Some paragraph) × (paragraph.struck ≡ true)))
+    ⊎ ((refusal ≡ Struck)
+    × ((paragraph : Paragraph) × (paragraph_of book id ≡ Some paragraph) × (paragraph.struck ≡ true)))
 
 -- the effect brings the entry into the history, and its print is short and defined
-pub record IsEntered (book : Book) (id : ℕ) (kept : KeptParagraph) (meaning : Meaning) (new : NewEntry) (effect : Effect) : Type 0 where
+pub record IsEntered (book : Book) (id : ℕ) (kept : KeptParagraph) (meaning : Meaning) (new : NewEntry)
+    (effect : Effect) : Type 0 where
   pub change : PrintChange
   pub effect_is : effect ≡ ChangePrint id change
   pub entry : change.entry ≡ new.entry
@@ -37,12 +40,14 @@ pub record IsEntered (book : Book) (id : ℕ) (kept : KeptParagraph) (meaning : 
   pub left : book.version < most_version
   pub defined : AreDefined meaning new.print.items
 
--- a print of so many characters is too long; or it isn't, and the history is full; or it isn't either, and the version is
+-- a print of so many characters is too long; or it isn't, and the history is full; or it isn't
+-- either, and the version is
 abbrev pub HaltsEntry : Book → KeptParagraph → ℕ → Refusal → Type 0
 HaltsEntry book kept count refusal =
     ((refusal ≡ TooLong) × (most_print < count))
     ⊎ (((refusal ≡ Full Entries) × (count ≤ most_print) × (most_entries ≤ length kept.history))
-    ⊎ ((refusal ≡ Full Version) × (count ≤ most_print) × (length kept.history < most_entries) × (most_version ≤ book.version)))
+    ⊎ ((refusal ≡ Full Version) × (count ≤ most_print) × (length kept.history < most_entries)
+    × (most_version ≤ book.version)))
 
 -- the history may have an entry more, after which the print has so many characters
 pub record TakesEntry (book : Book) (kept : KeptParagraph) (count : ℕ) : Type 0 where

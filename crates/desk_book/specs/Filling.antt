@@ -13,7 +13,8 @@ use Rattle.desk_parts.specs.Puts.{PutRow, RowPut}
 abbrev pub entry_put : ℕ → ℕ × KeptEntry → RowPut
 entry_put id (seq, entry) = PutRow NamedCorr (entry_row id seq entry)
 
--- the entries of the history of the paragraph with this id from an index on, with their numbers from 1
+-- the entries of the history of the paragraph with this id from an index on, with their numbers
+-- from 1
 abbrev pub entry_puts_from : (id index : ℕ) → List KeptEntry → List RowPut
 entry_puts_from id index entries = map (entry_put id) (drop index (enumerate_from 1 entries))
 
@@ -33,7 +34,8 @@ braille_put (id, kept) = cache_put id kept.cells
 abbrev pub braille_from : ℕ → KeptParagraphs → List RowPut
 braille_from place kept = map braille_put (drop place kept)
 
--- there are no more paragraphs than a book may have, each with no more entries than a history may have
+-- there are no more paragraphs than a book may have, each with no more entries than a history may
+-- have
 abbrev pub HaveHistories : KeptParagraphs → Type 0
 HaveHistories kept =
     (length kept ≤ most_paragraphs) × All (λ entry. length entry.1.history ≤ most_entries) kept

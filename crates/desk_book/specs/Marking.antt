@@ -18,7 +18,8 @@ AreMarkedIn meaning print cell count start end =
 -- no cell is asked for, or more than there are
 abbrev pub AreNotMarkedIn : Meaning → List ℕ → (cell count : ℕ) → Type 0
 AreNotMarkedIn meaning print cell count =
-    (choices : List Choice) → Tiles meaning print choices → (count ≡ 0) ⊎ (length (braille meaning print choices) < cell + count)
+    (choices : List Choice) → Tiles meaning print choices
+    → (count ≡ 0) ⊎ (length (braille meaning print choices) < cell + count)
 
 -- the kept mark is the book's with this id
 abbrev pub IsKeptMarkFor : Book → ℕ → KeptMark → Type 0
@@ -26,4 +27,5 @@ IsKeptMarkFor book id kept = mark_of book id ≡ Some (mark_kept (id, kept))
 
 -- the braille of the print has this many cells
 abbrev pub HasCells : Meaning → List ℕ → ℕ → Type 0
-HasCells meaning print cells = (choices : List Choice) → Tiles meaning print choices → cells ≡ length (braille meaning print choices)
+HasCells meaning print cells = (choices : List Choice) → Tiles meaning print choices
+    → cells ≡ length (braille meaning print choices)

@@ -22,14 +22,17 @@ use Rattle.desk_model.specs.Refusals.{IsAccepted, IsRefused}
 use Rattle.desk_model.specs.Step.{Makes}
 use Rattle.desk_model.specs.Characters.{AreCharacters}
 
--- the command is accepted, the effect is what it does, and what it puts into the book is of characters
+-- the command is accepted, the effect is what it does, and what it puts into the book is of
+-- characters
 abbrev pub IsPlanned : Book → Command → Effect → Type 0
 IsPlanned book command effect =
-    IsAccepted book None command × ((next : Book) × Makes book command next × Does book command next effect) × HasCharacters command
+    IsAccepted book None command × ((next : Book) × Makes book command next × Does book command next effect)
+    × HasCharacters command
 
 -- the command is refused with the first refusal that holds, or an allocation failed
 abbrev pub IsTurnedDown : Book → Command → Refusal → Type 0
-IsTurnedDown book command refusal = IsRefused book None command refusal ⊎ ((refusal ≡ NoMemory) × MayLackMemory book None command)
+IsTurnedDown book command refusal =
+    IsRefused book None command refusal ⊎ ((refusal ≡ NoMemory) × MayLackMemory book None command)
 
 -- the book has paragraphs with these ids
 abbrev pub AreThere : Book → List ℕ → Type 0
@@ -50,7 +53,8 @@ pub record IsTableFor (book : Book) (name : List ℕ) (table : BookTable) : Type
   pub found : text_of book name ≡ Some table.text
   pub means : Means table.text table.rules
 
--- the kept paragraph was just typed: it uses this table, has this print and the cells by this meaning
+-- the kept paragraph was just typed: it uses this table, has this print and the cells by this
+-- meaning
 pub record IsNewParagraph (table print : List ℕ) (meaning : Meaning) (kept : KeptParagraph) : Type 0 where
   pub table_is : kept.table ≡ table
   pub original : kept.original ≡ print

@@ -13,9 +13,9 @@ use desk_rebuild::{KeptBook, rebuild};
 use std::alloc::{AllocError, Global};
 use std::marker::Model;
 
-/// A book: its tables, its paragraphs with their prints and their braille, its marks, and its version, which each command
-/// raises by one. Contracts see what was typed, corrected and marked; that it is sound, and that the cells are those of the
-/// prints, is true of every book.
+/// A book: its tables, its paragraphs with their prints and their braille, its marks, and its
+/// version, which each command raises by one. Contracts see what was typed, corrected and marked;
+/// that it is sound, and that the cells are those of the prints, is true of every book.
 #[derive(Drop)]
 pub struct Book {
     pub(crate) version: u64,
@@ -48,12 +48,13 @@ impl Book {
         })
     }
 
-    /// The book that the parts show. Its braille is that of the rows of `cache`, which has to be that of the prints; without
-    /// these rows it is made.
+    /// The book that the parts show. Its braille is that of the rows of `cache`, which has to be
+    /// that of the prints; without these rows it is made.
     ///
     /// # Errors
     ///
-    /// The first damage of parts that show no book, and [`PartsFault::NoMemory`] if an allocation failed.
+    /// The first damage of parts that show no book, and [`PartsFault::NoMemory`] if an allocation
+    /// failed.
     pub fn rebuild(alloc: Global, parts: Parts) -> Result<Self, PartsFault>
         ensures shown { IfOk result (Shows (rows_in parts)) }
         ensures damaged { IfErr result (IsFaultOf (rows_in parts)) }
@@ -72,8 +73,8 @@ impl Book {
         })
     }
 
-    /// The version: how many commands were accepted. Each book is sound: all of it is within its limits, what it
-    /// names is there, and each print is defined by its table.
+    /// The version: how many commands were accepted. Each book is sound: all of it is within its
+    /// limits, what it names is there, and each print is defined by its table.
     pub fn version(&self) -> u64
         ensures version { result ≡ self.now.version }
         ensures sound { IsSound self.now }

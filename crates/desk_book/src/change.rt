@@ -24,7 +24,8 @@ pub(crate) enum Effect {
         name: Text,
         /// What comes in its place.
         table: BoxedTable,
-        /// For each paragraph in the order of ids its new cells, or nothing if it doesn't use the table.
+        /// For each paragraph in the order of ids its new cells, or nothing if it doesn't use the
+        /// table.
         cells: Vec<Option<Cells>>,
     },
     /// A paragraph comes.
@@ -86,8 +87,9 @@ pub(crate) enum Effect {
     },
 }
 
-/// What an accepted command changes in the book on which it was planned. Contracts see the version that it gives the book
-/// and the number that the command answers, and that it carries the command out.
+/// What an accepted command changes in the book on which it was planned. Contracts see the version
+/// that it gives the book and the number that the command answers, and that it carries the command
+/// out.
 #[derive(Drop)]
 pub struct Change {
     /// The book's new version.
@@ -110,7 +112,8 @@ impl Model for Change {
 }
 
 impl Change {
-    /// The number that the command answers: the id of a new paragraph or mark, or the number of a new entry of a history.
+    /// The number that the command answers: the id of a new paragraph or mark, or the number of a
+    /// new entry of a history.
     pub fn number(&self) -> Option<u64>
         ensures { result ≡ self.now.number }
     {

@@ -194,7 +194,8 @@ fn next_braille<'a>(braille: &mut Option<BraillePuts<'a>>) -> Option<Put<'a>>
     }
 }
 
-/// What a book puts into new tables of its file, in order. It allocates nothing. Contracts see what is left.
+/// What a book puts into new tables of its file, in order. It allocates nothing. Contracts see what
+/// is left.
 #[derive(Drop)]
 pub struct Filling<'a> {
     book: Option<Put<'a>>,
@@ -235,9 +236,10 @@ impl<'a> Iterator for Filling<'a> {
 }
 
 impl Book {
-    /// What the book puts into new tables of its file, which are empty: the row of the book in format 2 with the
-    /// entries of all histories, or the braille of all paragraphs, or both. Rows that show the book show it still once
-    /// they have these tables, and this in them. It allocates nothing.
+    /// What the book puts into new tables of its file, which are empty: the row of the book in
+    /// format 2 with the entries of all histories, or the braille of all paragraphs, or both. Rows
+    /// that show the book show it still once they have these tables, and this in them. It allocates
+    /// nothing.
     pub fn filling(&self, tables: NewTables) -> Filling<'_>
         ensures { Fills tables self.now result }
     {

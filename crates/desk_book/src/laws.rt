@@ -14,8 +14,8 @@ pub use desk_model::laws::{
     undo_restores_the_print,
 };
 
-/// What a change of a sound book puts makes rows that show the book, and have `corr2` if an entry is put, show the next one,
-/// and only what the command changes is among it.
+/// What a change of a sound book puts makes rows that show the book, and have `corr2` if an entry
+/// is put, show the next one, and only what the command changes is among it.
 pub fn puts_make_the_next_book()
     ensures leads { (book next : Book) (command : Command) (change : Change) → IsSound book
         → Carries book command next change → LeadTo book (change_puts book change) next }

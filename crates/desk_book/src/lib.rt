@@ -1,9 +1,9 @@
-//! The book that a transcriber works on: its tables, paragraphs and marks, the commands that change them, and
-//! what is shown of them.
+//! The book that a transcriber works on: its tables, paragraphs and marks, the commands that change
+//! them, and what is shown of them.
 //!
-//! A command is planned on a book first: it is refused, and all stays as it was, or it gives a change, which has room
-//! for all that it adds. The change is then applied, and this can't fail. So a change can be written to a file between
-//! the two.
+//! A command is planned on a book first: it is refused, and all stays as it was, or it gives a
+//! change, which has room for all that it adds. The change is then applied, and this can't fail. So
+//! a change can be written to a file between the two.
 //!
 //! ```rust
 //! use desk_book::Book;
@@ -16,9 +16,10 @@
 //! assert_eq!(rt; book.version(), 1);
 //! ```
 //!
-//! `desk_model` says what a book is, what each command makes of it and when it is refused. `desk_memory` keeps a book's
-//! tables, paragraphs and marks in memory, and `desk_rebuild` makes them of the rows of a file. Files are left to
-//! `desk_store`, pages to `desk_brf`, and the lines of requests and replies to `desk_line`.
+//! `desk_model` says what a book is, what each command makes of it and when it is refused.
+//! `desk_memory` keeps a book's tables, paragraphs and marks in memory, and `desk_rebuild` makes
+//! them of the rows of a file. Files are left to `desk_store`, pages to `desk_brf`, and the lines
+//! of requests and replies to `desk_line`.
 #![tactic(auto)]
 
 mod book;

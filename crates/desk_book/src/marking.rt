@@ -32,8 +32,8 @@ fn are_there(cells: usize, cell: usize, count: usize) -> bool
     0 < count && count <= cells && cell <= cells - count
 }
 
-/// The places of a print that so many cells, from one on, stand for: the first, and that after the last. Its braille has
-/// this many cells.
+/// The places of a print that so many cells, from one on, stand for: the first, and that after the
+/// last. Its braille has this many cells.
 fn span_of_cells(
     rules: &RuleIndex,
     print: &[char],
@@ -44,7 +44,7 @@ fn span_of_cells(
     requires defined { AreDefined rules.now print.now }
     requires cells { HasCells rules.now print.now cells }
     ensures there { IfOk result (λ span. AreMarkedIn rules.now print.now cell count span.0 span.1) }
-    ensures past { IfErr result (λ refusal. (refusal ≡ Refusal.BadSpan) × AreNotMarkedIn rules.now print.now cell count) }
+    ensures past { IfErr result (λ why. (why ≡ Refusal.BadSpan) × AreNotMarkedIn rules.now print.now cell count) }
 {
     if !are_there(cells, cell, count) {
         return Err(Refusal::BadSpan);

@@ -15,7 +15,8 @@ ghost use Rattle.louis_table.specs.Table.{Bad, Means};
 ghost use Rattle.louis_translate.specs.Position.{AreDefined, IsFirstUndefined};
 ghost use Rattle.std.specs.Str.{chars};
 ghost use Rattle.std.specs.List.{All};
-ghost use Rattle.std.specs.Prelude.{◌≡◌, ◌≢◌, ◌↔◌, ◌⊎◌, ◌<◌, ◌≤◌, IfErr, IfOk, IsSome, IsTrue, MatchOption, None, OnOk, ◌+◌, length, option_map};
+ghost use Rattle.std.specs.Prelude.{◌≡◌, ◌≢◌, ◌↔◌, ◌⊎◌, ◌<◌, ◌≤◌, IfErr, IfOk, IsSome, IsTrue};
+ghost use Rattle.std.specs.Prelude.{MatchOption, None, OnOk, ◌+◌, length, option_map};
 
 use super::book::Book;
 use super::change::{Change, Effect};
@@ -143,20 +144,22 @@ fn with_volume(id: u64, paragraph: &Paragraph, begins: bool) -> Effect
 }
 
 impl Book {
-    /// The change that a command makes, if it is accepted, with room for all that it adds. The book stays as it is.
+    /// The change that a command makes, if it is accepted, with room for all that it adds. The book
+    /// stays as it is.
     ///
     /// # Errors
     ///
-    /// The first refusal that holds, in this order: another version than the expected one; a bad name of a table; a bad
-    /// name of a proofreader; a barred character; no such paragraph; no such table; no such mark; a paragraph that is
-    /// struck; one that isn't; a resolved mark; places that are not all there; nothing to undo; a text that is too long;
-    /// a limit, the one with the smallest number; a bad table; an undefined character; a paragraph that a table no longer
+    /// The first refusal that holds, in this order: another version than the expected one; a bad
+    /// name of a table; a bad name of a proofreader; a barred character; no such paragraph; no such
+    /// table; no such mark; a paragraph that is struck; one that isn't; a resolved mark; places
+    /// that are not all there; nothing to undo; a text that is too long; a limit, the one with the
+    /// smallest number; a bad table; an undefined character; a paragraph that a table no longer
     /// defines.
     ///
-    /// `NoMemory` if an allocation failed, and no refusal holds that is checked before the command allocates. Resolve,
-    /// Strike, Restore, Style and Volume allocate nothing; Mark, Retable and Move only once no refusal holds; Table when its
-    /// text is read; TypeIn and Correct before a text that is too long is refused; Undo before the characters of its print
-    /// are checked.
+    /// `NoMemory` if an allocation failed, and no refusal holds that is checked before the command
+    /// allocates. Resolve, Strike, Restore, Style and Volume allocate nothing; Mark, Retable and
+    /// Move only once no refusal holds; Table when its text is read; TypeIn and Correct before a
+    /// text that is too long is refused; Undo before the characters of its print are checked.
     pub fn plan(
         &self,
         alloc: Global,

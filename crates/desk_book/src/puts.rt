@@ -1,6 +1,8 @@
 //! What a change puts into the rows of its book's file.
 ghost use Rattle.desk_model.specs.Loans.{AreLent, LeadTo, row_number};
-ghost use Rattle.desk_book.specs.ChangePuts.{cache_put, cells_from, effect_puts, elsewhere_from, entry_row, flags_put, further_from, kept_mark_row, kept_row, place_put, resolved_put, span_put, stays_in, tab_put, used_table_put, version_put};
+ghost use Rattle.desk_book.specs.ChangePuts.{cache_put, cells_from, effect_puts, elsewhere_from, entry_row, flags_put};
+ghost use Rattle.desk_book.specs.ChangePuts.{further_from, kept_mark_row, kept_row, place_put, resolved_put, span_put};
+ghost use Rattle.desk_book.specs.ChangePuts.{stays_in, tab_put, used_table_put, version_put};
 ghost use Rattle.desk_book.specs.Changes.{Carries, Does, change_puts};
 ghost use Rattle.desk_model.specs.Limits.{most_paragraphs, most_print};
 ghost use Rattle.desk_model.specs.ParagraphMarks.{marks_on};
@@ -19,7 +21,8 @@ use desk_model::{Span, Style, Text};
 use desk_parts::{CachePut, MarkPut, NamedCorrPut, ParaPut, Put, TabPut};
 use std::marker::Model;
 
-/// A number of a book as one of a row. Each is far below the greatest of a row, which stands for any that is not.
+/// A number of a book as one of a row. Each is far below the greatest of a row, which stands for
+/// any that is not.
 pub(crate) fn number(n: u64) -> i64
     ensures { result ≡ row_number n }
 {
@@ -69,8 +72,8 @@ pub(crate) fn entry(id: u64, seq: u64, entry: &KeptEntry) -> Put<'_>
     }
 }
 
-/// The new cells of paragraphs, those of the paragraph with id n at the index n - 1, if it has any. Contracts see those
-/// that are left.
+/// The new cells of paragraphs, those of the paragraph with id n at the index n - 1, if it has any.
+/// Contracts see those that are left.
 #[derive(Drop)]
 struct CellPuts<'a> {
     cells: &'a [Option<Cells>],
@@ -118,7 +121,8 @@ impl<'a> CellPuts<'a> {
     }
 }
 
-/// The places of paragraphs that move on by one, those from an index of the order on. Contracts see those that are left.
+/// The places of paragraphs that move on by one, those from an index of the order on. Contracts see
+/// those that are left.
 #[derive(Drop)]
 struct FurtherPuts<'a> {
     order: &'a [u64],
@@ -156,7 +160,8 @@ impl<'a> FurtherPuts<'a> {
     }
 }
 
-/// The places of paragraphs that stand elsewhere in a new order than in the old one. Contracts see those that are left.
+/// The places of paragraphs that stand elsewhere in a new order than in the old one. Contracts see
+/// those that are left.
 #[derive(Drop)]
 struct ElsewherePuts<'a> {
     was: &'a [u64],
@@ -187,7 +192,8 @@ fn stays(was: &[u64], order: &[u64], index: usize) -> bool
     }
 }
 
-/// The first place, from 1, after an index of a new order at which another paragraph stands than in the old one.
+/// The first place, from 1, after an index of a new order at which another paragraph stands than in
+/// the old one.
 fn first_elsewhere(was: &[u64], order: &[u64], from: usize) -> Option<usize>
     ensures within { IfSome result (λ place. (0 < place) × (place ≤ length order.now)) }
     ensures found { IfSome result (λ place. elsewhere_from from was.now order.now
@@ -266,7 +272,8 @@ impl<'a> SpanPuts<'a> {
     }
 }
 
-/// What follows from a list of the book or of the change, one put for each of its items that changes.
+/// What follows from a list of the book or of the change, one put for each of its items that
+/// changes.
 #[derive(Drop)]
 enum Walk<'a> {
     Nothing,
@@ -299,7 +306,8 @@ impl<'a> Walk<'a> {
     }
 }
 
-/// What a change puts into the rows of its book's file, in order. It allocates nothing. Contracts see what is left.
+/// What a change puts into the rows of its book's file, in order. It allocates nothing. Contracts
+/// see what is left.
 #[derive(Drop)]
 pub struct Puts<'a> {
     version: Option<Put<'a>>,
@@ -598,10 +606,11 @@ impl Effect {
 }
 
 impl Change {
-    /// What the change puts into the rows of the file of the book on which it was planned: the version, and the rows and the
-    /// columns of rows that it gives, to be put by their keys. Put into any rows that show the book, with the table of entries
-    /// with names if one is among it, it makes rows that show the next book: braille is put only if there is `cache`. It
-    /// allocates nothing.
+    /// What the change puts into the rows of the file of the book on which it was planned: the
+    /// version, and the rows and the columns of rows that it gives, to be put by their keys. Put
+    /// into any rows that show the book, with the table of entries with names if one is among it,
+    /// it makes rows that show the next book: braille is put only if there is `cache`. It allocates
+    /// nothing.
     pub fn puts<'a>(&'a self, book: &'a Book) -> Puts<'a>
         requires { (command : _) × (next : _) × Carries book.now command next self.now }
         ensures these { result ≡ change_puts book.now self.now }

@@ -20,7 +20,7 @@ impl Book {
     pub(crate) fn kept_paragraph(&self, id: u64) -> Result<&Paragraph, Refusal>
         ensures found { IfOk result (λ kept. IsKeptFor self.now id kept.now) }
         ensures shown { IfOk result (λ kept. (meaning : Meaning) × IsShown self.now id kept.now meaning) }
-        ensures missing { IfErr result (λ refusal. (refusal ≡ Refusal.NoParagraph) × (paragraph_of self.now id ≡ None)) }
+        ensures missing { IfErr result (λ why. (why ≡ Refusal.NoParagraph) × (paragraph_of self.now id ≡ None)) }
     {
         self.paragraphs.get(id).ok_or(Refusal::NoParagraph)
     }
@@ -28,7 +28,7 @@ impl Book {
     /// A paragraph as it is kept, and the rules of its table.
     pub(crate) fn paragraph_and_rules(&self, id: u64) -> Result<(&Paragraph, &RuleIndex), Refusal>
         ensures found { IfOk result (λ shown. IsShown self.now id shown.0.now shown.1.now) }
-        ensures missing { IfErr result (λ refusal. (refusal ≡ Refusal.NoParagraph) × (paragraph_of self.now id ≡ None)) }
+        ensures missing { IfErr result (λ why. (why ≡ Refusal.NoParagraph) × (paragraph_of self.now id ≡ None)) }
     {
         let Some(paragraph) = self.paragraphs.get(id) else {
             return Err(Refusal::NoParagraph);
@@ -47,7 +47,7 @@ impl Book {
     pub fn print(&self, id: u64) -> Result<&[char], Refusal>
         ensures found { IfOk result (λ print. (paragraph : _) × (paragraph_of self.now id ≡ Some paragraph)
             × (print.now ≡ print_of paragraph)) }
-        ensures missing { IfErr result (λ refusal. (refusal ≡ Refusal.NoParagraph) × (paragraph_of self.now id ≡ None)) }
+        ensures missing { IfErr result (λ why. (why ≡ Refusal.NoParagraph) × (paragraph_of self.now id ≡ None)) }
     {
         let paragraph = self.kept_paragraph(id)?;
         Ok(paragraph.print.as_slice())
@@ -61,18 +61,19 @@ impl Book {
     pub fn cells(&self, id: u64) -> Result<&[Cell], Refusal>
         ensures found { IfOk result (λ cells. (paragraph : _) × (paragraph_of self.now id ≡ Some paragraph)
             × IsBraille self.now paragraph cells.now) }
-        ensures missing { IfErr result (λ refusal. (refusal ≡ Refusal.NoParagraph) × (paragraph_of self.now id ≡ None)) }
+        ensures missing { IfErr result (λ why. (why ≡ Refusal.NoParagraph) × (paragraph_of self.now id ≡ None)) }
     {
         let paragraph = self.kept_paragraph(id)?;
         Ok(paragraph.cells.as_slice())
     }
 
-    /// The output place of a place of a paragraph's print, from 0: the first cell made for the choice that covers it.
+    /// The output place of a place of a paragraph's print, from 0: the first cell made for the
+    /// choice that covers it.
     ///
     /// # Errors
     ///
-    /// `NoParagraph` exactly if the book has no such paragraph, else `BadSpan` exactly if its print has no such
-    /// place.
+    /// `NoParagraph` exactly if the book has no such paragraph, else `BadSpan` exactly if its print
+    /// has no such place.
     pub fn where_is(&self, id: u64, place: usize) -> Result<usize, Refusal>
         ensures found { IfOk result (λ cell. (paragraph : _) × (paragraph_of self.now id ≡ Some paragraph)
             × IsOutputPlace self.now paragraph place cell) }
@@ -89,12 +90,13 @@ impl Book {
         Ok(output_place(rules, paragraph.print.as_slice(), place))
     }
 
-    /// The print place of a cell of a paragraph's braille, from 0: the first place of the choice that made it.
+    /// The print place of a cell of a paragraph's braille, from 0: the first place of the choice
+    /// that made it.
     ///
     /// # Errors
     ///
-    /// `NoParagraph` exactly if the book has no such paragraph, else `BadSpan` exactly if its braille has no such
-    /// cell.
+    /// `NoParagraph` exactly if the book has no such paragraph, else `BadSpan` exactly if its
+    /// braille has no such cell.
     pub fn whence(&self, id: u64, cell: usize) -> Result<usize, Refusal>
         ensures found { IfOk result (λ place. (paragraph : _) × (paragraph_of self.now id ≡ Some paragraph)
             × IsPrintPlace self.now paragraph cell place) }
@@ -114,7 +116,7 @@ impl Book {
     pub fn history(&self, id: u64) -> Result<History<'_>, Refusal>
         ensures found { IfOk result (λ history. (paragraph : _) × (paragraph_of self.now id ≡ Some paragraph)
             × (history ≡ enumerate_from 1 paragraph.history)) }
-        ensures missing { IfErr result (λ refusal. (refusal ≡ Refusal.NoParagraph) × (paragraph_of self.now id ≡ None)) }
+        ensures missing { IfErr result (λ why. (why ≡ Refusal.NoParagraph) × (paragraph_of self.now id ≡ None)) }
     {
         let paragraph = self.kept_paragraph(id)?;
         Ok(History::new(paragraph.history.as_slice()))
@@ -128,7 +130,7 @@ impl Book {
     pub fn marks(&self, id: u64) -> Result<ParagraphMarks<'_>, Refusal>
         ensures found { IfOk result (λ marks. (paragraph : _) × (paragraph_of self.now id ≡ Some paragraph)
             × (marks ≡ marks_on id self.now.marks)) }
-        ensures missing { IfErr result (λ refusal. (refusal ≡ Refusal.NoParagraph) × (paragraph_of self.now id ≡ None)) }
+        ensures missing { IfErr result (λ why. (why ≡ Refusal.NoParagraph) × (paragraph_of self.now id ≡ None)) }
     {
         let Some(paragraph) = self.paragraphs.get(id) else {
             return Err(Refusal::NoParagraph);

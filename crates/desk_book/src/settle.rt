@@ -21,7 +21,8 @@ impl Book {
         }
     }
 
-    /// The book at a version, with another text of a table, and other cells of the paragraphs that use it.
+    /// The book at a version, with another text of a table, and other cells of the paragraphs that
+    /// use it.
     fn with_table_replaced(
         mut self,
         version: u64,
@@ -47,7 +48,8 @@ impl Book {
         place: usize,
     ) -> Self
         requires { (next : _) × IsEffect self version (Effect.AddParagraph paragraph room order_room place) next }
-        ensures { (next : _) → IsEffect self version (Effect.AddParagraph paragraph room order_room place) next → result ≡ next }
+        ensures { (next : _) → IsEffect self version (Effect.AddParagraph paragraph room order_room place) next
+            → result ≡ next }
     {
         Book {
             version,
@@ -68,7 +70,8 @@ impl Book {
         struck: bool,
     ) -> Self
         requires { (next : _) × IsEffect self version (Effect.SetFlags id style begins_volume struck) next }
-        ensures { (next : _) → IsEffect self version (Effect.SetFlags id style begins_volume struck) next → result ≡ next }
+        ensures { (next : _) → IsEffect self version (Effect.SetFlags id style begins_volume struck) next
+            → result ≡ next }
     {
         self.paragraphs.set_flags(id, style, begins_volume, struck);
         Book { version, ..self }
@@ -95,7 +98,8 @@ impl Book {
         }
     }
 
-    /// The book at a version, with another print of a paragraph and an entry more in its history, and its marks moved.
+    /// The book at a version, with another print of a paragraph and an entry more in its history,
+    /// and its marks moved.
     fn with_print_changed(mut self, version: u64, id: u64, change: PrintChange) -> Self
         requires { (next : _) × IsEffect self version (Effect.ChangePrint id change) next }
         ensures { (next : _) → IsEffect self version (Effect.ChangePrint id change) next → result ≡ next }

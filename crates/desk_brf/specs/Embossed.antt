@@ -20,7 +20,8 @@ pub record IsTextLine (width : ℕ) (line : List ℕ) : Type 0 where
 abbrev pub IsEmbossedByte : ℕ → Type 0
 IsEmbossedByte byte = IsCellByte byte ⊎ (byte ≡ 0x0D) ⊎ (byte ≡ 0x0A) ⊎ (byte ≡ 0x0C)
 
--- what stands before the form feed of a page: so many lines, each ended by a line feed, and no other form feed
+-- what stands before the form feed of a page: so many lines, each ended by a line feed, and no
+-- other form feed
 pub record IsPageText (lines : ℕ) (text : List ℕ) : Type 0 where
   pub line_feeds : count_by (λ byte. byte == 0x0A) text ≡ lines
   pub no_form_feed : All (λ byte. byte ≢ 0x0C) text

@@ -9,7 +9,8 @@ use Rattle.desk_brf.specs.Layout.{Layout}
 use Rattle.desk_brf.specs.Volumes.{volume_of}
 use Rattle.desk_brf.specs.Volume.{HasSixDotCells, IsFirstEightDot, IsVolume}
 
--- the volume is there, and its cells have only the dots 1 to 6; or it is reported why it can't be exported
+-- the volume is there, and its cells have only the dots 1 to 6; or it is reported why it can't be
+-- exported
 abbrev pub IsJudged : Book → ℕ → Result (Unit {0}) ExportFault → Type 0
 IsJudged book number (Ok none) =
     (volume_of book number ≢ []) × All (HasSixDotCells book) (volume_of book number)
@@ -18,8 +19,9 @@ IsJudged book number (Err (NotSixDots paragraph cell)) =
     IsFirstEightDot book (volume_of book number) paragraph cell
 IsJudged book number (Err Write) = ⊥
 
--- the volume went out whole; or the sink is as it was, and it is reported why; or the sink failed, and a beginning of
--- the volume went out; if anything went out, the volume's cells have only the dots 1 to 6
+-- the volume went out whole; or the sink is as it was, and it is reported why; or the sink failed,
+-- and a beginning of the volume went out; if anything went out, the volume's cells have only the
+-- dots 1 to 6
 abbrev pub IsExported : {K : Type 0} → Ghosts K → K → K → Book → Layout → ℕ → Result ℕ ExportFault → Type 0
 IsExported sink old new book layout number (Ok pages) =
     (bytes : List ℕ) × IsVolume book layout number bytes pages

@@ -1,5 +1,6 @@
 -- What the functions that lay lines do to them. Only private functions and proofs need these words.
-use Rattle.std.specs.Prelude.{◌≡◌, ℕ, ◌+◌, ◌-◌, ◌/◌, ◌%◌, ◌<◌, ◌≤◌, ◌==◌, if◌then◌else◌, Bool, true, List, [], ◌∷◌, ◌++◌, length, replicate, Option, Result, is_ok, IfOk}
+use Rattle.std.specs.Prelude.{◌≡◌, ℕ, ◌+◌, ◌-◌, ◌/◌, ◌%◌, ◌<◌, ◌≤◌, ◌==◌, if◌then◌else◌, Bool, true, List}
+use Rattle.std.specs.Prelude.{[], ◌∷◌, ◌++◌, length, replicate, Option, Result, is_ok, IfOk}
 use Rattle.std.specs.List.{flat_map}
 use Rattle.desk_model.specs.Book.{Book, Paragraph}
 use Rattle.desk_model.specs.declared.style.Style.{Style}
@@ -9,7 +10,8 @@ use Rattle.desk_brf.specs.Pages.{ArePages, number_line, with_ending}
 use Rattle.desk_brf.specs.Placing.{IsAscii, IsText, IsLine, cells_of_pieces, first_indent, other_indent}
 use Rattle.desk_brf.specs.Volume.{AreLines, gap_before}
 
--- what stands after the line with a number, counted from 1: the end of its page, if it is the last one there
+-- what stands after the line with a number, counted from 1: the end of its page, if it is the last
+-- one there
 abbrev pub page_end : Layout → ℕ → List ℕ
 page_end layout line =
     if line % text_lines layout == 0
@@ -57,22 +59,27 @@ pub record LaysLine (room : ℕ) (words left : List (List ℕ)) (old new : List 
   pub ascii : IsAscii (cells_of_pieces pieces) bytes
   pub adds : new ≡ old ++ bytes
 
--- the lines of words, the first after so many blanks and the others after so many, are sent, or a beginning of them
-pub record PutsLines (F : Type 0) (old new : Option (List ℕ)) (layout : Layout) (first other : ℕ) (words : List (List ℕ)) (before after : ℕ) (whole : Bool) : Type 0 where
+-- the lines of words, the first after so many blanks and the others after so many, are sent, or a
+-- beginning of them
+pub record PutsLines (F : Type 0) (old new : Option (List ℕ)) (layout : Layout) (first other : ℕ)
+    (words : List (List ℕ)) (before after : ℕ) (whole : Bool) : Type 0 where
   pub lines : List (List ℕ)
   pub placed : AreLaid layout.width first other words lines
   pub sent : Transmits F old new (bytes_of_lines layout before lines) [] whole
   pub count : whole ≡ true → after ≡ before + length lines
 
--- the lines of a paragraph with these words, after the empty line of a heading, are sent, or a beginning of them
-pub record PutsParagraph (F : Type 0) (old new : Option (List ℕ)) (layout : Layout) (style : Style) (words : List (List ℕ)) (before after : ℕ) (whole : Bool) : Type 0 where
+-- the lines of a paragraph with these words, after the empty line of a heading, are sent, or a
+-- beginning of them
+pub record PutsParagraph (F : Type 0) (old new : Option (List ℕ)) (layout : Layout) (style : Style)
+    (words : List (List ℕ)) (before after : ℕ) (whole : Bool) : Type 0 where
   pub lines : List (List ℕ)
   pub placed : AreLaid layout.width (first_indent style) (other_indent style) words lines
   pub sent : Transmits F old new (bytes_of_lines layout before (gap_before layout before style lines ++ lines)) [] whole
   pub count : whole ≡ true → after ≡ before + length (gap_before layout before style lines ++ lines)
 
 -- empty lines are sent until the page is full, or a beginning of them
-pub record FillsPage (F : Type 0) (old new : Option (List ℕ)) (layout : Layout) (before after : ℕ) (whole : Bool) : Type 0 where
+pub record FillsPage (F : Type 0) (old new : Option (List ℕ)) (layout : Layout) (before after : ℕ)
+    (whole : Bool) : Type 0 where
   pub blank : ℕ
   pub fewest : blank < text_lines layout
   pub full : (before + blank) % text_lines layout ≡ 0
@@ -80,14 +87,17 @@ pub record FillsPage (F : Type 0) (old new : Option (List ℕ)) (layout : Layout
   pub count : whole ≡ true → after ≡ before + blank
 
 -- the lines of a volume's paragraphs are sent, or a beginning of them
-pub record PutsParagraphs (F : Type 0) (old new : Option (List ℕ)) (book : Book) (layout : Layout) (paragraphs : List Paragraph) (after : ℕ) (whole : Bool) : Type 0 where
+pub record PutsParagraphs (F : Type 0) (old new : Option (List ℕ)) (book : Book) (layout : Layout)
+    (paragraphs : List Paragraph) (after : ℕ) (whole : Bool) : Type 0 where
   pub lines : List (List ℕ)
   pub placed : AreLines book layout 0 paragraphs lines
   pub sent : Transmits F old new (bytes_of_lines layout 0 lines) [] whole
   pub count : whole ≡ true → after ≡ length lines
 
--- the pages of a volume's paragraphs are sent, and their number is given, or a beginning of them is sent
-pub record PutsPages (F : Type 0) (old new : Option (List ℕ)) (book : Book) (layout : Layout) (paragraphs : List Paragraph) {E : Type 0} (answer : Result ℕ E) : Type 0 where
+-- the pages of a volume's paragraphs are sent, and their number is given, or a beginning of them is
+-- sent
+pub record PutsPages (F : Type 0) (old new : Option (List ℕ)) (book : Book) (layout : Layout)
+    (paragraphs : List Paragraph) {E : Type 0} (answer : Result ℕ E) : Type 0 where
   pub lines : List (List ℕ)
   pub placed : AreLines book layout 0 paragraphs lines
   pub bytes : List ℕ

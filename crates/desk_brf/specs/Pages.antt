@@ -1,5 +1,6 @@
 -- The pages of a volume.
-use Rattle.std.specs.Prelude.{◌≡◌, ℕ, ◌+◌, ◌-◌, ◌<◌, ◌==◌, if◌then◌else◌, List, [], ◌∷◌, ◌++◌, length, map, replicate, All}
+use Rattle.std.specs.Prelude.{◌≡◌, ℕ, ◌+◌, ◌-◌, ◌<◌, ◌==◌, if◌then◌else◌, List, []}
+use Rattle.std.specs.Prelude.{◌∷◌, ◌++◌, length, map, replicate, All}
 use Rattle.std.specs.List.{flat_map, enumerate_from}
 use Rattle.std.specs.Fmt.{decimal}
 use Rattle.desk_brf.specs.Layout.{Layout, text_lines}
@@ -12,7 +13,8 @@ digit_letter digit = if digit == 48 then 74 else digit + 16
 abbrev pub number_text : ℕ → List ℕ
 number_text number = 35 ∷ map digit_letter (decimal number)
 
--- the last line of a page: its number ends at the last cell of the width, or begins in cell 1 if it is wider
+-- the last line of a page: its number ends at the last cell of the width, or begins in cell 1 if it
+-- is wider
 abbrev pub number_line : (width number : ℕ) → List ℕ
 number_line width number = replicate (width - length (number_text number)) 32 ++ number_text number
 
@@ -24,7 +26,8 @@ with_ending line = line ++ 13 ∷ 10 ∷ []
 abbrev pub page_text : (width number : ℕ) → List (List ℕ) → List ℕ
 page_text width number page = flat_map with_ending (page ++ number_line width number ∷ []) ++ 12 ∷ []
 
--- the bytes are the pages that hold the lines, numbered from 1; the last page is filled with empty lines
+-- the bytes are the pages that hold the lines, numbered from 1; the last page is filled with empty
+-- lines
 pub record ArePages (layout : Layout) (lines : List (List ℕ)) (bytes : List ℕ) (count : ℕ) : Type 0 where
   pub pages : List (List (List ℕ))
   pub blank : ℕ

@@ -9,9 +9,11 @@ use Rattle.desk_model.specs.declared.style.Style.TheVariants.{Body, Heading}
 abbrev pub cells_of_pieces : List (List ℕ) → List ℕ
 cells_of_pieces pieces = join_with_byte 0 pieces
 
--- a line with room for so many cells takes these pieces from the front of the words, and leaves the rest
+-- a line with room for so many cells takes these pieces from the front of the words, and leaves the
+-- rest
 pub data IsLine (room : ℕ) (words pieces left : List (List ℕ)) : Type 0 where
-  -- the first word is longer than the room: it is cut there, and what remains of it is the next line's first word
+  -- the first word is longer than the room: it is cut there, and what remains of it is the next
+  -- line's first word
   cut : (front back : List ℕ) (others : List (List ℕ)) → words ≡ (front ++ back) ∷ others
       → length front ≡ room → 0 < length back
       → pieces ≡ front ∷ [] → left ≡ back ∷ others → IsLine room words pieces left
@@ -20,8 +22,8 @@ pub data IsLine (room : ℕ) (words pieces left : List (List ℕ)) : Type 0 wher
       → ((next : List ℕ) (others : List (List ℕ)) → left ≡ next ∷ others
       → room < length (cells_of_pieces (pieces ++ next ∷ []))) → IsLine room words pieces left
 
--- a placing of words: the pieces of each line, where the first line has room for so many cells and each other one for so
--- many; no words give no line
+-- a placing of words: the pieces of each line, where the first line has room for so many cells and
+-- each other one for so many; no words give no line
 abbrev pub IsPlacing : (first other : ℕ) → List (List ℕ) → List (List (List ℕ)) → Type 0
 IsPlacing first other words [] = words ≡ []
 IsPlacing first other words (pieces ∷ lines) =
@@ -35,7 +37,8 @@ IsAscii cells bytes = map ascii_cell bytes ≡ map Some cells
 abbrev pub IsText : ℕ → List (List ℕ) → List ℕ → Type 0
 IsText indent pieces bytes = IsAscii (replicate indent 0 ++ cells_of_pieces pieces) bytes
 
--- the bytes of a placing's lines, of the first after so many blanks and of each other one after so many
+-- the bytes of a placing's lines, of the first after so many blanks and of each other one after so
+-- many
 abbrev pub AreTexts : (first other : ℕ) → List (List (List ℕ)) → List (List ℕ) → Type 0
 AreTexts first other [] lines = lines ≡ []
 AreTexts first other (pieces ∷ placing) lines =

@@ -1,5 +1,6 @@
 -- A volume of a book in Braille Ready Format.
-use Rattle.std.specs.Prelude.{◌≡◌, ◌≢◌, ◌⊎◌, ℕ, ◌+◌, ◌<◌, ◌%◌, ◌==◌, if◌then◌else◌, List, [], ◌∷◌, ◌++◌, length, take, slice_index, All}
+use Rattle.std.specs.Prelude.{◌≡◌, ◌≢◌, ◌⊎◌, ℕ, ◌+◌, ◌<◌, ◌%◌, ◌==◌, if◌then◌else◌, List}
+use Rattle.std.specs.Prelude.{[], ◌∷◌, ◌++◌, length, take, slice_index, All}
 use Rattle.cell_core.specs.Cell.{HasDot}
 use Rattle.desk_model.specs.Book.{Book, Paragraph}
 use Rattle.desk_model.specs.Translation.{IsBraille}
@@ -43,7 +44,8 @@ IsSixDot cell = cell < 64
 abbrev pub HasSixDotCells : Book → Paragraph → Type 0
 HasSixDotCells book paragraph = (cells : List ℕ) × IsBraille book paragraph cells × All IsSixDot cells
 
--- the first cell of the paragraphs that has dot 7 or 8: in the paragraph with this id, at this place of its braille
+-- the first cell of the paragraphs that has dot 7 or 8: in the paragraph with this id, at this
+-- place of its braille
 pub record IsFirstEightDot (book : Book) (paragraphs : List Paragraph) (id place : ℕ) : Type 0 where
   pub before : List Paragraph
   pub paragraph : Paragraph

@@ -1,5 +1,6 @@
 -- The words of cells.
-use Rattle.std.specs.Prelude.{◌≡◌, ℕ, ◌==◌, ◌<◌, ◌≤◌, List, [], ◌∷◌, filter, length, drop, slice_index, Bool, true, false}
+use Rattle.std.specs.Prelude.{◌≡◌, ℕ, ◌==◌, ◌<◌, ◌≤◌, List, [], ◌∷◌, filter, length}
+use Rattle.std.specs.Prelude.{drop, slice_index, Bool, true, false}
 use Rattle.std.specs.List.{slice_split}
 
 -- the cell has no dots

@@ -10,14 +10,16 @@ ghost use Rattle.desk_brf.specs.Words.{is_blank, words};
 ghost use Rattle.std.specs.List.{flat_map};
 ghost use Rattle.std.specs.Prelude.{◌≡◌, ◌<◌, ℕ, All, List, filter, not};
 
-/// The words of cells have exactly one placing on lines that have room for at least one cell, as all lines of a layout do.
+/// The words of cells have exactly one placing on lines that have room for at least one cell, as
+/// all lines of a layout do.
 pub fn one_placing()
     ensures { (first other : ℕ) (cells : List ℕ) → 0 < first → 0 < other
         → (placing : List (List (List ℕ))) × IsPlacing first other (words cells) placing
         × ((others : List (List (List ℕ))) → IsPlacing first other (words cells) others → others ≡ placing) }
 {}
 
-/// A placing has the cells with dots of the paragraph in order, and no others: nothing is lost, and nothing is there twice.
+/// A placing has the cells with dots of the paragraph in order, and no others: nothing is lost, and
+/// nothing is there twice.
 pub fn whole_placing()
     ensures { (first other : ℕ) (cells : List ℕ) (placing : List (List (List ℕ)))
         → IsPlacing first other (words cells) placing
@@ -32,32 +34,32 @@ pub fn one_volume()
         → (others ≡ bytes) × (count ≡ pages) }
 {}
 
-/// Each line of text of a volume has at most as many cells as the width, and no blank at its end, if the layout keeps its
-/// limits.
+/// Each line of text of a volume has at most as many cells as the width, and no blank at its end,
+/// if the layout keeps its limits.
 pub fn narrow_lines()
     ensures { (book : Book) (layout : Layout) (number : ℕ) (bytes : List ℕ) (pages : ℕ)
         → IsLayout layout.width layout.lines → (volume : IsVolume book layout number bytes pages)
         → All (IsTextLine layout.width) volume.lines }
 {}
 
-/// Each byte of a volume stands for a cell, or is one of the CR, LF and form feed that end lines and pages, if the layout
-/// keeps its limits.
+/// Each byte of a volume stands for a cell, or is one of the CR, LF and form feed that end lines
+/// and pages, if the layout keeps its limits.
 pub fn embossed_bytes()
     ensures { (book : Book) (layout : Layout) (number : ℕ) (bytes : List ℕ) (pages : ℕ)
         → IsLayout layout.width layout.lines
         → IsVolume book layout number bytes pages → All IsEmbossedByte bytes }
 {}
 
-/// A volume's bytes are its pages, each ended by a form feed, the only one in it, and with just as many lines as the layout
-/// has in a page, if the layout keeps its limits.
+/// A volume's bytes are its pages, each ended by a form feed, the only one in it, and with just as
+/// many lines as the layout has in a page, if the layout keeps its limits.
 pub fn whole_pages()
     ensures { (book : Book) (layout : Layout) (number : ℕ) (bytes : List ℕ) (pages : ℕ)
         → IsLayout layout.width layout.lines
         → IsVolume book layout number bytes pages → ArePageTexts layout.lines pages bytes }
 {}
 
-/// The cells with dots of a volume's lines are, in order, those of its paragraphs' braille: nothing is lost, and nothing is
-/// there twice.
+/// The cells with dots of a volume's lines are, in order, those of its paragraphs' braille: nothing
+/// is lost, and nothing is there twice.
 pub fn whole_volume()
     ensures { (book : Book) (layout : Layout) (number : ℕ) (bytes : List ℕ) (pages : ℕ)
         → (volume : IsVolume book layout number bytes pages)

@@ -20,7 +20,8 @@ const MOST_LINES: u64 = 40;
 #[error("a page has {LEAST_WIDTH} to {MOST_WIDTH} cells in a line and {LEAST_LINES} to {MOST_LINES} lines")]
 pub struct BadLayout;
 
-/// How many cells a line has, and how many lines a page has; the last of these is for the page's number.
+/// How many cells a line has, and how many lines a page has; the last of these is for the page's
+/// number.
 #[derive(Debug, Drop)]
 pub struct Layout {
     width: usize,

@@ -1,5 +1,5 @@
-//! Volumes of a book as pages for embossers, in Braille Ready Format (BRF): bytes of North American Braille ASCII in
-//! lines, each ended by CR LF, and a form feed after each page.
+//! Volumes of a book as pages for embossers, in Braille Ready Format (BRF): bytes of North American
+//! Braille ASCII in lines, each ended by CR LF, and a form feed after each page.
 //!
 //! ```rust
 //! use desk_brf::{Layout, export};
@@ -8,8 +8,8 @@
 //! let pages = export(&book, &layout, 1, sink)?;
 //! ```
 //!
-//! Nothing here allocates: a line is laid in an array and written before the next. What the cells are is left to
-//! `desk_book`, and where the bytes go to `desk_ends`.
+//! Nothing here allocates: a line is laid in an array and written before the next. What the cells
+//! are is left to `desk_book`, and where the bytes go to `desk_ends`.
 #![tactic(auto)]
 
 pub mod laws;

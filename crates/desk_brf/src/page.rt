@@ -58,7 +58,8 @@ fn end_page<K: Sink>(
 ) -> Result<(), Failure>
     requires empty { line.old ≡ [] }
     requires width { width ≤ most_width }
-    ensures sent { Transmits K.can_fail (K.contents sink.old) (K.contents sink.new) (with_ending (number_line width number) ++ 12 ∷ []) [] (is_ok result) }
+    ensures sent { Transmits K.can_fail (K.contents sink.old) (K.contents sink.new)
+        (with_ending (number_line width number) ++ 12 ∷ []) [] (is_ok result) }
     ensures empty { OnOk result (line.new ≡ []) }
 {
     lay_number(line, width, number);
@@ -66,7 +67,8 @@ fn end_page<K: Sink>(
     send(sink, &[FORM_FEED])
 }
 
-/// Sends a line of text, and the end of its page if it is the last one there. `lines` counts those of the volume.
+/// Sends a line of text, and the end of its page if it is the last one there. `lines` counts those
+/// of the volume.
 pub(crate) fn put_line<K: Sink>(
     sink: &mut K,
     layout: &Layout,
@@ -98,7 +100,8 @@ pub(crate) fn fill_page<K: Sink>(
 ) -> Result<(), Failure>
     requires empty { line.old ≡ [] }
     requires count { lines.old + most_lines < 2 ^ 64 }
-    ensures { FillsPage K.can_fail (K.contents sink.old) (K.contents sink.new) layout.now lines.old lines.new (is_ok result) }
+    ensures { FillsPage K.can_fail (K.contents sink.old) (K.contents sink.new) layout.now lines.old lines.new
+        (is_ok result) }
 {
     let text_lines = layout.text_lines();
     let blank = (text_lines - *lines % text_lines) % text_lines;

@@ -35,8 +35,8 @@ fn other_indent(style: Style) -> usize
     }
 }
 
-/// Adds as many of the words, with which the cells begin, as have room after the `used` cells of a line. Gives the cells
-/// that are left.
+/// Adds as many of the words, with which the cells begin, as have room after the `used` cells of a
+/// line. Gives the cells that are left.
 fn add_words<'a>(cells: &'a [Cell], room: usize, used: usize, line: &mut PageLine) -> &'a [Cell]
     requires used { used ≤ room }
     requires room { length line.old + room ≤ most_width + used }

@@ -5,7 +5,8 @@ ghost use Rattle.desk_brf.specs.Laying.{PutsPages, PutsParagraphs};
 ghost use Rattle.desk_brf.specs.Layout.{most_lines};
 ghost use Rattle.desk_brf.specs.Volume.{HasSixDotCells, IsSixDot};
 ghost use Rattle.desk_brf.specs.Volumes.{volume_of};
-ghost use Rattle.std.specs.Prelude.{◌≡◌, ◌⊎◌, ◌+◌, ◌<◌, ◌^◌, All, IfNone, IfSome, IsTrue, OnOk, is_ok, length, slice_index, take};
+ghost use Rattle.std.specs.Prelude.{◌≡◌, ◌⊎◌, ◌+◌, ◌<◌, ◌^◌, All, IfNone, IfSome, IsTrue};
+ghost use Rattle.std.specs.Prelude.{OnOk, is_ok, length, slice_index, take};
 
 use super::layout::Layout;
 use super::page::fill_page;
@@ -39,8 +40,8 @@ pub enum ExportFault {
     Write,
 }
 
-/// Whether all cells have only the dots 1 to 6. It doesn't stop at one that has more, so that many cells are looked at
-/// together.
+/// Whether all cells have only the dots 1 to 6. It doesn't stop at one that has more, so that many
+/// cells are looked at together.
 fn are_six_dot(cells: &[Cell]) -> bool
     ensures { IsTrue result → All IsSixDot cells.now }
 {
@@ -141,14 +142,14 @@ fn put_volume<K: Sink>(
     Ok(lines / text_lines)
 }
 
-/// Sends the volume with a number, counted from 1, and gives the number of its pages. It allocates nothing, and doesn't
-/// flush the sink.
+/// Sends the volume with a number, counted from 1, and gives the number of its pages. It allocates
+/// nothing, and doesn't flush the sink.
 ///
 /// # Errors
 ///
-/// `NoVolume` exactly if the book has no such volume; otherwise `NotSixDots` exactly if a cell of it has dot 7 or 8, with
-/// the first in the order of the volume. After either the sink is as it was. `Write` only if the sink can fail, and what
-/// went out is then a beginning of the volume.
+/// `NoVolume` exactly if the book has no such volume; otherwise `NotSixDots` exactly if a cell of
+/// it has dot 7 or 8, with the first in the order of the volume. After either the sink is as it
+/// was. `Write` only if the sink can fail, and what went out is then a beginning of the volume.
 pub fn export<K: Sink>(
     book: &Book,
     layout: &Layout,

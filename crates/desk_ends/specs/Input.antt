@@ -1,11 +1,13 @@
 -- How an input is read: the bytes that aren't used yet, what was used of it, and its lines.
-use Rattle.std.specs.Prelude.{◌≡◌, ◌⊎◌, ℕ, ◌+◌, ◌≤◌, ◌<◌, Bool, true, false, List, [], ◌++◌, length, Option, Result, Ok, Err}
+use Rattle.std.specs.Prelude.{◌≡◌, ◌⊎◌, ℕ, ◌+◌, ◌≤◌, ◌<◌, Bool, true, false, List}
+use Rattle.std.specs.Prelude.{[], ◌++◌, length, Option, Result, Ok, Err}
 use Rattle.std.specs.Io.KnownBytes.{Consumes, IsAtEnd}
 use Rattle.desk_ends.specs.declared.ends.Failure.{Failure}
 use Rattle.desk_ends.specs.Limits.{chunk_bytes, most_input}
 use Rattle.desk_ends.specs.Lines.{HasNoFeed, IsFed, kept_line, with_bytes}
 
--- what was read of an input: the bytes that aren't used yet, how many were read in all, and whether the end was reached
+-- what was read of an input: the bytes that aren't used yet, how many were read in all, and whether
+-- the end was reached
 pub record Input : Type 0 where
   pub waiting : List ℕ
   pub total : ℕ
@@ -25,8 +27,8 @@ most_total = most_input + chunk_bytes
 abbrev pub KnowsEnd : Option (List ℕ) → Input → Type 0
 KnowsEnd left input = input.is_over ≡ true → IsAtEnd left × (input.waiting ≡ [])
 
--- bytes of the input were used. Of a source, here known by the bytes that are left in it, some were read for that; none once
--- the end was reached.
+-- bytes of the input were used. Of a source, here known by the bytes that are left in it, some were
+-- read for that; none once the end was reached.
 pub record UsesInput (left_old left_new : Option (List ℕ)) (old new : Input) (bytes : List ℕ) : Type 0 where
   pub read : List ℕ
   pub consumes : Consumes left_old left_new read
@@ -49,9 +51,12 @@ abbrev pub IsStopped : Type 0 → Input → Type 0
 IsStopped CanFail input = CanFail ⊎ (most_input ≤ input.total)
 
 -- more bytes were read; there are none at the end, and none where a read failed
-abbrev pub FillsInput : Type 0 → (left_old left_new : Option (List ℕ)) → (old new : Input) → Result Bool Failure → Type 0
-FillsInput CanFail left_old left_new old new (Ok true) = UsesInput left_old left_new old new [] × (old.total < new.total) × (old.total < most_input)
-FillsInput CanFail left_old left_new old new (Ok false) = UsesInput left_old left_new old new [] × (new.is_over ≡ true) × (new.waiting ≡ [])
+abbrev pub FillsInput : Type 0 → (left_old left_new : Option (List ℕ)) → (old new : Input)
+    → Result Bool Failure → Type 0
+FillsInput CanFail left_old left_new old new (Ok true) =
+    UsesInput left_old left_new old new [] × (old.total < new.total) × (old.total < most_input)
+FillsInput CanFail left_old left_new old new (Ok false) =
+    UsesInput left_old left_new old new [] × (new.is_over ≡ true) × (new.waiting ≡ [])
 FillsInput CanFail left_old left_new old new (Err failed) =
     UsesInput left_old left_new old new [] × (new.waiting ≡ []) × (new.is_over ≡ false) × IsStopped CanFail new
 
@@ -64,7 +69,8 @@ Passes false old new was line = (new ≡ []) × (line ≡ with_bytes was old) ×
 
 -- a line was passed on from the unused bytes of an input, or all of them, which have no line feed
 abbrev pub PassesLine : Bool → (old new : Input) → (was line : Option (List ℕ)) → Type 0
-PassesLine true old new was line = (bytes : List ℕ) × UsesWaiting old new bytes × (line ≡ with_bytes was bytes) × IsFed bytes
+PassesLine true old new was line =
+    (bytes : List ℕ) × UsesWaiting old new bytes × (line ≡ with_bytes was bytes) × IsFed bytes
 PassesLine false old new was line =
     UsesWaiting old new old.waiting × (new.waiting ≡ []) × (line ≡ with_bytes was old.waiting) × HasNoFeed old.waiting
 

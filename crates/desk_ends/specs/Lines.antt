@@ -1,5 +1,7 @@
--- A line as it is read: its line feed, its ending, and what is kept of it. Which lines some bytes have, `louis_table` says.
-use Rattle.std.specs.Prelude.{◌≡◌, ◌⊎◌, ℕ, suc, ◌+◌, ◌==◌, false, if◌then◌else◌, nat_le, List, [], ◌∷◌, ◌++◌, length, Option, Some, None}
+-- A line as it is read: its line feed, its ending, and what is kept of it. Which lines some bytes
+-- have, `louis_table` says.
+use Rattle.std.specs.Prelude.{◌≡◌, ◌⊎◌, ℕ, suc, ◌+◌, ◌==◌, false, if◌then◌else◌, nat_le}
+use Rattle.std.specs.Prelude.{List, [], ◌∷◌, ◌++◌, length, Option, Some, None}
 use Rattle.std.specs.Io.BufRead.{strip_last}
 use Rattle.std.specs.List.{AllByRecursion}
 use Rattle.desk_ends.specs.Limits.{most_line_bytes}

@@ -15,7 +15,8 @@ pub const CELL_BYTES: usize = 3;
 /// How many cells there are.
 const CELLS: usize = 256;
 
-/// One byte more than a block holds, since a cell is put as four bytes, the last of which counts for nothing.
+/// One byte more than a block holds, since a cell is put as four bytes, the last of which counts
+/// for nothing.
 const ROOM: usize = BLOCK_BYTES + 1;
 
 /// Bytes that are to be sent together, at most `BLOCK_BYTES` of them. Contracts see their list.
@@ -76,7 +77,8 @@ impl Block {
         self.len += 1;
     }
 
-    /// Adds the UTF-8 of a cell's character, U+2800 and the mask. It is looked up, and put by one write of four bytes.
+    /// Adds the UTF-8 of a cell's character, U+2800 and the mask. It is looked up, and put by one
+    /// write of four bytes.
     #[inline(always)]
     pub fn push_cell(&mut self, cell: Cell)
         requires { length self.old + CELL_BYTES ≤ BLOCK_BYTES }
@@ -99,8 +101,8 @@ impl Block {
     }
 }
 
-/// The three bytes of the character of the cell with a mask, the first in the lowest part: 0xE2 and two bytes with six
-/// bits of the character each.
+/// The three bytes of the character of the cell with a mask, the first in the lowest part: 0xE2 and
+/// two bytes with six bits of the character each.
 fn encode(mask: u8) -> u32
     ensures { result ≡ encoding mask }
 {

@@ -1,6 +1,7 @@
 //! A buffer in front of a writer.
 //!
-//! std's buffer writes again if a write was interrupted, and once more when it is dropped. This one writes once.
+//! std's buffer writes again if a write was interrupted, and once more when it is dropped. This one
+//! writes once.
 ghost use Rattle.std.specs.Io.KnownBytes.{Appends, Keeps, append_known};
 ghost use Rattle.std.specs.Prelude.{IfOk, OnOk, [], drop, length, take, vec_capacity, vec_len, ◌+◌, ◌++◌, ◌≡◌, ◌≤◌};
 
@@ -8,9 +9,9 @@ use super::ends::{Failure, Sink};
 use std::alloc::{AllocError, Global};
 use std::io::Write;
 
-/// A writer with a buffer in front of it: what stands in the buffer was written, and what the writer has is
-/// flushed. A failed write, also one that was interrupted, isn't tried again. Dropped, it lets go what was
-/// not flushed.
+/// A writer with a buffer in front of it: what stands in the buffer was written, and what the
+/// writer has is flushed. A failed write, also one that was interrupted, isn't tried again.
+/// Dropped, it lets go what was not flushed.
 #[derive(Drop)]
 pub struct BufferedWriter<W: Write + Drop> {
     writer: W,
@@ -65,7 +66,8 @@ impl<W: Write + Drop> Sink for BufferedWriter<W> {
     }
 }
 
-/// Writes the bytes until a write fails or takes none. Says how many were written, and fails unless all were.
+/// Writes the bytes until a write fails or takes none. Says how many were written, and fails unless
+/// all were.
 fn write_front<W: Write>(writer: &mut W, bytes: &[u8]) -> (usize, Result<(), Failure>)
     ensures bound { result.0 ≤ length bytes.now }
     ensures bytes { Appends (W.contents writer.old) (W.contents writer.new) (take result.0 bytes.now) }

@@ -9,8 +9,8 @@ use super::bytes::make_room;
 use super::ends::{Failure, Sink};
 use cell_core::Cell;
 
-/// Puts the cells, as characters, after the block, and sends it whenever it is full. Most choices make one cell, so one
-/// has a way of its own, without a loop.
+/// Puts the cells, as characters, after the block, and sends it whenever it is full. Most choices
+/// make one cell, so one has a way of its own, without a loop.
 #[inline(always)]
 pub fn put_cells<K: Sink>(sink: &mut K, block: &mut Block, cells: &[Cell]) -> Result<(), Failure>
     ensures { Puts K.Sink sink.old sink.new

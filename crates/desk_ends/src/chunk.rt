@@ -39,7 +39,8 @@ impl Chunk {
         }
     }
 
-    /// Reads bytes in place of those that were there, and says how many: none only at the end of the input.
+    /// Reads bytes in place of those that were there, and says how many: none only at the end of
+    /// the input.
     pub(crate) fn fill<S: Source>(&mut self, source: &mut S) -> Result<usize, Failure>
         ensures { MatchResult result
             (λ count. (count ≡ length self.new) × (count ≤ CHUNK_BYTES)
@@ -54,7 +55,8 @@ impl Chunk {
         Ok(count)
     }
 
-    /// Passes the bytes up to the first line feed, with it, on to a line, or all if there is none. Gives whether there was one.
+    /// Passes the bytes up to the first line feed, with it, on to a line, or all if there is none.
+    /// Gives whether there was one.
     pub(crate) fn pass_line(&mut self, line: &mut Line) -> bool
         ensures { Passes result self.old self.new line.old line.new }
     {

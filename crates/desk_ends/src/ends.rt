@@ -1,8 +1,8 @@
 //! The ends of a run: where its bytes come from, and where they go.
 //!
-//! std's `Read` and `Write` don't say when they fail, nor what a flush passes on. The traits here do, so
-//! that a contract can say that a run ended early only because an end could fail, and with all it wrote
-//! flushed.
+//! std's `Read` and `Write` don't say when they fail, nor what a flush passes on. The traits here
+//! do, so that a contract can say that a run ended early only because an end could fail, and with
+//! all it wrote flushed.
 ghost use Rattle.desk_ends.specs.Ends.{IsFlushed};
 ghost use Rattle.std.specs.Io.{ReadsAtMost, WritesAtMost};
 ghost use Rattle.std.specs.Io.KnownBytes.{Keeps, ReadConsumes, WriteAppends};
@@ -70,8 +70,8 @@ impl<R: Read> Source for R {
     }
 }
 
-// Any writer is a sink. Its writes can fail, and one that takes no byte has failed. It doesn't report what
-// its flushes pass on.
+// Any writer is a sink. Its writes can fail, and one that takes no byte has failed. It doesn't
+// report what its flushes pass on.
 impl<W: Write> Sink for W {
     ghost use Rattle.std.specs.Prelude.{None, ⊤};
 

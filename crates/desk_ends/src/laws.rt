@@ -5,7 +5,8 @@ ghost use Rattle.desk_ends.specs.declared.limits.TheConstants.{CHUNK_BYTES, MOST
 ghost use Rattle.louis_table.specs.Lines.{lines_of};
 ghost use Rattle.std.specs.Prelude.{[], ◌≡◌, ◌≢◌, ◌++◌, ◌∷◌, ℕ, List};
 
-/// A line that is read is the first line of the bytes from there on, and the last one may lack its line feed.
+/// A line that is read is the first line of the bytes from there on, and the last one may lack its
+/// line feed.
 pub fn first_line()
     ensures fed { (line later : List ℕ) → IsFed line → lines_of (line ++ later) ≡ without_ending line ∷ lines_of later }
     ensures last { (line : List ℕ) → HasNoFeed line → line ≢ [] → lines_of line ≡ without_ending line ∷ [] }

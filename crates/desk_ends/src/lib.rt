@@ -1,5 +1,5 @@
-//! Where bytes come from and where they go, by ends that report what is left to read, what was written, what
-//! of it is flushed, and whether they can fail.
+//! Where bytes come from and where they go, by ends that report what is left to read, what was
+//! written, what of it is flushed, and whether they can fail.
 //!
 //! ```rust
 //! use desk_ends::{Sink, send_parts};
@@ -8,8 +8,8 @@
 //! sink.flush()?;
 //! ```
 //!
-//! Every reader of std is a `Source` and every writer a `Sink`. An `Input` reads a source line by line, each into a `Line`
-//! that allocates nothing. What lines mean is left to the crates above.
+//! Every reader of std is a `Source` and every writer a `Sink`. An `Input` reads a source line by
+//! line, each into a `Line` that allocates nothing. What lines mean is left to the crates above.
 #![tactic(auto)]
 
 mod block;

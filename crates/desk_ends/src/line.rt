@@ -3,7 +3,8 @@ ghost use Rattle.desk_ends.specs.Lines.{with_bytes, without_ending};
 ghost use Rattle.std.specs.Io.BufRead.{strip_last};
 ghost use Rattle.std.specs.List.{after_first, before_first};
 ghost use Rattle.std.specs.Option.{option_copied};
-ghost use Rattle.std.specs.Prelude.{EachIndex, IsTrue, MatchOption, Some, [], drop, length, slice_index, take, ◌++◌, ◌+◌, ◌<◌, ◌==◌, ◌≡◌, ◌≢◌, ◌↔◌, ◌∷◌};
+ghost use Rattle.std.specs.Prelude.{EachIndex, IsTrue, MatchOption, Some, [], drop, length};
+ghost use Rattle.std.specs.Prelude.{slice_index, take, ◌++◌, ◌+◌, ◌<◌, ◌==◌, ◌≡◌, ◌≢◌, ◌↔◌, ◌∷◌};
 
 use super::limits::MOST_LINE_BYTES;
 use memchr::memchr;
@@ -12,8 +13,8 @@ use std::marker::Model;
 /// Two bytes more than a line may have, for a carriage return and a line feed at its end.
 const ROOM: usize = MOST_LINE_BYTES + 2;
 
-/// The bytes of a line so far with its ending, or the fact that there are more of them than a line may have. Contracts see
-/// them as `Some` of their list, or `None`.
+/// The bytes of a line so far with its ending, or the fact that there are more of them than a line
+/// may have. Contracts see them as `Some` of their list, or `None`.
 #[derive(Drop)]
 pub struct Line {
     bytes: [u8; ROOM],
@@ -93,7 +94,8 @@ pub(crate) fn feed_in(bytes: &[u8]) -> Option<usize>
     memchr(b'\n', bytes)
 }
 
-/// The first line of bytes without its ending, and the bytes after it. Without a line feed they are all of that line.
+/// The first line of bytes without its ending, and the bytes after it. Without a line feed they are
+/// all of that line.
 pub fn split_line(bytes: &[u8]) -> (&[u8], &[u8])
     ensures line { result.0.now ≡ strip_last 13 (before_first (λ b. b == 10) bytes.now) }
     ensures rest { result.1.now ≡ after_first (λ b. b == 10) bytes.now }

@@ -15,20 +15,25 @@ use Rattle.desk_line.specs.declared.request.Request.TheVariants.{Do, Ask}
 use Rattle.desk_line.specs.Reply.{IsReply}
 use Rattle.desk_line.specs.Request.{AsksForMemory, IsNoRequest, Reads}
 
--- a request of these bytes to a book is answered so, and this is the book after it: the next one with a command's own
--- number if it is accepted, and else the same, also if the store failed to keep what the command makes. An allocation may
--- fail while the lines after a command's head line are read, whatever they are, or while the command is planned
+-- a request of these bytes to a book is answered so, and this is the book after it: the next one
+-- with a command's own number if it is accepted, and else the same, also if the store failed to
+-- keep what the command makes. An allocation may fail while the lines after a command's head line
+-- are read, whatever they are, or while the command is planned
 pub data IsAnswered (bytes : List ℕ) (book next : Book) (answer : Answer) : Type 0 where
   accepted : (command : Command) (expect : Option ℕ) → Reads bytes (Do command expect) → IsAccepted book expect command
       → Makes book command next → answer ≡ answers.Done (number_of book command) → IsAnswered bytes book next answer
   refused : (command : Command) (expect : Option ℕ) (refusal : Refusal) → Reads bytes (Do command expect)
-      → IsRefused book expect command refusal → next ≡ book → answer ≡ answers.Refused refusal → IsAnswered bytes book next answer
-  asked : (query : Query) → Reads bytes (Ask query) → next ≡ book → answer ≡ answers.Asked query → IsAnswered bytes book next answer
+      → IsRefused book expect command refusal → next ≡ book → answer ≡ answers.Refused refusal
+      → IsAnswered bytes book next answer
+  asked : (query : Query) → Reads bytes (Ask query) → next ≡ book → answer ≡ answers.Asked query
+      → IsAnswered bytes book next answer
   no_request : IsNoRequest bytes → next ≡ book → answer ≡ answers.Syntax → IsAnswered bytes book next answer
   unread : AsksForMemory bytes → next ≡ book → answer ≡ answers.NoMemory → IsAnswered bytes book next answer
-  unplanned : (command : Command) (expect : Option ℕ) → Reads bytes (Do command expect) → MayLackMemory book expect command
+  unplanned : (command : Command) (expect : Option ℕ) → Reads bytes (Do command expect)
+      → MayLackMemory book expect command
       → next ≡ book → answer ≡ answers.Refused refusals.NoMemory → IsAnswered bytes book next answer
-  lost : (command : Command) (expect : Option ℕ) (made : Book) → Reads bytes (Do command expect) → IsAccepted book expect command
+  lost : (command : Command) (expect : Option ℕ) (made : Book) → Reads bytes (Do command expect)
+      → IsAccepted book expect command
       → Makes book command made → next ≡ book → answer ≡ answers.Lost → IsAnswered bytes book next answer
 
 -- this text is replied to a request of these bytes to a book, and this is the book after it

@@ -8,7 +8,8 @@ use Rattle.desk_model.specs.declared.command.Command.{Command}
 use Rattle.desk_model.specs.declared.command.Command.TheVariants as commands
 use Rattle.desk_line.specs.declared.directive.Directive.{Directive}
 use Rattle.desk_line.specs.declared.directive.Directive.TheVariants.{Whole, Table}
-use Rattle.desk_line.specs.Grammar.{Fit, Flag, Gives, Grammar, Lines, Look, Name, Nothing, Number, Place, Rest, Then, Values, Say, given, written}
+use Rattle.desk_line.specs.Grammar.{Fit, Flag, Gives, Grammar, Lines, Look, Name, Nothing, Number}
+use Rattle.desk_line.specs.Grammar.{Place, Rest, Then, Values, Say, given, written}
 use Rattle.desk_line.specs.Lines.{IsShort}
 
 -- ---- how a head line says a command
@@ -17,23 +18,31 @@ use Rattle.desk_line.specs.Lines.{IsShort}
 abbrev pub span : {A : Type 0} → (ℕ → ℕ → ℕ → List ℕ → A) → Grammar A
 span make = Then Number (λ id. Then Number (λ start. Then Number (λ count. Rest (make id start count))))
 
--- what stands after a word, and the command that it says; for a table, its text is still to come in so many lines
+-- what stands after a word, and the command that it says; for a table, its text is still to come in
+-- so many lines
 abbrev pub grammar_of : List ℕ → Grammar Directive
 grammar_of word =
     if bytes_eq word (codes "table") then Then Name (λ name. Then Lines (λ count. Gives (Table name count)))
     else if bytes_eq word (codes "supply") then Then Name (λ name. Gives (Whole (commands.Table name EN.now)))
-    else if bytes_eq word (codes "type") then Then Place (λ after. Then Name (λ table. Rest (λ text. Whole (commands.TypeIn after table text))))
-    else if bytes_eq word (codes "correct") then span (λ id start count text. Whole (commands.Correct id start count text []))
-    else if bytes_eq word (codes "correct-by") then Then Name (λ who. span (λ id start count text. Whole (commands.Correct id start count text who)))
+    else if bytes_eq word (codes "type")
+    then Then Place (λ after. Then Name (λ table. Rest (λ text. Whole (commands.TypeIn after table text))))
+    else if bytes_eq word (codes "correct")
+    then span (λ id start count text. Whole (commands.Correct id start count text []))
+    else if bytes_eq word (codes "correct-by")
+    then Then Name (λ who. span (λ id start count text. Whole (commands.Correct id start count text who)))
     else if bytes_eq word (codes "undo") then Then Number (λ id. Gives (Whole (commands.Undo id)))
     else if bytes_eq word (codes "mark") then span (λ id cell count note. Whole (commands.Mark id cell count note))
     else if bytes_eq word (codes "resolve") then Then Number (λ id. Gives (Whole (commands.Resolve id)))
     else if bytes_eq word (codes "strike") then Then Number (λ id. Gives (Whole (commands.Strike id)))
     else if bytes_eq word (codes "restore") then Then Number (λ id. Gives (Whole (commands.Restore id)))
-    else if bytes_eq word (codes "style") then Then Number (λ id. Then Look (λ look. Gives (Whole (commands.Style id look))))
-    else if bytes_eq word (codes "volume") then Then Number (λ id. Then Flag (λ begins. Gives (Whole (commands.Volume id begins))))
-    else if bytes_eq word (codes "retable") then Then Number (λ id. Then Name (λ table. Gives (Whole (commands.Retable id table))))
-    else if bytes_eq word (codes "move") then Then Number (λ id. Then Place (λ after. Gives (Whole (commands.Move id after))))
+    else if bytes_eq word (codes "style")
+    then Then Number (λ id. Then Look (λ look. Gives (Whole (commands.Style id look))))
+    else if bytes_eq word (codes "volume")
+    then Then Number (λ id. Then Flag (λ begins. Gives (Whole (commands.Volume id begins))))
+    else if bytes_eq word (codes "retable")
+    then Then Number (λ id. Then Name (λ table. Gives (Whole (commands.Retable id table))))
+    else if bytes_eq word (codes "move")
+    then Then Number (λ id. Then Place (λ after. Gives (Whole (commands.Move id after))))
     else Nothing
 
 -- the fields are a word and what stands after it, and say this
@@ -59,7 +68,8 @@ announced (Table name count) = record { lines = count; command = λ text. comman
 abbrev pub is_visible : ℕ → Bool
 is_visible b = nat_lt 32 b && nat_lt b 128
 
--- a word, values for what stands after it, and the bytes of the lines after the head line, which give this command
+-- a word, values for what stands after it, and the bytes of the lines after the head line, which
+-- give this command
 pub record Form (command : Command) : Type 0 where
   pub word : List ℕ
   pub visible : list_all is_visible word ≡ true
@@ -71,7 +81,8 @@ pub record Form (command : Command) : Type 0 where
   pub is : (announced directive).command block ≡ command
 
 -- a head line alone
-abbrev pub one_line : {command : Command} (word : List ℕ) → list_all is_visible word ≡ true → (values : Values (grammar_of word))
+abbrev pub one_line : {command : Command} (word : List ℕ) → list_all is_visible word ≡ true
+    → (values : Values (grammar_of word))
     → given (grammar_of word) values ≡ Whole command → Form command
 one_line {command} word visible values says = record {
   word = word;
@@ -99,7 +110,8 @@ form (commands.Table name text) = record {
 }
 form (commands.TypeIn after table text) = one_line (codes "type") refl (after, (table, text)) refl
 form (commands.Correct id start count text []) = one_line (codes "correct") refl (id, (start, (count, text))) refl
-form (commands.Correct id start count text (c ∷ who)) = one_line (codes "correct-by") refl (c ∷ who, (id, (start, (count, text)))) refl
+form (commands.Correct id start count text (c ∷ who)) =
+    one_line (codes "correct-by") refl (c ∷ who, (id, (start, (count, text)))) refl
 form (commands.Undo id) = one_line (codes "undo") refl (id, tt) refl
 form (commands.Mark id cell count note) = one_line (codes "mark") refl (id, (cell, (count, note))) refl
 form (commands.Resolve id) = one_line (codes "resolve") refl (id, tt) refl

@@ -11,7 +11,8 @@ use Rattle.desk_line.specs.Limits.{most_digits, most_number}
 
 -- ---- a line and its fields
 
--- what stands between the blanks of a line; a field is empty if a blank stands at an end of the line, or two side by side
+-- what stands between the blanks of a line; a field is empty if a blank stands at an end of the
+-- line, or two side by side
 abbrev pub fields_of : List ℕ → List (List ℕ)
 fields_of line = slice_split (λ b. b == 32) line
 

@@ -1,4 +1,5 @@
--- What stands after the word of a head line: fields one after another, and then a text, which is the rest of the line, or nothing.
+-- What stands after the word of a head line: fields one after another, and then a text, which is
+-- the rest of the line, or nothing.
 use Rattle.std.specs.Prelude.{◌≡◌, ◌≢◌, ℕ, ◌≤◌, Bool, List, [], ◌∷◌, codes, decimal}
 use Rattle.std.specs.List.{All}
 use Rattle.std.specs.Str.{chars}
@@ -42,8 +43,9 @@ StandsFor Flag field set = IsFlag field set
 
 -- ---- fields, and what they say
 
--- no fields say anything; or there is no field left, and this is said; or the rest of the line is a text, with its blanks, and
--- before an empty one the blank may be missing; or there is a field, and others after it
+-- no fields say anything; or there is no field left, and this is said; or the rest of the line is a
+-- text, with its blanks, and before an empty one the blank may be missing; or there is a field, and
+-- others after it
 pub data Grammar (A : Type 0) : Type 0 where
   Nothing : Grammar A
   Gives : A → Grammar A

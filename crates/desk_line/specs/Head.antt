@@ -18,7 +18,8 @@ query_grammar word =
     else if bytes_eq word (codes "braille") then Then Number (λ id. Gives (queries.Braille id))
     else if bytes_eq word (codes "history") then Then Number (λ id. Gives (queries.History id))
     else if bytes_eq word (codes "marks") then Then Number (λ id. Gives (queries.Marks id))
-    else if bytes_eq word (codes "where") then Then Number (λ id. Then Number (λ place. Gives (queries.WhereIs id place)))
+    else if bytes_eq word (codes "where")
+    then Then Number (λ id. Then Number (λ place. Gives (queries.WhereIs id place)))
     else if bytes_eq word (codes "whence") then Then Number (λ id. Then Number (λ cell. Gives (queries.Whence id cell)))
     else if bytes_eq word (codes "list") then Gives queries.List
     else if bytes_eq word (codes "version") then Gives queries.Version
@@ -29,7 +30,8 @@ abbrev pub SaysQuery : List (List ℕ) → Query → Type 0
 SaysQuery [] query = ⊥
 SaysQuery (word ∷ fields) query = Say (query_grammar word) fields query
 
--- before the fields of a command may stand the version that the book is expected to have, after an at sign
+-- before the fields of a command may stand the version that the book is expected to have, after an
+-- at sign
 pub data Expects (fields : List (List ℕ)) (expect : Option ℕ) (command : List (List ℕ)) : Type 0 where
   nothing : expect ≡ None → fields ≡ command → Expects fields expect command
   expected : (number : List ℕ) (version : ℕ) → IsNumber number version
@@ -37,6 +39,7 @@ pub data Expects (fields : List (List ℕ)) (expect : Option ℕ) (command : Lis
 
 -- what a head line, without its ending, says; before a query no version may stand
 pub data Says (line : List ℕ) (head : Head) : Type 0 where
-  does : (expect : Option ℕ) (command : List (List ℕ)) (directive : Directive) → CanBeHead line → Expects (fields_of line) expect command
+  does : (expect : Option ℕ) (command : List (List ℕ)) (directive : Directive) → CanBeHead line
+      → Expects (fields_of line) expect command
       → SaysDirective command directive → head ≡ Do directive expect → Says line head
   asks : (query : Query) → CanBeHead line → SaysQuery (fields_of line) query → head ≡ Ask query → Says line head

@@ -1,4 +1,5 @@
--- How many digits a number of a request has, and how large it is. `desk_ends` says how long a line may be.
+-- How many digits a number of a request has, and how large it is. `desk_ends` says how long a line
+-- may be.
 use Rattle.std.specs.Prelude.{ℕ}
 
 -- digits of a number

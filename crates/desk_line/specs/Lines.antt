@@ -1,5 +1,5 @@
--- The lines of a request. `louis_table` says what the lines of an input are, and that one carriage return at the end of a
--- line isn't part of it.
+-- The lines of a request. `louis_table` says what the lines of an input are, and that one carriage
+-- return at the end of a line isn't part of it.
 use Rattle.std.specs.Prelude.{ℕ, ◌≤◌, ◌==◌, List, length}
 use Rattle.std.specs.List.{after_first}
 use Rattle.std.specs.Str.{IsUtf8}

@@ -1,7 +1,8 @@
--- How a head line is read, step by step. Only private functions and proofs need these words, and the clause of
--- `RequestHead::finish` that says what is given of a head line alone: `Head` says what a head line says, and `Request` what
--- bytes are a request.
-use Rattle.std.specs.Prelude.{ℕ, Bool, true, false, ◌&&◌, ◌==◌, ◌-◌, nat_lt, nat_le, if◌then◌else◌, List, [], ◌∷◌, length, codes, Option, Some, None, option_map}
+-- How a head line is read, step by step. Only private functions and proofs need these words, and
+-- the clause of `RequestHead::finish` that says what is given of a head line alone: `Head` says
+-- what a head line says, and `Request` what bytes are a request.
+use Rattle.std.specs.Prelude.{ℕ, Bool, true, false, ◌&&◌, ◌==◌, ◌-◌, nat_lt, nat_le, if◌then◌else◌}
+use Rattle.std.specs.Prelude.{List, [], ◌∷◌, length, codes, Option, Some, None, option_map}
 use Rattle.std.specs.Option.{option_and_then}
 use Rattle.std.specs.List.{list_all, before_first}
 use Rattle.std.specs.Io.BufRead.{strip_last}
@@ -22,7 +23,8 @@ use Rattle.louis_table.specs.Lines.{lines_of}
 use Rattle.desk_line.specs.declared.request.Request.{Request}
 use Rattle.desk_line.specs.Lines.{after_first_line}
 use Rattle.desk_line.specs.Commands.{grammar_of}
-use Rattle.desk_line.specs.Grammar.{Flag, Gives, Grammar, Kind, Lines, Look, Name, Nothing, Number, Place, Rest, Then, Value}
+use Rattle.desk_line.specs.Grammar.{Flag, Gives, Grammar, Kind, Lines, Look, Name}
+use Rattle.desk_line.specs.Grammar.{Nothing, Number, Place, Rest, Then, Value}
 use Rattle.desk_line.specs.Head.{query_grammar}
 use Rattle.desk_line.specs.Request.{block_lines, request_of}
 use Rattle.desk_ends.specs.Limits.{most_line_bytes}
@@ -54,7 +56,8 @@ small_number value = if nat_le value most_number then Some value else None
 -- the field as a number
 unfoldable pub number_in : List ℕ → Option ℕ
 number_in field =
-    if nat_lt 0 (length field) && nat_le (length field) most_digits && list_all is_ascii_digit field then small_number (digits_value 10 field)
+    if nat_lt 0 (length field) && nat_le (length field) most_digits && list_all is_ascii_digit field
+    then small_number (digits_value 10 field)
     else None
 
 -- a number of lines
@@ -143,13 +146,15 @@ or_else (Some x) other = Some x
 
 -- a command after an expected version
 abbrev pub expecting : List ℕ → List (List ℕ) → Option Head
-expecting number fields = of_both (λ version directive. Do directive (Some version)) (number_in number) (directive_in fields)
+expecting number fields =
+    of_both (λ version directive. Do directive (Some version)) (number_in number) (directive_in fields)
 
 -- a command after its first field, which may be the version that is expected
 abbrev pub command_after : List ℕ → List (List ℕ) → Option Head
 command_after [] fields = option_map (λ directive. Do directive None) (directive_by [] fields)
 command_after (b ∷ word) fields =
-    if b == 64 then expecting word fields else option_map (λ directive. Do directive None) (directive_by (b ∷ word) fields)
+    if b == 64 then expecting word fields
+    else option_map (λ directive. Do directive None) (directive_by (b ∷ word) fields)
 
 -- a command, with the version that is expected if one is
 abbrev pub command_in : List (List ℕ) → Option Head

@@ -1,5 +1,6 @@
 -- What is replied to a request.
-use Rattle.std.specs.Prelude.{◌≡◌, ◌⊎◌, ℕ, Bool, true, false, List, [], ◌∷◌, ◌++◌, length, map, codes, decimal, option_to_list, Option, Some, None}
+use Rattle.std.specs.Prelude.{◌≡◌, ◌⊎◌, ℕ, Bool, true, false, List, [], ◌∷◌, ◌++◌, length, map}
+use Rattle.std.specs.Prelude.{codes, decimal, option_to_list, Option, Some, None}
 use Rattle.std.specs.List.{All, flat_map, enumerate_from}
 use Rattle.std.specs.Str.{encode_utf8_all}
 use Rattle.louis_table.specs.Lines.{pieces_of}
@@ -78,7 +79,8 @@ word_if false word other = other
 -- a paragraph in the list of a book
 abbrev pub list_line : Paragraph → List ℕ
 list_line paragraph = line_of_fields (decimal paragraph.id ∷ shown_text paragraph.table ∷ style_word paragraph.style
-    ∷ word_if paragraph.begins_volume (codes "volume") (codes "-") ∷ word_if paragraph.struck (codes "struck") (codes "live")
+    ∷ word_if paragraph.begins_volume (codes "volume") (codes "-")
+    ∷ word_if paragraph.struck (codes "struck") (codes "live")
     ∷ decimal (length (print_of paragraph)) ∷ [])
 
 -- a correction, with the name of its proofreader if somebody is named
@@ -86,7 +88,9 @@ abbrev pub correction_line : ℕ → Replacement → List ℕ → List ℕ
 correction_line number r [] =
     line_of_fields (decimal number ∷ codes "correct" ∷ decimal r.start ∷ decimal r.count ∷ shown_text r.text ∷ [])
 correction_line number r (c ∷ who) =
-    line_of_fields (decimal number ∷ codes "correct-by" ∷ shown_text (c ∷ who) ∷ decimal r.start ∷ decimal r.count ∷ shown_text r.text ∷ [])
+    line_of_fields
+    (decimal number ∷ codes "correct-by" ∷ shown_text (c ∷ who) ∷ decimal r.start ∷ decimal r.count
+    ∷ shown_text r.text ∷ [])
 
 -- an entry of a history, with its number
 abbrev pub entry_line : ℕ × Entry → List ℕ
@@ -103,13 +107,15 @@ mark_line mark = line_of_fields (decimal mark.id ∷ decimal mark.start ∷ deci
 pub data ShowsLines (book : Book) (query : Query) (lines : List (List ℕ)) : Type 0 where
   print : (id : ℕ) (paragraph : Paragraph) → query ≡ Print id → paragraph_of book id ≡ Some paragraph
       → lines ≡ shown_text (print_of paragraph) ∷ [] → ShowsLines book query lines
-  braille : (id : ℕ) (paragraph : Paragraph) (cells : List ℕ) → query ≡ Braille id → paragraph_of book id ≡ Some paragraph
+  braille : (id : ℕ) (paragraph : Paragraph) (cells : List ℕ) → query ≡ Braille id
+      → paragraph_of book id ≡ Some paragraph
       → IsBraille book paragraph cells → lines ≡ text_of cells ∷ [] → ShowsLines book query lines
   history : (id : ℕ) (paragraph : Paragraph) → query ≡ History id → paragraph_of book id ≡ Some paragraph
       → lines ≡ map entry_line (enumerate_from 1 paragraph.history) → ShowsLines book query lines
   marks : (id : ℕ) (paragraph : Paragraph) → query ≡ Marks id → paragraph_of book id ≡ Some paragraph
       → lines ≡ map mark_line (marks_on id book.marks) → ShowsLines book query lines
-  where_is : (id place cell : ℕ) (paragraph : Paragraph) → query ≡ WhereIs id place → paragraph_of book id ≡ Some paragraph
+  where_is : (id place cell : ℕ) (paragraph : Paragraph) → query ≡ WhereIs id place
+      → paragraph_of book id ≡ Some paragraph
       → IsOutputPlace book paragraph place cell → lines ≡ decimal cell ∷ [] → ShowsLines book query lines
   whence : (id cell place : ℕ) (paragraph : Paragraph) → query ≡ Whence id cell → paragraph_of book id ≡ Some paragraph
       → IsPrintPlace book paragraph cell place → lines ≡ decimal place ∷ [] → ShowsLines book query lines
@@ -146,7 +152,8 @@ shown_line line = line_of (codes "|" ∷ line ∷ [])
 pub data RepliesToQuery (book : Book) (query : Query) (text : List ℕ) : Type 0 where
   shown : (lines : List (List ℕ)) → ShowsLines book query lines
       → text ≡ flat_map shown_line lines ++ word_and (codes "end") (book.version ∷ []) → RepliesToQuery book query text
-  refused : (refusal : Refusal) → Refuses book query refusal → text ≡ refusal_line refusal → RepliesToQuery book query text
+  refused : (refusal : Refusal) → Refuses book query refusal → text ≡ refusal_line refusal
+      → RepliesToQuery book query text
 
 -- the reply to a request by its answer, on the book as it is then
 abbrev pub IsReply : Book → Answer → List ℕ → Type 0
@@ -163,7 +170,8 @@ IsReply book Lost text = text ≡ word_and (codes "no") (91 ∷ [])
 abbrev pub BeginsWith : List ℕ → List ℕ → Type 0
 BeginsWith front line = (rest : List ℕ) × (line ≡ front ++ rest)
 
--- each line of the text but the last begins with a bar and a blank, and the last with one of these words
+-- each line of the text but the last begins with a bar and a blank, and the last with one of these
+-- words
 pub record EndsAfterBars (text : List ℕ) : Type 0 where
   pub others : List (List ℕ)
   pub last : List ℕ
@@ -176,7 +184,8 @@ pub record EndsAfterBars (text : List ℕ) : Type 0 where
 -- the lines that a query shows went to the sink so, after what was held back before
 abbrev pub PutsShown : {K : Type 0} → Ghosts K → K → K → (was held : List ℕ) → Book → Query → Bool → Type 0
 PutsShown sink old new was held book query whole =
-    (lines : List (List ℕ)) × ShowsLines book query lines × Puts sink old new (was ++ flat_map shown_line lines) held whole
+    (lines : List (List ℕ)) × ShowsLines book query lines
+    × Puts sink old new (was ++ flat_map shown_line lines) held whole
 
 -- the same of the reply to a query
 abbrev pub PutsQueryReply : {K : Type 0} → Ghosts K → K → K → (was held : List ℕ) → Book → Query → Bool → Type 0
@@ -188,9 +197,10 @@ abbrev pub PutsReply : {K : Type 0} → Ghosts K → K → K → (was held : Lis
 PutsReply sink old new was held book answer whole =
     (text : List ℕ) × IsReply book answer text × Puts sink old new (was ++ text) held whole
 
--- what went out is a beginning of a reply to the request, and all of it if that succeeded, as it does
--- unless the end can fail
-pub record IsReplied (CanFail : Type 0) (old new : Option (List ℕ)) (book : Book) (answer : Answer) (whole : Bool) : Type 0 where
+-- what went out is a beginning of a reply to the request, and all of it if that succeeded, as it
+-- does unless the end can fail
+pub record IsReplied (CanFail : Type 0) (old new : Option (List ℕ)) (book : Book) (answer : Answer)
+    (whole : Bool) : Type 0 where
   pub text : List ℕ
   pub is : IsReply book answer text
   pub sent : Transmits CanFail old new text [] whole

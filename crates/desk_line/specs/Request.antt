@@ -25,7 +25,8 @@ pub data Takes (line : List ℕ) (count : ℕ) : Type 0 where
 
 -- ---- the requests of an input
 
--- a whole request: a head line and exactly as many lines after it as it takes, each ended by a line feed
+-- a whole request: a head line and exactly as many lines after it as it takes, each ended by a line
+-- feed
 pub record IsWhole (request : List ℕ) : Type 0 where
   pub line : List ℕ
   pub block : List (List ℕ)
@@ -34,7 +35,8 @@ pub record IsWhole (request : List ℕ) : Type 0 where
   pub front : List ℕ
   pub ends : request ≡ front ++ 10 ∷ []
 
--- a request that the end of the input ends: the last line may lack its line feed, and lines that the head line takes may be missing
+-- a request that the end of the input ends: the last line may lack its line feed, and lines that
+-- the head line takes may be missing
 pub record IsLast (request : List ℕ) : Type 0 where
   pub line : List ℕ
   pub block : List (List ℕ)
@@ -54,7 +56,8 @@ Requests input [] = input ≡ []
 Requests input (request ∷ requests) =
     (later : List ℕ) × (input ≡ request ++ later) × IsRequestBefore later request × Requests later requests
 
--- these requests stand whole in bytes after which a read failed; what follows the last of them begins with no whole request
+-- these requests stand whole in bytes after which a read failed; what follows the last of them
+-- begins with no whole request
 abbrev pub WholeRequests : List ℕ → List (List ℕ) → Type 0
 WholeRequests bytes [] = (request later : List ℕ) → bytes ≡ request ++ later → ¬ IsWhole request
 WholeRequests bytes (request ∷ requests) =
@@ -67,7 +70,8 @@ abbrev pub request_of : Head → List ℕ → Request
 request_of (heads.Do directive expect) text = Do ((announced directive).command text) expect
 request_of (heads.Ask query) text = Ask query
 
--- the bytes are this request: a head line that says it, and exactly the lines that it takes, none of them too long
+-- the bytes are this request: a head line that says it, and exactly the lines that it takes, none
+-- of them too long
 pub record Reads (bytes : List ℕ) (request : Request) : Type 0 where
   pub line : List ℕ
   pub block : List (List ℕ)

@@ -67,8 +67,8 @@ abbrev pub block_text : Request → List ℕ
 block_text (Do command expect) = (form command).block
 block_text (Ask query) = []
 
--- the request's text. Its head line ends with a carriage return and a line feed, since a text at its end may itself end with
--- a carriage return
+-- the request's text. Its head line ends with a carriage return and a line feed, since a text at
+-- its end may itself end with a carriage return
 abbrev pub request_text : Request → List ℕ
 request_text request = head_text request ++ 13 ∷ 10 ∷ block_text request
 

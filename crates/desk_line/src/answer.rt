@@ -7,14 +7,14 @@ use desk_model::Refusal;
 pub enum Answer {
     /// The command was accepted, and the book is the one after it: `ok` with that book's version.
     Done {
-        /// The number that the command answers, if it answers one, as `Change::number` gives it: the id of a new paragraph or
-        /// mark, or the number of a new entry of a history.
+        /// The number that the command answers, if it answers one, as `Change::number` gives it:
+        /// the id of a new paragraph or mark, or the number of a new entry of a history.
         number: Option<u64>,
     },
     /// The command was refused: `no` with the refusal's code and its numbers.
     Refused(Refusal),
-    /// The query is to be shown, on the book as it is. If the book lacks the paragraph, the place or the cell, the reply is
-    /// the refusal's line.
+    /// The query is to be shown, on the book as it is. If the book lacks the paragraph, the place
+    /// or the cell, the reply is the refusal's line.
     Asked(Query),
     /// It wasn't a request: code 1.
     Syntax,

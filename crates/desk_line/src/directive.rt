@@ -193,7 +193,8 @@ fn read_style(fields: Fields<'_>) -> Option<Directive<'_>>
 }
 
 fn read_volume(fields: Fields<'_>) -> Option<Directive<'_>>
-    ensures { result ≡ read (Then Number (λ id. Then Flag (λ begins. Gives (Directive.Whole (Command.Volume id begins)))))
+    ensures { result
+        ≡ read (Then Number (λ id. Then Flag (λ begins. Gives (Directive.Whole (Command.Volume id begins)))))
         fields.entry }
 {
     let (paragraph, fields) = fields.number()?;
@@ -205,7 +206,8 @@ fn read_volume(fields: Fields<'_>) -> Option<Directive<'_>>
 }
 
 fn read_retable(fields: Fields<'_>) -> Option<Directive<'_>>
-    ensures { result ≡ read (Then Number (λ id. Then Name (λ table. Gives (Directive.Whole (Command.Retable id table)))))
+    ensures { result
+        ≡ read (Then Number (λ id. Then Name (λ table. Gives (Directive.Whole (Command.Retable id table)))))
         fields.entry }
 {
     let (paragraph, fields) = fields.number()?;

@@ -51,7 +51,8 @@ impl<'a> Field<'a> {
     }
 }
 
-/// The fields of a line that are still to be read: what stands between its blanks. Contracts see their list.
+/// The fields of a line that are still to be read: what stands between its blanks. Contracts see
+/// their list.
 #[derive(Drop)]
 pub(crate) struct Fields<'a> {
     rest: Option<&'a str>,

@@ -1,7 +1,7 @@
 //! Requests to a book, and the replies, as lines of text.
 //!
-//! A request is a head line, and for `table` the lines that it announces. It is read into a command or a query, whole or
-//! its head line first; an answer is written as the lines of its reply.
+//! A request is a head line, and for `table` the lines that it announces. It is read into a command
+//! or a query, whole or its head line first; an answer is written as the lines of its reply.
 //!
 //! ```rust
 //! use desk_line::{begin_request, lines_after, read_request};
@@ -13,8 +13,8 @@
 //! }
 //! ```
 //!
-//! `desk_model` says what a request does to a book; `desk_session` reads requests from an input and sends their replies, through the
-//! ends of `desk_ends`.
+//! `desk_model` says what a request does to a book; `desk_session` reads requests from an input and
+//! sends their replies, through the ends of `desk_ends`.
 #![tactic(auto)]
 
 mod answer;

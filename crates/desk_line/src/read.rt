@@ -34,8 +34,8 @@ impl<'a> RequestHead<'a> {
         block_lines(&self.head)
     }
 
-    /// The request that it is with the lines that follow it, given as they came. `None` exactly if they aren't as many lines
-    /// as follow it, or one of them is too long.
+    /// The request that it is with the lines that follow it, given as they came. `None` exactly if
+    /// they aren't as many lines as follow it, or one of them is too long.
     pub fn finish(self, text: &'a [u8]) -> Option<Request<'a>>
         ensures reads { (bytes : List ℕ) → HasHead bytes self.entry text.now
             → MatchOption result (IsNoRequest bytes) (Reads bytes) }
@@ -53,10 +53,10 @@ pub fn begin_request(line: &[u8]) -> Option<RequestHead<'_>>
     Some(RequestHead { head })
 }
 
-/// How many lines follow a head line in its request. The head line is given without its ending, a line feed and one
-/// carriage return before it, and no line feed stands in it. It is 0 if the line takes none: a query, another command than
-/// `table`, a `table` line with the number 0, and a line that says nothing, such as one that is too long, isn't UTF-8 or
-/// still has its ending.
+/// How many lines follow a head line in its request. The head line is given without its ending, a
+/// line feed and one carriage return before it, and no line feed stands in it. It is 0 if the line
+/// takes none: a query, another command than `table`, a `table` line with the number 0, and a line
+/// that says nothing, such as one that is too long, isn't UTF-8 or still has its ending.
 pub fn lines_after(head: &[u8]) -> u64
     ensures { Takes head.now result }
 {
@@ -66,8 +66,8 @@ pub fn lines_after(head: &[u8]) -> u64
     }
 }
 
-/// Reads a whole request: its head line and the lines that follow it, as they came. `None` exactly if the bytes aren't a
-/// request.
+/// Reads a whole request: its head line and the lines that follow it, as they came. `None` exactly
+/// if the bytes aren't a request.
 pub fn read_request(bytes: &[u8]) -> Option<Request<'_>>
     ensures { MatchOption result (IsNoRequest bytes.now) (Reads bytes.now) }
 {
@@ -78,7 +78,8 @@ pub fn read_request(bytes: &[u8]) -> Option<Request<'_>>
     }
 }
 
-/// The request that a head line makes with the bytes of the lines after it, if these are as many as it takes.
+/// The request that a head line makes with the bytes of the lines after it, if these are as many as
+/// it takes.
 fn complete<'a>(head: Head<'a>, text: &'a [u8]) -> Option<Request<'a>>
     ensures { result ≡ with_text text.now head.entry }
 {

@@ -1,6 +1,7 @@
 //! Writes replies.
 ghost use Rattle.desk_ends.specs.Sending.{Puts};
-ghost use Rattle.desk_line.specs.Reply.{IsReplied, PutsQueryReply, PutsReply, PutsShown, Refuses, refusal_line, word_and};
+ghost use Rattle.desk_line.specs.Reply.{IsReplied, PutsQueryReply, PutsReply, PutsShown};
+ghost use Rattle.desk_line.specs.Reply.{Refuses, refusal_line, word_and};
 ghost use Rattle.std.specs.Prelude.{MatchResult, codes, is_ok, option_to_list, ◌++◌, ◌≡◌, ◌∷◌};
 
 use super::answer::Answer;
@@ -17,7 +18,8 @@ use thiserror::Error;
 #[error("a write failed")]
 pub struct Broken;
 
-/// Writes the reply to a request, by the answer that it got, on the book as it is. It allocates nothing.
+/// Writes the reply to a request, by the answer that it got, on the book as it is. It allocates
+/// nothing.
 ///
 /// # Errors
 ///
@@ -29,7 +31,8 @@ pub fn write_reply<K: Sink>(sink: &mut K, book: &Book, answer: &Answer) -> Resul
     send_reply(sink, &mut Block::new(), book, answer).or(Err(Broken))
 }
 
-/// The same through an output buffer that serves one reply after another. What it had before is let go.
+/// The same through an output buffer that serves one reply after another. What it had before is let
+/// go.
 ///
 /// # Errors
 ///

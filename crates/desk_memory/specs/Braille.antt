@@ -7,4 +7,5 @@ use Rattle.louis_translate.specs.Braille.{braille}
 
 -- the cells are the braille of the print by this meaning
 abbrev pub AreCellsOf : Meaning → (print cells : List ℕ) → Type 0
-AreCellsOf meaning print cells = (choices : List Choice) × Tiles meaning print choices × (cells ≡ braille meaning print choices)
+AreCellsOf meaning print cells =
+    (choices : List Choice) × Tiles meaning print choices × (cells ≡ braille meaning print choices)

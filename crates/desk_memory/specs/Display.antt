@@ -14,8 +14,9 @@ use Rattle.desk_model.specs.Print.{print_of}
 use Rattle.desk_model.specs.Sound.{IsSoundParagraph}
 use Rattle.desk_model.specs.Translation.{IsTranslatedBy}
 
--- the kept paragraph has the print and the braille of the book's, which it stands for, and whose table has this meaning
--- and defines the print; it has what each of its corrections took away, and as many marks as the book has on it
+-- the kept paragraph has the print and the braille of the book's, which it stands for, and whose
+-- table has this meaning and defines the print; it has what each of its corrections took away, and
+-- as many marks as the book has on it
 pub record IsShown (book : Book) (id : ℕ) (kept : KeptParagraph) (meaning : Meaning) : Type 0 where
   pub paragraph : Paragraph
   pub found : paragraph_of book id ≡ Some paragraph

@@ -29,9 +29,11 @@ TookFrom print (KeptUndoes n) = Unit {0}
 -- each correction has the characters that gave way in the print before it
 abbrev pub HaveTaken : List ℕ → List KeptEntry → Type 0
 HaveTaken original entries =
-    (i : ℕ) (entry : KeptEntry) → slice_get entries i ≡ Some entry → TookFrom (corrected_print original (entries_kept (take i entries))) entry
+    (i : ℕ) (entry : KeptEntry) → slice_get entries i ≡ Some entry
+    → TookFrom (corrected_print original (entries_kept (take i entries))) entry
 
--- the kept entries are sound, each correction has what it took away, and this is the print that they leave
+-- the kept entries are sound, each correction has what it took away, and this is the print that
+-- they leave
 pub record LeavePrint (original : List ℕ) (entries : List KeptEntry) (print : List ℕ) : Type 0 where
   pub sound : AreSoundEntries original (entries_kept entries)
   pub taken : HaveTaken original entries
@@ -47,7 +49,8 @@ pub record IsNewestInForce (entries : List KeptEntry) (number : ℕ) (correction
 abbrev pub replaced_by : (start count : ℕ) (text print : List ℕ) → List ℕ
 replaced_by start count text print = with_replacement print (record { start = start; count = count; text = text })
 
--- the correction puts this text in place of so many characters of the print from a place on, and keeps those
+-- the correction puts this text in place of so many characters of the print from a place on, and
+-- keeps those
 pub record IsCorrection (print : List ℕ) (start count : ℕ) (text who : List ℕ) (c : Correction) : Type 0 where
   pub start_is : c.start ≡ start
   pub text_is : c.text ≡ text

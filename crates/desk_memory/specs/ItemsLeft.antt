@@ -1,4 +1,5 @@
--- What is left of the entries of a history, and of the marks of a paragraph, while they are shown one by one.
+-- What is left of the entries of a history, and of the marks of a paragraph, while they are shown
+-- one by one.
 use Rattle.std.specs.Prelude.{ℕ, ◌+◌, ◌<◌, List, length, drop, option_map, option_to_list, slice_get}
 use Rattle.std.specs.List.{All, enumerate_from, flat_map}
 use Rattle.desk_memory.specs.declared.history.KeptEntry.{KeptEntry}

@@ -1,5 +1,7 @@
--- How a book is kept: its tables with their rules, its paragraphs with their prints and cells, and its marks.
-use Rattle.std.specs.Prelude.{◌≡◌, ℕ, ◌-◌, ◌≤◌, length, drop, nat_eq, not, ◌==◌, if◌then◌else◌, List, [], ◌∷◌, ◌++◌, map, slice_get, Option, Some, option_to_list, option_map}
+-- How a book is kept: its tables with their rules, its paragraphs with their prints and cells, and
+-- its marks.
+use Rattle.std.specs.Prelude.{◌≡◌, ℕ, ◌-◌, ◌≤◌, length, drop, nat_eq, not, ◌==◌, if◌then◌else◌, List, [], ◌∷◌}
+use Rattle.std.specs.Prelude.{◌++◌, map, slice_get, Option, Some, option_to_list, option_map}
 use Rattle.std.specs.List.{All, enumerate_from, filter, find, flat_map, fold}
 use Rattle.std.specs.Str.{chars}
 use Rattle.std.specs.Prelude.{String, string_bytes}
@@ -51,7 +53,8 @@ paragraph_with_id items id = option_to_list (option_map (λ kept. (id, kept)) (s
 
 -- these paragraphs in the order of their ids here
 abbrev pub in_order_of : List ℕ → KeptParagraphs → KeptParagraphs
-in_order_of order kept = flat_map (λ id. option_to_list (option_map (λ paragraph. (id, paragraph)) (lookup (nat_eq id) kept))) order
+in_order_of order kept =
+    flat_map (λ id. option_to_list (option_map (λ paragraph. (id, paragraph)) (lookup (nat_eq id) kept))) order
 
 -- the order with one id more, put where the command says
 abbrev pub with_id : Anchor → ℕ → List ℕ → List ℕ
@@ -61,7 +64,8 @@ with_id (Para id) new order = flat_map (λ other. if other == id then other ∷ 
 
 -- the order with one id taken out and put elsewhere; after itself it stays
 abbrev pub with_id_moved : Anchor → ℕ → List ℕ → List ℕ
-with_id_moved anchor id order = if is_after id anchor then order else with_id anchor id (filter (λ other. not (other == id)) order)
+with_id_moved anchor id order =
+    if is_after id anchor then order else with_id anchor id (filter (λ other. not (other == id)) order)
 
 -- the paragraph's new cells, if it has any: by its id, from 1
 abbrev pub new_cells : List (Option (List ℕ)) → ℕ → Option (List ℕ)
@@ -107,7 +111,8 @@ HavePrints kept = (length kept ≤ most_paragraphs) × All (λ entry. entry.1.pr
 
 -- paragraphs in the order of their ids here
 abbrev pub in_order : List ℕ → List Paragraph → List Paragraph
-in_order order paragraphs = flat_map (λ id. option_to_list (find (λ paragraph. nat_eq paragraph.id id) paragraphs)) order
+in_order order paragraphs =
+    flat_map (λ id. option_to_list (find (λ paragraph. nat_eq paragraph.id id) paragraphs)) order
 
 -- what a kept mark stands for, with its id
 abbrev pub mark_kept : ℕ × KeptMark → Mark
@@ -134,8 +139,8 @@ book_kept version tables paragraphs marks = record {
   marks = marks_kept marks;
 }
 
--- the kept paragraph has its print, the cells of that print's braille by the rules of its table, and what each of its
--- corrections took away
+-- the kept paragraph has its print, the cells of that print's braille by the rules of its table,
+-- and what each of its corrections took away
 pub record IsKeptParagraph (tables : KeptTables) (entry : ℕ × KeptParagraph) : Type 0 where
   pub print : entry.1.print ≡ print_of (paragraph_kept entry)
   pub table : BookTable
@@ -149,10 +154,11 @@ pub record IsKeptParagraph (tables : KeptTables) (entry : ℕ × KeptParagraph) 
 abbrev pub HasMarks : List KeptMark → ℕ × KeptParagraph → Type 0
 HasMarks marks entry = entry.1.marks ≡ indexes_on entry.0 marks
 
--- what is true of a book as it is kept: it stands for a sound book, each table has the rules that its
--- text means, and each paragraph has its print, its braille, for each of its corrections the
+-- what is true of a book as it is kept: it stands for a sound book, each table has the rules that
+-- its text means, and each paragraph has its print, its braille, for each of its corrections the
 -- characters that gave way to it, and the indexes of its marks, which are their ids less one
-pub record IsKept (version : ℕ) (tables : KeptTables) (paragraphs : KeptParagraphs) (marks : List KeptMark) : Type 0 where
+pub record IsKept (version : ℕ) (tables : KeptTables) (paragraphs : KeptParagraphs)
+    (marks : List KeptMark) : Type 0 where
   pub sound : IsSound (book_kept version tables paragraphs marks)
   pub means : All (λ entry. Means entry.1.text entry.1.rules) tables
   pub translated : All (IsKeptParagraph tables) paragraphs

@@ -1,5 +1,6 @@
 -- Marks as they are kept.
-use Rattle.std.specs.Prelude.{ℕ, ◌+◌, ◌≤◌, ◌==◌, true, if◌then◌else◌, zero, suc, List, [], ◌∷◌, map, Option, None, slice_get, slice_set}
+use Rattle.std.specs.Prelude.{ℕ, ◌+◌, ◌≤◌, ◌==◌, true, if◌then◌else◌, zero, suc, List, []}
+use Rattle.std.specs.Prelude.{◌∷◌, map, Option, None, slice_get, slice_set}
 use Rattle.std.specs.Option.{option_map_or}
 use Rattle.std.specs.List.{All}
 use Rattle.desk_memory.specs.declared.marks.KeptMark.{KeptMark}
@@ -33,7 +34,8 @@ moved_kept_of id start removed added mark = if mark.paragraph == id then moved_k
 abbrev pub with_kept_moved : (id start removed added : ℕ) → List KeptMark → List KeptMark
 with_kept_moved id start removed added marks = map (moved_kept_of id start removed added) marks
 
--- of kept marks that have the indexes from one on, the indexes of those on the paragraph with this id
+-- of kept marks that have the indexes from one on, the indexes of those on the paragraph with this
+-- id
 abbrev pub indexes_from : (id index : ℕ) → List KeptMark → List ℕ
 indexes_from id index [] = []
 indexes_from id index (mark ∷ marks) =
@@ -51,4 +53,5 @@ kept_mark (suc index) marks = slice_get marks index
 -- the kept marks with the one with an id resolved
 abbrev pub with_kept_resolved : ℕ → List KeptMark → List KeptMark
 with_kept_resolved zero marks = marks
-with_kept_resolved (suc index) marks = option_map_or (λ mark. slice_set marks index (record mark { resolved = true })) (slice_get marks index) marks
+with_kept_resolved (suc index) marks =
+    option_map_or (λ mark. slice_set marks index (record mark { resolved = true })) (slice_get marks index) marks

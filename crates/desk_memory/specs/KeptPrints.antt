@@ -9,7 +9,8 @@ use Rattle.desk_memory.specs.Room.{Suffices}
 
 -- the kept paragraph with another print, its cells, and one entry more
 abbrev pub with_print_changed : PrintChange → KeptParagraph → KeptParagraph
-with_print_changed change kept = record kept { history = kept.history ++ change.entry ∷ []; print = change.print; cells = change.cells }
+with_print_changed change kept =
+    record kept { history = kept.history ++ change.entry ∷ []; print = change.print; cells = change.cells }
 
 -- the kept paragraph with one mark more
 abbrev pub with_mark : ℕ → KeptParagraph → KeptParagraph

@@ -13,4 +13,5 @@ lends_item T list index lent = LendsIf (items_row T) T list lent (slice_set list
 
 -- the paragraph with this id is what is left behind the reference
 abbrev pub lends_paragraph : MutBor KeptParagraphs → ℕ → Option (MutBor KeptParagraph) → Fml
-lends_paragraph kept id lent = LendsIf paragraphs_row paragraph_row kept lent (λ new. with_kept_change id (λ _. new) kept.now) kept.now
+lends_paragraph kept id lent =
+    LendsIf paragraphs_row paragraph_row kept lent (λ new. with_kept_change id (λ _. new) kept.now) kept.now

@@ -48,7 +48,8 @@ impl Correction {
         count_of(self.text.as_str())
     }
 
-    /// The print with what gave way to the text in its place again. The text stands at its place in the print that is given.
+    /// The print with what gave way to the text in its place again. The text stands at its place in
+    /// the print that is given.
     pub fn undone(&self, alloc: Global, print: &[char]) -> Result<Vec<char>, AllocError>
         requires { self.now.start + length self.now.text ≤ length print.now }
         ensures { IfOk result (λ new.
@@ -70,8 +71,8 @@ pub enum KeptEntry {
 
 /// The newest correction in force of a history, with its number.
 ///
-/// An undo brings back the state before the correction that it takes back, so the search leaps over all entries between
-/// the two.
+/// An undo brings back the state before the correction that it takes back, so the search leaps over
+/// all entries between the two.
 pub fn newest(history: &[KeptEntry]) -> Option<(u64, &Correction)>
     requires { (original : _) × AreSoundEntries original (entries_kept history.now) }
     ensures found { IfSome result (λ found. IsNewestInForce history.now found.0 found.1.now) }

@@ -9,8 +9,8 @@ use super::history::KeptEntry;
 use desk_model::{Done, HistoryItem};
 use std::marker::Model;
 
-/// The entries of a paragraph's history in order. It allocates nothing. Contracts see it as those that are left, with
-/// their numbers.
+/// The entries of a paragraph's history in order. It allocates nothing. Contracts see it as those
+/// that are left, with their numbers.
 #[derive(Drop)]
 pub struct History<'a> {
     entries: &'a [KeptEntry],

@@ -1,5 +1,5 @@
-//! Lists that a planned change makes longer without allocating. An item at the end has a constant cost, taken over all; one
-//! at a place moves those behind it.
+//! Lists that a planned change makes longer without allocating. An item at the end has a constant
+//! cost, taken over all; one at a place moves those behind it.
 ghost use Rattle.desk_memory.specs.Room.{Suffices, grown as grown_lem, room_of};
 ghost use Rattle.std.specs.List.{insert};
 ghost use Rattle.std.specs.Prelude.{◌≡◌, ◌+◌, ◌<◌, ◌≤◌, ◌^◌, [], ◌∷◌, ◌++◌, IfOk, length};
@@ -7,7 +7,8 @@ ghost use Rattle.std.specs.Prelude.{◌≡◌, ◌+◌, ◌<◌, ◌≤◌, ◌^
 use std::alloc::{AllocError, Global};
 use std::marker::Model;
 
-/// A list with room to spare. Contracts see its items alone: how much room there is follows from their number.
+/// A list with room to spare. Contracts see its items alone: how much room there is follows from
+/// their number.
 pub struct Items<T> {
     pub(crate) items: Vec<T>,
     // what the room is at least
@@ -31,7 +32,8 @@ impl<T: Drop> Drop for Items<T> {
     }
 }
 
-/// Room for a list that is longer by one, if the list itself has none. Contracts see how much it is.
+/// Room for a list that is longer by one, if the list itself has none. Contracts see how much it
+/// is.
 #[derive(Drop)]
 pub struct Room<T> {
     items: Option<Vec<T>>,
@@ -146,7 +148,8 @@ impl<T: Drop> Items<T> {
         self.items = items;
     }
 
-    /// The items with one more at a place, before those that stand there and after. It allocates nothing.
+    /// The items with one more at a place, before those that stand there and after. It allocates
+    /// nothing.
     pub(crate) fn with_item_at(self, room: Room<T>, place: usize, item: T) -> Self
         requires few { length self + 1 < 2 ^ 32 }
         requires room { Suffices (length self) room }

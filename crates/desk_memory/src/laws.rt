@@ -1,6 +1,9 @@
 //! What holds of the limits of a book.
-ghost use Rattle.desk_memory.specs.declared.limits.TheConstants.{MOST_ENTRIES, MOST_MARKS, MOST_NAME, MOST_NOTE, MOST_PARAGRAPHS, MOST_PRINT, MOST_PROOFREADER, MOST_TABLES, MOST_VERSION};
-ghost use Rattle.desk_model.specs.Limits.{most_entries, most_marks, most_name, most_note, most_paragraphs, most_print, most_proofreader, most_tables, most_version};
+ghost use Rattle.desk_memory.specs.declared.limits.TheConstants.{MOST_ENTRIES, MOST_MARKS, MOST_NAME, MOST_NOTE};
+ghost use Rattle.desk_memory.specs.declared.limits.TheConstants.{MOST_PARAGRAPHS, MOST_PRINT, MOST_PROOFREADER};
+ghost use Rattle.desk_memory.specs.declared.limits.TheConstants.{MOST_TABLES, MOST_VERSION};
+ghost use Rattle.desk_model.specs.Limits.{most_entries, most_marks, most_name, most_note, most_paragraphs};
+ghost use Rattle.desk_model.specs.Limits.{most_print, most_proofreader, most_tables, most_version};
 ghost use Rattle.std.specs.Prelude.{◌≡◌};
 
 /// The limits that the code compares with are those that the definitions write.

@@ -1,9 +1,10 @@
-//! How a book is kept in memory: its tables, its paragraphs with their histories and their order, its marks, and the room that
-//! they have to grow.
+//! How a book is kept in memory: its tables, its paragraphs with their histories and their order,
+//! its marks, and the room that they have to grow.
 //!
-//! A command makes a list longer in two steps. What the list needs is asked for first ([`Items::room`], [`Tables`] with
-//! [`TablesRoom`]), which can fail; then the item is put in, which allocates nothing. So a change of a book can be planned,
-//! written to a file and applied, and nothing that fails is left for the last step.
+//! A command makes a list longer in two steps. What the list needs is asked for first
+//! ([`Items::room`], [`Tables`] with [`TablesRoom`]), which can fail; then the item is put in,
+//! which allocates nothing. So a change of a book can be planned, written to a file and applied,
+//! and nothing that fails is left for the last step.
 //!
 //! ```rust
 //! use desk_memory::Items;
@@ -14,8 +15,8 @@
 //! assert_eq!(rt; items.as_slice(), &[7]);
 //! ```
 //!
-//! `desk_model` says what a book is. `desk_rebuild` makes what is kept here of the rows of a file, and `desk_book` changes it by
-//! commands.
+//! `desk_model` says what a book is. `desk_rebuild` makes what is kept here of the rows of a file,
+//! and `desk_book` changes it by commands.
 #![tactic(auto)]
 
 mod braille;

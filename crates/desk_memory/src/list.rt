@@ -3,7 +3,8 @@ use super::paragraphs::Paragraphs;
 use desk_model::ListItem;
 use std::marker::Model;
 
-/// The paragraphs of a book in order, struck ones too. It allocates nothing. Contracts see it as those that are left.
+/// The paragraphs of a book in order, struck ones too. It allocates nothing. Contracts see it as
+/// those that are left.
 #[derive(Drop)]
 pub struct List<'a> {
     paragraphs: &'a Paragraphs,

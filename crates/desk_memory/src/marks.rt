@@ -1,5 +1,6 @@
 //! The marks of proofreaders.
-ghost use Rattle.desk_memory.specs.KeptMarks.{AreWithin, IsWithin, indexes_on, moved_kept, kept_mark, span_kept, with_kept_moved, with_kept_resolved};
+ghost use Rattle.desk_memory.specs.KeptMarks.{AreWithin, IsWithin, indexes_on, moved_kept, kept_mark};
+ghost use Rattle.desk_memory.specs.KeptMarks.{span_kept, with_kept_moved, with_kept_resolved};
 ghost use Rattle.desk_memory.specs.Kept.{mark_kept};
 ghost use Rattle.desk_model.specs.Book.{new_mark};
 ghost use Rattle.desk_model.specs.Limits.{most_print};
@@ -83,8 +84,8 @@ impl KeptMark {
     }
 }
 
-/// Moves the marks of a paragraph, which have these indexes, as so many characters of its print, from a place on, give way
-/// to others.
+/// Moves the marks of a paragraph, which have these indexes, as so many characters of its print,
+/// from a place on, give way to others.
 fn give_way(marks: &mut [KeptMark], indexes: &[usize], start: usize, removed: usize, added: usize)
     requires indexes { (id : ℕ) × (indexes.now ≡ indexes_on id marks.old) }
     requires marks { AreWithin marks.old }
@@ -187,8 +188,8 @@ impl Marks {
         }
     }
 
-    /// Moves the marks of a paragraph, which have these indexes, as so many characters of its print, from a place on, give
-    /// way to others.
+    /// Moves the marks of a paragraph, which have these indexes, as so many characters of its
+    /// print, from a place on, give way to others.
     pub fn give_way(&mut self, indexes: &[usize], start: usize, removed: usize, added: usize)
         requires indexes { (id : ℕ) × (indexes.now ≡ indexes_on id self.old) }
         requires marks { AreWithin self.old }

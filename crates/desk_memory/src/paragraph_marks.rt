@@ -6,7 +6,8 @@ use super::marks::KeptMark;
 use desk_model::MarkItem;
 use std::marker::Model;
 
-/// The marks of a paragraph in the order of their ids. It allocates nothing. Contracts see it as those that are left.
+/// The marks of a paragraph in the order of their ids. It allocates nothing. Contracts see it as
+/// those that are left.
 #[derive(Drop)]
 pub struct ParagraphMarks<'a> {
     // the marks of the book

@@ -1,5 +1,6 @@
 //! The paragraphs of a book.
-ghost use Rattle.desk_memory.specs.Kept.{ids, in_order_of, paragraph_with_id, renewed_items, with_id, with_id_moved, with_kept_change, with_new_cells};
+ghost use Rattle.desk_memory.specs.Kept.{ids, in_order_of, paragraph_with_id, renewed_items, with_id};
+ghost use Rattle.desk_memory.specs.Kept.{with_id_moved, with_kept_change, with_new_cells};
 ghost use Rattle.desk_memory.specs.KeptPrints.{HasRoomFor, HasRoomForMark, with_mark, with_print_changed};
 ghost use Rattle.desk_model.specs.Named.{paragraph_before};
 ghost use Rattle.desk_memory.specs.Room.{Suffices};
@@ -9,7 +10,8 @@ ghost use Rattle.std.specs.List.Sorted.{IsPermutation};
 ghost use Rattle.std.specs.Map.{lookup};
 ghost use Rattle.std.specs.Option.{option_copied, option_map_or};
 ghost use Rattle.desk_model.specs.Limits.{most_paragraphs};
-ghost use Rattle.std.specs.Prelude.{◌≡◌, ◌+◌, ◌<◌, ◌≤◌, ◌^◌, [], ◌∷◌, ◌++◌, ℕ, IfNone, IfOk, IfSome, MatchOption, OnOk, Some, ◌==◌, length, map, nat_eq, not, option_map, slice_get};
+ghost use Rattle.std.specs.Prelude.{◌≡◌, ◌+◌, ◌<◌, ◌≤◌, ◌^◌, [], ◌∷◌, ◌++◌, ℕ, IfNone, IfOk, IfSome, MatchOption};
+ghost use Rattle.std.specs.Prelude.{OnOk, Some, ◌==◌, length, map, nat_eq, not, option_map, slice_get};
 
 use super::history::KeptEntry;
 use super::items::{Items, Room};
@@ -41,8 +43,8 @@ pub struct Paragraph {
     pub marks: Items<usize>,
 }
 
-// Written out: a derived drop stands part by part in each function that lets a paragraph go, which makes those long to
-// prove.
+// Written out: a derived drop stands part by part in each function that lets a paragraph go, which
+// makes those long to prove.
 impl Drop for Paragraph {
     fn drop(self) {
         let Paragraph {
@@ -122,7 +124,8 @@ impl Order {
     }
 }
 
-/// Paragraphs with the ids 1, 2, .. in the order of their typing, and the order in which they stand.
+/// Paragraphs with the ids 1, 2, .. in the order of their typing, and the order in which they
+/// stand.
 #[derive(Drop)]
 pub struct Paragraphs {
     // the paragraph with id n has index n - 1
@@ -275,7 +278,8 @@ impl Paragraphs {
         ensures* lends { sem 𝓛 (lends_paragraph self.entry id result) }
         ensures value { option_copied_mut result ≡ lookup (nat_eq id) self.old }
         ensures alone { MatchOption result ((change : _) → self.old ≡ with_kept_change id change self.old)
-            (λ lent. (change : _) → with_kept_change id (λ _. change lent.now) self.old ≡ with_kept_change id change self.old) }
+            (λ lent. (change : _)
+            → with_kept_change id (λ _. change lent.now) self.old ≡ with_kept_change id change self.old) }
     {
         let index = self.index_of(id)?;
         self.items.get_mut(index)
@@ -317,8 +321,8 @@ impl Paragraphs {
         self.order.room(alloc)
     }
 
-    /// The place in the order at which a paragraph comes to stand that is put where a command says. If that is after a
-    /// paragraph, this one has to be there.
+    /// The place in the order at which a paragraph comes to stand that is put where a command says.
+    /// If that is after a paragraph, this one has to be there.
     pub fn place_for(&self, after: Anchor) -> usize
         requires { (id : ℕ) → Contains (paragraph_before after) id → Contains (ids self.now) id }
         ensures within { result ≤ length self.now }
@@ -365,7 +369,8 @@ impl Paragraphs {
         requires order_room { Suffices (length self) order_room }
         requires place { place ≤ length self }
         requires order { IsPermutation (range_with_len 1 (length self + 1)) (insert (ids self) place (length self + 1)) }
-        ensures { result ≡ in_order_of (insert (ids self) place (length self + 1)) (self ++ (length self + 1, paragraph) ∷ []) }
+        ensures { result
+            ≡ in_order_of (insert (ids self) place (length self + 1)) (self ++ (length self + 1, paragraph) ∷ []) }
     {
         let id = self.len() as u64 + 1;
         let Paragraphs { mut items, order } = self;
@@ -409,8 +414,8 @@ impl Paragraphs {
         }
     }
 
-    /// Gives the paragraph with an id, which is there, another print and the cells of it, and its history one entry more.
-    /// It allocates nothing.
+    /// Gives the paragraph with an id, which is there, another print and the cells of it, and its
+    /// history one entry more. It allocates nothing.
     pub fn change_print(&mut self, id: u64, change: PrintChange)
         requires { HasRoomFor self.old id change.room }
         ensures { self.new ≡ with_kept_change id (with_print_changed change) self.old }
@@ -432,7 +437,8 @@ impl Paragraphs {
         paragraph.cells = cells;
     }
 
-    /// Gives the paragraph with an id, if there is one, the index of one more of its marks. It allocates nothing.
+    /// Gives the paragraph with an id, if there is one, the index of one more of its marks. It
+    /// allocates nothing.
     pub fn add_mark(&mut self, id: u64, room: Room<usize>, index: usize)
         requires { HasRoomForMark self.old id room }
         ensures { self.new ≡ with_kept_change id (with_mark index) self.old }

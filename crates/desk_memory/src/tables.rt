@@ -42,8 +42,8 @@ fn read_rules(alloc: Global, text: &[u8]) -> Result<RuleIndex, ReadFault>
 }
 
 impl BookTable {
-    /// Reads the text of a table, of which it keeps a copy. The fault is the one that is reported of the text, or that an
-    /// allocation failed.
+    /// Reads the text of a table, of which it keeps a copy. The fault is the one that is reported
+    /// of the text, or that an allocation failed.
     pub fn read(alloc: Global, text: &[u8]) -> Result<Self, ReadFault>
         ensures text { IfOk result (λ table. table.text ≡ text.now) }
         ensures means { IfOk result (λ table. Means text.now table.rules) }
@@ -58,8 +58,8 @@ impl BookTable {
     }
 }
 
-/// A table of a book on the heap, so that what holds or moves one stays small: a table takes some kilobytes. Contracts see
-/// the table.
+/// A table of a book on the heap, so that what holds or moves one stays small: a table takes some
+/// kilobytes. Contracts see the table.
 pub struct BoxedTable {
     table: Box<BookTable>,
 }

@@ -70,7 +70,8 @@ pub fn is_table_name(name: &str) -> bool
     0 < count && count <= MOST_NAME && has_name_characters(name)
 }
 
-/// Whether the name of a proofreader may hold the character: neither a blank nor one that no text of a book may hold.
+/// Whether the name of a proofreader may hold the character: neither a blank nor one that no text
+/// of a book may hold.
 fn is_proofreader_character(character: char) -> bool
     ensures { result ≡ is_proofreader_character character }
 {
@@ -84,8 +85,8 @@ fn has_proofreader_characters(text: &str) -> bool
     text.chars().all(is_proofreader_character)
 }
 
-/// Whether the text is the name of a proofreader: 0 to 40 characters, none of them a blank, a line feed, a carriage return
-/// or U+0000.
+/// Whether the text is the name of a proofreader: 0 to 40 characters, none of them a blank, a line
+/// feed, a carriage return or U+0000.
 pub fn is_proofreader_name(name: &str) -> bool
     ensures { IsTrue result ↔ IsProofreaderName (chars name.now) }
 {

@@ -11,13 +11,14 @@ pub record Replacement : Type 0 where
   pub count : ℕ
   pub text : List ℕ
 
--- an entry of a paragraph's history: a correction, with the name of its proofreader, which may be empty, or the undo of
--- the correction with this number
+-- an entry of a paragraph's history: a correction, with the name of its proofreader, which may be
+-- empty, or the undo of the correction with this number
 pub data Entry : Type 0 where
   Corrects : Replacement → List ℕ → Entry
   Undoes : ℕ → Entry
 
--- the original is the typed text as it is stored; the entries of the history have the numbers 1, 2, ..
+-- the original is the typed text as it is stored; the entries of the history have the numbers 1, 2,
+-- ..
 pub record Paragraph : Type 0 where
   pub id : ℕ
   pub table : List ℕ
@@ -49,8 +50,9 @@ new_mark id paragraph start end note = record {
   resolved = false;
 }
 
--- the texts of the tables stand in the order of their names, the paragraphs in the order of the book, the marks in
--- the order of their ids; prints and cells follow from these, and are no part of it
+-- the texts of the tables stand in the order of their names, the paragraphs in the order of the
+-- book, the marks in the order of their ids; prints and cells follow from these, and are no part of
+-- it
 pub record Book : Type 0 where
   pub version : ℕ
   pub tables : List (List ℕ × List ℕ)

@@ -1,7 +1,9 @@
--- What is wrong with rows that show no book, and which of it is reported: the first damaged table, and in it the smallest id.
--- All of this is meant of rows whose texts are UTF-8 and whose tables are those of their format; of others another fault is
--- reported before. A table's damage is meant if those that are checked before it are sound.
-use Rattle.std.specs.Prelude.{◌≡◌, ◌≢◌, ◌⊎◌, ℕ, ◌+◌, ◌<◌, ◌≤◌, ℤ, pos, ◌+ℤ◌, ◌≤ℤ◌, nat_abs, if◌then◌else◌, List, [], ◌∷◌, map, filter, length, take, slice_get, option_map, Some}
+-- What is wrong with rows that show no book, and which of it is reported: the first damaged table,
+-- and in it the smallest id. All of this is meant of rows whose texts are UTF-8 and whose tables
+-- are those of their format; of others another fault is reported before. A table's damage is meant
+-- if those that are checked before it are sound.
+use Rattle.std.specs.Prelude.{◌≡◌, ◌≢◌, ◌⊎◌, ℕ, ◌+◌, ◌<◌, ◌≤◌, ℤ, pos, ◌+ℤ◌, ◌≤ℤ◌, nat_abs, if◌then◌else◌}
+use Rattle.std.specs.Prelude.{List, [], ◌∷◌, map, filter, length, take, slice_get, option_map, Some}
 use Rattle.std.specs.List.{Contains}
 use Rattle.std.specs.List.Sorted.{IsPermutation, IsSortedBy}
 use Rattle.std.specs.Ordering.{int_eq, is_lt, nat_cmp, ordering_then}
@@ -18,7 +20,8 @@ use Rattle.desk_parts.specs.declared.file_table.FileTable.TheVariants.{Book, Tab
 use Rattle.desk_parts.specs.declared.rows.BookRow.{BookRow}
 use Rattle.desk_model.specs.Book.{Entry, Corrects, Undoes}
 use Rattle.desk_parts.specs.FileRows.{FileRows, entries_in, format_of, table_of}
-use Rattle.desk_model.specs.Limits.{most_entries, most_marks, most_note, most_paragraphs, most_print, most_tables, most_version}
+use Rattle.desk_model.specs.Limits.{most_entries, most_marks, most_note, most_paragraphs}
+use Rattle.desk_model.specs.Limits.{most_print, most_tables, most_version}
 use Rattle.desk_model.specs.Name.{IsProofreaderName, IsTableName}
 use Rattle.desk_model.specs.Print.{corrected_print, newest}
 use Rattle.desk_parts.specs.Rows.{Tab as TabRow, Para as ParaRow, NamedCorr as EntryRow, Mark as MarkRow, ParaCells}
@@ -38,7 +41,8 @@ IsFlag n = (n ≡ pos 0) ⊎ (n ≡ pos 1)
 abbrev pub rows_with : {X : Type 0} → (X → ℤ) → ℤ → List X → ℕ
 rows_with key id rows = length (filter (λ row. int_eq (key row) id) rows)
 
--- the number is from 1 to the last one, no other row has it, and it is 1 or a row has the one before it
+-- the number is from 1 to the last one, no other row has it, and it is 1 or a row has the one
+-- before it
 pub record IsNumber {X : Type 0} (key : X → ℤ) (last : ℕ) (rows : List X) (id : ℤ) : Type 0 where
   pub within : IsWithin 1 last id
   pub once : rows_with key id rows ≡ 1
@@ -58,20 +62,25 @@ IsDamagedBook books id = (id ≡ pos 1) × ¬ ((row : BookRow) × (books ≡ row
 
 -- ---- tab
 
--- the row at this index has a name that no row before it has, a text with a meaning, and there is room for it
+-- the row at this index has a name that no row before it has, a text with a meaning, and there is
+-- room for it
 pub record IsSoundTabRow (sorted : List TabRow) (index : ℕ) (row : TabRow) : Type 0 where
   pub named : IsTableName (chars row.name)
   pub meaning : Meaning
   pub means : Means row.body meaning
   pub room : index < most_tables
-  pub new : (before : ℕ) (other : TabRow) → before < index → slice_get sorted before ≡ Some other → other.name ≢ row.name
+  pub new : (before : ℕ) (other : TabRow) → before < index → slice_get sorted before ≡ Some other
+      → other.name ≢ row.name
 
--- of the tables in order of their names, those of one name in order of their texts, the one with this number, from 1, isn't sound
+-- of the tables in order of their names, those of one name in order of their texts, the one with
+-- this number, from 1, isn't sound
 abbrev pub IsDamagedTab : List TabRow → ℤ → Type 0
 IsDamagedTab tabs id =
     (sorted : List TabRow) × IsPermutation tabs sorted
-    × IsSortedBy (λ a b. is_lt (ordering_then (slice_cmp nat_cmp a.name b.name) (slice_cmp nat_cmp a.body b.body))) sorted
-    × ((index : ℕ) × (row : TabRow) × (slice_get sorted index ≡ Some row) × (id ≡ pos (index + 1)) × ¬ IsSoundTabRow sorted index row)
+    × IsSortedBy
+    (λ a b. is_lt (ordering_then (slice_cmp nat_cmp a.name b.name) (slice_cmp nat_cmp a.body b.body))) sorted
+    × ((index : ℕ) × (row : TabRow) × (slice_get sorted index ≡ Some row) × (id ≡ pos (index + 1))
+    × ¬ IsSoundTabRow sorted index row)
 
 -- ---- para
 
@@ -115,7 +124,9 @@ HasPara paras id = (row : ParaRow) × Contains paras row × (row.id ≡ id)
 abbrev pub entry_of : EntryRow → Entry
 entry_of row =
     if int_eq row.entry.kind (pos 1) then Undoes (nat_abs row.entry.start)
-    else Corrects (record { start = nat_abs row.entry.start; count = nat_abs row.entry.len; text = chars row.entry.body }) (chars row.who)
+    else Corrects
+    (record { start = nat_abs row.entry.start; count = nat_abs row.entry.len; text = chars row.entry.body })
+    (chars row.who)
 
 -- what rows stand for
 abbrev pub history_of : List EntryRow → List Entry
@@ -140,8 +151,8 @@ pub record IsSoundUndo (before : List Entry) (row : EntryRow) : Type 0 where
   pub body : row.entry.body ≡ []
   pub who : row.who ≡ []
 
--- the row with this index, from 0, has the next number, and what it stands for fits what those before it leave; the print
--- after it is within its limit
+-- the row with this index, from 0, has the next number, and what it stands for fits what those
+-- before it leave; the print after it is within its limit
 pub record IsSoundEntryRow (original : List ℕ) (sorted : List EntryRow) (index : ℕ) (row : EntryRow) : Type 0 where
   pub number : row.entry.seq ≡ pos (index + 1)
   pub room : index < most_entries
@@ -149,14 +160,17 @@ pub record IsSoundEntryRow (original : List ℕ) (sorted : List EntryRow) (index
       ⊎ IsSoundUndo (history_of (take index sorted)) row
   pub short : length (corrected_print original (history_of (take (index + 1) sorted))) ≤ most_print
 
--- the rows of the paragraph's entries are sound, in order of their numbers, and the print after all of them is its own
+-- the rows of the paragraph's entries are sound, in order of their numbers, and the print after all
+-- of them is its own
 pub record HasSoundEntries (entries : List EntryRow) (para : ParaRow) : Type 0 where
   pub sorted : List EntryRow
   pub its_own : IsPermutation (filter (λ row. int_eq row.entry.para para.id) entries) sorted
-  pub each : (index : ℕ) (row : EntryRow) → slice_get sorted index ≡ Some row → IsSoundEntryRow (chars para.original) sorted index row
+  pub each : (index : ℕ) (row : EntryRow) → slice_get sorted index ≡ Some row
+      → IsSoundEntryRow (chars para.original) sorted index row
   pub print : corrected_print (chars para.original) (history_of sorted) ≡ chars para.print
 
--- the paragraph with this id hasn't sound entries, or there are entries of this id and no such paragraph
+-- the paragraph with this id hasn't sound entries, or there are entries of this id and no such
+-- paragraph
 abbrev pub IsDamagedEntries : List ParaRow → List EntryRow → ℤ → Type 0
 IsDamagedEntries paras entries id =
     ((para : ParaRow) × Contains paras para × (para.id ≡ id) × ¬ HasSoundEntries entries para)
@@ -189,7 +203,8 @@ IsDamagedMark paras marks id = (row : MarkRow) × Contains marks row × (row.id 
 -- ---- cache
 
 -- no other row is of this paragraph, which is there, and the cells are the translation of its print
-pub record IsSoundCacheRow (tabs : List TabRow) (paras : List ParaRow) (caches : List ParaCells) (row : ParaCells) : Type 0 where
+pub record IsSoundCacheRow (tabs : List TabRow) (paras : List ParaRow) (caches : List ParaCells)
+    (row : ParaCells) : Type 0 where
   pub once : rows_with (λ other. other.para) row.para caches ≡ 1
   pub paragraph : ParaRow
   pub there : Contains paras paragraph
@@ -220,9 +235,11 @@ IsDamaged rows Book id = IsDamagedBook rows.books id
 IsDamaged rows Tab id = IsDamagedTab rows.tabs id
 IsDamaged rows Para id = IsDamagedPara rows.tabs rows.paras id
 IsDamaged rows Corr id = (table_of rows.entries ≡ Corr) × IsDamagedEntries rows.paras (entries_in rows.entries) id
-IsDamaged rows NamedCorr id = (table_of rows.entries ≡ NamedCorr) × IsDamagedEntries rows.paras (entries_in rows.entries) id
+IsDamaged rows NamedCorr id =
+    (table_of rows.entries ≡ NamedCorr) × IsDamagedEntries rows.paras (entries_in rows.entries) id
 IsDamaged rows Mark id = IsDamagedMark rows.paras rows.marks id
-IsDamaged rows Cache id = (caches : List ParaCells) × (rows.caches ≡ Some caches) × IsDamagedCache rows.tabs rows.paras caches id
+IsDamaged rows Cache id =
+    (caches : List ParaCells) × (rows.caches ≡ Some caches) × IsDamagedCache rows.tabs rows.paras caches id
 
 -- the turn in which a table is checked: `corr2` in that of `corr`
 abbrev pub table_turn : FileTable → ℕ
@@ -243,4 +260,5 @@ pub record IsFirstDamage (rows : FileRows) (table : FileTable) (id : ℤ) : Type
 
 -- if `book` has one row, with a format from 1 on, the entries are those of this format
 abbrev pub HasItsTables : FileRows → Type 0
-HasItsTables rows = (row : BookRow) → rows.books ≡ row ∷ [] → pos 1 ≤ℤ row.format → row.format ≡ pos (format_of rows.entries)
+HasItsTables rows = (row : BookRow) → rows.books ≡ row ∷ [] → pos 1 ≤ℤ row.format
+    → row.format ≡ pos (format_of rows.entries)

@@ -1,4 +1,5 @@
--- Rows of a new file, and those of one that is brought to the second format or gets the braille of its paragraphs.
+-- Rows of a new file, and those of one that is brought to the second format or gets the braille of
+-- its paragraphs.
 use Rattle.std.specs.Prelude.{◌≡◌, ℕ, pos, List, [], ◌∷◌, ◌++◌, map, Some}
 use Rattle.std.specs.List.{All, flat_map}
 use Rattle.std.specs.List.Sorted.{IsPermutation}
@@ -48,8 +49,8 @@ AreEntriesOf book entries =
     All (HasUtf8Texts tables.NamedCorr) entries
     × IsPermutation (map (spelled tables.NamedCorr) entries) (flat_map entry_rows_of book.paragraphs)
 
--- what brings rows of this version to the second format, once they have its tables: the row of `book`, each entry, and the
--- braille of each paragraph
+-- what brings rows of this version to the second format, once they have its tables: the row of
+-- `book`, each entry, and the braille of each paragraph
 abbrev pub second_format_puts : ℕ → FileRows → List ParaCells → List RowPut
 second_format_puts version rows caches =
     PutRow tables.Book (book_row_of 2 version)
@@ -67,8 +68,8 @@ with_empty Braille rows = with_caches [] rows
 abbrev pub entry_puts : Book → List NamedCorr → List RowPut
 entry_puts book entries = PutRow tables.Book (book_row_of 2 book.version) ∷ put_rows tables.NamedCorr entries
 
--- This fills these tables: with the entries of the book's histories, after the row of `book`, and with the braille of
--- each of its paragraphs.
+-- This fills these tables: with the entries of the book's histories, after the row of `book`, and
+-- with the braille of each of its paragraphs.
 abbrev pub Fills : NewTables → Book → List RowPut → Type 0
 Fills EntriesAndBraille book puts =
     (entries : List NamedCorr) × (caches : List ParaCells) × AreEntriesOf book entries × AreCached book caches

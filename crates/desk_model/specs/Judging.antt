@@ -11,7 +11,8 @@ use Rattle.desk_model.specs.Turns.{turn}
 abbrev pub Passes : Book → Option ℕ → Command → ℕ → Type 0
 Passes book expect command n = (other : Refusal) → Holds book expect command other → n ≤ turn other
 
--- an allocation for the command may have failed: it allocates, and no refusal holds that is checked before
+-- an allocation for the command may have failed: it allocates, and no refusal holds that is checked
+-- before
 pub record MayLackMemory (book : Book) (expect : Option ℕ) (command : Command) : Type 0 where
   pub from : ℕ
   pub asks : (named_by command).turn_after_asking ≡ Some from

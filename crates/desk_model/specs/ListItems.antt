@@ -14,7 +14,9 @@ pub record IsListed (paragraph : Paragraph) (item : ListItem) : Type 0 where
   pub struck : item.struck ≡ paragraph.struck
   pub length_is : item.length ≡ length (print_of paragraph)
 
--- the item shows the first of the paragraphs, and the others are left; or there is none, and no item
+-- the item shows the first of the paragraphs, and the others are left; or there is none, and no
+-- item
 abbrev pub ListsFirst : List Paragraph → Option ListItem → List Paragraph → Type 0
 ListsFirst paragraphs item left =
-    MatchOption item ((paragraphs ≡ []) × (left ≡ [])) (λ told. (first : Paragraph) × (paragraphs ≡ first ∷ left) × IsListed first told)
+    MatchOption item ((paragraphs ≡ []) × (left ≡ []))
+    (λ told. (first : Paragraph) × (paragraphs ≡ first ∷ left) × IsListed first told)

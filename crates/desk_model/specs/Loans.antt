@@ -1,9 +1,11 @@
 -- Which rows a change may lend: those of what its command changes, and no others.
-use Rattle.std.specs.Prelude.{◌≡◌, ◌⊎◌, ℕ, ℤ, ◌+◌, true, IsSome, List, [], ◌∷◌, ◌++◌, Some, encode_utf8_all, pos, min, length, map, option_map, slice_get, unwrap_or}
+use Rattle.std.specs.Prelude.{◌≡◌, ◌⊎◌, ℕ, ℤ, ◌+◌, true, IsSome, List, [], ◌∷◌, ◌++◌, Some}
+use Rattle.std.specs.Prelude.{encode_utf8_all, pos, min, length, map, option_map, slice_get, unwrap_or}
 use Rattle.std.specs.List.{All, Contains}
 use Rattle.desk_model.specs.declared.command.Command.{Command}
 use Rattle.desk_model.specs.Book.{Book, Mark, Paragraph, paragraph_of}
-use Rattle.desk_parts.specs.Puts.{Flags, Place, Print, PutRow, Resolved, RowPut, SetColumns, Span, Table, Version, with_puts}
+use Rattle.desk_parts.specs.Puts.{Flags, Place, Print, PutRow, Resolved, RowPut}
+use Rattle.desk_parts.specs.Puts.{SetColumns, Span, Table, Version, with_puts}
 use Rattle.desk_model.specs.Named.{Retabled, named_by}
 use Rattle.desk_model.specs.Step.{next_id}
 use Rattle.desk_parts.specs.declared.file_table.FileTable.TheVariants as tables
@@ -49,8 +51,8 @@ UsesReplaced book command id =
     (name : List ℕ) × (text : List ℕ) × (paragraph : Paragraph) × ((named_by command).table_given ≡ Some (name, text))
     × (paragraph_of book id ≡ Some paragraph) × (paragraph.table ≡ name)
 
--- the paragraph with this id gets other braille: it comes, its print changes, it gets another table, or its table another
--- text
+-- the paragraph with this id gets other braille: it comes, its print changes, it gets another
+-- table, or its table another text
 abbrev pub GetsCells : Book → Command → ℕ → Type 0
 GetsCells book command id =
     Comes book command id ⊎ (GetsEntry command id
@@ -68,8 +70,8 @@ StandsAt book id index = slice_get (map (λ paragraph. paragraph.id) book.paragr
 abbrev pub ComesTo : (book next : Book) → (id index : ℕ) → Type 0
 ComesTo book next id index = StandsAt next id index × ¬ StandsAt book id index
 
--- The command, which makes the next book of this one, changes what this is put for. No whole row of `book` or `corr` is lent,
--- and columns are set in rows of `book`, `para` and `mark` alone.
+-- The command, which makes the next book of this one, changes what this is put for. No whole row of
+-- `book` or `corr` is lent, and columns are set in rows of `book`, `para` and `mark` alone.
 abbrev pub IsLent : (book next : Book) → Command → RowPut → Type 0
 IsLent book next command (PutRow tables.Book row) = ⊥
 IsLent book next command (PutRow tables.Tab row) =
@@ -77,10 +79,12 @@ IsLent book next command (PutRow tables.Tab row) =
     × (row.name ≡ encode_utf8_all name) × (row.body ≡ text)
 IsLent book next command (PutRow tables.Para row) = (id : ℕ) × (row.id ≡ row_number id) × Comes book command id
 IsLent book next command (PutRow tables.Corr row) = ⊥
-IsLent book next command (PutRow tables.Mark row) = (mark : Mark) × (row.id ≡ row_number mark.id) × GetsMark book next mark
+IsLent book next command (PutRow tables.Mark row) =
+    (mark : Mark) × (row.id ≡ row_number mark.id) × GetsMark book next mark
 IsLent book next command (PutRow tables.Cache row) = (id : ℕ) × (row.para ≡ row_number id) × GetsCells book command id
 IsLent book next command (PutRow tables.NamedCorr row) =
-    (id : ℕ) × (row.entry.para ≡ row_number id) × (row.entry.seq ≡ row_number (next_entry_number book id)) × GetsEntry command id
+    (id : ℕ) × (row.entry.para ≡ row_number id) × (row.entry.seq ≡ row_number (next_entry_number book id))
+    × GetsEntry command id
 IsLent book next command (SetColumns tables.Book id (Version version)) =
     (id ≡ pos 1) × (version ≡ row_number next.version)
 IsLent book next command (SetColumns tables.Para id (Place place)) =
@@ -89,7 +93,8 @@ IsLent book next command (SetColumns tables.Para id (Place place)) =
 IsLent book next command (SetColumns tables.Para id (Flags style volume struck)) =
     (named : ℕ) × (id ≡ row_number named) × GetsFlags command named
 IsLent book next command (SetColumns tables.Para id (Table tab)) =
-    (named : ℕ) × (table : List ℕ) × (id ≡ row_number named) × (tab ≡ encode_utf8_all table) × GetsTable command named table
+    (named : ℕ) × (table : List ℕ) × (id ≡ row_number named) × (tab ≡ encode_utf8_all table)
+    × GetsTable command named table
 IsLent book next command (SetColumns tables.Para id (Print print)) =
     (named : ℕ) × (id ≡ row_number named) × GetsEntry command named
 IsLent book next command (SetColumns tables.Mark id (Span start stop touched)) =
@@ -107,7 +112,7 @@ abbrev pub TakesEntries : FileRows → List RowPut → Type 0
 TakesEntries rows puts =
     (row : NamedCorr) → Contains puts (PutRow tables.NamedCorr row) → table_of rows.entries ≡ tables.NamedCorr
 
--- Put into any rows that show the book, and that take the entries among them, they make rows that show the next. A row of
--- `cache` is put only if that is there.
+-- Put into any rows that show the book, and that take the entries among them, they make rows that
+-- show the next. A row of `cache` is put only if that is there.
 abbrev pub LeadTo : Book → List RowPut → Book → Type 0
 LeadTo book puts next = (rows : FileRows) → Shows rows book → TakesEntries rows puts → Shows (with_puts puts rows) next

@@ -3,9 +3,10 @@ use Rattle.std.specs.Prelude.{ℕ, ◌+◌, ◌-◌, nat_le, true, if◌then◌e
 use Rattle.desk_model.specs.declared.span.Span.{Span}
 use Rattle.desk_model.specs.Book.{Replacement, Mark}
 
--- the span after so many characters from a place on gave way to others, by the first of these that applies: a span that
--- ends at their start or before it stays; one that begins at their end or after it moves with the print; any other then
--- covers what it covered and all that came, and is touched for good
+-- the span after so many characters from a place on gave way to others, by the first of these that
+-- applies: a span that ends at their start or before it stays; one that begins at their end or
+-- after it moves with the print; any other then covers what it covered and all that came, and is
+-- touched for good
 abbrev pub moved_span : (start removed added : ℕ) → Span → Span
 moved_span start removed added span =
     if nat_le span.end start then span

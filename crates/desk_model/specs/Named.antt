@@ -1,10 +1,12 @@
--- What a command gives and names, which decides its refusals, the number that it answers and the rows that it may change.
+-- What a command gives and names, which decides its refusals, the number that it answers and the
+-- rows that it may change.
 use Rattle.std.specs.Prelude.{ℕ, ◌+◌, Bool, true, false, List, [], ◌∷◌, length, Option, Some, None, IfSome, option_map}
 use Rattle.desk_model.specs.Characters.{AreCharacters}
 use Rattle.desk_model.specs.declared.command.Anchor.{Anchor}
 use Rattle.desk_model.specs.declared.command.Anchor.TheVariants.{Front, End, Para}
 use Rattle.desk_model.specs.declared.command.Command.{Command}
-use Rattle.desk_model.specs.declared.command.Command.TheVariants.{Table, TypeIn, Correct, Undo, Mark, Resolve, Strike, Restore, Style, Volume, Retable, Move}
+use Rattle.desk_model.specs.declared.command.Command.TheVariants.{Table, TypeIn, Correct, Undo, Mark, Resolve, Strike}
+use Rattle.desk_model.specs.declared.command.Command.TheVariants.{Restore, Style, Volume, Retable, Move}
 use Rattle.desk_model.specs.Book.{Book, Paragraph, paragraph_of}
 use Rattle.desk_model.specs.NormalForm.{normal_form}
 use Rattle.desk_model.specs.Print.{print_of, print_undone, with_replacement}
@@ -19,8 +21,9 @@ pub data Span : Type 0 where
   Characters : (id end : ℕ) → Span
   Cells : (id cell count : ℕ) → Span
 
--- a paragraph that gets other braille: a new one with this print, by the table with this name; the one with this id, by the
--- print that it would have, if it can have one; or the one with this id, by the table with this name
+-- a paragraph that gets other braille: a new one with this print, by the table with this name; the
+-- one with this id, by the print that it would have, if it can have one; or the one with this id,
+-- by the table with this name
 pub data Translated : Type 0 where
   Typed : (print table : List ℕ) → Translated
   Changed : (id : ℕ) → (Paragraph → Option (List ℕ)) → Translated
@@ -103,10 +106,11 @@ paragraph_before (Para id) = id ∷ []
 abbrev pub next_entry : ℕ → Book → Option ℕ
 next_entry id book = option_map (λ paragraph. length paragraph.history + 1) (paragraph_of book id)
 
--- The text of a table is checked while it is read, a typed text after it is made, of an undo the print alone, and nothing after a
--- new mark, the braille by another table and a new order.
+-- The text of a table is checked while it is read, a typed text after it is made, of an undo the
+-- print alone, and nothing after a new mark, the braille by another table and a new order.
 abbrev pub named_by : Command → Named
-named_by (Table name text) = record nothing_named { table_given = Some (name, text); turn_after_asking = Some bad_table_turn }
+named_by (Table name text) =
+    record nothing_named { table_given = Some (name, text); turn_after_asking = Some bad_table_turn }
 named_by (TypeIn anchor table text) = record nothing_named {
   text_given = Some text;
   text_stored = Some (normal_form text);
@@ -126,7 +130,8 @@ named_by (Correct id start count text who) = record nothing_named {
   paragraphs_named = id ∷ [];
   live_paragraph = Some id;
   span_named = Some (Characters id (start + count));
-  paragraph_translated = Some (Changed id (λ p. Some (with_replacement (print_of p) (replacement_by start count text))));
+  paragraph_translated =
+      Some (Changed id (λ p. Some (with_replacement (print_of p) (replacement_by start count text))));
   number_answered = next_entry id;
   turn_after_asking = Some (turn TooLong);
 }
@@ -149,8 +154,10 @@ named_by (Mark id cell count note) = record nothing_named {
   turn_after_asking = Some (turn NoMemory);
 }
 named_by (Resolve id) = record nothing_named { mark_named = Some id }
-named_by (Strike id) = record nothing_named { flags_set = Some id; paragraphs_named = id ∷ []; live_paragraph = Some id }
-named_by (Restore id) = record nothing_named { flags_set = Some id; paragraphs_named = id ∷ []; struck_paragraph = Some id }
+named_by (Strike id) =
+    record nothing_named { flags_set = Some id; paragraphs_named = id ∷ []; live_paragraph = Some id }
+named_by (Restore id) =
+    record nothing_named { flags_set = Some id; paragraphs_named = id ∷ []; struck_paragraph = Some id }
 named_by (Style id style) = record nothing_named { flags_set = Some id; paragraphs_named = id ∷ [] }
 named_by (Volume id begins) = record nothing_named { flags_set = Some id; paragraphs_named = id ∷ [] }
 named_by (Retable id table) = record nothing_named {
@@ -168,7 +175,8 @@ named_by (Move id anchor) = record nothing_named {
 
 -- ---- what follows from what is named
 
--- the number that is answered: a new paragraph's or mark's id, or the number of a new entry of a history
+-- the number that is answered: a new paragraph's or mark's id, or the number of a new entry of a
+-- history
 abbrev pub number_of : Book → Command → Option ℕ
 number_of book command = (named_by command).number_answered book
 

@@ -1,5 +1,6 @@
 -- The print of a paragraph: its original with the corrections in force applied.
-use Rattle.std.specs.Prelude.{ℕ, ◌+◌, ◌==◌, Bool, false, if◌then◌else◌, List, [], ◌∷◌, ◌++◌, take, drop, map, Option, None, option_map}
+use Rattle.std.specs.Prelude.{ℕ, ◌+◌, ◌==◌, Bool, false, if◌then◌else◌, List, [], ◌∷◌}
+use Rattle.std.specs.Prelude.{◌++◌, take, drop, map, Option, None, option_map}
 use Rattle.std.specs.List.{flat_map, fold, enumerate_from, last_or, list_any}
 use Rattle.desk_model.specs.Book.{Replacement, Entry, Corrects, Undoes, Paragraph}
 
@@ -39,4 +40,5 @@ with_entry entry paragraph = record paragraph { history = paragraph.history ++ e
 
 -- the print after the newest correction in force is taken back, if there is one
 abbrev pub print_undone : Paragraph → Option (List ℕ)
-print_undone paragraph = option_map (λ correction. print_of (with_entry (Undoes correction.0) paragraph)) (newest paragraph.history)
+print_undone paragraph =
+    option_map (λ correction. print_of (with_entry (Undoes correction.0) paragraph)) (newest paragraph.history)

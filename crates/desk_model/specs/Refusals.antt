@@ -1,5 +1,6 @@
 -- When a command is refused, and with which refusal. Only the first that holds is reported.
-use Rattle.std.specs.Prelude.{◌≡◌, ◌≢◌, ℕ, ◌⊎◌, ◌+◌, ◌*◌, ◌<◌, ◌≤◌, true, false, List, ◌∷◌, ◌++◌, length, Option, Some, None, IsSome, IsSomeAnd, option_map}
+use Rattle.std.specs.Prelude.{◌≡◌, ◌≢◌, ℕ, ◌⊎◌, ◌+◌, ◌*◌, ◌<◌, ◌≤◌, true, false, List, ◌∷◌, ◌++◌}
+use Rattle.std.specs.Prelude.{length, Option, Some, None, IsSome, IsSomeAnd, option_map}
 use Rattle.std.specs.List.{All, Contains}
 use Rattle.std.specs.Option.{option_and_then}
 use Rattle.louis_table.specs.Meaning.{Meaning}
@@ -9,10 +10,14 @@ use Rattle.desk_model.specs.declared.command.Command.{Command}
 use Rattle.desk_model.specs.declared.refusal.Limit.{Limit}
 use Rattle.desk_model.specs.declared.refusal.Limit.TheVariants.{Tables, Paragraphs, Entries, Marks, Version}
 use Rattle.desk_model.specs.declared.refusal.Refusal.{Refusal}
-use Rattle.desk_model.specs.declared.refusal.Refusal.TheVariants.{Moved, BadName, BadReader, BadText, NoParagraph, NoTable, NoMark, Struck, NotStruck, Resolved, BadSpan, NothingToUndo, TooLong, Full, BadTable, Undefined, Untranslatable, NoMemory}
+use Rattle.desk_model.specs.declared.refusal.Refusal.TheVariants.{Moved, BadName, BadReader, BadText, NoParagraph}
+use Rattle.desk_model.specs.declared.refusal.Refusal.TheVariants.{NoTable, NoMark, Struck, NotStruck, Resolved}
+use Rattle.desk_model.specs.declared.refusal.Refusal.TheVariants.{BadSpan, NothingToUndo, TooLong, Full, BadTable}
+use Rattle.desk_model.specs.declared.refusal.Refusal.TheVariants.{Undefined, Untranslatable, NoMemory}
 use Rattle.desk_model.specs.Book.{Book, Paragraph, text_of, paragraph_of, mark_of}
 use Rattle.desk_model.specs.Print.{newest, print_of}
-use Rattle.desk_model.specs.Limits.{most_entries, most_marks, most_note, most_version, most_tables, most_paragraphs, most_print}
+use Rattle.desk_model.specs.Limits.{most_entries, most_marks, most_note, most_version}
+use Rattle.desk_model.specs.Limits.{most_tables, most_paragraphs, most_print}
 use Rattle.desk_model.specs.Name.{IsProofreaderName, IsTableName}
 use Rattle.desk_model.specs.Named.{Cells, Changed, Characters, Retabled, Span, Translated, Typed, named_by}
 use Rattle.desk_model.specs.NormalForm.{IsFirstBarred}
@@ -28,7 +33,8 @@ pub record IsMoved (book : Book) (expect : Option ℕ) (version : ℕ) : Type 0 
   pub other : expected ≢ book.version
   pub told : version ≡ book.version
 
--- the book has the paragraph, and its print ends before the characters do, or its braille before the cells do, or no cell is asked for
+-- the book has the paragraph, and its print ends before the characters do, or its braille before
+-- the cells do, or no cell is asked for
 abbrev pub LacksSpan : Book → Span → Type 0
 LacksSpan book (Characters id end) = IsSomeAnd (paragraph_of book id) (λ paragraph. length (print_of paragraph) < end)
 LacksSpan book (Cells id cell count) = LacksCells book id cell count
@@ -47,11 +53,12 @@ new_print book command = option_and_then (print_made book) (named_by command).pa
 abbrev pub IsLongerThan : ℕ → Option (List ℕ) → Type 0
 IsLongerThan most text = IsSomeAnd text (λ characters. most < length characters)
 
--- what the command would add to is at its limit: the tables, if the name is new, the paragraphs, the entries of a history, or the marks;
--- or the version is
+-- what the command would add to is at its limit: the tables, if the name is new, the paragraphs,
+-- the entries of a history, or the marks; or the version is
 abbrev pub IsFull : Book → Command → Limit → Type 0
 IsFull book command Tables =
-    IsSomeAnd (named_by command).table_given (λ given. (text_of book given.0 ≡ None) × (most_tables ≤ length book.tables))
+    IsSomeAnd (named_by command).table_given
+    (λ given. (text_of book given.0 ≡ None) × (most_tables ≤ length book.tables))
 IsFull book command Paragraphs = ((named_by command).adds_paragraph ≡ true) × (most_paragraphs ≤ length book.paragraphs)
 IsFull book command Entries =
     IsSomeAnd (named_by command).history_grown
@@ -63,10 +70,12 @@ IsFull book command Version = most_version ≤ book.version
 abbrev pub print_and_table : Book → Translated → Option (List ℕ × List ℕ)
 print_and_table book (Typed print table) = Some (print, table)
 print_and_table book (Changed id change) =
-    option_and_then (λ paragraph. option_map (λ print. (print, paragraph.table)) (change paragraph)) (paragraph_of book id)
+    option_and_then (λ paragraph. option_map (λ print. (print, paragraph.table)) (change paragraph))
+    (paragraph_of book id)
 print_and_table book (Retabled id table) = option_map (λ paragraph. (print_of paragraph, table)) (paragraph_of book id)
 
--- the print that a paragraph would have, and the name of the table that it would use, if the command changes one
+-- the print that a paragraph would have, and the name of the table that it would use, if the
+-- command changes one
 abbrev pub print_to_translate : Book → Command → Option (List ℕ × List ℕ)
 print_to_translate book command = option_and_then (print_and_table book) (named_by command).paragraph_translated
 
@@ -81,12 +90,13 @@ pub record IsUndefined (book : Book) (command : Command) (place : ℕ) : Type 0 
   pub means : Means text meaning
   pub first : IsFirstUndefined meaning print place
 
--- the table with this name, by this meaning, defines the paragraph's print, if the paragraph uses the table
+-- the table with this name, by this meaning, defines the paragraph's print, if the paragraph uses
+-- the table
 abbrev pub DefinesUser : Meaning → List ℕ → Paragraph → Type 0
 DefinesUser meaning name paragraph = paragraph.table ≡ name → AreDefined meaning (print_of paragraph)
 
--- the first of these paragraphs that uses the table with this name and whose print isn't defined by this meaning, and the
--- first place of a character that it lacks
+-- the first of these paragraphs that uses the table with this name and whose print isn't defined by
+-- this meaning, and the first place of a character that it lacks
 pub record IsFirstUser (meaning : Meaning) (name : List ℕ) (paragraphs : List Paragraph) (id place : ℕ) : Type 0 where
   pub before : List Paragraph
   pub paragraph : Paragraph
@@ -97,8 +107,8 @@ pub record IsFirstUser (meaning : Meaning) (name : List ℕ) (paragraphs : List 
   pub first : IsFirstUndefined meaning (print_of paragraph) place
   pub others : All (DefinesUser meaning name) before
 
--- by its new text the table doesn't define the print of a paragraph that uses it, which none does with a table that isn't
--- there yet: the first such paragraph, and the first place
+-- by its new text the table doesn't define the print of a paragraph that uses it, which none does
+-- with a table that isn't there yet: the first such paragraph, and the first place
 pub record IsUntranslatable (book : Book) (command : Command) (id place : ℕ) : Type 0 where
   pub name : List ℕ
   pub text : List ℕ
@@ -120,15 +130,14 @@ pub record IsUntranslatable (book : Book) (command : Command) (id place : ℕ) :
 -- Struck: the paragraph is there and is struck, and must not be.
 -- NotStruck: the paragraph is there and isn't struck, and must be.
 -- Resolved: the mark is there, and is resolved already.
--- BadSpan: the paragraph is there, but not all the characters or cells that are named, or no cell is asked for.
--- NothingToUndo: the paragraph is there, and no correction of it is in force.
--- TooLong: a text as it is stored, the print that the paragraph would have, or the note is over its limit.
--- Full: what it would add to is at this limit.
--- BadTable: the text of the table is bad, at the line and for the cause that the fault tells.
--- Undefined: the table doesn't define the print that the paragraph would have, first at this place.
--- Untranslatable: by its new text the table doesn't define the print of a paragraph that uses it, of which this is the first, first at
--- this place.
--- NoMemory: never; when it may be answered is said by MayLackMemory.
+-- BadSpan: the paragraph is there, but not all the characters or cells that are named, or no cell
+-- is asked for. NothingToUndo: the paragraph is there, and no correction of it is in force.
+-- TooLong: a text as it is stored, the print that the paragraph would have, or the note is over its
+-- limit. Full: what it would add to is at this limit. BadTable: the text of the table is bad, at
+-- the line and for the cause that the fault tells. Undefined: the table doesn't define the print
+-- that the paragraph would have, first at this place. Untranslatable: by its new text the table
+-- doesn't define the print of a paragraph that uses it, of which this is the first, first at this
+-- place. NoMemory: never; when it may be answered is said by MayLackMemory.
 abbrev pub Holds : Book → Option ℕ → Command → Refusal → Type 0
 Holds book expect command (Moved version) = IsMoved book expect version
 Holds book expect command BadName = IsSomeAnd (named_by command).table_given (λ given. ¬ IsTableName given.0)

@@ -3,8 +3,9 @@ use Rattle.std.specs.Prelude.{◌≡◌, ℕ, ◌-◌, List, [], ◌∷◌, ◌+
 use Rattle.desk_model.specs.Book.{Book, Corrects, Undoes, Paragraph, Replacement, paragraph_of}
 use Rattle.desk_model.specs.Print.{corrected_print, newest, print_of}
 
--- the newest correction in force of the paragraph with this id is an entry of its history; in the next book the history
--- has one entry more, which names that correction, and the paragraph the print that stood just before it
+-- the newest correction in force of the paragraph with this id is an entry of its history; in the
+-- next book the history has one entry more, which names that correction, and the paragraph the
+-- print that stood just before it
 pub record RestoresPrint (book next : Book) (id : ℕ) : Type 0 where
   pub paragraph : Paragraph
   pub found : paragraph_of book id ≡ Some paragraph

@@ -47,11 +47,12 @@ para_of (place, paragraph) = record {
   struck = flag_number paragraph.struck;
 }
 
--- The entry with this number, from 1, in the history of the paragraph with this id. An undo has the number of the entry
--- that it takes back in place of a start, and nothing else.
+-- The entry with this number, from 1, in the history of the paragraph with this id. An undo has the
+-- number of the entry that it takes back in place of a start, and nothing else.
 abbrev pub entry_row_of : ℕ → ℕ × Entry → NamedCorr
 entry_row_of id (number, Corrects r who) = record {
-  entry = record { para = pos id; seq = pos number; kind = pos 0; start = pos r.start; len = pos r.count; body = r.text };
+  entry = record
+      { para = pos id; seq = pos number; kind = pos 0; start = pos r.start; len = pos r.count; body = r.text };
   who = who;
 }
 entry_row_of id (number, Undoes undone) = record {
@@ -93,14 +94,15 @@ IsUnnamed book = All (λ row. row.who ≡ []) (flat_map entry_rows_of book.parag
 
 -- ---- a file's rows
 
--- The book is sound, the texts are UTF-8, and the rows are those of the book's parts, in any order. In the first format
--- a book is shown only if none of its corrections has a name.
+-- The book is sound, the texts are UTF-8, and the rows are those of the book's parts, in any order.
+-- In the first format a book is shown only if none of its corrections has a name.
 pub record Shows (rows : FileRows) (book : Book) : Type 0 where
   pub sound : IsSound book
   pub texts : AreTexts rows
   pub row : rows.books ≡ book_row_of (format_of rows.entries) book.version ∷ []
   pub tables : IsPermutation (map (spelled file.Tab) rows.tabs) (map tab_of book.tables)
   pub paragraphs : IsPermutation (map (spelled file.Para) rows.paras) (map para_of (enumerate_from 1 book.paragraphs))
-  pub entries : IsPermutation (map (spelled file.NamedCorr) (entries_in rows.entries)) (flat_map entry_rows_of book.paragraphs)
+  pub entries : IsPermutation (map (spelled file.NamedCorr) (entries_in rows.entries))
+      (flat_map entry_rows_of book.paragraphs)
   pub marks : IsPermutation (map (spelled file.Mark) rows.marks) (map mark_row_of book.marks)
   pub caches : ForSome rows.caches (AreCached book)

@@ -9,18 +9,20 @@ use Rattle.louis_table.specs.Table.{Means}
 use Rattle.louis_translate.specs.Position.{AreDefined}
 use Rattle.desk_model.specs.Book.{Entry, Corrects, Undoes, Paragraph, Mark, Book, text_of, paragraph_of}
 use Rattle.desk_model.specs.Print.{corrected_print, newest, print_of}
-use Rattle.desk_model.specs.Limits.{most_entries, most_marks, most_note, most_paragraphs, most_print, most_tables, most_version}
+use Rattle.desk_model.specs.Limits.{most_entries, most_marks, most_note, most_paragraphs}
+use Rattle.desk_model.specs.Limits.{most_print, most_tables, most_version}
 use Rattle.desk_model.specs.NormalForm.{IsClean}
 use Rattle.desk_model.specs.Characters.{AreCharacters}
 use Rattle.desk_model.specs.Name.{IsProofreaderName, IsTableName}
 
 -- ---- histories
 
--- after the entries before it, a correction replaces characters that are there by a clean text, for a proofreader whose
--- name is one, and an undo names the newest correction then in force
+-- after the entries before it, a correction replaces characters that are there by a clean text, for
+-- a proofreader whose name is one, and an undo names the newest correction then in force
 abbrev pub IsSoundEntry : List ℕ → List Entry → Entry → Type 0
 IsSoundEntry original before (Corrects r who) =
-    (r.start + r.count ≤ length (corrected_print original before)) × IsClean r.text × IsProofreaderName who × AreCharacters who
+    (r.start + r.count ≤ length (corrected_print original before)) × IsClean r.text × IsProofreaderName who
+    × AreCharacters who
 IsSoundEntry original before (Undoes n) = option_map (λ correction. correction.0) (newest before) ≡ Some n
 
 -- each entry is sound after those before it
@@ -42,7 +44,8 @@ pub record IsSoundTable (entry : List ℕ × List ℕ) : Type 0 where
   pub meaning : Meaning
   pub means : Means entry.1 meaning
 
--- the original is clean and the history sound; the paragraph's table is one of the book's, and defines its print
+-- the original is clean and the history sound; the paragraph's table is one of the book's, and
+-- defines its print
 pub record IsSoundParagraph (book : Book) (paragraph : Paragraph) : Type 0 where
   pub clean : IsClean paragraph.original
   pub history : IsSoundHistory paragraph.original paragraph.history

@@ -1,5 +1,6 @@
 -- What an accepted command makes of a book.
-use Rattle.std.specs.Prelude.{◌≡◌, ℕ, ◌+◌, ◌==◌, Bool, true, false, not, if◌then◌else◌, List, [], ◌∷◌, ◌++◌, length, map, Some}
+use Rattle.std.specs.Prelude.{◌≡◌, ℕ, ◌+◌, ◌==◌, Bool, true, false, not}
+use Rattle.std.specs.Prelude.{if◌then◌else◌, List, [], ◌∷◌, ◌++◌, length, map, Some}
 use Rattle.std.specs.Ordering.{nat_cmp}
 use Rattle.std.specs.List.{filter, flat_map}
 use Rattle.std.specs.Cmp.Lexicographic.{slice_cmp}
@@ -8,9 +9,11 @@ use Rattle.std.specs.Option.{option_map_or}
 use Rattle.desk_model.specs.declared.command.Anchor.{Anchor}
 use Rattle.desk_model.specs.declared.command.Anchor.TheVariants.{Front, End, Para}
 use Rattle.desk_model.specs.declared.command.Command.{Command}
-use Rattle.desk_model.specs.declared.command.Command.TheVariants.{Table, TypeIn, Correct, Undo, Mark, Resolve, Strike, Restore, Style, Volume, Retable, Move}
+use Rattle.desk_model.specs.declared.command.Command.TheVariants.{Table, TypeIn, Correct, Undo, Mark, Resolve, Strike}
+use Rattle.desk_model.specs.declared.command.Command.TheVariants.{Restore, Style, Volume, Retable, Move}
 use Rattle.desk_model.specs.declared.style.Style.TheVariants.{Body}
-use Rattle.desk_model.specs.Book.{Replacement, Entry, Corrects, Undoes, Book, Paragraph, Mark as BookMark, new_mark, paragraph_of}
+use Rattle.desk_model.specs.Book.{Replacement, Entry, Corrects, Undoes, Book, Paragraph}
+use Rattle.desk_model.specs.Book.{Mark as BookMark, new_mark, paragraph_of}
 use Rattle.desk_model.specs.Marks.{mark_moved, mark_moved_back}
 use Rattle.desk_model.specs.Print.{newest, with_entry}
 use Rattle.desk_model.specs.NormalForm.{normal_form}
@@ -25,7 +28,8 @@ with_paragraph (Para id) new paragraphs =
 
 -- the paragraphs with a change of the one with this id
 abbrev pub with_change : ℕ → (Paragraph → Paragraph) → List Paragraph → List Paragraph
-with_change id change paragraphs = map (λ paragraph. if paragraph.id == id then change paragraph else paragraph) paragraphs
+with_change id change paragraphs =
+    map (λ paragraph. if paragraph.id == id then change paragraph else paragraph) paragraphs
 
 -- a paragraph that was just typed
 abbrev pub new_paragraph : ℕ → List ℕ → List ℕ → Paragraph
@@ -79,7 +83,8 @@ replacement_by start count text = record { start = start; count = count; text = 
 abbrev pub with_marks_moved : ℕ → (BookMark → BookMark) → List BookMark → List BookMark
 with_marks_moved id move marks = map (λ mark. if mark.paragraph == id then move mark else mark) marks
 
--- the book at its next version with one entry more in the history of the paragraph with this id, whose marks move
+-- the book at its next version with one entry more in the history of the paragraph with this id,
+-- whose marks move
 abbrev pub next_with_entry : Book → ℕ → Entry → (BookMark → BookMark) → Book
 next_with_entry book id entry move = record book {
   version = book.version + 1;
@@ -99,7 +104,8 @@ next_mark book = length book.marks + 1
 
 -- the marks with the one with this id resolved
 abbrev pub with_resolved : ℕ → List BookMark → List BookMark
-with_resolved id marks = map (λ (mark : BookMark). if mark.id == id then record mark { resolved = true } else mark) marks
+with_resolved id marks =
+    map (λ (mark : BookMark). if mark.id == id then record mark { resolved = true } else mark) marks
 
 -- ---- each command
 
@@ -116,10 +122,14 @@ Makes book (Mark id cell count note) next =
     (start : ℕ) × (end : ℕ) × AreMarked book id cell count start end
     × (next ≡ next_with_marks book (book.marks ++ new_mark (next_mark book) id start end note ∷ []))
 Makes book (Resolve id) next = next ≡ next_with_marks book (with_resolved id book.marks)
-Makes book (Strike id) next = next ≡ next_with_paragraphs book (with_change id (λ p. record p { struck = true }) book.paragraphs)
-Makes book (Restore id) next = next ≡ next_with_paragraphs book (with_change id (λ p. record p { struck = false }) book.paragraphs)
-Makes book (Style id style) next = next ≡ next_with_paragraphs book (with_change id (λ p. record p { style = style }) book.paragraphs)
+Makes book (Strike id) next =
+    next ≡ next_with_paragraphs book (with_change id (λ p. record p { struck = true }) book.paragraphs)
+Makes book (Restore id) next =
+    next ≡ next_with_paragraphs book (with_change id (λ p. record p { struck = false }) book.paragraphs)
+Makes book (Style id style) next =
+    next ≡ next_with_paragraphs book (with_change id (λ p. record p { style = style }) book.paragraphs)
 Makes book (Volume id begins) next =
     next ≡ next_with_paragraphs book (with_change id (λ p. record p { begins_volume = begins }) book.paragraphs)
-Makes book (Retable id table) next = next ≡ next_with_paragraphs book (with_change id (λ p. record p { table = table }) book.paragraphs)
+Makes book (Retable id table) next =
+    next ≡ next_with_paragraphs book (with_change id (λ p. record p { table = table }) book.paragraphs)
 Makes book (Move id anchor) next = next ≡ next_with_paragraphs book (with_move id anchor book)

@@ -10,7 +10,8 @@ use Rattle.desk_model.specs.Book.{Book, Paragraph, text_of, paragraph_of}
 use Rattle.desk_model.specs.Print.{print_of}
 
 -- by the meaning of the text of its table, these choices cover the paragraph's print
-pub record IsTranslatedBy (book : Book) (paragraph : Paragraph) (meaning : Meaning) (choices : List Choice) : Type 0 where
+pub record IsTranslatedBy (book : Book) (paragraph : Paragraph) (meaning : Meaning)
+    (choices : List Choice) : Type 0 where
   pub text : List ℕ
   pub found : text_of book paragraph.table ≡ Some text
   pub means : Means text meaning
@@ -52,8 +53,8 @@ pub record LacksCell (book : Book) (id cell : ℕ) : Type 0 where
 
 -- ---- the print under cells
 
--- so many cells from a cell on stand for the places of the print from start up to but not including end: from the print
--- place of the first of them to the end of the choice that made the last
+-- so many cells from a cell on stand for the places of the print from start up to but not including
+-- end: from the print place of the first of them to the end of the choice that made the last
 pub record AreMarked (book : Book) (id cell count start end : ℕ) : Type 0 where
   pub paragraph : Paragraph
   pub found : paragraph_of book id ≡ Some paragraph

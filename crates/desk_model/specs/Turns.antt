@@ -1,7 +1,10 @@
 -- The order in which refusals are reported.
 use Rattle.std.specs.Prelude.{ℕ, ◌+◌, ◌*◌}
 use Rattle.desk_model.specs.declared.refusal.Refusal.{Refusal}
-use Rattle.desk_model.specs.declared.refusal.Refusal.TheVariants.{Moved, BadName, BadReader, BadText, NoParagraph, NoTable, NoMark, Struck, NotStruck, Resolved, BadSpan, NothingToUndo, TooLong, Full, BadTable, Undefined, Untranslatable, NoMemory}
+use Rattle.desk_model.specs.declared.refusal.Refusal.TheVariants.{Moved, BadName, BadReader, BadText, NoParagraph}
+use Rattle.desk_model.specs.declared.refusal.Refusal.TheVariants.{NoTable, NoMark, Struck, NotStruck, Resolved}
+use Rattle.desk_model.specs.declared.refusal.Refusal.TheVariants.{BadSpan, NothingToUndo, TooLong, Full, BadTable}
+use Rattle.desk_model.specs.declared.refusal.Refusal.TheVariants.{Undefined, Untranslatable, NoMemory}
 use Rattle.desk_model.specs.Numbers.{limit_number}
 
 -- the turn of a barred character, wherever it stands

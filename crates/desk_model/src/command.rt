@@ -32,7 +32,8 @@ pub enum Command<'a> {
         /// What is typed; the print is its Unicode normal form C.
         text: LentText<'a>,
     },
-    /// Puts a text in place of characters of a paragraph's print, which are none, some or all of it.
+    /// Puts a text in place of characters of a paragraph's print, which are none, some or all of
+    /// it.
     Correct {
         /// The paragraph.
         paragraph: u64,
@@ -42,13 +43,13 @@ pub enum Command<'a> {
         count: usize,
         /// What is put in their place; its Unicode normal form C is kept.
         text: LentText<'a>,
-        /// The name of the proofreader who corrects: 0 to 40 characters, none of them a blank, a line feed, a carriage return
-        /// or U+0000.
+        /// The name of the proofreader who corrects: 0 to 40 characters, none of them a blank, a
+        /// line feed, a carriage return or U+0000.
         who: LentText<'a>,
     },
-    /// Takes back the newest correction of a paragraph that is in force. It is one more entry of the history, moves marks like
-    /// the replacement that puts back what had been replaced, and is refused if the paragraph's present table doesn't define the
-    /// print.
+    /// Takes back the newest correction of a paragraph that is in force. It is one more entry of
+    /// the history, moves marks like the replacement that puts back what had been replaced, and is
+    /// refused if the paragraph's present table doesn't define the print.
     Undo {
         /// The paragraph.
         paragraph: u64,

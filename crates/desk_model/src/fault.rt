@@ -11,10 +11,11 @@ pub enum PartsFault {
     /// The rows show no book.
     #[error("the rows show no book")]
     Damaged {
-        /// The first damaged table, in the order `book`, `tab`, `para`, `corr` or `corr2`, `mark`, `cache`.
+        /// The first damaged table, in the order `book`, `tab`, `para`, `corr` or `corr2`, `mark`,
+        /// `cache`.
         table: FileTable,
-        /// The smallest id of the damage in it: in `book` 1, in `tab` the number of the row in order of names, in `mark`
-        /// the mark, and else the paragraph.
+        /// The smallest id of the damage in it: in `book` 1, in `tab` the number of the row in
+        /// order of names, in `mark` the mark, and else the paragraph.
         id: i64,
     },
     /// An allocation failed.

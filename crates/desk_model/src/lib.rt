@@ -1,12 +1,13 @@
-//! What a book is, what can be asked of it, what each command makes of it, when a command is refused, which rows show a
-//! book, and what is damaged in rows that show none: definitions, and the laws that they have. How a book is kept isn't
-//! said here.
+//! What a book is, what can be asked of it, what each command makes of it, when a command is
+//! refused, which rows show a book, and what is damaged in rows that show none: definitions, and
+//! the laws that they have. How a book is kept isn't said here.
 //!
-//! The definitions stand in `specs/`, and `laws` has what holds of them. The types are those of which the definitions
-//! speak: a command, whose texts contracts see as the codes of their characters and whose table's text is bytes; why it
-//! is refused, which is reported by a number, and sometimes by further ones: a place, a paragraph or what is at its
-//! limit; what is shown of a paragraph, of an entry of its history and of a mark; which places a mark covers; which
-//! tables a file lacks; and which damage is reported.
+//! The definitions stand in `specs/`, and `laws` has what holds of them. The types are those of
+//! which the definitions speak: a command, whose texts contracts see as the codes of their
+//! characters and whose table's text is bytes; why it is refused, which is reported by a number,
+//! and sometimes by further ones: a place, a paragraph or what is at its limit; what is shown of a
+//! paragraph, of an entry of its history and of a mark; which places a mark covers; which tables a
+//! file lacks; and which damage is reported.
 //!
 //! ```rust
 //! use desk_model::{Anchor, Command, LentText, Refusal};

@@ -45,10 +45,12 @@ pub enum Refusal {
         /// The book's version.
         version: u64,
     },
-    /// The name of a table has other characters than `a` to `z`, `0` to `9`, `_` and `-`, or not 1 to 32 of them.
+    /// The name of a table has other characters than `a` to `z`, `0` to `9`, `_` and `-`, or not 1
+    /// to 32 of them.
     #[error("this is no name of a table")]
     BadName,
-    /// The name of a proofreader has over 40 characters, or a blank, a line feed, a carriage return or U+0000.
+    /// The name of a proofreader has over 40 characters, or a blank, a line feed, a carriage return
+    /// or U+0000.
     #[error("this is no name of a proofreader")]
     BadReader,
     /// A text has a line feed, a carriage return or U+0000.
@@ -90,13 +92,15 @@ pub enum Refusal {
     /// The table's text is refused.
     #[error("the table is refused")]
     BadTable(TableFault),
-    /// The table that the paragraph would have doesn't define a character of the print that it would have.
+    /// The table that the paragraph would have doesn't define a character of the print that it
+    /// would have.
     #[error("the character at place {place} is not defined")]
     Undefined {
         /// The first place of one in that print, from 0.
         place: usize,
     },
-    /// A new text of a table doesn't define a character of the print of a paragraph that uses the table.
+    /// A new text of a table doesn't define a character of the print of a paragraph that uses the
+    /// table.
     #[error("the character at place {place} of paragraph {paragraph} is not defined")]
     Untranslatable {
         /// The first such paragraph in the order of the book.

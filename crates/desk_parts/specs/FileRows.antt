@@ -7,13 +7,14 @@ use Rattle.desk_parts.specs.declared.file_table.FileTable.TheVariants as tables
 use Rattle.desk_parts.specs.declared.rows.BookRow.{BookRow}
 use Rattle.desk_parts.specs.Rows.{Tab, Para, Corr, NamedCorr, Mark, ParaCells, RowOf}
 
--- The entries of all histories: of the table `corr`, as the first format keeps them, or of `corr2`, as the second does.
+-- The entries of all histories: of the table `corr`, as the first format keeps them, or of `corr2`,
+-- as the second does.
 pub data EntryRows : Type 0 where
   Unnamed : List Corr → EntryRows
   Named : List NamedCorr → EntryRows
 
--- The rows of the tables, those of each in any order; of `cache` if the file has it. The rowids of `tab` are hidden,
--- and say nothing.
+-- The rows of the tables, those of each in any order; of `cache` if the file has it. The rowids of
+-- `tab` are hidden, and say nothing.
 pub record FileRows : Type 0 where
   pub books : List BookRow
   pub tabs : List Tab

@@ -1,5 +1,6 @@
 -- What is put into the rows of a book's file, and the rows after it.
-use Rattle.std.specs.Prelude.{◌≡◌, ℕ, ℤ, pos, Bool, not, ◌&&◌, if◌then◌else◌, List, [], ◌∷◌, map, filter, fold, Option, option_map, option_to_list, MatchOption, IsSome, bytes_eq, encode_utf8_all}
+use Rattle.std.specs.Prelude.{◌≡◌, ℕ, ℤ, pos, Bool, not, ◌&&◌, if◌then◌else◌, List, [], ◌∷◌, map, filter, fold, Option}
+use Rattle.std.specs.Prelude.{option_map, option_to_list, MatchOption, IsSome, bytes_eq, encode_utf8_all}
 use Rattle.std.specs.List.{All}
 use Rattle.std.specs.Ordering.{int_eq}
 use Rattle.desk_parts.specs.declared.file_table.FileTable.{FileTable}
@@ -24,8 +25,8 @@ KeyOf tables.Mark = ℤ
 KeyOf tables.Cache = ℤ
 KeyOf tables.NamedCorr = ℤ × ℤ
 
--- Columns that are set without the rest of their row, those of one case at once: of the row of `book`, of a paragraph, and
--- of a mark.
+-- Columns that are set without the rest of their row, those of one case at once: of the row of
+-- `book`, of a paragraph, and of a mark.
 pub data BookColumns : Type 0 where
   Version : ℤ → BookColumns
 
@@ -41,8 +42,8 @@ pub data MarkColumns : Type 0 where
   Span : (start stop touched : ℤ) → MarkColumns
   Resolved : ℤ → MarkColumns
 
--- The columns of a row of this table that are set so. Where there are none, the type is empty, and definitions over them end
--- with `absurd none`.
+-- The columns of a row of this table that are set so. Where there are none, the type is empty, and
+-- definitions over them end with `absurd none`.
 abbrev pub ColumnsOf : FileTable → Type 0
 ColumnsOf tables.Book = BookColumns
 ColumnsOf tables.Tab = ⊥
@@ -52,8 +53,8 @@ ColumnsOf tables.Mark = MarkColumns
 ColumnsOf tables.Cache = ⊥
 ColumnsOf tables.NamedCorr = ⊥
 
--- A row that is added, or replaces the one with its key, or columns that are set in the row with a key. A text is its
--- bytes.
+-- A row that is added, or replaces the one with its key, or columns that are set in the row with a
+-- key. A text is its bytes.
 pub data RowPut : Type 0 where
   PutRow : (t : FileTable) → RowOf t → RowPut
   SetColumns : (t : FileTable) → KeyOf t → ColumnsOf t → RowPut
@@ -158,7 +159,8 @@ with_columns tables.Mark (Span start stop touched) m =
 with_columns tables.Mark (Resolved resolved) m = record m { resolved = resolved }
 with_columns t none row = absurd none
 
--- The rows of a table once one is put: in place of those with its key, or, of an entry of a history, beside them.
+-- The rows of a table once one is put: in place of those with its key, or, of an entry of a
+-- history, beside them.
 abbrev pub put_to : (t : FileTable) → RowOf t → List (RowOf t) → List (RowOf t)
 put_to tables.Book row = put_by_key (has_key tables.Book row.id) row
 put_to tables.Tab row = put_by_key (has_key tables.Tab row.name) row

@@ -17,7 +17,8 @@ pub enum FileTable {
     Mark,
     /// `cache`: the braille of the paragraphs.
     Cache,
-    /// `corr2`: the histories of the paragraphs, with the names of the proofreaders, in the second format.
+    /// `corr2`: the histories of the paragraphs, with the names of the proofreaders, in the second
+    /// format.
     NamedCorr,
 }
 

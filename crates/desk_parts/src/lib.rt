@@ -1,7 +1,8 @@
 //! The parts of a book's file as plain values: its tables, their rows, and what is put into them.
 //!
-//! A row holds what stands in its table, whether it makes sense or not. `desk_model` says what rows show of a book, and
-//! what is wrong with those that show none; `desk_rows` reads them from a file and puts them into it.
+//! A row holds what stands in its table, whether it makes sense or not. `desk_model` says what rows
+//! show of a book, and what is wrong with those that show none; `desk_rows` reads them from a file
+//! and puts them into it.
 //!
 //! ```rust
 //! use desk_parts::{FileTable, Put};

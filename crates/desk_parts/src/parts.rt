@@ -27,7 +27,8 @@ impl EntryRows {
     }
 }
 
-/// What the file of a book holds: the version and the rows of the other tables, those of each in any order.
+/// What the file of a book holds: the version and the rows of the other tables, those of each in
+/// any order.
 #[derive(Drop)]
 pub struct Parts {
     /// The version in the row of `book`.

@@ -72,7 +72,8 @@ pub struct NamedCorrPut<'a> {
     pub seq: i64,
     /// 0 for a correction, 1 for an undo.
     pub kind: i64,
-    /// The place at which the correction begins, counted from 0, or the number of the entry that is undone.
+    /// The place at which the correction begins, counted from 0, or the number of the entry that is
+    /// undone.
     pub start: i64,
     /// How many characters the correction replaces.
     pub len: i64,
@@ -82,7 +83,8 @@ pub struct NamedCorrPut<'a> {
     pub who: &'a str,
 }
 
-/// A row that is added, or replaces the one with its key, or columns that are set in the row with a key.
+/// A row that is added, or replaces the one with its key, or columns that are set in the row with a
+/// key.
 #[derive(Clone, Copy, Debug)]
 pub enum Put<'a> {
     /// The row of `book`.

@@ -1,6 +1,7 @@
 //! The rows of a book's file, one type for each of its tables.
 //!
-//! A row holds what stands in its table, whether it makes sense or not: a file may hold any integers, negative ones too.
+//! A row holds what stands in its table, whether it makes sense or not: a file may hold any
+//! integers, negative ones too.
 
 ghost use Rattle.std.specs.Prelude.{string_bytes};
 ghost use Rattle.desk_parts.specs.Rows.{Tab, StoredTab as StoredTabRow, Para, Corr, NamedCorr, Mark, ParaCells};
@@ -91,7 +92,8 @@ pub struct CorrRow {
     pub seq: i64,
     /// 0 for a correction, 1 for an undo.
     pub kind: i64,
-    /// The place at which the correction begins, counted from 0, or the number of the entry that is undone.
+    /// The place at which the correction begins, counted from 0, or the number of the entry that is
+    /// undone.
     pub start: i64,
     /// How many characters the correction replaces.
     pub len: i64,
@@ -112,7 +114,8 @@ impl Model for CorrRow {
     } };
 }
 
-/// A row of `corr2`: an entry of a paragraph's history, and the name of the proofreader who corrected.
+/// A row of `corr2`: an entry of a paragraph's history, and the name of the proofreader who
+/// corrected.
 #[derive(Drop)]
 pub struct NamedCorrRow {
     /// The entry. Its paragraph and its number are the key.

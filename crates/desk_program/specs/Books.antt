@@ -59,15 +59,17 @@ after_session LostChange = Err Lost
 
 -- ---- the book
 
--- What is known of the database that a path names: the connections to it and the faults of connecting, where it is made if it isn't
--- there, and where it isn't; and which database was closed.
+-- What is known of the database that a path names: the connections to it and the faults of
+-- connecting, where it is made if it isn't there, and where it isn't; and which database was
+-- closed.
 pub record Place (D : Type 0) : Type 1 where
   pub store : Database D
   pub Connects : Bool → Held D → Type 0
   pub Closes : D → Type 0
   pub Refuses : Bool → ProgramFault → Type 0
 
--- by these connections and what was closed, by whether a file that is there may not open, and by what stands at the path
+-- by these connections and what was closed, by whether a file that is there may not open, and by
+-- what stands at the path
 abbrev pub place : {D : Type 0} → Database D → (Bool → Held D → Type 0) → (D → Type 0) → Type 0 → FileState → Place D
 place store Connects Closes CanFail shelved =
     record { store = store; Connects = Connects; Closes = Closes; Refuses = IsOfDatabase CanFail shelved }
@@ -78,8 +80,9 @@ abbrev pub place_at : {F File D : Type 0} → Shelf F File → Database D → (F
 place_at shelf store Connects Closes desk path =
     place store (Connects desk path) (Closes desk) shelf.can_fail (shelf.at desk path)
 
--- A connection was made, and this book was opened on it, or made; that is what it came to. If a table of a book was there, in any file, a
--- crash leaves nothing new but what the statements that complete the file made of it.
+-- A connection was made, and this book was opened on it, or made; that is what it came to. If a
+-- table of a book was there, in any file, a crash leaves nothing new but what the statements that
+-- complete the file made of it.
 pub record Opening {D : Type 0} (at : Place D) (make : Bool) (last : Held D) (book : Book) : Type 0 where
   pub first : Held D
   pub connected : at.Connects make first
@@ -89,7 +92,8 @@ pub record Opening {D : Type 0} (at : Place D) (make : Bool) (last : Held D) (bo
       → Survives (state at.store first) (state at.store last) (λ db. (found : Book) × (done : Held D)
       × Completes at.store first found done × (db ≡ (state at.store done).now.trees))
 
--- The database of this connection was closed, without what wasn't committed, and whatever a crash leaves of it then it could have left before.
+-- The database of this connection was closed, without what wasn't committed, and whatever a crash
+-- leaves of it then it could have left before.
 abbrev pub IsClosed : {D : Type 0} → Place D → Held D → Type 0
 IsClosed {D} at last =
     (left : D) × at.Closes left × IsRolledBack (at.store.view last.store) (at.store.view left)
@@ -99,7 +103,8 @@ IsClosed {D} at last =
 abbrev pub Finds : {D : Type 0} → Place D → Bool → Book → Type 0
 Finds {D} at make book = (last : Held D) × Opening at make last book × IsClosed at last
 
--- no book was found: no connection was made, or no book was opened on it, and its database was closed as it was then
+-- no book was found: no connection was made, or no book was opened on it, and its database was
+-- closed as it was then
 pub data FindsNone {D : Type 0} (at : Place D) (make : Bool) (stop : Stop) : Type 0 where
   unconnected : (fault : ProgramFault) → at.Refuses make fault → stop ≡ Refused fault → FindsNone at make stop
   unopened : (first last : Held D) (fault : OpenFault) → at.Connects make first
@@ -108,7 +113,8 @@ pub data FindsNone {D : Type 0} (at : Place D) (make : Bool) (stop : Stop) : Typ
 
 -- ---- what goes to the sink
 
--- the text went out and was passed on, or the sink failed, and no more than a beginning of it went out
+-- the text went out and was passed on, or the sink failed, and no more than a beginning of it went
+-- out
 abbrev pub Says : {K : Type 0} → Sink K → K → K → List ℕ → Outcome → Type 0
 Says sink old new text (Ok unit) = Sends sink old new text true × HasFlushed sink new
 Says sink old new text (Err (Refused fault)) = ⊥
@@ -121,7 +127,8 @@ version_line version = codes "ok " ++ decimal version ++ 10 ∷ []
 
 -- ---- the actions
 
--- A book without a version is found, or an empty one is made, and this is reported. One that has a version stays, and is reported.
+-- A book without a version is found, or an empty one is made, and this is reported. One that has a
+-- version stays, and is reported.
 pub data Makes {D K : Type 0} (at : Place D) (sink : Sink K) (old new : K)
     (outcome : Outcome) : Type 0 where
   none : (stop : Stop) → FindsNone at true stop → new ≡ old → outcome ≡ Err stop
@@ -139,8 +146,8 @@ pub data Checks {D K : Type 0} (at : Place D) (sink : Sink K) (old new : K)
   found : (book : Book) → Finds at false book
       → Says sink old new (version_line book.version) outcome → Checks at sink old new outcome
 
--- A session is held on the book, from the connection as it was opened to what the session left, which is closed. The loss of a command is
--- put down to an error.
+-- A session is held on the book, from the connection as it was opened to what the session left,
+-- which is closed. The loss of a command is put down to an error.
 pub data Holds {D S K : Type 0} (at : Place D) (source : Source S) (old_source new_source : S)
     (sink : Sink K) (old new : K) (outcome : Outcome) : Type 0 where
   none : (stop : Stop) → FindsNone at false stop → new_source ≡ old_source → new ≡ old
@@ -154,8 +161,8 @@ pub data Holds {D S K : Type 0} (at : Place D) (source : Source S) (old_source n
       → IsClosed at left
       → outcome ≡ after_session ended → Holds at source old_source new_source sink old new outcome
 
--- A volume of a book goes out, as it is exported, and is passed on. It is refused with nothing written, or the sink failed and
--- a beginning of it went out.
+-- A volume of a book goes out, as it is exported, and is passed on. It is refused with nothing
+-- written, or the sink failed and a beginning of it went out.
 abbrev pub Exports : {K : Type 0} → Sink K → K → K → Book → Layout → ℕ → Outcome → Type 0
 Exports sink old new book layout number (Ok unit) =
     (bytes : List ℕ) × (pages : ℕ) × IsVolume book layout number bytes pages

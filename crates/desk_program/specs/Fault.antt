@@ -37,8 +37,8 @@ read_as reading.NoMemory = faults.NoMemory
 
 -- ---- the fault of a file
 
--- a file can't be opened or read, or is too large, or an allocation for it failed; one that is missing
--- isn't a failed allocation
+-- a file can't be opened or read, or is too large, or an allocation for it failed; one that is
+-- missing isn't a failed allocation
 abbrev pub IsOfFile : Type 0 → FileState → ProgramFault → Type 0
 IsOfFile CanFail shelved (faults.Table fault) = ⊥
 IsOfFile CanFail unknown faults.NoMemory = Unit {0}
@@ -63,8 +63,8 @@ IsIoFault kind fault =
 
 -- ---- the fault of a database
 
--- no connection is made: the file isn't there and none is to be made, it can't be opened or isn't a database, or an allocation
--- failed, which is never reported of one that isn't there
+-- no connection is made: the file isn't there and none is to be made, it can't be opened or isn't a
+-- database, or an allocation failed, which is never reported of one that isn't there
 abbrev pub IsOfDatabase : Type 0 → FileState → Bool → ProgramFault → Type 0
 IsOfDatabase CanFail shelved make (faults.Table fault) = ⊥
 IsOfDatabase CanFail shelved make faults.NoMemory = MayConnect make shelved

@@ -61,8 +61,9 @@ Translates CanFail shelf source old_source new_source sink old new path (Err End
 
 -- ---- an action
 
--- What stands at a path, whether a file that is there may not open and whether one may not be read, the connections to the
--- database at a path, which may be made if it isn't there, and which database was closed.
+-- What stands at a path, whether a file that is there may not open and whether one may not be read,
+-- the connections to the database at a path, which may be made if it isn't there, and which
+-- database was closed.
 pub record Files (D : Type 0) : Type 1 where
   pub at : List ℕ → FileState
   pub OpenFails : Type 0
@@ -103,7 +104,8 @@ CarriesOut files source old_source new_source sink old new (Translate path) outc
 CarriesOut files source old_source new_source sink old new (Check path) outcome =
     Checks (place_of files path.now) sink old new outcome × (new_source ≡ old_source)
 
--- the words ask for help, which is a text that isn't empty and is shown, or for an action, which is carried out
+-- the words ask for help, which is a text that isn't empty and is shown, or for an action, which is
+-- carried out
 pub data Does {D S K : Type 0} (files : Files D) (source : Source S) (old_source new_source : S)
     (sink : Sink K) (old new : K) (words : List (List ℕ)) (outcome : Outcome) : Type 0 where
   help : AskForHelp whole words → (text : List ℕ) → text ≢ [] → Says sink old new text outcome

@@ -1,5 +1,6 @@
 //! What the program does with the book in a file.
-ghost use Rattle.desk_program.specs.Books.{Checks, Exports, ExportsFrom, Finds, FindsNone, Holds, Makes, Opening, Says, place_at, version_line};
+ghost use Rattle.desk_program.specs.Books.{Checks, Exports, ExportsFrom, Finds, FindsNone, Holds};
+ghost use Rattle.desk_program.specs.Books.{Makes, Opening, Says, place_at, version_line};
 ghost use Rattle.std.specs.Prelude.{MatchResult, false, ◌≡◌};
 
 use super::fault::ProgramFault;
@@ -12,8 +13,9 @@ use desk_session::{Ended, serve};
 use desk_store::Store;
 use itoa::Buffer;
 
-/// The book in the file at this path, and the store that keeps it. Where the file has no tables of a book and `make` is
-/// true, it gets those of the empty book. A database in which no book is opened is closed again.
+/// The book in the file at this path, and the store that keeps it. Where the file has no tables of
+/// a book and `make` is true, it gets those of the empty book. A database in which no book is
+/// opened is closed again.
 fn open_store<F: Databases + AllocGlobal>(
     rt: &F,
     path: &str,
@@ -52,7 +54,8 @@ fn read_book<F: Databases + AllocGlobal>(rt: &F, path: &str, make: bool) -> Resu
     Ok(book)
 }
 
-/// Makes the empty book in the file at this path, and shows its version. A book that is there has to be empty.
+/// Makes the empty book in the file at this path, and shows its version. A book that is there has
+/// to be empty.
 pub fn make_book<F: Databases + AllocGlobal, K: Sink>(
     rt: &F,
     path: &str,
@@ -83,7 +86,8 @@ pub fn check_book<F: Databases + AllocGlobal, K: Sink>(
     tell_version(sink, version)
 }
 
-/// Answers the requests of the source from the book in the file at this path, which keeps what they change.
+/// Answers the requests of the source from the book in the file at this path, which keeps what they
+/// change.
 pub fn hold_session<F: Databases + AllocGlobal, S: Source, K: Sink>(
     rt: &F,
     path: &str,

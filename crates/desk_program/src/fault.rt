@@ -6,7 +6,8 @@ use std::alloc::AllocError;
 use std::io::{Error as IoError, ErrorKind};
 use thiserror::Error;
 
-/// A fault for which the program refuses what is asked. `refuse` reports it by its number and details.
+/// A fault for which the program refuses what is asked. `refuse` reports it by its number and
+/// details.
 #[derive(Debug, Drop, Error)]
 pub enum ProgramFault {
     /// The table text is bad.

@@ -1,6 +1,8 @@
-//! The program: what its words ask for, over files, a source, a sink and a place for what is refused.
+//! The program: what its words ask for, over files, a source, a sink and a place for what is
+//! refused.
 //!
-//! `new`, `session`, `export` and `check` are about the book in a file, and `translate` about lines of print.
+//! `new`, `session`, `export` and `check` are about the book in a file, and `translate` about lines
+//! of print.
 //!
 //! ```rust
 //! use desk_program::{DONE, program};
@@ -10,14 +12,16 @@
 //! assert_eq!(rt; status, DONE);
 //! ```
 //!
-//! Files are those of a `Shelf`, and databases those of `Databases`; the system's are both. Which words there are is
-//! `desk_words`'s. The words, the standard ends and the exit status of a process are left to `braildesk`.
+//! Files are those of a `Shelf`, and databases those of `Databases`; the system's are both. Which
+//! words there are is `desk_words`'s. The words, the standard ends and the exit status of a process
+//! are left to `braildesk`.
 //!
-//! Another program over books calls what this one does: `desk_session::serve` answers the requests of an input to a book,
-//! whose file keeps each command before it is acknowledged, and gives the book back, and `run` lets go of it;
-//! `desk_translate::translate_lines` answers each line of an input by its braille; and `desk_session::laws::life` says what
-//! is found of a book after any number of sessions, however each of them was stopped. Ends are those of `desk_ends`, a book
-//! in its file is opened by `desk_store`, and tables are read by `louis_table` and `louis_translate`.
+//! Another program over books calls what this one does: `desk_session::serve` answers the requests
+//! of an input to a book, whose file keeps each command before it is acknowledged, and gives the
+//! book back, and `run` lets go of it; `desk_translate::translate_lines` answers each line of an
+//! input by its braille; and `desk_session::laws::life` says what is found of a book after any
+//! number of sessions, however each of them was stopped. Ends are those of `desk_ends`, a book in
+//! its file is opened by `desk_store`, and tables are read by `louis_table` and `louis_translate`.
 #![tactic(auto)]
 
 mod books;

@@ -1,7 +1,8 @@
 //! Where files are opened by their paths.
 //!
-//! std's `Files` doesn't say which bytes stand at a path. `Shelf` does, so that a contract can say that
-//! a table is that of the very file which is named, and a fault too. `Databases` does so for the book in a database.
+//! std's `Files` doesn't say which bytes stand at a path. `Shelf` does, so that a contract can say
+//! that a table is that of the very file which is named, and a fault too. `Databases` does so for
+//! the book in a database.
 ghost use Rattle.desk_program.specs.Fault.{IsOfDatabase, IsOfFile};
 ghost use Rattle.desk_program.specs.Shelf.{FileState, MayConnect, OpensFile};
 ghost use Rattle.sqlite.specs.Held.{Held};
@@ -58,7 +59,8 @@ pub trait Databases: Shelf {
     // A database was closed.
     ghost closes: { Self → Self.Database → Type 0 };
 
-    /// Connects to the database at this path. Where no file is there, one is made if `make` is true.
+    /// Connects to the database at this path. Where no file is there, one is made if `make` is
+    /// true.
     fn connect(&self, path: &str, make: bool) -> Result<Connection<Self::Database>, ProgramFault>
         ensures there { IfOk result (λ _. MayConnect make (Self.Shelf.at self.now path.now)) }
         ensures named { IfOk result (connects self.now path.now make) }
@@ -67,8 +69,8 @@ pub trait Databases: Shelf {
         ensures fault { IfErr result
             (IsOfDatabase Self.Shelf.can_fail (Self.Shelf.at self.now path.now) make) };
 
-    /// Closes a database, so that all of it stands in its file. Where that fails, it stands in the file and the log
-    /// beside it, as before.
+    /// Closes a database, so that all of it stands in its file. Where that fails, it stands in the
+    /// file and the log beside it, as before.
     fn close(&self, database: Self::Database)
         ensures { closes self.now database };
 }

@@ -35,9 +35,11 @@ pub const FAILED: u8 = 3;
 // The contracts name them.
 const _: () = prove!(DONE == 0 && OTHER_WORDS == 1 && REFUSED == 2 && FAILED == 3);
 
-/// Does what the words ask, over the given ends, and answers the exit status. The first word is the program's name.
+/// Does what the words ask, over the given ends, and answers the exit status. The first word is the
+/// program's name.
 ///
-/// What is refused is reported in one line on `errors`. Help goes to the sink, and why words are refused to `errors`.
+/// What is refused is reported in one line on `errors`. Help goes to the sink, and why words are
+/// refused to `errors`.
 pub fn program<'a, F: Databases + AllocGlobal, S: Source, K: Sink, E: Sink>(
     rt: &F,
     words: &'a [&'a str],
@@ -47,7 +49,8 @@ pub fn program<'a, F: Databases + AllocGlobal, S: Source, K: Sink, E: Sink>(
 ) -> u8
     ensures status { result ≤ FAILED }
 
-    // Words are refused as the whole command refuses them, and why is reported, by a text that isn't empty.
+    // Words are refused as the whole command refuses them, and why is reported, by a text that
+    // isn't empty.
     ensures words { result ≡ OTHER_WORDS → AreRefused whole (texts_of words.now)
         × ((text : List ℕ) × (text ≢ []) × Tells E.Sink errors.old errors.new text) }
 

@@ -17,7 +17,8 @@ pub const MOST_FILE_BYTES: usize = 1 << 27;
 // No test reads as many.
 const _: () = prove!(MOST_FILE_BYTES == 134_217_728);
 
-/// What is written in place of a path for the supplied table. A file of this name is reached as `./@en`.
+/// What is written in place of a path for the supplied table. A file of this name is reached as
+/// `./@en`.
 pub const SUPPLIED: &str = "@en";
 
 /// Reads the supplied table, or the table in the file at this path.

@@ -1,5 +1,6 @@
 -- Which rows of `cache` fit the paragraphs that are kept.
-use Rattle.std.specs.Prelude.{◌≡◌, ◌⊎◌, ℕ, ◌+◌, ◌<◌, ℤ, pos, ◌<ℤ◌, ◌≤ℤ◌, List, length, slice_get, Option, Some, None, nat_eq}
+use Rattle.std.specs.Prelude.{◌≡◌, ◌⊎◌, ℕ, ◌+◌, ◌<◌, ℤ, pos, ◌<ℤ◌, ◌≤ℤ◌, List}
+use Rattle.std.specs.Prelude.{length, slice_get, Option, Some, None, nat_eq}
 use Rattle.std.specs.Cmp.Lexicographic.{pointwise}
 use Rattle.std.specs.Map.{lookup}
 use Rattle.louis_translate.specs.Position.{AreDefined}
@@ -28,7 +29,8 @@ AreTheirCells tables items cells =
     → (own : List ℕ) × (slice_get cells index ≡ Some (Some own)) × IsItsBraille tables kept own
 
 -- the row at this index, from 0, has the id and the braille of the paragraph there
-pub record IsRightAt (tables : KeptTables) (items : List KeptParagraph) (rows : List ParaCells) (index : ℕ) : Type 0 where
+pub record IsRightAt (tables : KeptTables) (items : List KeptParagraph) (rows : List ParaCells)
+    (index : ℕ) : Type 0 where
   pub kept : KeptParagraph
   pub at : slice_get items index ≡ Some kept
   pub row : ParaCells
@@ -51,8 +53,10 @@ pub record IsLacking (items : List KeptParagraph) (rows : List ParaCells) (index
   pub id_is : id ≡ pos (index + 1)
   pub none : slice_get rows index ≡ None
 
--- the paragraph at the index has this id, and the row there is of a later one, or hasn't its braille
-pub record IsWrong (tables : KeptTables) (items : List KeptParagraph) (rows : List ParaCells) (index : ℕ) (id : ℤ) : Type 0 where
+-- the paragraph at the index has this id, and the row there is of a later one, or hasn't its
+-- braille
+pub record IsWrong (tables : KeptTables) (items : List KeptParagraph) (rows : List ParaCells) (index : ℕ)
+    (id : ℤ) : Type 0 where
   pub kept : KeptParagraph
   pub at : slice_get items index ≡ Some kept
   pub id_is : id ≡ pos (index + 1)

@@ -16,7 +16,8 @@ rows_of rows id = filter (λ row. int_eq row.entry.para id) rows
 -- each of so many paragraphs has its rows in the group at its index, from 0
 pub record AreGrouped (count : ℕ) (rows : List NamedCorr) (groups : List (List NamedCorr)) : Type 0 where
   pub many : length groups ≡ count
-  pub each : (index : ℕ) (group : List NamedCorr) → slice_get groups index ≡ Some group → group ≡ rows_of rows (pos (index + 1))
+  pub each : (index : ℕ) (group : List NamedCorr) → slice_get groups index ≡ Some group
+      → group ≡ rows_of rows (pos (index + 1))
 
 -- a row has this id, which none of so many paragraphs has
 abbrev pub IsStray : ℕ → List NamedCorr → ℤ → Type 0
@@ -30,7 +31,8 @@ IsFirstStray count rows (Some first) = IsStray count rows first × ((id : ℤ) �
 -- each paragraph has the history of the rows in its group
 abbrev pub HaveRead : List (List NamedCorr) → List KeptParagraph → Type 0
 HaveRead groups items =
-    (index : ℕ) (rows : List NamedCorr) (kept : KeptParagraph) → slice_get groups index ≡ Some rows → slice_get items index ≡ Some kept
+    (index : ℕ) (rows : List NamedCorr) (kept : KeptParagraph) → slice_get groups index ≡ Some rows
+    → slice_get items index ≡ Some kept
     → HasRead rows kept
 
 -- the rows of the paragraph at this index can't be read, and those of each before it can
@@ -40,7 +42,8 @@ pub record IsUnread (groups : List (List NamedCorr)) (items : List KeptParagraph
   pub group : slice_get groups index ≡ Some rows
   pub item : slice_get items index ≡ Some kept
   pub unsound : ¬ CanBeRead rows kept.original kept.print
-  pub before : (k : ℕ) (others : List NamedCorr) (other : KeptParagraph) → k < index → slice_get groups k ≡ Some others → slice_get items k ≡ Some other
+  pub before : (k : ℕ) (others : List NamedCorr) (other : KeptParagraph) → k < index → slice_get groups k ≡ Some others
+      → slice_get items k ≡ Some other
       → CanBeRead others other.original other.print
 
 -- the first paragraph whose rows can't be read is reported

@@ -16,7 +16,8 @@ TellsDamageOf table damaged NoMemory = ⊤
 
 -- there are rows of braille, and this is a damaged id of them
 abbrev pub IsDamagedBraille : List Tab → List Para → Option (List ParaCells) → ℤ → Type 0
-IsDamagedBraille tabs paras cache id = (caches : List ParaCells) × (cache ≡ Some caches) × IsDamagedCache tabs paras caches id
+IsDamagedBraille tabs paras cache id =
+    (caches : List ParaCells) × (cache ≡ Some caches) × IsDamagedCache tabs paras caches id
 
 -- the fault of the parts whose rows of this table weren't taken
 abbrev pub fault_in : FileTable → RowsFault → PartsFault

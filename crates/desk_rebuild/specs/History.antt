@@ -17,7 +17,8 @@ use Rattle.desk_model.specs.Characters.{AreCharacters}
 
 -- ---- one row
 
--- the row fits what the entries before it leave: it corrects the print, or undoes the newest correction in force
+-- the row fits what the entries before it leave: it corrects the print, or undoes the newest
+-- correction in force
 abbrev pub IsFit : List ℕ → List Entry → NamedCorr → Type 0
 IsFit original before row = IsSoundCorrection (corrected_print original before) row ⊎ IsSoundUndo before row
 
@@ -33,7 +34,8 @@ pub record IsCorrecting (print : List ℕ) (row : NamedCorr) (next : Next) : Typ
   pub sound : IsSoundCorrection print row
   pub entry : entry_kept next.entry ≡ entry_of row
   pub taken : TookFrom print next.entry
-  pub print_is : next.print.items ≡ replaced_by (nat_abs row.entry.start) (nat_abs row.entry.len) (chars row.entry.body) print
+  pub print_is : next.print.items
+      ≡ replaced_by (nat_abs row.entry.start) (nat_abs row.entry.len) (chars row.entry.body) print
   pub characters : AreCharacters (chars row.entry.body)
   pub who_characters : AreCharacters (chars row.who)
 
@@ -54,7 +56,8 @@ pub record IsRead (original : List ℕ) (rows : List NamedCorr) (reading : Readi
 
 -- the rows in this order are sound
 abbrev pub AreSoundRows : List ℕ → List NamedCorr → Type 0
-AreSoundRows original rows = (index : ℕ) (row : NamedCorr) → slice_get rows index ≡ Some row → IsSoundEntryRow original rows index row
+AreSoundRows original rows = (index : ℕ) (row : NamedCorr) → slice_get rows index ≡ Some row
+    → IsSoundEntryRow original rows index row
 
 -- ---- a paragraph
 

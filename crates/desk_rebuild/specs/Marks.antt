@@ -45,7 +45,8 @@ pub record IsMarkOn (items : List KeptParagraph) (row : MarkRow) : Type 0 where
   pub note : IsNoteText (chars row.note)
   pub flags : HasFlags row
 
--- the kept mark has what the row says: its own row, given the id of this one, is this one with its note as characters
+-- the kept mark has what the row says: its own row, given the id of this one, is this one with its
+-- note as characters
 abbrev pub IsKeptOf : MarkRow → KeptMark → Type 0
 IsKeptOf row mark = record (mark_row_of (mark_kept (0, mark))) { id = row.id } ≡ spelled tables.Mark row
 

@@ -5,8 +5,8 @@ use Rattle.std.specs.Ordering.{int_cmp}
 use Rattle.desk_rebuild.specs.declared.damage.RowsFault.{RowsFault}
 use Rattle.desk_rebuild.specs.declared.damage.RowsFault.TheVariants.{Damaged, NoMemory}
 
--- what is asked of the rows of a table: the id of each, how many there may be, and when one at an index, from 0, is sound
--- whatever its id; and what is so of the texts of each row that was read
+-- what is asked of the rows of a table: the id of each, how many there may be, and when one at an
+-- index, from 0, is sound whatever its id; and what is so of the texts of each row that was read
 pub record RowRule (X : Type 0) : Type 1 where
   pub id : X → ℤ
   pub most : ℕ
@@ -29,13 +29,16 @@ pub record IsSoundAt {X : Type 0} (rule : RowRule X) (index : ℕ) (row : X) : T
 -- so many rows are sound, and their texts UTF-8
 abbrev pub AreSoundUpTo : {X : Type 0} → RowRule X → ℕ → List X → Type 0
 AreSoundUpTo {X} rule count rows =
-    (index : ℕ) (row : X) → index < count → slice_get rows index ≡ Some row → IsSoundAt rule index row × rule.HasUtf8Texts row
+    (index : ℕ) (row : X) → index < count → slice_get rows index ≡ Some row
+    → IsSoundAt rule index row × rule.HasUtf8Texts row
 
 -- so many rows are sound, and what is kept of each of them is there
-pub record AreKeptUpTo {X K : Type 0} (rule : RowRule X) (IsKeptOf : X → K → Type 0) (count : ℕ) (rows : List X) (kept : List K) : Type 0 where
+pub record AreKeptUpTo {X K : Type 0} (rule : RowRule X) (IsKeptOf : X → K → Type 0) (count : ℕ) (rows : List X)
+    (kept : List K) : Type 0 where
   pub sound : AreSoundUpTo rule count rows
   pub count_is : length kept ≡ count
-  pub each : (index : ℕ) (row : X) (item : K) → slice_get rows index ≡ Some row → slice_get kept index ≡ Some item → IsKeptOf row item
+  pub each : (index : ℕ) (row : X) (item : K) → slice_get rows index ≡ Some row → slice_get kept index ≡ Some item
+      → IsKeptOf row item
 
 -- the first row that isn't sound has this id
 pub record IsFirstUnsound {X : Type 0} (rule : RowRule X) (rows : List X) (id : ℤ) : Type 0 where

@@ -53,7 +53,8 @@ pub record IsPlaced (order : List ℕ) (number : ℕ) (row : Para) : Type 0 wher
 -- so many rows stand at their places, and nothing else stands at any
 pub record ArePlacedUpTo (count : ℕ) (rows : List Para) (order : List ℕ) : Type 0 where
   pub room : length order ≡ length rows
-  pub placed : (index : ℕ) (row : Para) → index < count → slice_get rows index ≡ Some row → IsPlaced order (index + 1) row
+  pub placed : (index : ℕ) (row : Para) → index < count → slice_get rows index ≡ Some row
+      → IsPlaced order (index + 1) row
   pub taken : (index id : ℕ) → slice_get order index ≡ Some (suc id)
       → (row : Para) × (id < count) × (slice_get rows id ≡ Some row) × (row.place ≡ pos (index + 1))
 
@@ -67,9 +68,16 @@ pub record IsParaAt (tables : KeptTables) (rows : List Para) (index : ℕ) (row 
 
 -- what is asked of these rows beside these tables
 abbrev pub para_rule : KeptTables → List Para → RowRule Para
-para_rule tables rows = record { id = λ row. row.id; most = most_paragraphs; IsSound = IsParaAt tables rows; HasUtf8Texts = HasUtf8Texts file.Para }
+para_rule tables rows =
+    record {
+      id = λ row. row.id;
+      most = most_paragraphs;
+      IsSound = IsParaAt tables rows;
+      HasUtf8Texts = HasUtf8Texts file.Para;
+    }
 
 -- so many rows are sound, have their paragraphs, and stand at their places
-pub record AreKeptOf (tables : KeptTables) (count : ℕ) (rows : List Para) (items : List KeptParagraph) (order : List ℕ) : Type 0 where
+pub record AreKeptOf (tables : KeptTables) (count : ℕ) (rows : List Para) (items : List KeptParagraph)
+    (order : List ℕ) : Type 0 where
   pub kept : AreKeptUpTo (para_rule tables rows) IsKeptOf count rows items
   pub places : ArePlacedUpTo count rows order

@@ -1,5 +1,7 @@
--- What is read of the rows of a book's file, table by table, and what is reported if a table is damaged.
-use Rattle.std.specs.Prelude.{◌≡◌, ℕ, ℤ, pos, ◌+◌, ◌-◌, ◌≤ℤ◌, nat_abs, List, [], map, filter, length, slice_get, Some, ⊤}
+-- What is read of the rows of a book's file, table by table, and what is reported if a table is
+-- damaged.
+use Rattle.std.specs.Prelude.{◌≡◌, ℕ, ℤ, pos, ◌+◌, ◌-◌, ◌≤ℤ◌, nat_abs, List, []}
+use Rattle.std.specs.Prelude.{map, filter, length, slice_get, Some, ⊤}
 use Rattle.std.specs.List.{All, range_with_len}
 use Rattle.std.specs.List.Sorted.{IsPermutation, IsStrictlySortedBy}
 use Rattle.std.specs.Cmp.Lexicographic.{slice_cmp}
@@ -65,7 +67,8 @@ pub record HasKept (items : List KeptParagraph) (row : Para) : Type 0 where
   pub original : IsPrintText (chars row.original)
   pub print : IsPrintText (chars row.print)
 
--- The kept paragraphs, in the order of their ids, are those of the rows, whatever their histories, braille and marks.
+-- The kept paragraphs, in the order of their ids, are those of the rows, whatever their histories,
+-- braille and marks.
 pub record AreOf (paras : List Para) (items : List KeptParagraph) : Type 0 where
   pub texts : All (HasUtf8Texts file.Para) paras
   pub ids : IsPermutation (map (λ row. row.id) paras) (map pos (range_with_len 1 (length items)))

@@ -28,16 +28,19 @@ rows_of rows = map (λ stored. stored.row) rows
 abbrev pub tab_order : Tab → Tab → Ordering
 tab_order one other = ordering_then (slice_cmp nat_cmp one.name other.name) (slice_cmp nat_cmp one.body other.body)
 
--- each of these rows, which are the first of a list in order, is sound, and the kept tables are theirs
+-- each of these rows, which are the first of a list in order, is sound, and the kept tables are
+-- theirs
 pub record AreRead (sorted done : List Tab) (tables : KeptTables) : Type 0 where
   pub texts : All (HasUtf8Texts file.Tab) done
   pub rows : IsPermutation (map (spelled file.Tab) done) (map (λ entry. tab_of (entry.0, entry.1.text)) tables)
   pub means : All (λ entry. Means entry.1.text entry.1.rules) tables
   pub names : IsStrictlySortedBy (slice_cmp nat_cmp) (map (λ entry. entry.0) tables)
   pub few : length tables ≤ most_tables
-  pub sound : (index : ℕ) (row : Tab) → index < length done → slice_get sorted index ≡ Some row → IsSoundTabRow sorted index row
+  pub sound : (index : ℕ) (row : Tab) → index < length done → slice_get sorted index ≡ Some row
+      → IsSoundTabRow sorted index row
 
--- the row after so many isn't sound, which is reported at its number, from 1; or an allocation failed
+-- the row after so many isn't sound, which is reported at its number, from 1; or an allocation
+-- failed
 abbrev pub TellsUnsoundTab : List Tab → ℕ → Tab → RowsFault → Type 0
 TellsUnsoundTab sorted index row (Damaged id) = (id ≡ pos (index + 1)) × ¬ IsSoundTabRow sorted index row
 TellsUnsoundTab sorted index row NoMemory = ⊤
@@ -53,9 +56,12 @@ abbrev pub TellsNoMeaning : List ℕ → ℤ → RowsFault → Type 0
 TellsNoMeaning text id (Damaged told) = (told ≡ id) × ((meaning : Meaning) → ¬ Means text meaning)
 TellsNoMeaning text id NoMemory = ⊤
 
--- of rows in order the first that isn't sound is reported at its number, from 1; or an allocation failed
+-- of rows in order the first that isn't sound is reported at its number, from 1; or an allocation
+-- failed
 abbrev pub TellsFirstUnsound : List Tab → RowsFault → Type 0
 TellsFirstUnsound sorted (Damaged id) =
-    (index : ℕ) × (row : Tab) × (slice_get sorted index ≡ Some row) × (id ≡ pos (index + 1)) × ¬ IsSoundTabRow sorted index row
-    × ((before : ℕ) (other : Tab) → before < index → slice_get sorted before ≡ Some other → IsSoundTabRow sorted before other)
+    (index : ℕ) × (row : Tab) × (slice_get sorted index ≡ Some row) × (id ≡ pos (index + 1))
+    × ¬ IsSoundTabRow sorted index row
+    × ((before : ℕ) (other : Tab) → before < index → slice_get sorted before ≡ Some other
+    → IsSoundTabRow sorted before other)
 TellsFirstUnsound sorted NoMemory = ⊤

@@ -2,7 +2,8 @@
 ghost use Rattle.desk_model.specs.Damage.{IsDamagedEntries, IsDamagedPara, IsWithin};
 ghost use Rattle.desk_parts.specs.FileRows.{HasUtf8Texts, Unnamed, entries_in, table_of};
 ghost use Rattle.desk_rebuild.specs.Faults.{IsDamagedBraille, TellsDamageOf};
-ghost use Rattle.desk_rebuild.specs.Rows.{AreOf, AreTables, HasCells, HasHistory, IsWhole, without_cells, without_history};
+ghost use Rattle.desk_rebuild.specs.Rows.{AreOf, AreTables, HasCells, HasHistory, IsWhole};
+ghost use Rattle.desk_rebuild.specs.Rows.{without_cells, without_history};
 ghost use Rattle.desk_memory.specs.Kept.{IsKept, book_kept, paragraph_with_id};
 ghost use Rattle.desk_model.specs.Limits.{most_version};
 ghost use Rattle.desk_model.specs.Rebuilding.{IsFaultOf};
@@ -61,7 +62,8 @@ fn with_names(alloc: Global, entries: EntryRows) -> Result<Vec<NamedCorrRow>, Al
     }
 }
 
-/// Gives the paragraphs, which are in the order of their ids, the histories of rows of either format.
+/// Gives the paragraphs, which are in the order of their ids, the histories of rows of either
+/// format.
 fn give_histories(
     alloc: Global,
     items: &mut Vec<Paragraph>,
@@ -83,7 +85,8 @@ fn give_histories(
     of_table(table, read_entries(alloc, items, rows))
 }
 
-/// Gives the paragraphs, which are in the order of their ids, the braille of rows, or else that of their prints.
+/// Gives the paragraphs, which are in the order of their ids, the braille of rows, or else that of
+/// their prints.
 fn give_cells(
     alloc: Global,
     tables: &Tables,
@@ -123,7 +126,8 @@ pub struct KeptBook {
     pub marks: Marks,
 }
 
-/// What is kept of what was read of a book's tables: the paragraphs in the order of their ids, and these ids as they stand.
+/// What is kept of what was read of a book's tables: the paragraphs in the order of their ids, and
+/// these ids as they stand.
 fn kept_book(
     version: u64,
     tables: Tables,
@@ -151,12 +155,13 @@ fn kept_book(
     })
 }
 
-/// What is kept of the book that the parts show. Its braille is that of the rows of `cache`, which has to be that of the
-/// prints; without these rows it is made.
+/// What is kept of the book that the parts show. Its braille is that of the rows of `cache`, which
+/// has to be that of the prints; without these rows it is made.
 ///
 /// # Errors
 ///
-/// The first damage of parts that show no book, and [`PartsFault::NoMemory`] if an allocation failed.
+/// The first damage of parts that show no book, and [`PartsFault::NoMemory`] if an allocation
+/// failed.
 pub fn rebuild(alloc: Global, parts: Parts) -> Result<KeptBook, PartsFault>
     ensures made { IfOk result (λ book. IsKept book.version book.tables book.paragraphs book.marks
         × Shows (rows_in parts) (book_kept book.version book.tables book.paragraphs book.marks)) }

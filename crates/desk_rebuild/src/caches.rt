@@ -10,7 +10,8 @@ ghost use Rattle.louis_translate.specs.Position.{AreDefined};
 ghost use Rattle.std.specs.List.{All};
 ghost use Rattle.std.specs.List.Sorted.{IsPermutation, IsSortedByKey};
 ghost use Rattle.std.specs.Ordering.{int_cmp};
-ghost use Rattle.std.specs.Prelude.{◌≡◌, ◌≢◌, ◌≤◌, ◌++◌, IfErr, IfNone, IfOk, IfSome, IsTrue, List, OnOk, Some, length, map, ◌↔◌};
+ghost use Rattle.std.specs.Prelude.{◌≡◌, ◌≢◌, ◌≤◌, ◌++◌, IfErr, IfNone, IfOk, IfSome};
+ghost use Rattle.std.specs.Prelude.{IsTrue, List, OnOk, Some, length, map, ◌↔◌};
 
 use super::damage::RowsFault;
 use cell_core::{Cell, Cells};
@@ -79,8 +80,8 @@ fn is_its_braille(tables: &Tables, paragraph: &Paragraph, masks: &[u8]) -> bool
     }
 }
 
-/// The smallest id at which rows, in the order of their ids, are wrong: no paragraph has it, or its paragraph has two rows, no
-/// row, or a row without its braille.
+/// The smallest id at which rows, in the order of their ids, are wrong: no paragraph has it, or its
+/// paragraph has two rows, no row, or a row without its braille.
 fn misfit(tables: &Tables, paragraphs: &[Paragraph], rows: &[CacheRow]) -> Option<i64>
     requires translatable { All (IsTranslatable tables.now) paragraphs.now }
     requires few { length paragraphs.now ≤ most_paragraphs }
@@ -111,7 +112,8 @@ fn with_masks(alloc: Global, masks: &[u8]) -> Result<Cells, AllocError>
     Ok(Cells::from_vec(cells))
 }
 
-/// The cells of each row. A row's masks are let go once its cells are there, so that a book's braille isn't held twice.
+/// The cells of each row. A row's masks are let go once its cells are there, so that a book's
+/// braille isn't held twice.
 fn cells_in(alloc: Global, rows: Vec<CacheRow>) -> Result<Vec<Option<Cells>>, AllocError>
     ensures { IfOk result (λ all. all.items ≡ map (λ row. Some row.cells) rows.items) }
 {
@@ -138,7 +140,8 @@ fn give(items: &mut Vec<Paragraph>, cells: Vec<Option<Cells>>)
     renew_paragraphs(items, cells);
 }
 
-/// Gives the paragraphs, which are in the order of their ids, the braille of rows, once it is that of their prints.
+/// Gives the paragraphs, which are in the order of their ids, the braille of rows, once it is that
+/// of their prints.
 pub(crate) fn read_caches(
     alloc: Global,
     tables: &Tables,

@@ -6,7 +6,8 @@ ghost use Rattle.desk_parts.specs.FileRows.{HasUtf8Texts};
 ghost use Rattle.desk_parts.specs.declared.file_table.FileTable.{FileTable};
 ghost use Rattle.desk_parts.specs.Rows.{Para};
 ghost use Rattle.std.specs.List.{All};
-ghost use Rattle.std.specs.Prelude.{◌≡◌, ◌⊎◌, ◌+◌, ◌<◌, pos, ◌≤ℤ◌, List, [], IfErr, IfNone, IfOk, IfSome, OnOk, Some, length, map};
+ghost use Rattle.std.specs.Prelude.{◌≡◌, ◌⊎◌, ◌+◌, ◌<◌, pos, ◌≤ℤ◌, List, [], IfErr, IfNone};
+ghost use Rattle.std.specs.Prelude.{IfOk, IfSome, OnOk, Some, length, map};
 
 use super::damage::RowsFault;
 use super::history::read_history;
@@ -58,7 +59,7 @@ struct EntryGroups {
 impl EntryGroups {
     /// Groups rows by so many paragraphs.
     fn of(alloc: Global, count: usize, rows: Vec<NamedCorrRow>) -> Result<Self, AllocError>
-        ensures groups { IfOk result (λ grouped. AreGrouped count rows.items (map (λ group. group.items) grouped.groups.items)) }
+        ensures groups { IfOk result (λ made. AreGrouped count rows.items (map (λ g. g.items) made.groups.items)) }
         ensures stray { IfOk result (λ grouped. IsFirstStray count rows.items grouped.stray) }
         ensures texts { OnOk result (All (HasUtf8Texts FileTable.NamedCorr) rows.items) }
     {

@@ -2,9 +2,11 @@
 ghost use Rattle.desk_model.specs.Damage.{IsSoundCorrection, IsSoundUndo};
 ghost use Rattle.desk_memory.specs.Histories.{LeavePrint, entries_kept};
 ghost use Rattle.desk_rebuild.specs.Rows.{without_history};
-ghost use Rattle.desk_rebuild.specs.History.{AreSoundRows, CanBeRead, HasRead, IsCorrecting, IsFit, IsNext, IsRead, IsSoundNext};
+ghost use Rattle.desk_rebuild.specs.History.{AreSoundRows, CanBeRead, HasRead, IsCorrecting};
+ghost use Rattle.desk_rebuild.specs.History.{IsFit, IsNext, IsRead, IsSoundNext};
 ghost use Rattle.desk_parts.specs.Rows.{NamedCorr};
-ghost use Rattle.std.specs.Prelude.{◌≡◌, ◌⊎◌, ℕ, ◌+◌, ◌≤◌, ◌↔◌, pos, ◌+ℤ◌, ◌≤ℤ◌, List, ◌∷◌, ◌++◌, [], IfErr, IfNone, IfOk, IfSome, IsTrue, OnOk, length};
+ghost use Rattle.std.specs.Prelude.{◌≡◌, ◌⊎◌, ℕ, ◌+◌, ◌≤◌, ◌↔◌, pos, ◌+ℤ◌, ◌≤ℤ◌, List, ◌∷◌, ◌++◌, []};
+ghost use Rattle.std.specs.Prelude.{IfErr, IfNone, IfOk, IfSome, IsTrue, OnOk, length};
 ghost use Rattle.std.specs.Str.{chars};
 
 use super::damage::RowsFault;
@@ -17,7 +19,8 @@ use desk_parts::{CorrRow, NamedCorrRow};
 use louis_table::Characters;
 use std::alloc::{AllocError, Global};
 
-/// A span's first place and how many characters it has, if a print of so many characters has them all.
+/// A span's first place and how many characters it has, if a print of so many characters has them
+/// all.
 fn span(start: i64, len: i64, length: usize) -> Option<(usize, usize)>
     ensures within { IfSome result (λ span. (start ≡ pos span.0) × (len ≡ pos span.1) × (span.0 + span.1 ≤ length)) }
     ensures past { IfNone result ((pos 0 ≤ℤ start) × (pos 0 ≤ℤ len) × ((start +ℤ len) ≤ℤ pos length) → ⊥) }
@@ -44,8 +47,8 @@ struct Next {
     print: Vec<char>,
 }
 
-/// The correction of a print that the row stands for, if it is a sound one: the print has what it takes away, its text has no
-/// barred character, and its proofreader's name is one.
+/// The correction of a print that the row stands for, if it is a sound one: the print has what it
+/// takes away, its text has no barred character, and its proofreader's name is one.
 fn correction(alloc: Global, print: &[char], row: NamedCorrRow) -> Result<Option<Next>, AllocError>
     requires { row.entry.kind ≡ pos 0 }
     ensures sound { IfOk result (λ next. IfSome next (IsCorrecting print.now row)) }
@@ -73,7 +76,8 @@ fn correction(alloc: Global, print: &[char], row: NamedCorrRow) -> Result<Option
     }))
 }
 
-/// The undo that the row stands for, if it is one of the newest correction in force of a history, which left this print.
+/// The undo that the row stands for, if it is one of the newest correction in force of a history,
+/// which left this print.
 fn undo(
     alloc: Global,
     history: &[KeptEntry],
@@ -154,7 +158,8 @@ impl Reading {
     }
 }
 
-/// Reads the rows of the paragraph with this id and this original, which are in the order of their numbers.
+/// Reads the rows of the paragraph with this id and this original, which are in the order of their
+/// numbers.
 fn read_rows(
     alloc: Global,
     id: i64,

@@ -1,8 +1,10 @@
-//! How a book is made of the rows of its file: each row is validated and converted, and the first damage is reported.
+//! How a book is made of the rows of its file: each row is validated and converted, and the first
+//! damage is reported.
 //!
-//! The rows of one table are read after those of another, in this order: tables, paragraphs, entries of histories, marks and
-//! braille. A row is judged by itself, by the rows before it in the order of their keys, and by what was made of the tables
-//! before. Entries are grouped by paragraphs first, and rows of `cache` are compared before they are converted.
+//! The rows of one table are read after those of another, in this order: tables, paragraphs,
+//! entries of histories, marks and braille. A row is judged by itself, by the rows before it in the
+//! order of their keys, and by what was made of the tables before. Entries are grouped by
+//! paragraphs first, and rows of `cache` are compared before they are converted.
 //!
 //! ```rust
 //! use desk_rebuild::rebuild;
@@ -11,8 +13,8 @@
 //! assert_eq!(rt; kept.version, 1);
 //! ```
 //!
-//! `desk_model` says which rows show a book, and what is damaged. `desk_rows` reads the rows from a file, and `desk_memory`
-//! keeps what is made of them.
+//! `desk_model` says which rows show a book, and what is damaged. `desk_rows` reads the rows from a
+//! file, and `desk_memory` keeps what is made of them.
 #![tactic(auto)]
 
 mod book;

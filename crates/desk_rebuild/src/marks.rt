@@ -3,14 +3,16 @@ ghost use Rattle.desk_model.specs.Damage.{IsDamagedMark};
 ghost use Rattle.desk_parts.specs.FileRows.{HasUtf8Texts};
 ghost use Rattle.desk_rebuild.specs.Faults.{TellsDamageOf};
 ghost use Rattle.desk_rebuild.specs.Rows.{AreMarksOf, AreOf, HaveMarks, IsWhole, without_marks};
-ghost use Rattle.desk_rebuild.specs.Marks.{AreKeptOf, HasId, IsKeptOf, IsMarkOn, IsNoteText, IsOnOne, IsSpan, mark_rule};
+ghost use Rattle.desk_rebuild.specs.Marks.{AreKeptOf, HasId, IsKeptOf, IsMarkOn};
+ghost use Rattle.desk_rebuild.specs.Marks.{IsNoteText, IsOnOne, IsSpan, mark_rule};
 ghost use Rattle.desk_rebuild.specs.OrderedRows.{AreInOrder, IsSoundAt, TellsUnsound};
 ghost use Rattle.desk_model.specs.Limits.{most_marks};
 ghost use Rattle.desk_parts.specs.Rows.{Para};
 ghost use Rattle.desk_parts.specs.declared.file_table.FileTable.{FileTable};
 ghost use Rattle.std.specs.List.{All};
 ghost use Rattle.std.specs.List.Sorted.{IsPermutation};
-ghost use Rattle.std.specs.Prelude.{◌≡◌, ◌↔◌, ◌≤◌, [], List, IfErr, IfOk, IsTrue, MatchOption, MatchResult, OnOk, length, map, pos};
+ghost use Rattle.std.specs.Prelude.{◌≡◌, ◌↔◌, ◌≤◌, [], List, IfErr, IfOk, IsTrue};
+ghost use Rattle.std.specs.Prelude.{MatchOption, MatchResult, OnOk, length, map, pos};
 ghost use Rattle.std.specs.Str.{chars};
 
 use super::damage::{RowsFault, Unsound, flag_of, of_table};
@@ -134,8 +136,8 @@ fn sort(rows: &mut Vec<MarkRow>)
     rows.sort_unstable_by_key(|row| row.id);
 }
 
-/// Reads the marks of rows in the order of their ids, and gives the paragraphs, which are in the order of theirs, the
-/// indexes of their marks.
+/// Reads the marks of rows in the order of their ids, and gives the paragraphs, which are in the
+/// order of theirs, the indexes of their marks.
 pub(crate) fn read_marks(
     alloc: Global,
     items: &mut Vec<Paragraph>,

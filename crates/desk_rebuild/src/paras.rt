@@ -10,7 +10,8 @@ ghost use Rattle.desk_parts.specs.declared.file_table.FileTable.{FileTable};
 ghost use Rattle.desk_model.specs.Shows.{style_number};
 ghost use Rattle.std.specs.List.{All};
 ghost use Rattle.std.specs.List.Sorted.{IsPermutation};
-ghost use Rattle.std.specs.Prelude.{◌≡◌, ◌↔◌, ℕ, [], List, IfErr, IfNone, IfOk, IfSome, IsTrue, MatchOption, length, replicate};
+ghost use Rattle.std.specs.Prelude.{◌≡◌, ◌↔◌, ℕ, [], List, IfErr, IfNone, IfOk, IfSome};
+ghost use Rattle.std.specs.Prelude.{IsTrue, MatchOption, length, replicate};
 ghost use Rattle.std.specs.Str.{chars};
 
 use super::damage::{RowsFault, flag_of, of_table};
@@ -23,8 +24,8 @@ use louis_table::Characters;
 use louis_translate::{RuleBook, undefined_place};
 use std::alloc::{AllocError, Global};
 
-/// The paragraphs of rows in the order of their ids, without histories, braille and marks, and these ids as the paragraphs
-/// stand in the book.
+/// The paragraphs of rows in the order of their ids, without histories, braille and marks, and
+/// these ids as the paragraphs stand in the book.
 #[derive(Drop)]
 pub(crate) struct OrderedParas {
     pub(crate) items: Vec<Paragraph>,

@@ -2,7 +2,8 @@
 ghost use Rattle.desk_model.specs.Damage.{IsDamagedTab};
 ghost use Rattle.desk_rebuild.specs.Faults.{TellsDamageOf};
 ghost use Rattle.desk_rebuild.specs.Rows.{AreTables, IsWhole};
-ghost use Rattle.desk_rebuild.specs.Tabs.{AreRead, MayCome, TellsFirstUnsound, TellsNoMeaning, TellsUnsoundTab, rows_of, tab_order};
+ghost use Rattle.desk_rebuild.specs.Tabs.{AreRead, MayCome, TellsFirstUnsound, TellsNoMeaning};
+ghost use Rattle.desk_rebuild.specs.Tabs.{TellsUnsoundTab, rows_of, tab_order};
 ghost use Rattle.desk_model.specs.Limits.{most_tables};
 ghost use Rattle.desk_parts.specs.Rows.{Tab};
 ghost use Rattle.desk_parts.specs.declared.file_table.FileTable.{FileTable};

@@ -10,7 +10,10 @@ use Rattle.sqlite_schema.specs.declared.schema.Table.{Table}
 use Rattle.desk_parts.specs.declared.file_table.FileTable.{FileTable}
 use Rattle.desk_parts.specs.declared.file_table.FileTable.TheVariants as tables
 use Rattle.sql_tables.specs.Tables.{needed, plain_table}
-use Rattle.desk_rows.specs.declared.texts.TheConstants.{CREATE_BOOK, CREATE_TAB, CREATE_PARA, CREATE_MARK, CREATE_CACHE, CREATE_NAMED_CORR, READ_BOOKS, READ_TABS, READ_PARAS, READ_CORRS, READ_MARKS, READ_CACHES, READ_NAMED_CORRS, PUT_BOOK, PUT_TAB, PUT_PARA, PUT_MARK, PUT_CACHE, PUT_NAMED_CORR}
+use Rattle.desk_rows.specs.declared.texts.TheConstants.{CREATE_BOOK, CREATE_TAB, CREATE_PARA, CREATE_MARK, CREATE_CACHE}
+use Rattle.desk_rows.specs.declared.texts.TheConstants.{CREATE_NAMED_CORR, READ_BOOKS, READ_TABS, READ_PARAS}
+use Rattle.desk_rows.specs.declared.texts.TheConstants.{READ_CORRS, READ_MARKS, READ_CACHES, READ_NAMED_CORRS, PUT_BOOK}
+use Rattle.desk_rows.specs.declared.texts.TheConstants.{PUT_TAB, PUT_PARA, PUT_MARK, PUT_CACHE, PUT_NAMED_CORR}
 
 -- A table as it is declared, and the texts of its statements.
 pub record Description : Type 0 where
@@ -33,8 +36,9 @@ pub record Description : Type 0 where
   pub read : List ℕ
   pub put : List ℕ
 
--- A table without its name and its texts, whose key is its first column and the rowid, and whose rows are changed. A row as its tree
--- keeps it has nothing at the key's place among the columns, which stand after the rowid.
+-- A table without its name and its texts, whose key is its first column and the rowid, and whose
+-- rows are changed. A row as its tree keeps it has nothing at the key's place among the columns,
+-- which stand after the rowid.
 abbrev pub by_number : List Column → (places : List ℕ) → Description
 by_number columns places = record {
   name = [];
@@ -53,7 +57,8 @@ by_number columns places = record {
   put = [];
 }
 
--- One whose rowid is hidden, with the columns at these places as its key, and with its row after the rowid.
+-- One whose rowid is hidden, with the columns at these places as its key, and with its row after
+-- the rowid.
 abbrev pub by_columns : List Column → (key places : List ℕ) → Description
 by_columns columns key places = record {
   name = [];
@@ -72,15 +77,18 @@ by_columns columns key places = record {
   put = [];
 }
 
--- One of entries of histories, with these columns besides their own. Entries are only added, in the order of their two keys.
+-- One of entries of histories, with these columns besides their own. Entries are only added, in the
+-- order of their two keys.
 abbrev pub by_entry : List Column → (places : List ℕ) → Description
 by_entry columns places =
     record (by_columns
     (needed (codes "para") Integer ∷ needed (codes "seq") Integer ∷ needed (codes "kind") Integer
-    ∷ needed (codes "start") Integer ∷ needed (codes "len") Integer ∷ needed (codes "body") Text ∷ columns) (1 ∷ 2 ∷ []) places)
+    ∷ needed (codes "start") Integer ∷ needed (codes "len") Integer ∷ needed (codes "body") Text ∷ columns)
+    (1 ∷ 2 ∷ []) places)
     { is_changed = false; sorted = 0 ∷ 1 ∷ [] }
 
--- The tables of a book's file in either format: `corr` only in the first, where nothing writes it, and `corr2` only in the second.
+-- The tables of a book's file in either format: `corr` only in the first, where nothing writes it,
+-- and `corr2` only in the second.
 abbrev pub description_of : FileTable → Description
 description_of tables.Book =
     record (by_number (needed (codes "id") Integer ∷ needed (codes "format") Integer

@@ -1,5 +1,5 @@
--- Why a change in one transaction fails, in the database's words. Between two statements the connection keeps its limit on steps and counts
--- its failures, and a crash leaves nothing new.
+-- Why a change in one transaction fails, in the database's words. Between two statements the
+-- connection keeps its limit on steps and counts its failures, and a crash leaves nothing new.
 use Rattle.std.specs.Prelude.{◌≡◌, ◌⊎◌, List, [], ◌∷◌, ◌++◌, map, Option, Some}
 use Rattle.std.specs.Iterator.{YieldsThen}
 use Rattle.sqlite_trees.specs.declared.store.Store.{Ghosts}
@@ -14,7 +14,8 @@ use Rattle.desk_parts.specs.declared.file_table.FileTable.TheVariants as tables
 use Rattle.desk_parts.specs.declared.put.Put.{Put}
 use Rattle.desk_parts.specs.Puts.{PutRow, put_of}
 
--- Of these tables those so far were made, and this is what the database answered to the statement that makes the next.
+-- Of these tables those so far were made, and this is what the database answered to the statement
+-- that makes the next.
 pub record StopsMaking {S : Type 0} (g : Ghosts S) (tables : List FileTable) (old : Held S) (new : State) (e : Error)
     : Type 0 where
   pub done : List FileTable
@@ -34,7 +35,8 @@ abbrev pub of_items : {S I : Type 0} → Ghosts S → (I → Option Put → I �
 of_items {S} {I} g gives it = record {
   stops = λ old new e. (lent : List Put) × (next : Put) × (rest : I) × YieldsThen gives it lent (Some next) rest
       × StopsAt g (map put_of lent) (put_of next) old new e;
-  puts = λ old new. OfItems gives it (λ xs. PutsAll xs (state g old) (state g new) × RunInTurn g (map statement xs) old new);
+  puts = λ old new. OfItems gives it
+      (λ xs. PutsAll xs (state g old) (state g new) × RunInTurn g (map statement xs) old new);
 }
 
 -- the row of a new book

@@ -1,5 +1,6 @@
 -- What making tables does to a file, and what making all of them does to one that has none.
-use Rattle.std.specs.Prelude.{◌≡◌, ℕ, Bool, pos, true, false, if◌then◌else◌, List, [], ◌∷◌, ◌++◌, map, bytes_eq, Result, IfErr, OnOk, ⊤}
+use Rattle.std.specs.Prelude.{◌≡◌, ℕ, Bool, pos, true, false, if◌then◌else◌, List, [], ◌∷◌}
+use Rattle.std.specs.Prelude.{◌++◌, map, bytes_eq, Result, IfErr, OnOk, ⊤}
 use Rattle.std.specs.List.{AllByRecursion, list_any}
 use Rattle.sqlite_trees.specs.declared.store.Store.{Ghosts}
 use Rattle.sqlite_trees.specs.Tree.{Trees}
@@ -26,12 +27,13 @@ use Rattle.desk_rows.specs.Turns.{FailsWith, Ran, RunInTurn, Statement}
 abbrev pub new_tables : List FileTable
 new_tables = tables.Book ∷ tables.Tab ∷ tables.Para ∷ tables.Mark ∷ tables.Cache ∷ tables.NamedCorr ∷ []
 
--- No table, index or view has the name of one of these in either case of its letters, nor has what the database keeps as it is.
+-- No table, index or view has the name of one of these in either case of its letters, nor has what
+-- the database keeps as it is.
 abbrev pub AreFreeIn : Schema → List FileTable → Type 0
 AreFreeIn s = AllByRecursion (λ t. is_used s (description_of t).name ≡ false)
 
--- The schema after these are made in turn, and with the first the database's counter of rowids, if a table counts its rowids and the
--- counter isn't there.
+-- The schema after these are made in turn, and with the first the database's counter of rowids, if
+-- a table counts its rowids and the counter isn't there.
 abbrev pub after : List FileTable → Schema → Schema
 after [] s = s
 after (t ∷ tables) s = after tables (first_created s (table_of t 0))
@@ -56,18 +58,20 @@ new_layout s = record { schema = after new_tables s; has = is_among new_tables; 
 abbrev pub first_row : BookRow
 first_row = record { id = pos 1; format = pos 2; version = pos 0 }
 
--- The contents of a new file: the row of a new book alone, beside the tables that were there with the rows that they had, an empty counter
--- if it was missing, and what the database keeps aside.
+-- The contents of a new file: the row of a new book alone, beside the tables that were there with
+-- the rows that they had, an empty counter if it was missing, and what the database keeps aside.
 abbrev pub IsNew : Schema → Trees → (Contents → Type 0) → Type 0
 IsNew s rows P =
     (others : Trees) × KeepsRows s.tables rows others
     × (lacks_sequence s ≡ true → others (next_tree (created s (table_of tables.Book 0))) ≡ [])
-    × KeepsAside s rows others × P (put_into (record { rows = λ t. []; others = others }) (PutRow tables.Book first_row))
+    × KeepsAside s rows others
+    × P (put_into (record { rows = λ t. []; others = others }) (PutRow tables.Book first_row))
 
 -- each differs from those after it
 abbrev pub Differ : List FileTable → Type 0
 Differ [] = ⊤
-Differ (t ∷ tables) = AllByRecursion (λ v. bytes_eq (description_of t).name (description_of v).name ≡ false) tables × Differ tables
+Differ (t ∷ tables) =
+    AllByRecursion (λ v. bytes_eq (description_of t).name (description_of v).name ≡ false) tables × Differ tables
 
 -- Statements within a transaction made these tables, whose names were free.
 pub record MakesTables (tables : List FileTable) (old new : State) : Type 0 where
@@ -80,8 +84,8 @@ pub record MakesTables (tables : List FileTable) (old new : State) : Type 0 wher
 abbrev pub creation : FileTable → Statement
 creation t = record { text = (description_of t).create; params = [] }
 
--- A table is made by its statement, and the transaction goes on; or, if a transaction was open, the database answered an error to
--- the statement. Nothing is committed.
+-- A table is made by its statement, and the transaction goes on; or, if a transaction was open, the
+-- database answered an error to the statement. Nothing is committed.
 pub record IsCreated {V : Type 0} (result : Result V Error) (t : FileTable) (old new : State) : Type 0 where
   pub made : OnOk result (MakesTables (t ∷ []) old new)
   pub ran : OnOk result (Ran (creation t) old new)
@@ -97,9 +101,11 @@ AreMade g tables old new = MakesTables tables (state g old) (state g new) × Run
 abbrev pub making : List Statement
 making = map creation new_tables ++ statement (PutRow tables.Book first_row) ∷ []
 
--- What making adds to what a crash may leave: only if the names were free, and then the file with the tables.
+-- What making adds to what a crash may leave: only if the names were free, and then the file with
+-- the tables.
 abbrev pub IsMade : State → Trees → Type 0
-IsMade s db = AreFreeIn s.now.schema new_tables × IsNew s.now.schema s.now.trees (λ c. IsFile (new_layout s.now.schema) c db)
+IsMade s db =
+    AreFreeIn s.now.schema new_tables × IsNew s.now.schema s.now.trees (λ c. IsFile (new_layout s.now.schema) c db)
 
 -- ---- tables that are made in a file
 
@@ -117,15 +123,16 @@ with_none tables others c = record { rows = λ v. if is_among tables v then [] e
 
 -- ---- tables that are made, and rows that are put then
 
--- What a file is once these tables are made in it and these rows are put: the rows of all other tables that were there, and what the
--- database keeps aside, are as they were.
+-- What a file is once these tables are made in it and these rows are put: the rows of all other
+-- tables that were there, and what the database keeps aside, are as they were.
 abbrev pub IsGrown : List FileTable → List RowPut → Layout → Contents → Trees → (Layout → Contents → Type 0)
     → Type 0
 IsGrown tables puts l c rows P =
     (others : Trees) × KeepsRows l.schema.tables rows others × KeepsAside l.schema rows others
     × P (with_tables tables l) (puts_into puts (with_none tables others c))
 
--- The tables were made in whatever file the connection showed, and the rows put, which have their tables then.
+-- The tables were made in whatever file the connection showed, and the rows put, which have their
+-- tables then.
 abbrev pub WritesWithTables : List FileTable → List RowPut → State → State → Type 0
 WritesWithTables tables puts old new =
     (l : Layout) (c : Contents) → Differ tables → HasThem (with_tables tables l) puts → ShowsContents l c old

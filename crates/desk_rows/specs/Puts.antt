@@ -1,5 +1,6 @@
 -- The contents once rows are put in turn.
-use Rattle.std.specs.Prelude.{◌≡◌, ◌⊎◌, ℕ, true, List, [], ◌∷◌, map, fold, Option, Result, Ok, Err, IfErr, IsTrue, OnOk, ⊤}
+use Rattle.std.specs.Prelude.{◌≡◌, ◌⊎◌, ℕ, true, List, [], ◌∷◌, map, fold, Option}
+use Rattle.std.specs.Prelude.{Result, Ok, Err, IfErr, IsTrue, OnOk, ⊤}
 use Rattle.std.specs.Iterator.{Drains}
 use Rattle.std.specs.List.{AllByRecursion}
 use Rattle.sqlite_value.specs.declared.value.Value.TheVariants.{Int, Text}
@@ -13,14 +14,16 @@ use Rattle.sqlite.specs.Held.{Held, state}
 use Rattle.sqlite.specs.State.{State, KeepsCommit, ExecutesInside, store_error}
 use Rattle.desk_parts.specs.declared.file_table.FileTable.TheVariants as tables
 use Rattle.desk_parts.specs.declared.put.Put.{Put}
-use Rattle.desk_parts.specs.Puts.{RowPut, PutRow, SetColumns, Flags, Place, Print, Resolved, Span, Table, Version, change_of, put_of, table_put}
+use Rattle.desk_parts.specs.Puts.{RowPut, PutRow, SetColumns, Flags, Place, Print, Resolved}
+use Rattle.desk_parts.specs.Puts.{Span, Table, Version, change_of, put_of, table_put}
 use Rattle.desk_rows.specs.Contents.{Contents}
 use Rattle.desk_rows.specs.Descriptions.{description_of}
 use Rattle.desk_rows.specs.Layout.{Layout}
 use Rattle.desk_rows.specs.Rows.{columns_of, set_at}
 use Rattle.desk_rows.specs.States.{IsFile, IsUnder, ShowsContents}
 use Rattle.desk_rows.specs.Turns.{FailsWith, Ran, Statement, Stops}
-use Rattle.desk_rows.specs.declared.texts.TheConstants.{SET_FLAGS, SET_PLACE, SET_PRINT, SET_RESOLVED, SET_SPAN, SET_TABLE, SET_VERSION}
+use Rattle.desk_rows.specs.declared.texts.TheConstants.{SET_FLAGS, SET_PLACE, SET_PRINT, SET_RESOLVED}
+use Rattle.desk_rows.specs.declared.texts.TheConstants.{SET_SPAN, SET_TABLE, SET_VERSION}
 
 -- the contents with this put: the row with its key is replaced, or the row added, or columns are
 -- set in the row with the key
@@ -35,7 +38,8 @@ puts_into puts c = fold put_into c puts
 abbrev pub HasThem : Layout → List RowPut → Type 0
 HasThem l = AllByRecursion (λ it. l.has (table_put it) ≡ true)
 
--- The trees are a file with these put, of whatever file the connection showed that has their tables.
+-- The trees are a file with these put, of whatever file the connection showed that has their
+-- tables.
 abbrev pub IsFileWith : List RowPut → State → Trees → Type 0
 IsFileWith puts s db =
     (l : Layout) (c : Contents) → HasThem l puts → ShowsContents l c s → IsFile l (puts_into puts c) db
@@ -47,8 +51,8 @@ Writes puts old new =
 
 -- ---- the statement of a put
 
--- The statement that puts a row of a table, or sets columns. Nothing is put into `corr`: there the text is empty and takes no
--- parameters, so that it never runs with the six columns of a row.
+-- The statement that puts a row of a table, or sets columns. Nothing is put into `corr`: there the
+-- text is empty and takes no parameters, so that it never runs with the six columns of a row.
 abbrev pub statement : RowPut → Statement
 statement (PutRow t x) = record { text = (description_of t).put; params = columns_of t x }
 statement (SetColumns tables.Book id (Version version)) =
@@ -69,13 +73,15 @@ statement (SetColumns t key none) = absurd none
 
 -- ---- what a statement within a transaction does
 
--- A statement ran inside a transaction with these parameters, or failed, as the database answers, and committed nothing.
+-- A statement ran inside a transaction with these parameters, or failed, as the database answers,
+-- and committed nothing.
 abbrev pub RunsTo : {V : Type 0} → Result V Error → List ℕ → Row → State → State → Type 0
 RunsTo (Ok v) text params old new = (count : ℕ) × ExecutesInside 0 text params old new (Ok count)
 RunsTo (Err e) text params old new =
     KeepsCommit old new × (old.in_transaction ≡ true → ExecutesInside 0 text params old new (Err e))
 
--- A put that allocates before its statement runs: a print is encoded, and cells are written as bytes.
+-- A put that allocates before its statement runs: a print is encoded, and cells are written as
+-- bytes.
 abbrev pub TakesMemory : RowPut → Type 0
 TakesMemory (PutRow tables.Book row) = ⊥
 TakesMemory (PutRow tables.Tab row) = ⊥
@@ -101,13 +107,14 @@ pub record Rests (old new : State) : Type 0 where
   pub inside : new.in_transaction ≡ old.in_transaction
   pub faults : new.faults ≡ old.faults
 
--- Why something isn't put: the database answered the error to its statement, or an allocation for it failed, and nothing was done.
+-- Why something isn't put: the database answered the error to its statement, or an allocation for
+-- it failed, and nothing was done.
 abbrev pub NotPut : RowPut → State → State → Error → Type 0
 NotPut it old new e =
     FailsWith (statement it) old new e ⊎ (TakesMemory it × (e ≡ store_error OutOfMemory) × Rests old new)
 
--- Something is put into the contents, over the same commit, if its table is there, and the transaction goes on; or, if a
--- transaction was open, it is said why it isn't put.
+-- Something is put into the contents, over the same commit, if its table is there, and the
+-- transaction goes on; or, if a transaction was open, it is said why it isn't put.
 pub record IsPut {V : Type 0} (result : Result V Error) (it : RowPut) (old new : State) : Type 0 where
   pub put : (committed : Database) (l : Layout) (c : Contents) → l.has (table_put it) ≡ true
       → IsUnder committed l c old → OnOk result (IsUnder committed l (put_into c it) new)

@@ -55,7 +55,8 @@ own tables.Mark x = x
 own tables.Cache x = x
 own tables.NamedCorr x = x
 
--- The order in which they are read. Texts are in UTF-8, so what is in order of its bytes is in order of its code points.
+-- The order in which they are read. Texts are in UTF-8, so what is in order of its bytes is in
+-- order of its code points.
 abbrev pub order : (t : FileTable) → ShownOf t → ShownOf t → Ordering
 order tables.Book a b = int_cmp a.id b.id
 order tables.Tab a b = slice_cmp nat_cmp a.row.name b.row.name

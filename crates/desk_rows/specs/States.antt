@@ -26,8 +26,8 @@ pub record IsFile (l : Layout) (c : Contents) (db : Trees) : Type 0 where
   pub ids : (t : FileTable) → l.has t ≡ true → (description_of t).is_changed ≡ true → HaveRowids (db (l.tree t))
   -- the other tables hold just what the contents say
   pub others : AllByRecursion (λ t. IsOther l t.tree → db t.tree ≡ c.others t.tree) l.schema.tables
-  -- and so does each tree that is no index, among them those that the database keeps as they are, the list of its schema and its user
-  -- version
+  -- and so does each tree that is no index, among them those that the database keeps as they are,
+  -- the list of its schema and its user version
   pub aside : (tree : ℕ) → IsOther l tree → IsNoIndex l.schema tree → db tree ≡ c.others tree
 
 -- the connection shows such a database

@@ -1,5 +1,6 @@
 -- The statements that read the tables whole, and what they answer in any file.
-use Rattle.std.specs.Prelude.{◌≡◌, ◌≢◌, ℕ, suc, true, None, List, [], ◌∷◌, map, Result, IfOk, IfErr, OnOk, IsPermutation, ⊤}
+use Rattle.std.specs.Prelude.{◌≡◌, ◌≢◌, ℕ, suc, true, None, List, [], ◌∷◌, map}
+use Rattle.std.specs.Prelude.{Result, IfOk, IfErr, OnOk, IsPermutation, ⊤}
 use Rattle.std.specs.List.{AllByRecursion}
 use Rattle.std.specs.List.Sorted.{IsSortedBy}
 use Rattle.std.specs.Ordering.{is_lt}
@@ -22,7 +23,8 @@ use Rattle.desk_rows.specs.States.{ShowsContents}
 use Rattle.desk_rows.specs.declared.fault.DatabaseFault.{DatabaseFault}
 use Rattle.desk_rows.specs.declared.fault.DatabaseFault.TheVariants.{NoMemory, Refused}
 
--- A statement, the columns that are read of a row that it shows, and the kinds that these must have.
+-- A statement, the columns that are read of a row that it shows, and the kinds that these must
+-- have.
 pub record TableQuery : Type 0 where
   pub text : List ℕ
   pub columns : Row → Row
@@ -50,7 +52,8 @@ abbrev pub AreOfKinds : ℕ → List Kind → Row → Type 0
 AreOfKinds at [] row = ⊤
 AreOfKinds at (kind ∷ kinds) row = IsOfKind kind (column row at) × AreOfKinds (suc at) kinds row
 
--- From this place on the values are of these kinds as far as the first text or bytes, the first thing that is allocated.
+-- From this place on the values are of these kinds as far as the first text or bytes, the first
+-- thing that is allocated.
 abbrev pub Begins : ℕ → List Kind → Row → Type 0
 Begins at [] row = ⊤
 Begins at (Integer ∷ kinds) row = IsOfKind Integer (column row at) × Begins (suc at) kinds row
@@ -59,8 +62,9 @@ Begins at (Text ∷ kinds) row = IsOfKind Text (column row at)
 Begins at (Blob ∷ kinds) row = IsOfKind Blob (column row at)
 Begins at (Any ∷ kinds) row = Begins (suc at) kinds row
 
--- Why nothing is read: the statement failed, or not all rows that it showed have the kinds, or they aren't apart as they have to be, or an
--- allocation for them failed, the first of which is for the first row, once what stands before its first text or bytes is of its kinds.
+-- Why nothing is read: the statement failed, or not all rows that it showed have the kinds, or they
+-- aren't apart as they have to be, or an allocation for them failed, the first of which is for the
+-- first row, once what stands before its first text or bytes is of its kinds.
 pub data FailsAs {X : Type 0} (query : TableQuery) (written : X → Row) (Apart : List X → Type 0)
     (before after : State) (fault : DatabaseFault) : Type 0 where
   failed : (e : Error) → FailsToQuery query.text [] before after e → IsToldAs e fault
@@ -74,12 +78,14 @@ pub data FailsAs {X : Type 0} (query : TableQuery) (written : X → Row) (Apart 
       → Begins 0 query.kinds row → fault ≡ NoMemory
       → FailsAs query written Apart before after fault
 
--- There is a row, and the first of them begins with values of these kinds. Only a private function needs this.
+-- There is a row, and the first of them begins with values of these kinds. Only a private function
+-- needs this.
 abbrev pub BeginWith : List Kind → List Row → Type 0
 BeginWith kinds [] = ⊥
 BeginWith kinds (row ∷ rows) = Begins 0 kinds row
 
--- The rows of a tree can be read: their rowids are integers where these are shown, and the texts are UTF-8 where there are any.
+-- The rows of a tree can be read: their rowids are integers where these are shown, and the texts
+-- are UTF-8 where there are any.
 pub record AreReadable (t : FileTable) (rows : List Row) : Type 0 where
   pub ids : shows_rowid t ≡ true → HaveIntegerRowids rows
   pub texts : has_texts t ≡ true → HaveUtf8Texts rows
@@ -88,7 +94,8 @@ pub record AreReadable (t : FileTable) (rows : List Row) : Type 0 where
 abbrev pub AnyRows : {X : Type 0} → List X → Type 0
 AnyRows xs = ⊤
 
--- A read of a whole table answers so, in rows that are viewed as those of the table and have to be apart so.
+-- A read of a whole table answers so, in rows that are viewed as those of the table and have to be
+-- apart so.
 pub record AnswersRows {V X : Type 0} (result : Result V DatabaseFault) (items : V → List X) (t : FileTable)
     (view : X → ShownOf t) (Apart : List X → Type 0) (old new : State) : Type 0 where
   -- what the statement shows in any file
@@ -107,10 +114,12 @@ pub record AnswersRows {V X : Type 0} (result : Result V DatabaseFault) (items :
   -- where its rows can be read and are apart, and the steps have no limit, it isn't refused
   pub cause : (tree : ℕ) → HasTable (table_of t tree) old → old.step_limit ≡ None
       → AreReadable t (old.now.trees tree)
-      → ((xs : List X) → Lists (λ x. shown_columns t (view x)) (columns_at (description_of t).shown) xs (old.now.trees tree)
+      → ((xs : List X)
+      → Lists (λ x. shown_columns t (view x)) (columns_at (description_of t).shown) xs (old.now.trees tree)
       → Apart xs)
       → IfErr result (λ fault. fault ≢ Refused)
-  -- in any file, where the statement has an answer whose values can be read and are apart, and the steps have no limit, it isn't refused
+  -- in any file, where the statement has an answer whose values can be read and are apart, and the
+  -- steps have no limit, it isn't refused
   pub answered : HasAnswer (query_of t).text old → old.step_limit ≡ None
       → ((rows : List Row) → Shown (query_of t).text [] old new rows
       → AllByRecursion (HasKinds (query_of t).kinds) rows)

@@ -7,8 +7,8 @@ use Rattle.sqlite_schema.specs.declared.schema.View.{View as Stored}
 use Rattle.desk_parts.specs.declared.file_table.FileTable.{FileTable}
 use Rattle.desk_rows.specs.Descriptions.{description_of}
 
--- A view, or a table that the database keeps without understanding it. An index and a trigger name another object as their table, and a
--- trigger or an index that the database can't read binds it.
+-- A view, or a table that the database keeps without understanding it. An index and a trigger name
+-- another object as their table, and a trigger or an index that the database can't read binds it.
 abbrev pub is_table_or_view : Stored → Bool
 is_table_or_view v = unwrap_or (option_map (λ owner. not v.binds && same_name owner v.name) v.foreign) true
 

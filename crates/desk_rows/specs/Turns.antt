@@ -38,9 +38,11 @@ pub record Stops {S : Type 0} (g : Ghosts S) (done : List Statement) (Fails : St
 abbrev pub with_transaction : {S : Type 0} → Held S → Held S
 with_transaction old = record old { in_transaction = true }
 
--- These ran in turn in a transaction of their own, and this is what a connection shows by them, or what a crash leaves.
+-- These ran in turn in a transaction of their own, and this is what a connection shows by them, or
+-- what a crash leaves.
 abbrev pub AreRun : {S : Type 0} → Ghosts S → List Statement → Held S → State → Type 0
-AreRun {S} g its old new = (last : Held S) × RunInTurn g its (with_transaction old) last × (new.now ≡ (state g last).now)
+AreRun {S} g its old new =
+    (last : Held S) × RunInTurn g its (with_transaction old) last × (new.now ≡ (state g last).now)
 
 -- They ran so, and these are trees that a crash leaves.
 abbrev pub IsLeftBy : {S : Type 0} → Ghosts S → List Statement → Held S → Trees → Type 0

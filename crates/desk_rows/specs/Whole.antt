@@ -27,7 +27,8 @@ Rows = (t : FileTable) → List (ShownOf t)
 -- these are the rows of the tables, in any order
 abbrev pub AreRows : Layout → Rows → Trees → Type 0
 AreRows l rows db =
-    (t : FileTable) → l.has t ≡ true → Lists (shown_columns t) (columns_at (description_of t).shown) (rows t) (db (l.tree t))
+    (t : FileTable) → l.has t ≡ true
+    → Lists (shown_columns t) (columns_at (description_of t).shown) (rows t) (db (l.tree t))
 
 -- no two have the same number
 abbrev pub DifferBy : {X : Type 0} → (X → ℤ) → List X → Type 0

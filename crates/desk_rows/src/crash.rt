@@ -22,7 +22,8 @@ use sqlite_trees::error::StoreError;
 use sqlite_trees::store::Reopen;
 use std::alloc::Global;
 
-/// Has the store crash under a connection, and opens what is left. The store comes back with an error, never that this is no database.
+/// Has the store crash under a connection, and opens what is left. The store comes back with an
+/// error, never that this is no database.
 pub fn reopen<S: Alter + Reopen + Drop>(
     alloc: Global,
     conn: Connection<S>,
@@ -57,9 +58,9 @@ pub fn reopen<S: Alter + Reopen + Drop>(
     }
 }
 
-/// Puts in turn what an iterator lends, has the store crash whatever the answer, and opens what is left: it shows the rows from before, or
-/// those with all of these, which at `Ok` are there. The store comes back with an error of the opening. The caller's condition: the iterator
-/// ends.
+/// Puts in turn what an iterator lends, has the store crash whatever the answer, and opens what is
+/// left: it shows the rows from before, or those with all of these, which at `Ok` are there. The
+/// store comes back with an error of the opening. The caller's condition: the iterator ends.
 pub fn reopen_after_write<'a, S: Alter + Reopen + Drop, I: Iterator<Item = Put<'a>> + Drop>(
     alloc: Global,
     mut conn: Connection<S>,

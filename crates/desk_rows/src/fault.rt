@@ -15,8 +15,8 @@ pub enum DatabaseFault {
     /// The store failed: reading or writing, damage of the pages, size, or a closed database.
     #[error("the store failed")]
     Lost,
-    /// The statement or a value was refused for another cause: a missing table or column, a limit on steps, or a value of
-    /// another kind; or what was opened isn't a database.
+    /// The statement or a value was refused for another cause: a missing table or column, a limit
+    /// on steps, or a value of another kind; or what was opened isn't a database.
     #[error("the statement, a value or the file was refused")]
     Refused,
 }

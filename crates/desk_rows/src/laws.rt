@@ -15,7 +15,8 @@ ghost use Rattle.desk_rows.specs.States.{IsFile, IsUnder, ShowsContents};
 ghost use Rattle.desk_rows.specs.Rows.{shown_columns};
 ghost use Rattle.sql_tables.specs.Rows.{Lists, columns_at};
 ghost use Rattle.sql_tables.specs.Tables.{IsDeclared};
-ghost use Rattle.desk_rows.specs.Whole.{AreApart, AreRows, AreUtf8, DifferBy, HaveSameRows, IsUtf8Put, Rows, contents_of};
+ghost use Rattle.desk_rows.specs.Whole.{AreApart, AreRows, AreUtf8, DifferBy};
+ghost use Rattle.desk_rows.specs.Whole.{HaveSameRows, IsUtf8Put, Rows, contents_of};
 ghost use Rattle.sqlite.specs.Effect.{Database};
 ghost use Rattle.sqlite.specs.Held.{state};
 ghost use Rattle.sqlite.specs.State.{Opens};
@@ -46,8 +47,9 @@ pub fn one_file<S: Alter>(conn: &Connection<S>)
     let _ = conn.schema();
 }
 
-/// A connection that opened at what a crash may leave of another one shows just that, so it has whatever property each outcome of the crash
-/// had, and it shows what these trees are, whatever stores they are over.
+/// A connection that opened at what a crash may leave of another one shows just that, so it has
+/// whatever property each outcome of the crash had, and it shows what these trees are, whatever
+/// stores they are over.
 pub fn found_again<S: Alter, T: Alter>(last: &Connection<S>, next: &Connection<T>)
     ensures left { (state S.Store last.now).may_leave (state T.Store next.now).committed.trees
         → Opens (state T.Store next.now)
@@ -71,8 +73,8 @@ pub fn read_whole()
         → IsSound l.schema db → AreRows l rows db → AreApart rows → IsFile l (contents_of rows db) db }
 {}
 
-/// The rows of a file can be read: the rowids that are read are integers, and the texts are UTF-8 if those of the file are; the rowids of
-/// the braille tables differ.
+/// The rows of a file can be read: the rowids that are read are integers, and the texts are UTF-8
+/// if those of the file are; the rowids of the braille tables differ.
 pub fn texts_as_written()
     ensures readable { (l : Layout) (c : Contents) (db : Trees) → IsFile l c db → AreUtf8 c
         → (t : FileTable) → l.has t ≡ true → AreReadable t (db (l.tree t)) }
@@ -91,8 +93,9 @@ pub fn made_keeps()
         → KeepsAside s rows db }
 {}
 
-/// A connection in a transaction that shows a file, and that made tables there which the file lacks, shows the file with these, which have
-/// no rows; all other tables keep theirs, and so does what the database keeps aside.
+/// A connection in a transaction that shows a file, and that made tables there which the file
+/// lacks, shows the file with these, which have no rows; all other tables keep theirs, and so does
+/// what the database keeps aside.
 pub fn more_tables<S: Alter>(old: &Connection<S>, new: &Connection<S>)
     ensures { (l : Layout) (c : Contents) (tables : List FileTable) (committed : Database) → Differ tables
         → IsUnder committed l c (state S.Store old.now)

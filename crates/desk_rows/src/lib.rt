@@ -1,8 +1,10 @@
-//! The rows of a book's file, an SQLite database: its tables made, rows put and read, and what a crash leaves of them.
+//! The rows of a book's file, an SQLite database: its tables made, rows put and read, and what a
+//! crash leaves of them.
 //!
-//! Each table is described once (`specs/Descriptions.antt`), and so is the layout of a file that has these tables beside others. Each
-//! statement is proved over any such file, whatever else stands in it. `desk_model` says which rows show a book, and `desk_store` opens
-//! a book's file and keeps changes in it.
+//! Each table is described once (`specs/Descriptions.antt`), and so is the layout of a file that
+//! has these tables beside others. Each statement is proved over any such file, whatever else
+//! stands in it. `desk_model` says which rows show a book, and `desk_store` opens a book's file and
+//! keeps changes in it.
 #![tactic(auto)]
 
 mod crash;

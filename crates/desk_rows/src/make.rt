@@ -26,7 +26,8 @@ const NEW_TABLES: [FileTable; 6] = [
     FileTable::NamedCorr,
 ];
 
-/// Makes a table, and with it the counter of rowids if a table counts them and it is missing. The error is the database's.
+/// Makes a table, and with it the counter of rowids if a table counts them and it is missing. The
+/// error is the database's.
 fn create<S: Alter>(tx: &mut Transaction<'_, S>, table: FileTable) -> Result<(), Error>
     requires { (description_of table).is_written ≡ true }
     ensures same_reference { tx.new.conn.ghost_name ≡ tx.old.conn.ghost_name }
@@ -103,16 +104,17 @@ fn make_all<S: Alter>(tx: &mut Transaction<'_, S>) -> Result<(), Error>
     put_first_row(tx)
 }
 
-/// Makes the six tables with the row of a new book, in format 2 and at version 0, as one. If a table counts its rowids and the database's
-/// counter is missing, the counter is made too, with no rows. The error is the database's, and a crash then leaves none of the tables or
-/// all of them.
+/// Makes the six tables with the row of a new book, in format 2 and at version 0, as one. If a
+/// table counts its rowids and the database's counter is missing, the counter is made too, with no
+/// rows. The error is the database's, and a crash then leaves none of the tables or all of them.
 pub fn make_tables<S: Alter>(conn: &mut Connection<S>) -> Result<(), Error>
     requires { conn.old.in_transaction ≡ false }
     ensures idle { conn.new.in_transaction ≡ false }
     // If a name is taken, the answer is an error.
     ensures commits { HasCleanDisk (state S.Store conn.new)
         → Commits S.Store (making_file S.Store) conn.old (state S.Store conn.new) result }
-    // Of a crash at any exit: nothing new is left but all of it, and that only if no name was taken.
+    // Of a crash at any exit: nothing new is left but all of it, and that only if no name was
+    // taken.
     ensures crash { Survives (state S.Store conn.old) (state S.Store conn.new)
         ((making_file S.Store).Left conn.old) }
 {

@@ -1,9 +1,10 @@
 //! The statements that put rows.
 //!
-//! Each runs within a transaction, deletes no row and commits nothing. At `Ok` the rows of its table are those before with the row in
-//! place of the one with its key, or with it more, or with the columns set of the row with that key, those of the other tables stay, and
-//! the transaction goes on. The error is the database's; if an allocation for a print or for cells fails, that is the error, and nothing
-//! was done.
+//! Each runs within a transaction, deletes no row and commits nothing. At `Ok` the rows of its
+//! table are those before with the row in place of the one with its key, or with it more, or with
+//! the columns set of the row with that key, those of the other tables stay, and the transaction
+//! goes on. The error is the database's; if an allocation for a print or for cells fails, that is
+//! the error, and nothing was done.
 
 ghost use Rattle.std.specs.Prelude.{◌≡◌, true, IfErr, IfOk, OnOk, encode_utf8_all, string_bytes};
 ghost use Rattle.std.specs.Iterator.{IsFinite};
@@ -119,8 +120,8 @@ fn put_para<S: Alter>(
     run_put(tx, &Put::Para(*row), &para_columns(row, print.as_str()))
 }
 
-/// Puts a row by its key, or sets columns of the row with a key, if it is there. If a history has an entry of that number, the database
-/// refuses it.
+/// Puts a row by its key, or sets columns of the row with a key, if it is there. If a history has
+/// an entry of that number, the database refuses it.
 fn put<S: Alter>(alloc: Global, tx: &mut Transaction<'_, S>, put: Put<'_>) -> Result<(), Error>
     ensures same_reference { tx.new.conn.ghost_name ≡ tx.old.conn.ghost_name }
     ensures put { HasCleanDisk (seen S.Store tx.new)

@@ -1,9 +1,10 @@
 //! The statements that read a table whole.
 //!
-//! Each answers what its statement shows in any file, and changes nothing; a value that isn't of the kind that a new file declares for
-//! its column is refused. Over a clean disk, if the table is declared as in a new file, the answer is its rows as they stand, in order.
-//! If these also have integer rowids (of `corr`, any) and texts in UTF-8, and the steps have no limit, only an allocation or the store
-//! makes it fail.
+//! Each answers what its statement shows in any file, and changes nothing; a value that isn't of
+//! the kind that a new file declares for its column is refused. Over a clean disk, if the table is
+//! declared as in a new file, the answer is its rows as they stand, in order. If these also have
+//! integer rowids (of `corr`, any) and texts in UTF-8, and the steps have no limit, only an
+//! allocation or the store makes it fail.
 //!
 //! A statement that is stopped by a limit on its steps is reported as refused.
 
@@ -69,8 +70,9 @@ fn all_of<T: TableRow>(alloc: Global, rows: &[Row]) -> Result<Vec<T>, DatabaseFa
     Ok(all)
 }
 
-/// The rows of one type, in the order of their keys: those of `book` and `mark` and the paragraphs by their ids, the cells by their
-/// paragraphs, the entries of histories by their paragraphs and numbers, and braille tables by the bytes of their names.
+/// The rows of one type, in the order of their keys: those of `book` and `mark` and the paragraphs
+/// by their ids, the cells by their paragraphs, the entries of histories by their paragraphs and
+/// numbers, and braille tables by the bytes of their names.
 pub fn read_rows<T: TableRow, S: Alter>(
     alloc: Global,
     conn: &mut Connection<S>,
@@ -117,8 +119,8 @@ fn told_apart(
     }
 }
 
-/// The braille tables, in order of the bytes of their names, which is that of the names' code points. If two have one rowid, as only a
-/// view shows them, they are refused.
+/// The braille tables, in order of the bytes of their names, which is that of the names' code
+/// points. If two have one rowid, as only a view shows them, they are refused.
 pub fn read_tabs<S: Alter>(
     alloc: Global,
     conn: &mut Connection<S>,

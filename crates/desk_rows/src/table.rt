@@ -62,8 +62,9 @@ fn has_named(views: &[View], name: &[u8]) -> bool
     views.iter().any(|v| same_name(v.name.as_slice(), name) && is_table_or_view(v))
 }
 
-/// Whether a table or a view has the name of this one, in whichever case of its letters, in the schema that was last read or made. A
-/// table that the database doesn't understand counts too; an index or a trigger doesn't. It allocates nothing and doesn't ask the store.
+/// Whether a table or a view has the name of this one, in whichever case of its letters, in the
+/// schema that was last read or made. A table that the database doesn't understand counts too; an
+/// index or a trigger doesn't. It allocates nothing and doesn't ask the store.
 pub fn has_table<S: Alter>(conn: &Connection<S>, table: FileTable) -> bool
     ensures { result ≡ is_there (state S.Store conn.now).now.schema table }
 {

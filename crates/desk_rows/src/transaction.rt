@@ -30,8 +30,8 @@ pub(crate) fn begin<S: Alter>(conn: &mut Connection<S>) -> Transaction<'_, S>
     conn.transaction()
 }
 
-/// Ends a transaction in which something ran with this answer: commits it, or undoes it if that failed. The error is that one, or the
-/// database's.
+/// Ends a transaction in which something ran with this answer: commits it, or undoes it if that
+/// failed. The error is that one, or the database's.
 pub(crate) fn end<S: Alter>(tx: Transaction<'_, S>, ran: Result<(), Error>) -> Result<(), Error>
     ensures ended { tx.exit.0.now.in_transaction ≡ false }
     ensures ends { HasCleanDisk (state S.Store tx.exit.0.now)
@@ -43,9 +43,10 @@ pub(crate) fn end<S: Alter>(tx: Transaction<'_, S>, ran: Result<(), Error>) -> R
     tx.commit()
 }
 
-/// Puts in turn what an iterator lends and commits it, as one. The caller's condition: the iterator ends. The error is the database's, or
-/// that an allocation for what is put failed. A connection that is open then shows the last commit, the one from before, and a crash
-/// leaves the rows from before or, if the store failed, all of these.
+/// Puts in turn what an iterator lends and commits it, as one. The caller's condition: the iterator
+/// ends. The error is the database's, or that an allocation for what is put failed. A connection
+/// that is open then shows the last commit, the one from before, and a crash leaves the rows from
+/// before or, if the store failed, all of these.
 pub fn write<'a, S: Alter, I: Iterator<Item = Put<'a>> + Drop>(
     alloc: Global,
     conn: &mut Connection<S>,
@@ -67,7 +68,8 @@ pub fn write<'a, S: Alter, I: Iterator<Item = Put<'a>> + Drop>(
     end(tx, ran)
 }
 
-/// Makes these tables and puts in turn what an iterator lends. The error is the database's, or that an allocation for what is put failed.
+/// Makes these tables and puts in turn what an iterator lends. The error is the database's, or that
+/// an allocation for what is put failed.
 fn make_and_put<'a, S: Alter, I: Iterator<Item = Put<'a>> + Drop>(
     alloc: Global,
     tx: &mut Transaction<'_, S>,
@@ -95,10 +97,11 @@ fn make_and_put<'a, S: Alter, I: Iterator<Item = Put<'a>> + Drop>(
     put_all(alloc, tx, puts)
 }
 
-/// Makes these tables, puts in turn what an iterator lends and commits all of it, as one: so a file gets the tables that it lacks together
-/// with their rows. The caller's conditions: `corr` isn't among the tables, and the iterator ends. The error is the database's, for
-/// instance if a name is taken. A connection that is open then shows the last commit, the one from before, and a crash leaves the file
-/// from before or, if the store failed, the one with all of this.
+/// Makes these tables, puts in turn what an iterator lends and commits all of it, as one: so a file
+/// gets the tables that it lacks together with their rows. The caller's conditions: `corr` isn't
+/// among the tables, and the iterator ends. The error is the database's, for instance if a name is
+/// taken. A connection that is open then shows the last commit, the one from before, and a crash
+/// leaves the file from before or, if the store failed, the one with all of this.
 pub fn write_with_tables<'a, S: Alter, I: Iterator<Item = Put<'a>> + Drop>(
     alloc: Global,
     conn: &mut Connection<S>,

@@ -1,5 +1,7 @@
--- How requests are read from an input, step by step. Only private functions and proofs need these words.
-use Rattle.std.specs.Prelude.{◌≡◌, ◌≢◌, ◌⊎◌, ℕ, ◌<◌, true, false, List, [], ◌++◌, Option, Some, None, Result, Ok, Err, Vec, MatchResult}
+-- How requests are read from an input, step by step. Only private functions and proofs need these
+-- words.
+use Rattle.std.specs.Prelude.{◌≡◌, ◌≢◌, ◌⊎◌, ℕ, ◌<◌, true, false, List, [], ◌++◌, Option}
+use Rattle.std.specs.Prelude.{Some, None, Result, Ok, Err, Vec, MatchResult}
 use Rattle.std.specs.declared.alloc.Global.{Global}
 use Rattle.std.specs.List.{AllByRecursion}
 use Rattle.louis_table.specs.Lines.{lines_of}
@@ -15,7 +17,8 @@ use Rattle.desk_session.specs.Requests.{IsFaultOf, IsNext}
 
 -- ---- a block
 
--- a text holds the bytes, or it doesn't since a line of them is too long or an allocation for them failed
+-- a text holds the bytes, or it doesn't since a line of them is too long or an allocation for them
+-- failed
 abbrev pub HoldsText : Result (Vec ℕ Global) Fault → List ℕ → Type 0
 HoldsText (Ok text) bytes = text.items ≡ bytes
 HoldsText (Err Syntax) bytes = ¬ AllByRecursion IsShort (lines_of bytes)
@@ -29,7 +32,8 @@ AreFed bytes = (bytes ≡ []) ⊎ EndsLine bytes
 abbrev pub AreLines : ℕ → List ℕ → Type 0
 AreLines count block = (feeds block ≡ count) × AreFed block
 
--- how a block ends: after so many lines, with fewer at the end of the input, or with fewer where a read failed
+-- how a block ends: after so many lines, with fewer at the end of the input, or with fewer where a
+-- read failed
 abbrev pub BlockEnds : Type 0 → Input → ℕ → List ℕ → Result (Result (Vec ℕ Global) Fault) Failure → Type 0
 BlockEnds CanFail new count block (Ok text) = HoldsText text block
     × (AreLines count block ⊎ ((feeds block < count) × (new.is_over ≡ true) × (new.waiting ≡ [])))
@@ -49,8 +53,8 @@ pub record ReadsBlock (CanFail : Type 0) (left_old left_new : Option (List ℕ))
 abbrev pub BeginsWithNone : List ℕ → Type 0
 BeginsWithNone bytes = (request later : List ℕ) → bytes ≡ request ++ later → ¬ IsWhole request
 
--- what the bytes are that were used: none at the end of the input, or the next request, which they are read as or not, for this
--- fault, or a beginning of it where a read failed
+-- what the bytes are that were used: none at the end of the input, or the next request, which they
+-- are read as or not, for this fault, or a beginning of it where a read failed
 abbrev pub Finds : Type 0 → Input → List ℕ → Result (Option (Result Request Fault)) Failure → Type 0
 Finds CanFail new bytes (Ok None) = (bytes ≡ []) × (new.is_over ≡ true) × (new.waiting ≡ [])
 Finds CanFail new bytes (Ok (Some found)) =

@@ -4,7 +4,8 @@ use Rattle.desk_session.specs.declared.fault.Fault.{Fault}
 use Rattle.desk_session.specs.declared.fault.Fault.TheVariants.{Syntax, NoMemory}
 use Rattle.desk_line.specs.Request.{AsksForMemory, IsLast, IsNoRequest, IsWhole}
 
--- These bytes are the next request, with those after it read too: a whole one, or, at the end of the input, one that the end cuts.
+-- These bytes are the next request, with those after it read too: a whole one, or, at the end of
+-- the input, one that the end cuts.
 abbrev pub IsNext : (AtEnd : Type 0) → (later request : List ℕ) → Type 0
 IsNext AtEnd later request = IsWhole request ⊎ (AtEnd × (later ≡ []) × IsLast request)
 
@@ -15,7 +16,8 @@ FirstRequests AtEnd bytes (request ∷ requests) =
     (later : List ℕ) × (bytes ≡ request ++ later) × IsNext AtEnd later request
     × FirstRequests AtEnd later requests
 
--- why no request was read of the bytes: they are none, or an allocation for the lines after the head line failed
+-- why no request was read of the bytes: they are none, or an allocation for the lines after the
+-- head line failed
 abbrev pub IsFaultOf : List ℕ → Fault → Type 0
 IsFaultOf bytes Syntax = IsNoRequest bytes
 IsFaultOf bytes NoMemory = AsksForMemory bytes

@@ -24,13 +24,15 @@ use Rattle.desk_store.specs.Opened.{Stands}
 use Rattle.desk_session.specs.declared.session.Ended.{Ended}
 use Rattle.desk_session.specs.declared.session.Ended.TheVariants.{Done, Input, Output, Lost}
 use Rattle.desk_session.specs.Requests.{FirstRequests}
-use Rattle.desk_session.specs.Session.{EndsLost, GivenCommand, HoldsAcknowledged, IsSession, MayGoOn, Turn, TurnsFrom, commands_of}
+use Rattle.desk_session.specs.Session.{EndsLost, GivenCommand, HoldsAcknowledged, IsSession}
+use Rattle.desk_session.specs.Session.{MayGoOn, Turn, TurnsFrom, commands_of}
 
 -- ---- over what it is held
 
--- The two ends of a session and its file. Of the ends, as far as they report it: what was left to read before the session and is left after
--- it, what was written before it and is written after it, and what of this is flushed; and whether a read or a write can fail. Of the
--- file: what the connection showed before it and shows after it.
+-- The two ends of a session and its file. Of the ends, as far as they report it: what was left to
+-- read before the session and is left after it, what was written before it and is written after it,
+-- and what of this is flushed; and whether a read or a write can fail. Of the file: what the
+-- connection showed before it and shows after it.
 pub record SessionEnds : Type 1 where
   pub unread : Option (List ℕ)
   pub left : Option (List ℕ)
@@ -58,8 +60,8 @@ ends_of source read_old read_new sink write_old write_new old new = record {
 
 -- ---- what is read
 
--- Each request of the bytes that were read was answered: all at the end of the input, and all whole ones before a failed read. Where
--- the session ended otherwise, the first of them were.
+-- Each request of the bytes that were read was answered: all at the end of the input, and all whole
+-- ones before a failed read. Where the session ended otherwise, the first of them were.
 abbrev pub AreRequests : Ended → (AtEnd : Type 0) → (read : List ℕ) → List (List ℕ) → Type 0
 AreRequests Done AtEnd read requests = AtEnd × Requests read requests
 AreRequests Input AtEnd read requests = WholeRequests read requests
@@ -84,22 +86,25 @@ IsWritten = TurnsFrom GoesOut
 
 -- ---- how it ends
 
--- each reply was taken and no command was lost; or a write failed, but no command was lost; or one was lost
+-- each reply was taken and no command was lost; or a write failed, but no command was lost; or one
+-- was lost
 abbrev pub EndsAs : Ended → List Turn → Type 0
 EndsAs Done turns = AllByRecursion MayGoOn turns
 EndsAs Input turns = AllByRecursion MayGoOn turns
 EndsAs Output turns = ¬ EndsLost turns
 EndsAs Lost turns = EndsLost turns
 
--- it ends early only where so many bytes were read, where an end can fail, or where a command was lost
+-- it ends early only where so many bytes were read, where an end can fail, or where a command was
+-- lost
 abbrev pub IsHonest : Ended → (read : ℕ) → SessionEnds → Type 0
 IsHonest Done read ends = Unit {0}
 IsHonest Input read ends = ends.ReadsFail ⊎ (most_input ≤ read)
 IsHonest Output read ends = ends.WritesFail
 IsHonest Lost read ends = Unit {0}
 
--- All replies are flushed, unless a write or a flush failed. If a command was lost, the writer has taken the whole reply to each
--- request, including the one that reports the loss, and all are flushed, or the writer can fail.
+-- All replies are flushed, unless a write or a flush failed. If a command was lost, the writer has
+-- taken the whole reply to each request, including the one that reports the loss, and all are
+-- flushed, or the writer can fail.
 abbrev pub EndsFlushed : Ended → List Turn → SessionEnds → Type 0
 EndsFlushed Done turns ends = (turns ≡ []) ⊎ IsFlushed ends.written ends.flushed
 EndsFlushed Input turns ends = (turns ≡ []) ⊎ IsFlushed ends.written ends.flushed
@@ -116,7 +121,8 @@ MayLack Input missing = missing ≡ []
 MayLack Output missing = missing ≡ []
 MayLack Lost missing = length missing ≤ 1
 
--- the trees are a file of the book that the given commands make from the first one, except what it may lack
+-- the trees are a file of the book that the given commands make from the first one, except what it
+-- may lack
 pub record HoldsGiven (l : Layout) (book : Book) (ended : Ended) (given : List GivenCommand) (db : Trees)
     : Type 0 where
   pub kept : List GivenCommand
@@ -127,7 +133,8 @@ pub record HoldsGiven (l : Layout) (book : Book) (ended : Ended) (given : List G
   pub after : After book (commands_of kept) next
   pub holds : HoldsBook l next db
 
--- The connection shows the last book; after a loss, if the connection is still open. Whatever a crash leaves holds the given commands.
+-- The connection shows the last book; after a loss, if the connection is still open. Whatever a
+-- crash leaves holds the given commands.
 pub record IsLeft (l : Layout) (book last : Book) (ended : Ended) (given : List GivenCommand) (s : State)
     : Type 0 where
   pub shows : (ended ≢ Lost) ⊎ IsTrue s.is_open → ShowsBook l last s
@@ -135,10 +142,12 @@ pub record IsLeft (l : Layout) (book last : Book) (ended : Ended) (given : List 
 
 -- ---- to which error the loss of a command is put down
 
--- In a transaction that began on a connection some statements ran in turn. Then the database answered the error to the next one, or it is
--- that of a failed allocation, and a crash leaves nothing new; or the database answered it to the commit, and a crash leaves nothing new
--- but what the statements made. If the file showed the book and kept it before the session, it showed and kept the last book when that
--- transaction began, and a connection that is still open shows what it showed then.
+-- In a transaction that began on a connection some statements ran in turn. Then the database
+-- answered the error to the next one, or it is that of a failed allocation, and a crash leaves
+-- nothing new; or the database answered it to the commit, and a crash leaves nothing new but what
+-- the statements made. If the file showed the book and kept it before the session, it showed and
+-- kept the last book when that transaction began, and a connection that is still open shows what it
+-- showed then.
 pub record LosesCommand {S : Type 0} (g : Ghosts S) (book last : Book) (old : State) (new : State) : Type 0 where
   pub before : Held S
   pub serves : (l : Layout) → MayServe l book old → MayServe l last (state g before)
@@ -154,8 +163,8 @@ pub record LosesCommand {S : Type 0} (g : Ghosts S) (book last : Book) (old : St
 
 -- ---- the whole
 
--- A session from one book to another, over ends and a file. There is one list of turns, and of what these gave, that fits what was
--- read, what was written, the book at the end, and the file.
+-- A session from one book to another, over ends and a file. There is one list of turns, and of what
+-- these gave, that fits what was read, what was written, the book at the end, and the file.
 pub record Serves (book last : Book) (ended : Ended) (over : SessionEnds) : Type 0 where
   pub read : List ℕ
   pub output : List ℕ
@@ -172,8 +181,8 @@ pub record Serves (book last : Book) (ended : Ended) (over : SessionEnds) : Type
   pub left : HasCleanDisk over.new → (l : Layout) → MayServe l book over.old
       → IsLeft l book last ended given over.new
 
--- What a session left in its file is found there: the book after the first of the given commands, with all that were acknowledged and at
--- most one more.
+-- What a session left in its file is found there: the book after the first of the given commands,
+-- with all that were acknowledged and at most one more.
 pub record IsFoundAfter (l : Layout) (book : Book) (turns : List Turn) (given : List GivenCommand) (s : State)
     : Type 0 where
   pub kept : List GivenCommand

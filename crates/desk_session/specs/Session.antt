@@ -1,4 +1,5 @@
--- Sessions: what was asked of a book, what became of it, and which of the commands a file has to keep.
+-- Sessions: what was asked of a book, what became of it, and which of the commands a file has to
+-- keep.
 use Rattle.std.specs.Prelude.{◌≡◌, ◌≢◌, ◌⊎◌, ◌≤◌, ℕ, Bool, true, false, List, [], ◌∷◌, ◌++◌, length, map, Option}
 use Rattle.std.specs.List.{All, flat_map}
 use Rattle.desk_model.specs.declared.command.Command.{Command}
@@ -10,7 +11,8 @@ use Rattle.desk_line.specs.declared.request.Request.TheVariants.{Do}
 use Rattle.desk_line.specs.Answers.{IsAnswered}
 use Rattle.desk_line.specs.Request.{Reads}
 
--- a request that was read, what was answered to it, and whether the writer has taken the whole reply
+-- a request that was read, what was answered to it, and whether the writer has taken the whole
+-- reply
 pub record Turn : Type 0 where
   pub request : List ℕ
   pub answer : Answer
@@ -25,9 +27,9 @@ pub record GivenCommand : Type 0 where
 abbrev pub IsCommand : List ℕ → Command → Type 0
 IsCommand request command = (expect : Option ℕ) × Reads request (Do command expect)
 
--- What a request gives by its answer: an accepted command is acknowledged once its whole `ok` line is taken; one that the
--- store lost is given too, but never acknowledged. Refused commands, those for which an allocation failed, queries and what isn't a
--- request give nothing.
+-- What a request gives by its answer: an accepted command is acknowledged once its whole `ok` line
+-- is taken; one that the store lost is given too, but never acknowledged. Refused commands, those
+-- for which an allocation failed, queries and what isn't a request give nothing.
 abbrev pub Gives : Turn → Answer → List GivenCommand → Type 0
 Gives turn (Done number) given =
     (command : Command) × IsCommand turn.request command
@@ -45,8 +47,9 @@ pub record MayGoOn (turn : Turn) : Type 0 where
   pub taken : turn.taken ≡ true
   pub held : turn.answer ≢ Lost
 
--- The turns of a session that began with this book: each request is answered on the book that the turns before it made, and all but the
--- last turn go on. Each adds something, by the book after it, to what all of them make, and this book is held at the end.
+-- The turns of a session that began with this book: each request is answered on the book that the
+-- turns before it made, and all but the last turn go on. Each adds something, by the book after it,
+-- to what all of them make, and this book is held at the end.
 abbrev pub TurnsFrom : {X : Type 0} → (Turn → Book → List X → Type 0)
     → Book → List Turn → List X → Book → Type 0
 TurnsFrom Adds book [] made last = (made ≡ []) × (last ≡ book)
@@ -70,7 +73,8 @@ EndsLost [] = ⊥
 EndsLost (turn ∷ []) = turn.answer ≡ Lost
 EndsLost (turn ∷ next ∷ turns) = EndsLost (next ∷ turns)
 
--- The book held at the end of a session has all that was given, but where the last command was lost: without that one.
+-- The book held at the end of a session has all that was given, but where the last command was
+-- lost: without that one.
 pub record IsHeld (book : Book) (turns : List Turn) (given : List GivenCommand) (last : Book) : Type 0 where
   pub held : List GivenCommand
   pub lost : List GivenCommand
@@ -98,8 +102,9 @@ pub record HoldsAcknowledged (lived : SessionRecord) : Type 0 where
   pub front : lived.given ≡ lived.kept ++ lost
   pub unacknowledged : All (λ one. one.acknowledged ≡ false) lost
 
--- Sessions one after another, the first of which begins with this book. After each the book is found that its kept commands
--- make of the one it began with, and the one after it begins with that. The last book is found after all of them.
+-- Sessions one after another, the first of which begins with this book. After each the book is
+-- found that its kept commands make of the one it began with, and the one after it begins with
+-- that. The last book is found after all of them.
 abbrev pub IsLife : Book → List SessionRecord → Book → Type 0
 IsLife book [] found = found ≡ book
 IsLife book (lived ∷ later) found =

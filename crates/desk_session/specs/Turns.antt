@@ -29,8 +29,8 @@ abbrev pub fault_answer : Fault → Answer
 fault_answer faults.Syntax = Syntax
 fault_answer faults.NoMemory = NoMemory
 
--- A command was lost: whatever a crash leaves holds the book, or the next one that the command makes, and a connection that is still open
--- shows the book.
+-- A command was lost: whatever a crash leaves holds the book, or the next one that the command
+-- makes, and a connection that is still open shows the book.
 pub record LeavesLost (l : Layout) (request : List ℕ) (book : Book) (s : State) : Type 0 where
   pub command : Command
   pub made : Book
@@ -40,7 +40,8 @@ pub record LeavesLost (l : Layout) (request : List ℕ) (book : Book) (s : State
   pub leaves : LeavesEither l book made s
   pub shows : IsTrue s.is_open → ShowsBook l book s
 
--- Why a command was lost: keeping a change that leads on from the book failed. A connection that is still open shows what it showed before.
+-- Why a command was lost: keeping a change that leads on from the book failed. A connection that is
+-- still open shows what it showed before.
 pub record LosesChange {S : Type 0} (g : Ghosts S) (book : Book) (old : Held S) (new : State) : Type 0 where
   pub change : Change
   pub next : Book

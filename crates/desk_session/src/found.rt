@@ -17,9 +17,10 @@ ghost use Rattle.std.specs.Prelude.{Bool, IsTrue, List, Ok, Result, ◌≡◌};
 use desk_store::Store;
 use sqlite::{Alter, Connection};
 
-/// Whatever a crash leaves after a session, however that ended: if a connection opened at it and the book is opened, the book after the
-/// first of the commands that the session gave is found, with all that were acknowledged and at most one more, or no refusal is reported. The
-/// next session may begin with that book.
+/// Whatever a crash leaves after a session, however that ended: if a connection opened at it and
+/// the book is opened, the book after the first of the commands that the session gave is found,
+/// with all that were acknowledged and at most one more, or no refusal is reported. The next
+/// session may begin with that book.
 pub fn opened_after_a_session<S: Alter, T: Alter>(
     last: &Store<S>,
     next: &Connection<T>,
@@ -42,8 +43,8 @@ pub fn opened_after_a_session<S: Alter, T: Alter>(
     let _ = next.schema();
 }
 
-/// A session may begin with a book that is opened again after its file was left as it was or as completed, as by an opening that failed to
-/// complete it.
+/// A session may begin with a book that is opened again after its file was left as it was or as
+/// completed, as by an opening that failed to complete it.
 pub fn begins_after_a_failed_opening<S: Alter>(old: &Connection<S>, new: &Connection<S>)
     ensures { (make : Bool) (book : Book)
         → OpensBook S.Store make old.now (state S.Store new.now) (Ok book) → (l : Layout)
@@ -51,8 +52,9 @@ pub fn begins_after_a_failed_opening<S: Alter>(old: &Connection<S>, new: &Connec
         → MayServe (with_missing_tables l) book (state S.Store new.now) }
 {}
 
-/// A session may begin too if the file of a book wasn't opened at first, though it isn't refused, and the book is opened on the same
-/// connection then, which was open still. What a crash would leave in between is what opening leaves at any exit.
+/// A session may begin too if the file of a book wasn't opened at first, though it isn't refused,
+/// and the book is opened on the same connection then, which was open still. What a crash would
+/// leave in between is what opening leaves at any exit.
 pub fn begins_where_opening_stopped_first<S: Alter>(
     first: &Connection<S>,
     old: &Connection<S>,

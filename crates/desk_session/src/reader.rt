@@ -30,11 +30,13 @@ impl Buffers {
     }
 }
 
-/// Bytes with a line after them. With a line that is too long they aren't of a request, and no more of them is kept.
+/// Bytes with a line after them. With a line that is too long they aren't of a request, and no more
+/// of them is kept.
 fn add_line(text: Result<Vec<u8>, Fault>, line: &Line) -> Result<Vec<u8>, Fault>
     ensures holds { (bytes more : List ℕ) → AreFed bytes → IsLine more
         → HoldsText text bytes → line.now ≡ kept_line more → HoldsText result (bytes ++ more) }
-    // What is known of the block by then stays so, and a line that is too long is a fault of syntax.
+    // What is known of the block by then stays so, and a line that is too long is a fault of
+    // syntax.
     ensures still { IfErr text (λ fault. result ≡ Err fault) }
     ensures too_long { line.now ≡ None → OnOk text (result ≡ Err Fault.Syntax) }
 {
@@ -54,7 +56,8 @@ fn append(text: Vec<u8>, bytes: &[u8]) -> Result<Vec<u8>, Fault>
     Ok(text)
 }
 
-/// Reads so many lines, or those that are left, into a line one after another, and gives their bytes.
+/// Reads so many lines, or those that are left, into a line one after another, and gives their
+/// bytes.
 fn read_block<S: Source>(
     alloc: Global,
     source: &mut S,
@@ -78,8 +81,8 @@ fn read_block<S: Source>(
     Ok(text)
 }
 
-/// Reads the next request, if there is one, or says why the bytes that it read are none. A line that is too long is read
-/// through, and so is a block for which an allocation fails.
+/// Reads the next request, if there is one, or says why the bytes that it read are none. A line
+/// that is too long is read through, and so is a block for which an allocation fails.
 pub(crate) fn next_request<'a, S: Source>(
     alloc: Global,
     source: &mut S,

@@ -28,11 +28,13 @@ pub enum Ended {
 
 /// Answers the requests of a source, one after another, by replies to a sink.
 ///
-/// Each accepted command is kept in the file of the store, before it is put into the book and acknowledged. A reply is
-/// flushed before the next request is read. A read, a write or a flush that fails, in any way, isn't tried again. If a
-/// command is lost, this is replied, and the session ends. The first failure says how it ended.
+/// Each accepted command is kept in the file of the store, before it is put into the book and
+/// acknowledged. A reply is flushed before the next request is read. A read, a write or a flush
+/// that fails, in any way, isn't tried again. If a command is lost, this is replied, and the
+/// session ends. The first failure says how it ended.
 ///
-/// The caller's condition: no change was lost on the store, and its file shows the book in tables as they are made.
+/// The caller's condition: no change was lost on the store, and its file shows the book in tables
+/// as they are made.
 pub fn serve<R: Source, W: Sink, S: Alter>(
     alloc: Global,
     source: &mut R,
@@ -70,8 +72,8 @@ pub fn serve<R: Source, W: Sink, S: Alter>(
     }
 }
 
-/// Answers the requests of a source, one after another, by replies to a sink, as [`serve`] does, and lets go of the store and
-/// the book.
+/// Answers the requests of a source, one after another, by replies to a sink, as [`serve`] does,
+/// and lets go of the store and the book.
 pub fn run<R: Source, W: Sink, S: Alter + Drop>(
     alloc: Global,
     source: &mut R,
@@ -79,7 +81,8 @@ pub fn run<R: Source, W: Sink, S: Alter + Drop>(
     store: Store<S>,
     book: Book,
 ) -> Ended
-    // What became of the book and of the file is known of `serve`; here it is a book and a state that fit.
+    // What became of the book and of the file is known of `serve`; here it is a book and a state
+    // that fit.
     ensures { (last : Book) × (left : Shown S)
         × Serves book last result (ends_of R.Source source.old source.new
         W.Sink sink.old sink.new (shown_by S.Store store) (shown_by S.Store left))

@@ -7,7 +7,8 @@ use Rattle.desk_rows.specs.Contents.{Contents}
 use Rattle.desk_rows.specs.Layout.{Layout}
 use Rattle.desk_rows.specs.Whole.{DifferBy}
 
--- The entries are those of `corr2` if the layout has it, and else those of `corr`; there are rows of `cache` if it has that.
+-- The entries are those of `corr2` if the layout has it, and else those of `corr`; there are rows
+-- of `cache` if it has that.
 abbrev pub rows_of : Layout → Contents → FileRows
 rows_of l c = record {
   books = c.rows tables.Book;

@@ -1,4 +1,5 @@
--- The book of a file: what a connection shows of it, what a crash leaves, and the book once a change is kept.
+-- The book of a file: what a connection shows of it, what a crash leaves, and the book once a
+-- change is kept.
 use Rattle.std.specs.Prelude.{◌≡◌, ◌⊎◌, Bool, true, List, map, refl}
 use Rattle.std.specs.Coded.{Coded, code_by, coded×, coded_bool}
 use Rattle.std.specs.List.{AllByRecursion}
@@ -25,7 +26,8 @@ use Rattle.desk_rows.specs.Turns.{Statement, with_transaction}
 
 -- ---- the book of a file
 
--- A file of this layout shows the book: there are contents of which this is known, and their rows show it.
+-- A file of this layout shows the book: there are contents of which this is known, and their rows
+-- show it.
 abbrev pub WithBook : Layout → Book → (Contents → Type 0) → Type 0
 WithBook l book P = (c : Contents) × P c × RowsShow (rows_of l c) book
 
@@ -49,9 +51,10 @@ LeavesEither l book next = Leaves (λ db. HoldsBook l book db ⊎ HoldsBook l ne
 abbrev pub HasNewTables : Layout → Type 0
 HasNewTables l = AllByRecursion (λ t. l.has t ≡ true) new_tables
 
--- The file shows the book and keeps it: it has the tables of a new one, the connection shows the book in it, and so does whatever a crash
--- leaves. A change that is kept brings a file to this, and so does making a book, or opening one that any crash beforehand would have
--- left; a session may begin with it.
+-- The file shows the book and keeps it: it has the tables of a new one, the connection shows the
+-- book in it, and so does whatever a crash leaves. A change that is kept brings a file to this, and
+-- so does making a book, or opening one that any crash beforehand would have left; a session may
+-- begin with it.
 pub record MayServe (l : Layout) (book : Book) (s : State) : Type 0 where
   pub tables : HasNewTables l
   pub shows : ShowsBook l book s
@@ -63,13 +66,15 @@ pub record MayServe (l : Layout) (book : Book) (s : State) : Type 0 where
 abbrev pub LeadsTo : Book → Change → Book → Type 0
 LeadsTo book change next = (command : Command) × Carries book command next change
 
--- The connection shows the book in a file with the tables of a new one, and the change makes the next of it.
+-- The connection shows the book in a file with the tables of a new one, and the change makes the
+-- next of it.
 pub record MayKeep (l : Layout) (book : Book) (change : Change) (next : Book) (s : State) : Type 0 where
   pub tables : HasNewTables l
   pub leads : LeadsTo book change next
   pub shows : ShowsBook l book s
 
--- the trees hold the next book, of whatever file the connection showed in which the change may be kept
+-- the trees hold the next book, of whatever file the connection showed in which the change may be
+-- kept
 abbrev pub HoldsKept : Book → Change → State → Trees → Type 0
 HoldsKept book change s db = (l : Layout) (next : Book) → MayKeep l book change next s → HoldsBook l next db
 
@@ -77,9 +82,9 @@ HoldsKept book change s db = (l : Layout) (next : Book) → MayKeep l book chang
 abbrev pub statements_of : Book → Change → List Statement
 statements_of book change = map statement (change_puts book change)
 
--- Why a change isn't kept: the database answered the error to one of the statements of what this change puts, once
--- those before it had run in turn, or to the commit, or an allocation for a put failed. What was lost is counted, or
--- was too big.
+-- Why a change isn't kept: the database answered the error to one of the statements of what this
+-- change puts, once those before it had run in turn, or to the commit, or an allocation for a put
+-- failed. What was lost is counted, or was too big.
 pub record FailsToKeep {S : Type 0} (g : Ghosts S) (book : Book) (change : Change) (old : Held S)
     (new : State) (e : Error) : Type 0 where
   pub fails : FailsToPut g (of_items g LendsFirst (change_puts book change)) (with_transaction old) new e

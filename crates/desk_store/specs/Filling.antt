@@ -1,4 +1,5 @@
--- How tables that a book's file lacks are made and filled. Only private functions and proofs need these words.
+-- How tables that a book's file lacks are made and filled. Only private functions and proofs need
+-- these words.
 use Rattle.std.specs.Prelude.{◌≡◌, ◌⊎◌, List, [], ◌++◌, map, MatchOption, Option, option_map, unwrap_or}
 use Rattle.sqlite_trees.specs.Tree.{Trees}
 use Rattle.sqlite_trees.specs.declared.store.Store.{Ghosts}
@@ -21,13 +22,15 @@ use Rattle.desk_store.specs.Opened.{HasGained, Stands, which_new}
 abbrev pub which_lacked : Option NewTables → List FileTable
 which_lacked tables = unwrap_or (option_map which_new tables) []
 
--- Whatever file the book stood in, the trees hold it in that file with these tables too, and nothing else there is lost.
+-- Whatever file the book stood in, the trees hold it in that file with these tables too, and
+-- nothing else there is lost.
 abbrev pub HoldsWith : List FileTable → Book → State → Trees → Type 0
 HoldsWith tables book s db =
     (l : Layout) (stands : Stands l book s)
     → HasGained tables l stands.1.0 book s.now.trees (λ after d. IsFile after d db)
 
--- the statements that make what is lacked, if anything is, and fill it with what the book has for it, ran in turn
+-- the statements that make what is lacked, if anything is, and fill it with what the book has for
+-- it, ran in turn
 abbrev pub FillsLacked : {S : Type 0} → Ghosts S → Option NewTables → Book → (old last : Held S) → Type 0
 FillsLacked g lacked book old last =
     (made : List FileTable) × (puts : List RowPut)

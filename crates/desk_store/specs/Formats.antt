@@ -21,7 +21,8 @@ pub data Presence : Type 0 where
   foreign : Presence
   unread : Presence
 
--- A file without `cache` gets it when it is opened. If entries have names, nothing reads `corr`, so anything may stand there under its name.
+-- A file without `cache` gets it when it is opened. If entries have names, nothing reads `corr`, so
+-- anything may stand there under its name.
 abbrev pub presence : Format → FileTable → Presence
 presence unnamed tables.Book = needed
 presence unnamed tables.Tab = needed

@@ -1,4 +1,5 @@
--- The rows of a book's file, as the statements that read it give them in any file, and the book that they show.
+-- The rows of a book's file, as the statements that read it give them in any file, and the book
+-- that they show.
 use Rattle.std.specs.Prelude.{◌≡◌, Bool, true, false, List, [], ◌∷◌, map, Option, Some, None, ⊤}
 use Rattle.std.specs.List.{AllByRecursion, list_any}
 use Rattle.sqlite_schema.specs.declared.schema.Schema.{Schema}
@@ -24,7 +25,8 @@ use Rattle.desk_rows.specs.Whole.{DifferBy}
 -- none of the tables is there by which a book's file is known, of either format
 abbrev pub HasNone : Schema → Type 0
 HasNone s =
-    list_any (is_there s) (tables.Book ∷ tables.Tab ∷ tables.Para ∷ tables.Corr ∷ tables.Mark ∷ tables.NamedCorr ∷ []) ≡ false
+    list_any (is_there s)
+    (tables.Book ∷ tables.Tab ∷ tables.Para ∷ tables.Corr ∷ tables.Mark ∷ tables.NamedCorr ∷ []) ≡ false
 
 -- ---- the rows that statements give
 
@@ -98,7 +100,8 @@ IsReadAs unread there = ⊥
 abbrev pub CanAllAnswer : Format → State → Type 0
 CanAllAnswer format s = (t : FileTable) → IsReadAs (presence format t) (is_there s.now.schema t) → CanAnswer s t
 
--- The rows of the file show the book: the statements that read it give rows, and all that they may give show it.
+-- The rows of the file show the book: the statements that read it give rows, and all that they may
+-- give show it.
 pub record RowsShowIn (s : State) (book : Book) : Type 0 where
   pub rows : FileRows
   pub are : AreFileRows s rows

@@ -1,5 +1,6 @@
 -- What opening a book's file reports, what it writes, and what the connection shows then.
-use Rattle.std.specs.Prelude.{not, ◌≡◌, ◌⊎◌, ℤ, Bool, true, false, IsTrue, List, [], ◌∷◌, ◌++◌, filter, map, Option, Some, None, MatchOption, IfErr, IfOk, OnOk, Result, Err, ⊤}
+use Rattle.std.specs.Prelude.{not, ◌≡◌, ◌⊎◌, ℤ, Bool, true, false, IsTrue, List, [], ◌∷◌, ◌++◌, filter, map}
+use Rattle.std.specs.Prelude.{Option, Some, None, MatchOption, IfErr, IfOk, OnOk, Result, Err, ⊤}
 use Rattle.sqlite_catalog.specs.Change.{KeepsRows}
 use Rattle.sqlite_catalog.specs.Listing.{IsSound}
 use Rattle.sqlite_schema.specs.declared.schema.Schema.{Schema}
@@ -53,16 +54,18 @@ pub record IsDamagedIn (l : Layout) (c : Contents) (table : FileTable) (id : ℤ
   pub readable : CanAllBeRead (format_in row.format) l c
   pub first : IsFirstDamage (rows_of l c) table id
 
--- What is reported of a file that has a table of a book, the first of these that holds: `book` is missing, is of a later format or is damaged;
--- its row is sound and of a known format, and a table of that format can't be read; rows of the tables are damaged. Nothing is said here of
--- `Lost` and `NoMemory`.
+-- What is reported of a file that has a table of a book, the first of these that holds: `book` is
+-- missing, is of a later format or is damaged; its row is sound and of a known format, and a table
+-- of that format can't be read; rows of the tables are damaged. Nothing is said here of `Lost` and
+-- `NoMemory`.
 abbrev pub TellsOf : Layout → Contents → OpenFault → Type 0
 TellsOf l c NotABook =
     (l.has tables.Book ≡ false)
     ⊎ ((row : BookRow) × (l.has tables.Book ≡ true) × IsBookRow (c.rows tables.Book) row
     × ¬ CanAllBeRead (format_in row.format) l c)
 TellsOf l c (Damaged table id) =
-    ((l.has tables.Book ≡ true) × (table ≡ tables.Book) × IsDamagedBook (c.rows tables.Book) id × ¬ IsNewer (c.rows tables.Book))
+    ((l.has tables.Book ≡ true) × (table ≡ tables.Book) × IsDamagedBook (c.rows tables.Book) id
+    × ¬ IsNewer (c.rows tables.Book))
     ⊎ IsDamagedIn l c table id
 TellsOf l c NewerFormat = (l.has tables.Book ≡ true) × IsNewer (c.rows tables.Book)
 TellsOf l c Lost = ⊤
@@ -70,17 +73,20 @@ TellsOf l c NoMemory = ⊤
 
 -- ---- what is reported of any file without the tables of a book
 
--- It holds no book, if none is to be made or `cache` is there. Otherwise a statement that makes a table of a new file or puts the row of
--- `book` failed, or the commit did, with an error that is reported so.
+-- It holds no book, if none is to be made or `cache` is there. Otherwise a statement that makes a
+-- table of a new file or puts the row of `book` failed, or the commit did, with an error that is
+-- reported so.
 abbrev pub TellsOfNone : {S : Type 0} → (make : Bool) → Ghosts S → Held S → State → OpenFault → Type 0
 TellsOfNone make g old new told =
     ((told ≡ NotABook) × ((make ≡ false) ⊎ (is_there (state g old).now.schema tables.Cache ≡ true)))
     ⊎ ((e : Error) × (why : DatabaseFault) × (make ≡ true) × (is_there (state g old).now.schema tables.Cache ≡ false)
-    × FailsToChange g new_tables (of_first_row g) (with_transaction old) new e × IsToldAs e why × (told ≡ opened_as why))
+    × FailsToChange g new_tables (of_first_row g) (with_transaction old) new e × IsToldAs e why
+    × (told ≡ opened_as why))
 
 -- ---- the tables that a book's file lacks
 
--- which of two tables, one for entries with names and one for the cells of the paragraphs, a file with these rows lacks, if any
+-- which of two tables, one for entries with names and one for the cells of the paragraphs, a file
+-- with these rows lacks, if any
 abbrev pub lacking : EntryRows → Option (List ParaCells) → Option NewTables
 lacking (Unnamed entries) None = Some EntriesAndBraille
 lacking (Unnamed entries) (Some cells) = Some Entries
@@ -103,8 +109,9 @@ with_missing_tables l = with_tables (missing_tables l) l
 
 -- ---- what stands in a file, and what it is after opening
 
--- In any file, however its tables are declared: its statements give rows that show the book; and the statements that make what the file
--- lacks, and fill it with what the book has for it, ran in turn on the connection as it was, none if it lacks nothing.
+-- In any file, however its tables are declared: its statements give rows that show the book; and
+-- the statements that make what the file lacks, and fill it with what the book has for it, ran in
+-- turn on the connection as it was, none if it lacks nothing.
 pub record Completes {S : Type 0} (g : Ghosts S) (old : Held S) (book : Book) (last : Held S) : Type 0 where
   pub rows : FileRows
   pub are : AreFileRows (state g old) rows
@@ -121,8 +128,8 @@ pub record Completes {S : Type 0} (g : Ghosts S) (old : Held S) (book : Book) (l
 abbrev pub Stands : Layout → Book → State → Type 0
 Stands l book s = IsOfEither l × ShowsBook l book s
 
--- The book in the file with these tables too, in which nothing else is lost: the rows of `corr`, of all tables that aren't those of a book,
--- and what the database keeps aside are as they were.
+-- The book in the file with these tables too, in which nothing else is lost: the rows of `corr`, of
+-- all tables that aren't those of a book, and what the database keeps aside are as they were.
 abbrev pub HasGained :
     List FileTable → Layout → Contents → Book → Trees → (Layout → Contents → Type 0) → Type 0
 HasGained made l c book rows P =
@@ -137,8 +144,9 @@ HoldsNone db = (s : Schema) × IsSound s db × HasNone s
 abbrev pub HoldsEmpty : Trees → Type 0
 HoldsEmpty db = (l : Layout) × HasNewTables l × HoldsBook l empty_book db
 
--- What opening commits, and only in a file without the tables of a book or whose rows show one: a new book if there was none and one is to
--- be made, and else the book that stood there, with the tables that its file lacked.
+-- What opening commits, and only in a file without the tables of a book or whose rows show one: a
+-- new book if there was none and one is to be made, and else the book that stood there, with the
+-- tables that its file lacked.
 pub record MayBring (make : Bool) (s : State) (db : Trees) : Type 0 where
   pub only : HasNone s.now.schema ⊎ ((book : Book) × ShowsIn s book)
   pub new : HasNone s.now.schema → (make ≡ true) × IsMade s db
@@ -149,8 +157,8 @@ pub record MayBring (make : Bool) (s : State) (db : Trees) : Type 0 where
 abbrev pub HoldsEither : Layout → Book → Trees → Type 0
 HoldsEither l book db = HoldsBook l book db ⊎ HoldsBook (with_missing_tables l) book db
 
--- The rows of the file showed the book, it stands there in a file with the tables of a new one, and a crash leaves it so, also if it left
--- it in either these tables or without.
+-- The rows of the file showed the book, it stands there in a file with the tables of a new one, and
+-- a crash leaves it so, also if it left it in either these tables or without.
 pub record IsOpened (l : Layout) (c : Contents) (book : Book) (old new : State) : Type 0 where
   pub rows : RowsShow (rows_of l c) book
   pub tables : HasNewTables (with_missing_tables l)
@@ -167,24 +175,28 @@ pub record IsMadeNew (make : Bool) (book : Book) (old new : State) : Type 0 wher
 
 -- ---- why it isn't opened, where it isn't refused
 
--- The statement that reads a table failed so, or there was no memory for the rows that it showed. The table is `book`, or one that is read
--- in the format which the row of `book` names. The connection was as at first.
+-- The statement that reads a table failed so, or there was no memory for the rows that it showed.
+-- The table is `book`, or one that is read in the format which the row of `book` names. The
+-- connection was as at first.
 pub record StopsReading {S : Type 0} (g : Ghosts S) (old : Held S) (new : State) (why : DatabaseFault) : Type 0 where
   pub table : FileTable
-  pub is_read : (table ≡ tables.Book) ⊎ ((rows : List BookRow) × (row : BookRow) × AreRowsIn (state g old) tables.Book rows
+  pub is_read : (table ≡ tables.Book)
+      ⊎ ((rows : List BookRow) × (row : BookRow) × AreRowsIn (state g old) tables.Book rows
       × IsBookRow rows row × IsReadAs (presence (format_in row.format) table) (is_there (state g old).now.schema table))
   pub before : Held S
   pub stays : Stays (state g old) (state g before)
   pub fails : FailsAs (query_of table) (shown_columns table) (AreToldApart table) (state g before) new why
 
--- how an error is reported that stops the filling of a file which shows a book, so that it isn't refused
+-- how an error is reported that stops the filling of a file which shows a book, so that it isn't
+-- refused
 abbrev pub filled_as : DatabaseFault → OpenFault
 filled_as fault.NoMemory = NoMemory
 filled_as fault.Lost = Lost
 filled_as fault.Refused = Lost
 
--- A statement that makes these tables or puts what the book has for them failed with an error that is reported so, or the commit did. If the
--- connection is open still, it shows what it showed before.
+-- A statement that makes these tables or puts what the book has for them failed with an error that
+-- is reported so, or the commit did. If the connection is open still, it shows what it showed
+-- before.
 pub record StopsFilling {S : Type 0} (g : Ghosts S) (tables : NewTables) (book : Book) (old : Held S)
     (new : State) (told : OpenFault) : Type 0 where
   pub puts : List RowPut
@@ -196,7 +208,8 @@ pub record StopsFilling {S : Type 0} (g : Ghosts S) (tables : NewTables) (book :
   pub is_told : told ≡ filled_as why
   pub as_before : ShowsAsBefore (state g old) new
 
--- A table isn't read; or all of them are, and there is no memory for the book; or they show a book, and what the file lacks isn't filled.
+-- A table isn't read; or all of them are, and there is no memory for the book; or they show a book,
+-- and what the file lacks isn't filled.
 pub data StopsOpening {S : Type 0} (g : Ghosts S) (old : Held S) (new : State) (told : OpenFault)
     : Type 0 where
   reading : (why : DatabaseFault) → StopsReading g old new why → told ≡ opened_as why → StopsOpening g old new told
@@ -213,20 +226,23 @@ pub data StopsOpening {S : Type 0} (g : Ghosts S) (old : Held S) (new : State) (
 abbrev pub FindsBook : (Book → Type 0) → Result Book OpenFault → Type 0
 FindsBook P result = IfOk result P × IfErr result (λ fault. ¬ IsRefusal fault)
 
--- What is answered of any file: a book only if its rows show it, or if a new one was made; and if they show one, that or no refusal.
+-- What is answered of any file: a book only if its rows show it, or if a new one was made; and if
+-- they show one, that or no refusal.
 pub record AnswersBook (make : Bool) (old new : State) (result : Result Book OpenFault) : Type 0 where
   pub found : IfOk result (λ book. ShowsIn old book ⊎ IsMadeNew make book old new)
   pub shown : (book : Book) → RowsShowIn old book → FindsBook (λ found. found ≡ book) result
 
--- What is reported: exactly this if the tables of a book that are there, or those that are read in a file of a format, are declared as
--- those of a new file, and of any file that has none of a book's tables.
+-- What is reported: exactly this if the tables of a book that are there, or those that are read in
+-- a file of a format, are declared as those of a new file, and of any file that has none of a
+-- book's tables.
 pub record Reports {S : Type 0} (g : Ghosts S) (make : Bool) (old : Held S) (new : State) (fault : OpenFault)
     : Type 0 where
   pub declared : (l : Layout) (c : Contents) → (¬ HasNone l.schema) → IsExact l ⊎ IsOfEither l
       → ShowsContents l c (state g old) → TellsOf l c fault
   pub bare : HasNone (state g old).now.schema → TellsOfNone make g old new fault
 
--- What then stands in the file: a book, the one that stood there or a new one; or, if it is refused, what was there.
+-- What then stands in the file: a book, the one that stood there or a new one; or, if it is
+-- refused, what was there.
 pub record LeavesStanding (make : Bool) (old new : State) (result : Result Book OpenFault) : Type 0 where
   pub is_open : OnOk result (IsTrue new.is_open)
   pub opened : (l : Layout) (c : Contents) → IsOfEither l → ShowsContents l c old
@@ -234,8 +250,8 @@ pub record LeavesStanding (make : Bool) (old new : State) (result : Result Book 
   pub made : HasNone old.now.schema → IfOk result (λ book. IsMadeNew make book old new)
   pub refused : IfErr result (λ fault. IsRefusal fault → ShowsAsBefore old new)
 
--- What opening answers and reports, and what then stands in the file; at `Ok`, if a table of a book was there, just what the statements
--- that complete the file made of it.
+-- What opening answers and reports, and what then stands in the file; at `Ok`, if a table of a book
+-- was there, just what the statements that complete the file made of it.
 pub record OpensBook {S : Type 0} (g : Ghosts S) (make : Bool) (old : Held S) (new : State)
     (result : Result Book OpenFault) : Type 0 where
   pub answers : AnswersBook make (state g old) new result
@@ -244,9 +260,10 @@ pub record OpensBook {S : Type 0} (g : Ghosts S) (make : Bool) (old : Held S) (n
   pub ran : (¬ HasNone (state g old).now.schema)
       → IfOk result (λ book. (last : Held S) × Completes g old book last × (new.now ≡ (state g last).now))
 
--- No book is opened, and this is reported. A crash leaves what it could have left before, or what opening may bring: if a table of a book
--- was there, what the statements that complete the file made of it. After a refusal it leaves nothing new. If a table of a book was there
--- and the file isn't refused, the report has a cause.
+-- No book is opened, and this is reported. A crash leaves what it could have left before, or what
+-- opening may bring: if a table of a book was there, what the statements that complete the file
+-- made of it. After a refusal it leaves nothing new. If a table of a book was there and the file
+-- isn't refused, the report has a cause.
 pub record IsRefusedWith {S : Type 0} (g : Ghosts S) (make : Bool) (old : Held S) (new : State)
     (fault : OpenFault) : Type 0 where
   pub opens : HasCleanDisk new → OpensBook g make old new (Err fault)

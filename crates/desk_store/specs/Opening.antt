@@ -1,4 +1,5 @@
--- How a book's file is opened: what is reported of it, and what is found in it. In which order it is checked stands in Opened.antt.
+-- How a book's file is opened: what is reported of it, and what is found in it. In which order it
+-- is checked stands in Opened.antt.
 use Rattle.std.specs.Prelude.{◌&&◌, not, ◌≡◌, ℤ, pos, ◌<ℤ◌, ◌≤ℤ◌, Bool, true, false, if◌then◌else◌, List, [], ◌∷◌, ⊤}
 use Rattle.std.specs.List.{AllByRecursion}
 use Rattle.std.specs.Ordering.{int_eq}
@@ -85,11 +86,13 @@ abbrev pub has_tables : Format → Schema → Bool
 has_tables unnamed s =
     (is_there s tables.Tab && is_there s tables.Para && is_there s tables.Mark)
     && (is_there s tables.Corr && not (is_there s tables.NamedCorr))
-has_tables named s = (is_there s tables.Tab && is_there s tables.Para && is_there s tables.Mark) && is_there s tables.NamedCorr
+has_tables named s =
+    (is_there s tables.Tab && is_there s tables.Para && is_there s tables.Mark) && is_there s tables.NamedCorr
 
 -- ---- what is read
 
--- A table can be read: it is there if the format needs it, none is there if there must be none, and its texts are UTF-8.
+-- A table can be read: it is there if the format needs it, none is there if there must be none, and
+-- its texts are UTF-8.
 abbrev pub CanBeRead : Presence → Bool → Type 0 → Type 0
 CanBeRead needed has are_utf8 = (has ≡ true) × are_utf8
 CanBeRead optional has are_utf8 = has ≡ true → are_utf8

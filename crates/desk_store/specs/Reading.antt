@@ -22,13 +22,14 @@ use Rattle.desk_rows.specs.declared.fault.DatabaseFault.{DatabaseFault}
 use Rattle.desk_rows.specs.declared.fault.DatabaseFault.TheVariants as fault
 use Rattle.desk_store.specs.BookFile.{rows_of}
 use Rattle.desk_store.specs.Formats.{Format, IsOfFormat, named, presence, unnamed}
-use Rattle.desk_store.specs.Found.{AreCellsIn, AreEntriesIn, AreFileRows, AreOtherRows, AreRowsIn, AreToldApart, CanAllAnswer, IsReadAs}
+use Rattle.desk_store.specs.Found.{AreCellsIn, AreEntriesIn, AreFileRows, AreOtherRows}
+use Rattle.desk_store.specs.Found.{AreRowsIn, AreToldApart, CanAllAnswer, IsReadAs}
 use Rattle.desk_store.specs.Opening.{CanAllBeRead, IsBookRow, Stays, format_in}
 
 -- ---- what is read, and why nothing is
 
--- The connection is as it was. `Given` says what the statements give in any file, and `Of` holds of each file of the format that the
--- connection shows.
+-- The connection is as it was. `Given` says what the statements give in any file, and `Of` holds of
+-- each file of the format that the connection shows.
 pub record IsReadFrom (format : Format) (old new : State) (Given : State → Type 0)
     (Of : Layout → Contents → Type 0) : Type 0 where
   pub stays : Stays old new
@@ -41,9 +42,10 @@ ShowsReadable format s =
     (l : Layout) × (c : Contents) × IsOfFormat format l × ShowsContents l c s
     × CanAllBeRead format l c × (s.step_limit ≡ None)
 
--- Nothing is read, since a table of the format wasn't: its statement failed, what it showed can't be read, or an allocation for its rows
--- failed. If the steps have no limit, a file that can be read isn't refused, nor is one of whatever declaration whose statements have
--- answers that can be read. After a refusal the connection is as it was.
+-- Nothing is read, since a table of the format wasn't: its statement failed, what it showed can't
+-- be read, or an allocation for its rows failed. If the steps have no limit, a file that can be
+-- read isn't refused, nor is one of whatever declaration whose statements have answers that can be
+-- read. After a refusal the connection is as it was.
 pub record FailsToRead {S : Type 0} (g : Ghosts S) (format : Format) (old : Held S) (new : State)
     (why : DatabaseFault) : Type 0 where
   pub refused : why ≡ fault.Refused → Stays (state g old) new × ¬ ShowsReadable format (state g old)
@@ -106,8 +108,9 @@ pub record IsReadOf (l : Layout) (c : Contents) (rows : FileRows) : Type 0 where
   pub readable : CanAllBeRead (format_in row.format) l c
   pub same : AreSameRows (rows_of l c) rows
 
--- The connection is as it was and open, and these are the rows that the statements give. Each file of either format that it shows has these
--- rows, a sound row of `book`, and tables that can be read.
+-- The connection is as it was and open, and these are the rows that the statements give. Each file
+-- of either format that it shows has these rows, a sound row of `book`, and tables that can be
+-- read.
 pub record ReadsFile (old new : State) (rows : FileRows) : Type 0 where
   pub stays : Stays old new
   pub is_open : IsTrue new.is_open

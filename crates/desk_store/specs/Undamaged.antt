@@ -16,7 +16,8 @@ use Rattle.desk_store.specs.Opening.{CanAllBeRead, IsBookRow, format_in}
 abbrev pub HasBook : Layout → Contents → Type 0
 HasBook l c = IsOfEither l × ((book : Book) × RowsShow (rows_of l c) book)
 
--- its row of `book` is sound and of a known format, the tables of that format can all be read, and no row of them is damaged
+-- its row of `book` is sound and of a known format, the tables of that format can all be read, and
+-- no row of them is damaged
 pub record IsUndamaged (l : Layout) (c : Contents) : Type 0 where
   pub row : BookRow
   pub book : IsBookRow (c.rows tables.Book) row

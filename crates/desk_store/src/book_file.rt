@@ -180,12 +180,13 @@ fn read_rest<S: Alter>(
     })
 }
 
-/// What a book's file holds, once its row of `book` is checked and its tables are there, whether or not they show a book.
+/// What a book's file holds, once its row of `book` is checked and its tables are there, whether or
+/// not they show a book.
 ///
 /// # Errors
 ///
-/// [`OpenFault::NewerFormat`] or a damage of `book`, [`OpenFault::NotABook`] if a table is missing or can't be read, and
-/// otherwise that an allocation or the store failed.
+/// [`OpenFault::NewerFormat`] or a damage of `book`, [`OpenFault::NotABook`] if a table is missing
+/// or can't be read, and otherwise that an allocation or the store failed.
 pub(crate) fn read_parts<S: Alter>(
     alloc: Global,
     conn: &mut Connection<S>,
@@ -196,8 +197,8 @@ pub(crate) fn read_parts<S: Alter>(
     // What is refused shows no book, in any file.
     ensures unrefused { HasCleanDisk (state S.Store conn.new) → (book : Book)
         → RowsShowIn (state S.Store conn.old) book → IfErr result (λ fault. ¬ IsRefusal fault) }
-    // If the tables that are there, or those that are read in a file of a format, are declared as those of a new file, this is
-    // reported.
+    // If the tables that are there, or those that are read in a file of a format, are declared as
+    // those of a new file, this is reported.
     ensures told { HasCleanDisk (state S.Store conn.new) → (l : Layout) (c : Contents)
         → IsExact l ⊎ IsOfEither l → ShowsContents l c (state S.Store conn.old)
         → IfErr result (TellsOf l c) }

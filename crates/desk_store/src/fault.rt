@@ -8,8 +8,8 @@ use thiserror::Error;
 /// Why no book is opened from a file.
 #[derive(Clone, Copy, Debug, Error, PartialEq, Eq)]
 pub enum OpenFault {
-    /// A table that a book's file has isn't there, lacks a column or holds a value of another kind, or there is no book in
-    /// the file and none is to be made.
+    /// A table that a book's file has isn't there, lacks a column or holds a value of another kind,
+    /// or there is no book in the file and none is to be made.
     #[error("the file holds no book")]
     NotABook,
     /// The rows show no book.

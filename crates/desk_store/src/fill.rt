@@ -32,8 +32,8 @@ pub(crate) fn lacked_by(parts: &Parts) -> Option<NewTables>
     }
 }
 
-/// How an error is reported that stopped the filling of a file which shows a book: that one is there is known by then, so no
-/// error says that there is none.
+/// How an error is reported that stopped the filling of a file which shows a book: that one is
+/// there is known by then, so no error says that there is none.
 fn stopped_by(error: Error) -> OpenFault
     ensures told { (why : DatabaseFault) × IsToldAs error why × (result ≡ filled_as why) }
     ensures not_refused { ¬ IsRefusal result }
@@ -59,8 +59,8 @@ fn file_tables(tables: NewTables) -> &'static [FileTable]
 ///
 /// # Errors
 ///
-/// [`OpenFault::Lost`] if the store failed or refused it, and [`OpenFault::NoMemory`]. A crash then leaves the file as it
-/// was or with all of this.
+/// [`OpenFault::Lost`] if the store failed or refused it, and [`OpenFault::NoMemory`]. A crash then
+/// leaves the file as it was or with all of this.
 pub(crate) fn fill<S: Alter>(
     alloc: Global,
     conn: &mut Connection<S>,
@@ -80,8 +80,9 @@ pub(crate) fn fill<S: Alter>(
     // Of a crash at any exit: nothing new is left but all of it.
     ensures crash { Survives (state S.Store conn.old) (state S.Store conn.new)
         (HoldsWith (which_new tables) book.now (state S.Store conn.old)) }
-    // In any file the statements that make these tables and fill them ran in turn, and no others: at `Ok` the connection shows what
-    // they made of it, and at any exit a crash leaves nothing else new.
+    // In any file the statements that make these tables and fill them ran in turn, and no others:
+    // at `Ok` the connection shows what they made of it, and at any exit a crash leaves nothing
+    // else new.
     ensures ran { HasCleanDisk (state S.Store conn.new) → OnOk result ((last : Held S)
         × FillsLacked S.Store (Some tables) book.now conn.old last
         × ((state S.Store conn.new).now ≡ (state S.Store last).now)) }

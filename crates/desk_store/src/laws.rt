@@ -1,7 +1,8 @@
 //! Laws of books in files.
 
 ghost use Rattle.desk_store.specs.BookFile.{HaveOwnNumbers, rows_of};
-ghost use Rattle.desk_store.specs.Books.{HoldsKept, LeadsTo, LeavesBook, LeavesEither, MayKeep, MayServe, ShowsBook, shown_by};
+ghost use Rattle.desk_store.specs.Books.{HoldsKept, LeadsTo, LeavesBook, LeavesEither};
+ghost use Rattle.desk_store.specs.Books.{MayKeep, MayServe, ShowsBook, shown_by};
 ghost use Rattle.desk_rows.specs.Contents.{Contents};
 ghost use Rattle.desk_model.specs.Book.{Book};
 ghost use Rattle.desk_parts.specs.FileRows.{FileRows};
@@ -11,7 +12,8 @@ ghost use Rattle.desk_parts.specs.declared.file_table.FileTable.{FileTable};
 ghost use Rattle.desk_rows.specs.Layout.{Layout};
 ghost use Rattle.desk_store.specs.Formats.{Format, IsExact, IsOfFormat, named, unnamed};
 ghost use Rattle.desk_rows.specs.Making.{after, is_among, new_layout, with_tables};
-ghost use Rattle.desk_store.specs.Opened.{FindsBook, HoldsEither, IsMadeNew, IsOpened, OpensBook, Stands, with_missing_tables};
+ghost use Rattle.desk_store.specs.Opened.{FindsBook, HoldsEither, IsMadeNew, IsOpened};
+ghost use Rattle.desk_store.specs.Opened.{OpensBook, Stands, with_missing_tables};
 ghost use Rattle.desk_store.specs.declared.fault.OpenFault.{OpenFault};
 ghost use Rattle.sql_tables.specs.States.{Leaves};
 ghost use Rattle.sqlite.specs.Held.{state};
@@ -36,7 +38,8 @@ pub fn numbers_differ()
     ensures { (rows : FileRows) (book : Book) → RowsShow rows book → HaveOwnNumbers rows }
 {}
 
-/// Once a change is kept, whatever becomes of the next one: a crash leaves the book with the first, or with both.
+/// Once a change is kept, whatever becomes of the next one: a crash leaves the book with the first,
+/// or with both.
 pub fn two_keeps<S: Alter>(middle: &Store<S>, end: &Store<S>, change: &Change)
     ensures { HasCleanDisk (shown_by S.Store end.now) → (l : Layout) (first both : Book)
         → MayServe l first (shown_by S.Store middle.now) → LeadsTo first change.now both
@@ -45,8 +48,8 @@ pub fn two_keeps<S: Alter>(middle: &Store<S>, end: &Store<S>, change: &Change)
         → LeavesEither l first both (shown_by S.Store end.now) }
 {}
 
-/// A connection that opened at what a crash may leave of a store shows the book that each outcome of the crash holds, or one of
-/// the two of which each holds one.
+/// A connection that opened at what a crash may leave of a store shows the book that each outcome
+/// of the crash holds, or one of the two of which each holds one.
 pub fn kept_then_opened<S: Alter, T: Alter>(last: &Store<S>, next: &Connection<T>)
     ensures book { (shown_by S.Store last.now).may_leave (state T.Store next.now).committed.trees
         → Opens (state T.Store next.now) → (l : Layout) (book : Book)
@@ -60,8 +63,8 @@ pub fn kept_then_opened<S: Alter, T: Alter>(last: &Store<S>, next: &Connection<T
     let _ = next.schema();
 }
 
-/// If a book was opened or made, a change that leads on from it may be kept; and a crash leaves the book, if one before it was opened did,
-/// in the file as it was or with the tables that it lacked.
+/// If a book was opened or made, a change that leads on from it may be kept; and a crash leaves the
+/// book, if one before it was opened did, in the file as it was or with the tables that it lacked.
 pub fn opened_then_kept<S: Alter>(before: &Connection<S>, after: &Store<S>, change: &Change)
     ensures opened { (l : Layout) (c : Contents) (book next : Book)
         → IsOpened l c book (state S.Store before.now) (shown_by S.Store after.now)
@@ -88,8 +91,8 @@ pub fn tables_made()
     ensures exact { (tables : List FileTable) (l : Layout) → IsExact l → IsExact (with_tables tables l) }
 {}
 
-/// A new file is of format 2. One of format 1 in which tables are made, `corr2` among them, is of format 2 then, and one of either format in
-/// which `cache` is made stays of it.
+/// A new file is of format 2. One of format 1 in which tables are made, `corr2` among them, is of
+/// format 2 then, and one of either format in which `cache` is made stays of it.
 pub fn formats()
     ensures new { (s : Schema) → IsOfFormat named (new_layout s) }
     ensures names { (l : Layout) (tables : List FileTable) → IsOfFormat unnamed l

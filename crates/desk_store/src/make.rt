@@ -17,13 +17,13 @@ use desk_parts::FileTable;
 use desk_rows::{DatabaseFault, has_table, make_tables};
 use sqlite::{Alter, Connection};
 
-/// Makes the file of a new book, in one transaction, in a file that has none of a book's tables except perhaps `cache`: if
-/// that is there, nothing is made.
+/// Makes the file of a new book, in one transaction, in a file that has none of a book's tables
+/// except perhaps `cache`: if that is there, nothing is made.
 ///
 /// # Errors
 ///
-/// [`OpenFault::NotABook`] if a name is taken or making the tables is refused, and otherwise that an allocation or the
-/// store failed. What the connection shows is as it was, if it is still open.
+/// [`OpenFault::NotABook`] if a name is taken or making the tables is refused, and otherwise that
+/// an allocation or the store failed. What the connection shows is as it was, if it is still open.
 pub(crate) fn make_book<S: Alter>(conn: &mut Connection<S>) -> Result<(), OpenFault>
     requires { conn.old.in_transaction ≡ false }
     ensures idle { conn.new.in_transaction ≡ false }
@@ -31,7 +31,8 @@ pub(crate) fn make_book<S: Alter>(conn: &mut Connection<S>) -> Result<(), OpenFa
         → OnOk result (IsNew (state S.Store conn.old).now.schema (state S.Store conn.old).now.trees
         (λ c. ShowsContents (new_layout (state S.Store conn.old).now.schema) c (state S.Store conn.new))
         × IsCommitted (state S.Store conn.new) × IsSettled (state S.Store conn.new)) }
-    // Of a crash at any exit: nothing new is left but all of it, and that only if no name was taken.
+    // Of a crash at any exit: nothing new is left but all of it, and that only if no name was
+    // taken.
     ensures crash { Survives (state S.Store conn.old) (state S.Store conn.new)
         (IsMade (state S.Store conn.old)) }
     ensures as_before { HasCleanDisk (state S.Store conn.new)

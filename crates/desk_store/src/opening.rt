@@ -8,7 +8,8 @@ ghost use Rattle.desk_store.specs.Found.{HasNone};
 ghost use Rattle.desk_rows.specs.Layout.{Layout};
 ghost use Rattle.desk_rows.specs.Making.{with_tables};
 ghost use Rattle.desk_store.specs.Filling.{FillsLacked, HoldsEitherWith, HoldsWith, which_lacked};
-ghost use Rattle.desk_store.specs.Opened.{Completes, HasGained, HoldsEither, HoldsEmpty, HoldsNone, IsRefusedWith, MayBring, OpensBook, Stands, StopsFilling, StopsOpening};
+ghost use Rattle.desk_store.specs.Opened.{Completes, HasGained, HoldsEither, HoldsEmpty, HoldsNone, IsRefusedWith};
+ghost use Rattle.desk_store.specs.Opened.{MayBring, OpensBook, Stands, StopsFilling, StopsOpening};
 ghost use Rattle.desk_store.specs.Opening.{IsRefusal};
 ghost use Rattle.desk_rows.specs.States.{ShowsContents};
 ghost use Rattle.sql_tables.specs.States.{Leaves};
@@ -120,16 +121,18 @@ fn open_new<S: Alter>(alloc: Global, conn: &mut Connection<S>) -> Result<Book, O
 }
 
 impl<S: Alter> Store<S> {
-    /// Opens the book of a file: the one that its rows show, with the braille of its prints. A file of format 1 is brought
-    /// to format 2, and one without the cells of its paragraphs gets them, as one transaction. If none of a book's
-    /// tables is there and `make` is true, the file of the empty book is made. The caller's conditions: no transaction is open
-    /// on the connection, and it has no limit on steps.
+    /// Opens the book of a file: the one that its rows show, with the braille of its prints. A file
+    /// of format 1 is brought to format 2, and one without the cells of its paragraphs gets them,
+    /// as one transaction. If none of a book's tables is there and `make` is true, the file of the
+    /// empty book is made. The caller's conditions: no transaction is open on the connection, and
+    /// it has no limit on steps.
     ///
     /// # Errors
     ///
-    /// [`OpenFault::NotABook`], [`OpenFault::NewerFormat`] and [`OpenFault::Damaged`] if the file shows no book; it then stays
-    /// as it was. [`OpenFault::Lost`] if a call of the database failed, and [`OpenFault::NoMemory`]: the file holds the same
-    /// book, as it was or with the tables that it lacked.
+    /// [`OpenFault::NotABook`], [`OpenFault::NewerFormat`] and [`OpenFault::Damaged`] if the file
+    /// shows no book; it then stays as it was. [`OpenFault::Lost`] if a call of the database
+    /// failed, and [`OpenFault::NoMemory`]: the file holds the same book, as it was or with the
+    /// tables that it lacked.
     pub fn open_on(
         alloc: Global,
         connection: &mut Connection<S>,
@@ -140,11 +143,12 @@ impl<S: Alter> Store<S> {
         ensures idle { connection.new.in_transaction ≡ false }
         ensures opens { HasCleanDisk (state S.Store connection.new)
             → OpensBook S.Store make connection.old (state S.Store connection.new) result }
-        // Of a crash at any exit: nothing new is left but the book in a file with the tables of a new one.
+        // Of a crash at any exit: nothing new is left but the book in a file with the tables of a
+        // new one.
         ensures crash { Survives (state S.Store connection.old) (state S.Store connection.new)
             (MayBring make (state S.Store connection.old)) }
-        // If a table of a book was there, in any file: a crash leaves nothing new but what the statements that complete the
-        // file made of it.
+        // If a table of a book was there, in any file: a crash leaves nothing new but what the
+        // statements that complete the file made of it.
         ensures left { (¬ HasNone (state S.Store connection.old).now.schema)
             → Survives (state S.Store connection.old) (state S.Store connection.new)
             (λ db. (book : BookOf) × (last : Held S) × Completes S.Store connection.old book last

@@ -2,7 +2,8 @@
 
 ghost use Rattle.std.specs.Prelude.{◌≡◌, false, true, IfErr, IsErr, IsTrue, OnErr, OnOk};
 ghost use Rattle.desk_book.specs.Changes.{Carries};
-ghost use Rattle.desk_store.specs.Books.{FailsToKeep, HoldsKept, LeavesBook, LeavesEither, MayKeep, MayServe, shown_by, statements_of};
+ghost use Rattle.desk_store.specs.Books.{FailsToKeep, HoldsKept, LeavesBook, LeavesEither};
+ghost use Rattle.desk_store.specs.Books.{MayKeep, MayServe, shown_by, statements_of};
 ghost use Rattle.desk_rows.specs.Layout.{Layout};
 ghost use Rattle.desk_rows.specs.Turns.{AreRun, IsLeftBy};
 ghost use Rattle.sql_tables.specs.States.{ShowsAsBefore};
@@ -21,8 +22,8 @@ use thiserror::Error;
 #[error("the change wasn't kept")]
 pub struct Lost;
 
-/// The connection of a book's file, on which no transaction is open, and whether a change was lost on it. Contracts see
-/// both.
+/// The connection of a book's file, on which no transaction is open, and whether a change was lost
+/// on it. Contracts see both.
 #[derive(Drop)]
 pub struct Store<S: Alter> {
     connection: Connection<S>,
@@ -42,8 +43,8 @@ impl<S: Alter> Model for Store<S> {
     ghost invariant = { λ s. s.connection.in_transaction ≡ false };
 }
 
-/// Puts what a change lends, as one transaction. The caller's conditions: no transaction is open, and the change was planned
-/// on the book. What is put is lent from both.
+/// Puts what a change lends, as one transaction. The caller's conditions: no transaction is open,
+/// and the change was planned on the book. What is put is lent from both.
 fn put_change<'a, S: Alter>(
     alloc: Global,
     conn: &mut Connection<S>,
@@ -82,14 +83,15 @@ impl<S: Alter> Store<S> {
         }
     }
 
-    /// Keeps a change of the book in its file, as one transaction. The caller's condition: the change was planned on the
-    /// book. If the file has the tables of a new one and shows the book, it then shows the next one, and so does whatever a
-    /// crash leaves.
+    /// Keeps a change of the book in its file, as one transaction. The caller's condition: the
+    /// change was planned on the book. If the file has the tables of a new one and shows the book,
+    /// it then shows the next one, and so does whatever a crash leaves.
     ///
     /// # Errors
     ///
-    /// [`Lost`] if a call of the database or an allocation failed. A connection that is still open then shows what it showed
-    /// before. From then on nothing is written, and every answer is [`Lost`].
+    /// [`Lost`] if a call of the database or an allocation failed. A connection that is still open
+    /// then shows what it showed before. From then on nothing is written, and every answer is
+    /// [`Lost`].
     pub fn keep(&mut self, alloc: Global, book: &Book, change: &Change) -> Result<(), Lost>
         requires planned { (command : _) × (next : _) × Carries book.now command next change.now }
         ensures kept { HasCleanDisk (shown_by S.Store self.new) → (l : Layout) (next : _)
@@ -103,15 +105,17 @@ impl<S: Alter> Store<S> {
         // Nothing is committed but the change.
         ensures survives { Survives (shown_by S.Store self.old) (shown_by S.Store self.new)
             (HoldsKept book.now change.now (shown_by S.Store self.old)) }
-        // In any file the statements of what this change puts ran in turn, as one transaction, and no others: at `Ok` the
-        // connection shows what they made of it, and at any exit a crash leaves nothing else new.
+        // In any file the statements of what this change puts ran in turn, as one transaction, and
+        // no others: at `Ok` the connection shows what they made of it, and at any exit a crash
+        // leaves nothing else new.
         ensures ran { HasCleanDisk (shown_by S.Store self.new)
             → OnOk result (AreRun S.Store (statements_of book.now change.now)
             self.old.connection (shown_by S.Store self.new)) }
         ensures left { Survives (shown_by S.Store self.old) (shown_by S.Store self.new)
             (λ db. IsLeftBy S.Store (statements_of book.now change.now) self.old.connection db) }
-        // The first loss has a cause: the database answered an error to one of the statements of what this change puts, or to
-        // the commit, or an allocation failed. That this isn't reported without one is shown by tests.
+        // The first loss has a cause: the database answered an error to one of the statements of
+        // what this change puts, or to the commit, or an allocation failed. That this isn't
+        // reported without one is shown by tests.
         ensures told { HasCleanDisk (shown_by S.Store self.new) → self.old.lost ≡ false
             → OnErr result ((e : _) × FailsToKeep S.Store book.now change.now
             self.old.connection (shown_by S.Store self.new) e) }

@@ -6,8 +6,10 @@ use Rattle.desk_ends.specs.Cells.{text_of}
 use Rattle.desk_ends.specs.Sending.{Puts}
 use Rattle.desk_ends.specs.declared.ends.Sink.{Ghosts}
 
--- some first pieces of those that were left are taken, and their cells went after the block to the sink so
-pub record PutsFirst {K : Type 0} (sink : Ghosts K) (old new : K) (block held : List ℕ) (left others : List PieceItem) (whole : Bool) : Type 0 where
+-- some first pieces of those that were left are taken, and their cells went after the block to the
+-- sink so
+pub record PutsFirst {K : Type 0} (sink : Ghosts K) (old new : K) (block held : List ℕ) (left others : List PieceItem)
+    (whole : Bool) : Type 0 where
   pub taken : List PieceItem
   pub parts : left ≡ taken ++ others
   pub puts : Puts sink old new (block ++ text_of (flat_map made_cells taken)) held whole

@@ -28,8 +28,8 @@ refusal_at code place = refusal code ++ 32 ∷ decimal place
 
 -- ---- the answer
 
--- what is answered to a print: no 7 with its first undefined place, or else the cells, as characters,
--- of choices that tile it
+-- what is answered to a print: no 7 with its first undefined place, or else the cells, as
+-- characters, of choices that tile it
 pub data AnswersPrint (meaning : Meaning) (print answer : List ℕ) : Type 0 where
   undefined : (place : ℕ) → IsFirstUndefined meaning print place → answer ≡ refusal_at 7 place
       → AnswersPrint meaning print answer

@@ -11,7 +11,8 @@ abbrev pub SendsLine : {K : Type 0} → Ghosts K → K → K → Meaning → Lis
 SendsLine sink old new meaning line whole =
     (answer : List ℕ) → IsAnswer meaning line answer → Sends sink old new (answer ++ 10 ∷ []) whole
 
--- what is answered to what is left at the end of the input, with a line feed: nothing where no byte is left
+-- what is answered to what is left at the end of the input, with a line feed: nothing where no byte
+-- is left
 abbrev pub IsLastAnswer : Meaning → List ℕ → List ℕ → Type 0
 IsLastAnswer meaning [] text = text ≡ []
 IsLastAnswer meaning (b ∷ bytes) text =
@@ -19,4 +20,5 @@ IsLastAnswer meaning (b ∷ bytes) text =
 
 -- what is answered to what is left at the end of the input goes out
 abbrev pub SendsLast : {K : Type 0} → Ghosts K → K → K → Meaning → List ℕ → Bool → Type 0
-SendsLast sink old new meaning bytes whole = (text : List ℕ) → IsLastAnswer meaning bytes text → Sends sink old new text whole
+SendsLast sink old new meaning bytes whole = (text : List ℕ) → IsLastAnswer meaning bytes text
+    → Sends sink old new text whole

@@ -104,7 +104,8 @@ impl Workspace {
     }
 }
 
-/// Reads a line as print whose characters are all defined, or says why it is refused. Nothing goes out before.
+/// Reads a line as print whose characters are all defined, or says why it is refused. Nothing goes
+/// out before.
 fn read_print<B: RuleBook>(print: &mut Print, book: &B, line: &[u8]) -> Result<(), Refusal>
     ensures { MatchResult result
         (λ _. IsPrint (B.meaning book.now) line.now × (print.new ≡ chars line.now))

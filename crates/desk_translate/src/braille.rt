@@ -28,9 +28,10 @@ pub fn send_braille<K: Sink, B: RuleBook>(
     send_block(sink, block)
 }
 
-/// Puts the braille of a print after the block: the run of lone cells that it begins with, and then each piece that
-/// isn't a lone cell, with the run after it. It stays a function of its own, so that the processor's registers hold what the
-/// loop along a run needs, and nothing of what comes before it.
+/// Puts the braille of a print after the block: the run of lone cells that it begins with, and then
+/// each piece that isn't a lone cell, with the run after it. It stays a function of its own, so
+/// that the processor's registers hold what the loop along a run needs, and nothing of what comes
+/// before it.
 #[inline(never)]
 fn put_print<K: Sink, B: RuleBook>(
     sink: &mut K,

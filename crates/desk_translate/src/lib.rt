@@ -7,8 +7,9 @@
 //! assert_eq!(rt; ended, Ended::Done);
 //! ```
 //!
-//! Nothing is allocated. Which cells a print has is `louis_translate`'s, by the rule book that is given; lines are read from a
-//! source of `desk_ends`, and answers go to a sink of it. Where a table comes from is left to `desk_program`.
+//! Nothing is allocated. Which cells a print has is `louis_translate`'s, by the rule book that is
+//! given; lines are read from a source of `desk_ends`, and answers go to a sink of it. Where a
+//! table comes from is left to `desk_program`.
 #![tactic(auto)]
 
 mod answer;

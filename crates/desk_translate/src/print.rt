@@ -54,8 +54,8 @@ impl Print {
         &self.characters[..self.len]
     }
 
-    /// Takes the characters of a text in place of its own, if there are not too many, and gives the place of the first that
-    /// the table of a book doesn't define, if there is one.
+    /// Takes the characters of a text in place of its own, if there are not too many, and gives the
+    /// place of the first that the table of a book doesn't define, if there is one.
     pub fn read<B: RuleBook>(
         &mut self,
         book: &B,
@@ -109,7 +109,8 @@ impl Print {
         Ok(())
     }
 
-    /// The same for a text whose bytes are characters each. A processor copies many of them at a time.
+    /// The same for a text whose bytes are characters each. A processor copies many of them at a
+    /// time.
     #[inline(never)]
     fn copy_ascii(&mut self, bytes: &[u8]) -> Result<(), TooManyCharacters>
         requires { IsAscii bytes.now }
@@ -149,8 +150,8 @@ fn first_undefined_byte<B: RuleBook>(book: &B, bytes: &[u8]) -> Option<usize>
         .position(|byte| !is_defined(book, char::from(*byte)))
 }
 
-/// Whether it is seen at once that the table of a book defines each byte, as a character. It doesn't stop at one of which that
-/// isn't seen, so that many bytes are looked at with one test.
+/// Whether it is seen at once that the table of a book defines each byte, as a character. It
+/// doesn't stop at one of which that isn't seen, so that many bytes are looked at with one test.
 fn knows_all<B: RuleBook>(book: &B, bytes: &[u8]) -> bool
     ensures { OnTrue result (AreDefined (B.meaning book.now) bytes.now) }
 {

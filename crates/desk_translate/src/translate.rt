@@ -19,20 +19,22 @@ pub enum Ended {
 
 /// Answers each line of the source by a line: its braille by a rule book, or why there is none.
 ///
-/// A line feed ends a line, and one carriage return before it isn't part of the line. Bytes after the
-/// last line feed are a line too. What is answered is flushed before each read and at the end. A read, a
-/// write or a flush that fails, in any way, isn't tried again, and a write that takes no byte has failed.
+/// A line feed ends a line, and one carriage return before it isn't part of the line. Bytes after
+/// the last line feed are a line too. What is answered is flushed before each read and at the end.
+/// A read, a write or a flush that fails, in any way, isn't tried again, and a write that takes no
+/// byte has failed.
 pub fn translate_lines<S: Source, K: Sink, B: RuleBook>(
     source: &mut S,
     sink: &mut K,
     book: &B,
 ) -> Ended
-    // Some bytes were taken, what went out answers them, and it is flushed. A run that isn't done met a
-    // failure of the source or the sink, or took as many bytes as a run may.
+    // Some bytes were taken, what went out answers them, and it is flushed. A run that isn't done
+    // met a failure of the source or the sink, or took as many bytes as a run may.
     ensures run { Ran S.Source source.old source.new
         K.Sink sink.old sink.new (B.meaning book.now) result }
 
-    // However it ended, if the source reports its bytes, what went out is a beginning of the answers to all of them.
+    // However it ended, if the source reports its bytes, what went out is a beginning of the
+    // answers to all of them.
     ensures beginning { AnswersBeginning (B.meaning book.now)
         (S.remaining source.old) (K.contents sink.old) (K.contents sink.new) }
 {
@@ -56,8 +58,8 @@ pub fn translate_lines<S: Source, K: Sink, B: RuleBook>(
     }
 }
 
-/// Reads a line with its line feed, in place of the line that was there, and flushes what was written before each read.
-/// Whether it has a line feed, or how the run ends.
+/// Reads a line with its line feed, in place of the line that was there, and flushes what was
+/// written before each read. Whether it has a line feed, or how the run ends.
 fn take_line<S: Source, K: Sink>(
     source: &mut S,
     sink: &mut K,

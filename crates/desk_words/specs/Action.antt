@@ -51,7 +51,8 @@ pub record IsExportable (volume width lines : ℕ) : Type 0 where
 abbrev pub HasDefault : List Row → Text → (number default : ℕ) → Type 0
 HasDefault rows id number default = is_given id rows ≡ false → number ≡ default
 
--- its numbers, if it has some, are within these limits, and pages of which nothing is said have 25 lines of 40 cells
+-- its numbers, if it has some, are within these limits, and pages of which nothing is said have 25
+-- lines of 40 cells
 abbrev pub IsWithinLimits : List Row → Action → Type 0
 IsWithinLimits rows (New file) = Unit {0}
 IsWithinLimits rows (Session file) = Unit {0}

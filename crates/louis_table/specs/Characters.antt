@@ -1,9 +1,11 @@
 -- A characters operand: the characters as they are written, with escapes.
-use Rattle.std.specs.Prelude.{◌≡◌, ◌≢◌, ℕ, ◌+◌, ◌*◌, ◌<◌, ◌==◌, if◌then◌else◌, List, [], ◌∷◌, ◌++◌, length, Option, Some, None}
+use Rattle.std.specs.Prelude.{◌≡◌, ◌≢◌, ℕ, ◌+◌, ◌*◌, ◌<◌, ◌==◌, if◌then◌else◌, List}
+use Rattle.std.specs.Prelude.{[], ◌∷◌, ◌++◌, length, Option, Some, None}
 use Rattle.std.specs.List.{AllByRecursion}
 use Rattle.std.specs.Char.{IsScalar, digit_value}
 
--- the character that an escape stands for, by the character after its backslash: \f \n \r \s \t \v \e \\
+-- the character that an escape stands for, by the character after its backslash: \f \n \r \s \t \v
+-- \e \\
 abbrev pub escape_character : ℕ → Option ℕ
 escape_character letter =
     if letter == 102 then Some 12
@@ -40,4 +42,5 @@ pub data Writes (text : List ℕ) (character : ℕ) : Type 0 where
 -- the text is these characters as they are written, one after another
 abbrev pub Spells : List ℕ → List ℕ → Type 0
 Spells text [] = text ≡ []
-Spells text (character ∷ characters) = (front : List ℕ) × (rest : List ℕ) × (text ≡ front ++ rest) × Writes front character × Spells rest characters
+Spells text (character ∷ characters) =
+    (front : List ℕ) × (rest : List ℕ) × (text ≡ front ++ rest) × Writes front character × Spells rest characters

@@ -8,9 +8,9 @@ use Rattle.louis_table.specs.declared.rule.Rule.{Rule}
 use Rattle.louis_table.specs.declared.sign.Sign.{Sign}
 use Rattle.louis_table.specs.declared.sign.Sign.TheVariants as signs
 
--- the definitions of characters and the lower characters of capitals, each in the order of their lines,
--- the rules, their characters folded, in the order of theirs, the cells of each sign, and the characters of each set
--- as they are written; a sign or a set that the table lacks is empty
+-- the definitions of characters and the lower characters of capitals, each in the order of their
+-- lines, the rules, their characters folded, in the order of theirs, the cells of each sign, and
+-- the characters of each set as they are written; a sign or a set that the table lacks is empty
 pub record Meaning : Type 0 where
   pub definitions : List (ℕ × Definition)
   pub partners : List (ℕ × ℕ)
@@ -60,5 +60,6 @@ set_characters meaning set = slice_index_or meaning.sets (set_place set) []
 
 -- each definition and each rule has a cell
 pub record HasCells (meaning : Meaning) : Type 0 where
-  pub definitions : (character : ℕ) (defined : Definition) → definition_of meaning character ≡ Some defined → defined.cells ≢ []
+  pub definitions : (character : ℕ) (defined : Definition) → definition_of meaning character ≡ Some defined
+      → defined.cells ≢ []
   pub rules : (k : ℕ) (rule : Rule) → slice_get meaning.rules k ≡ Some rule → rule.cells ≢ []

@@ -1,5 +1,6 @@
--- How a table text is read, step by step: what the code's steps compute, and what the contracts of its private functions
--- say of them. No public contract needs these words: `Table` says what a text means.
+-- How a table text is read, step by step: what the code's steps compute, and what the contracts of
+-- its private functions say of them. No public contract needs these words: `Table` says what a text
+-- means.
 pub mod Fields
 pub mod Characters
 pub mod Opcode

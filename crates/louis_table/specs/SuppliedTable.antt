@@ -1,5 +1,5 @@
--- What the supplied table says, as a list that wasn't made from its text. Characters are given by their numbers, cells
--- by their masks.
+-- What the supplied table says, as a list that wasn't made from its text. Characters are given by
+-- their numbers, cells by their masks.
 use Rattle.std.specs.Prelude.{ℕ, ◌+◌, List, [], ◌∷◌, ◌++◌, map}
 use Rattle.louis_table.specs.declared.definition.Class.{Class}
 use Rattle.louis_table.specs.declared.definition.Class.TheVariants.{Space, Punctuation, Digit, Letter}
@@ -61,7 +61,9 @@ english_set sets.NoContraction = 97 ∷ 98 ∷ 99 ∷ 100 ∷ 101 ∷ 102 ∷ 10
 -- uncontracted English: its definitions, its capitals, its signs and its sets
 abbrev pub english : Meaning
 english = record {
-  definitions = defined Space (32, 0 ∷ []) ∷ (both_letters 65 letter_masks ++ (map (defined Digit) digits ++ map (defined Punctuation) marks));
+  definitions =
+      defined Space (32, 0 ∷ [])
+      ∷ (both_letters 65 letter_masks ++ (map (defined Digit) digits ++ map (defined Punctuation) marks));
   partners = small_letters 65 letter_masks;
   rules = [];
   signs = map english_sign every_sign;

@@ -1,5 +1,6 @@
 -- What a table text means, and what is bad in it.
-use Rattle.std.specs.Prelude.{◌≡◌, ◌≢◌, ℕ, ◌+◌, ◌<◌, ◌≤◌, ◌⊎◌, ◌==◌, if◌then◌else◌, List, [], ◌∷◌, ◌++◌, length, map, take, drop, count_by, codes, nat_eq, slice_index, Bool, Option, Some, None}
+use Rattle.std.specs.Prelude.{◌≡◌, ◌≢◌, ℕ, ◌+◌, ◌<◌, ◌≤◌, ◌⊎◌, ◌==◌, if◌then◌else◌, List, [], ◌∷◌, ◌++◌, length, map}
+use Rattle.std.specs.Prelude.{take, drop, count_by, codes, nat_eq, slice_index, Bool, Option, Some, None}
 use Rattle.std.specs.List.{flat_map, starts_with, Contains}
 use Rattle.std.specs.Str.{chars, IsUtf8}
 use Rattle.std.specs.Str.Lossy.{utf8_valid_len}
@@ -54,8 +55,8 @@ text_lines bytes = map chars (lines_of (without_byte_order_mark bytes))
 
 -- ---- operands
 
--- the characters that a characters operand spells for an opcode: one to define, two for `uplow`, any number
--- to replace or for a set
+-- the characters that a characters operand spells for an opcode: one to define, two for `uplow`,
+-- any number to replace or for a set
 abbrev pub AreCharactersFor : Opcode → List ℕ → Type 0
 AreCharactersFor (Define class) characters = length characters ≡ 1
 AreCharactersFor UpLow characters = length characters ≡ 2
@@ -138,8 +139,9 @@ pub data SaysNothing (line : List ℕ) : Type 0 where
   blank : IsGap line → SaysNothing line
   comment : (field rest : List ℕ) → Begins line field rest → IsComment field → SaysNothing line
 
--- what a line gives to its table: a definition; an upper and a lower character, each with its cells; a rule, with
--- no cells if it has an equals sign; the cells of a sign; the characters of a set
+-- what a line gives to its table: a definition; an upper and a lower character, each with its
+-- cells; a rule, with no cells if it has an equals sign; the cells of a sign; the characters of a
+-- set
 pub data Entry : Type 0 where
   Defines : ℕ → Definition → Entry
   Pairs : ℕ → List ℕ → ℕ → List ℕ → Entry
@@ -153,7 +155,8 @@ pub data Entry : Type 0 where
 abbrev pub definitions_in : Entry → List (ℕ × Definition)
 definitions_in (Defines character defined) = (character, defined) ∷ []
 definitions_in (Pairs upper upper_cells lower lower_cells) =
-    (upper, record { class = Letter; cells = upper_cells }) ∷ (lower, record { class = Letter; cells = lower_cells }) ∷ []
+    (upper, record { class = Letter; cells = upper_cells })
+    ∷ (lower, record { class = Letter; cells = lower_cells }) ∷ []
 definitions_in (Replaces kind text cells) = []
 definitions_in (Announces sign cells) = []
 definitions_in (Collects set text) = []
@@ -195,7 +198,8 @@ abbrev pub cells_in_definition : Option Definition → List ℕ
 cells_in_definition None = []
 cells_in_definition (Some defined) = defined.cells
 
--- the cells of a rule: those written, or for an equals sign those of the definitions of its folded characters
+-- the cells of a rule: those written, or for an equals sign those of the definitions of its folded
+-- characters
 abbrev pub rule_cells : Meaning → List ℕ → Option (List ℕ) → List ℕ
 rule_cells meaning text (Some cells) = cells
 rule_cells meaning text None = flat_map (λ c. cells_in_definition (definition_of meaning c)) text
@@ -205,7 +209,12 @@ abbrev pub rules_in : Meaning → ℕ × Entry → List Rule
 rules_in meaning (n, Defines character defined) = []
 rules_in meaning (n, Pairs upper upper_cells lower lower_cells) = []
 rules_in meaning (n, Replaces kind text cells) =
-    record { line = n; kind = kind; chars = map (fold_of meaning) text; cells = rule_cells meaning (map (fold_of meaning) text) cells } ∷ []
+    record {
+      line = n;
+      kind = kind;
+      chars = map (fold_of meaning) text;
+      cells = rule_cells meaning (map (fold_of meaning) text) cells;
+    } ∷ []
 rules_in meaning (n, Announces sign cells) = []
 rules_in meaning (n, Collects set text) = []
 
@@ -244,11 +253,13 @@ IsLacking meaning (Collects set text) =
 
 -- ---- which fault is reported
 
--- a fault of line n is reported no later than one of line m: the smaller line first, for one line the smaller cause
+-- a fault of line n is reported no later than one of line m: the smaller line first, for one line
+-- the smaller cause
 abbrev pub IsToldNoLater : ℕ → ℕ → ℕ → ℕ → Type 0
 IsToldNoLater n cause m other = (n < m) ⊎ ((n ≡ m) × (cause ≤ other))
 
--- the line on which bytes stop being UTF-8: one more than the line feeds in the longest front that is
+-- the line on which bytes stop being UTF-8: one more than the line feeds in the longest front that
+-- is
 abbrev pub line_of_stop : List ℕ → ℕ
 line_of_stop bytes = count_by (λ b. b == 10) (take (utf8_valid_len bytes) bytes) + 1
 
@@ -257,7 +268,8 @@ line_of_stop bytes = count_by (λ b. b == 10) (take (utf8_valid_len bytes) bytes
 module _ (profile : Profile) where
   -- ---- lines
 
-  -- the line is of a form of the profile that gives the entry; what follows its last operand is a comment
+  -- the line is of a form of the profile that gives the entry; what follows its last operand is a
+  -- comment
   pub data Gives (line : List ℕ) (entry : Entry) : Type 0 where
     definition_line : (class : Class) (characters dots : List ℕ) (character : ℕ) (cells : List ℕ)
         → HasOpcode profile (Define class) → HasFields line (name_of (Define class) ∷ characters ∷ dots ∷ [])
@@ -278,7 +290,8 @@ module _ (profile : Profile) where
         → HasOpcode profile (Collect set) → HasFields line (name_of (Collect set) ∷ characters ∷ [])
         → Spells characters text → entry ≡ Collects set text → Gives line entry
 
-  -- these entries and no others are what the lines from number n on give, each with its line's number
+  -- these entries and no others are what the lines from number n on give, each with its line's
+  -- number
   abbrev pub GiveFrom : ℕ → List (List ℕ) → List (ℕ × Entry) → Type 0
   GiveFrom n [] entries = entries ≡ []
   GiveFrom n (line ∷ lines) entries =
@@ -293,8 +306,9 @@ module _ (profile : Profile) where
 
   -- ---- faults
 
-  -- the line, after the lines before it, has a fault with this cause; only lines that give an entry count as
-  -- repetitions: a line that says something and gives none has a cause from 1 to 4 of its own
+  -- the line, after the lines before it, has a fault with this cause; only lines that give an entry
+  -- count as repetitions: a line that says something and gives none has a cause from 1 to 4 of its
+  -- own
   pub data IsFault (before : List (List ℕ)) (line : List ℕ) (cause : ℕ) : Type 0 where
     -- the first field isn't an opcode of the profile
     unknown_opcode : (field rest : List ℕ) → Begins line field rest → ¬ IsComment field
@@ -320,7 +334,8 @@ module _ (profile : Profile) where
     -- an earlier line gives the sign or the set too
     given_before : (entry : Entry) → Gives line entry → SomeGives before (GivesAgain entry)
         → cause ≡ 6 → IsFault before line cause
-    -- the line is too long or one too many, an operand has too many characters, or too many written cells
+    -- the line is too long or one too many, an operand has too many characters, or too many written
+    -- cells
     long_line : most_line_characters < length line → cause ≡ 8 → IsFault before line cause
     line_too_many : most_lines ≤ length before → cause ≡ 8 → IsFault before line cause
     many_characters : (opcode : Opcode) (characters text : List ℕ)

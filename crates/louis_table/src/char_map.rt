@@ -10,7 +10,8 @@ use std::marker::Model;
 /// How many of the first characters of Unicode are found by their code, without a hash.
 const DIRECT: usize = 128;
 
-/// A map from characters to values, in the order in which they came. Contracts see the list of its entries.
+/// A map from characters to values, in the order in which they came. Contracts see the list of its
+/// entries.
 pub struct CharMap<V> {
     entries: IndexMap<char, V>,
     // for each character below `DIRECT`, one more than its entry's index, or 0 if it has none

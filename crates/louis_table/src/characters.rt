@@ -1,6 +1,7 @@
 //! Characters as they are written in an operand, with escapes.
 ghost use Rattle.louis_table.specs.Characters.{digits_behind, escape_character};
-ghost use Rattle.louis_table.specs.Steps.Characters.{character_at, characters_in, hex_value, number_at, only_character, only_pair};
+ghost use Rattle.louis_table.specs.Steps.Characters.{character_at, characters_in, hex_value};
+ghost use Rattle.louis_table.specs.Steps.Characters.{number_at, only_character, only_pair};
 ghost use Rattle.std.specs.Prelude.{◌≡◌, ◌≤◌, ◌<◌, ◌+◌, IfOk, IfSome, length, option_map};
 
 use std::alloc::{AllocError, Global};

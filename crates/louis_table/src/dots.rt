@@ -1,6 +1,7 @@
 //! The dots operands of the opcodes.
 ghost use Rattle.cell_core.specs.Reading.{cells_in};
-ghost use Rattle.louis_table.specs.Steps.Dots.{ReadsDots, are_many, are_many_of_two, are_many_written, pair_in, pair_parts, part_len, rule_in};
+ghost use Rattle.louis_table.specs.Steps.Dots.{ReadsDots, are_many, are_many_of_two, are_many_written};
+ghost use Rattle.louis_table.specs.Steps.Dots.{pair_in, pair_parts, part_len, rule_in};
 ghost use Rattle.std.specs.Prelude.{◌≡◌, ◌≤◌, IfOk, codes, length};
 ghost use Rattle.std.specs.Str.{bytes_eq, encode_utf8_all};
 ghost use Rattle.std.specs.String.{string_bytes};
@@ -83,7 +84,8 @@ fn is_equals(dots: &[char]) -> bool
     dots == EQUALS.as_slice()
 }
 
-/// The cells of a rule, none if they are those of the definitions of its characters; or nothing if it has too many.
+/// The cells of a rule, none if they are those of the definitions of its characters; or nothing if
+/// it has too many.
 pub(crate) fn read_rule_cells(
     alloc: Global,
     dots: &[char],

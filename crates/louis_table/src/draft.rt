@@ -10,8 +10,8 @@ use super::rule::Characters;
 use super::table::Table;
 use std::alloc::{AllocError, Global};
 
-/// What the lines so far give: a table without rules, and what can be checked only once all definitions are
-/// known, as it is written.
+/// What the lines so far give: a table without rules, and what can be checked only once all
+/// definitions are known, as it is written.
 #[derive(Drop)]
 pub(crate) struct Draft {
     pub(crate) table: Table,

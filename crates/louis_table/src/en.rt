@@ -1,7 +1,7 @@
 //! The table that is supplied with the crate.
 
-/// Uncontracted English: its letters, digits and marks, its signs, and the characters of its numeric mode, in 61
-/// lines.
+/// Uncontracted English: its letters, digits and marks, its signs, and the characters of its
+/// numeric mode, in 61 lines.
 pub const EN: &str = "\
 # braildesk: uncontracted English\n\
 space \\s 0\n\

@@ -49,9 +49,9 @@ pub(crate) enum LineFault {
 pub struct TableFault {
     /// The number of the line, from 1.
     pub line: usize,
-    /// The cause: 1 unknown opcode, 2 missing operand, 3 bad characters, 4 bad dots, 5 a character that is
-    /// defined already, 6 a sign or a set that is given already, 7 a rule or a set with a character that is
-    /// not defined, 8 beyond a limit, 9 not UTF-8.
+    /// The cause: 1 unknown opcode, 2 missing operand, 3 bad characters, 4 bad dots, 5 a character
+    /// that is defined already, 6 a sign or a set that is given already, 7 a rule or a set with a
+    /// character that is not defined, 8 beyond a limit, 9 not UTF-8.
     pub cause: u8,
 }
 

@@ -2,7 +2,8 @@
 ghost use Rattle.louis_table.specs.Meaning.{HasCells, Meaning, set_characters, sign_cells};
 ghost use Rattle.louis_table.specs.Profile.{Profile, WithoutNumericMode};
 ghost use Rattle.louis_table.specs.SuppliedTable.{english};
-ghost use Rattle.louis_table.specs.Table.{Bad, BadIn, Means, MeansIn, most_line_characters, most_lines, most_rule_characters, most_set_characters};
+ghost use Rattle.louis_table.specs.Table.{Bad, BadIn, Means, MeansIn, most_line_characters};
+ghost use Rattle.louis_table.specs.Table.{most_lines, most_rule_characters, most_set_characters};
 ghost use Rattle.louis_table.specs.declared.character_set.CharacterSet.{CharacterSet};
 ghost use Rattle.louis_table.specs.declared.en.TheConstants.{EN};
 ghost use Rattle.louis_table.specs.declared.line_entry.TheConstants.{MOST_RULE_CHARACTERS, MOST_SET_CHARACTERS};
@@ -18,8 +19,9 @@ pub fn one_meaning()
     ensures some { (bytes : List ℕ) → ((t : Meaning) × Means bytes t) ⊎ ((n : ℕ) × (c : ℕ) × Bad bytes n c) }
 {}
 
-/// A table without numeric mode has the same meaning in the profile that has the mode, and nothing of the mode. In
-/// each profile bytes are a table with one meaning, or have one fault that is reported, and never both.
+/// A table without numeric mode has the same meaning in the profile that has the mode, and nothing
+/// of the mode. In each profile bytes are a table with one meaning, or have one fault that is
+/// reported, and never both.
 pub fn profiles()
     ensures same { (bytes : List ℕ) (t : Meaning) → MeansIn WithoutNumericMode bytes t → Means bytes t }
     ensures nothing_new { (bytes : List ℕ) (t : Meaning) → MeansIn WithoutNumericMode bytes t

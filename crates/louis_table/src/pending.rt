@@ -139,7 +139,8 @@ fn finish(
     }
 }
 
-/// The rules of a table, in the order of their lines, if the table defines all characters of its rules and sets.
+/// The rules of a table, in the order of their lines, if the table defines all characters of its
+/// rules and sets.
 pub(crate) fn finish_all(
     alloc: Global,
     table: &Table,

@@ -94,15 +94,15 @@ fn read_text(alloc: Global, text: &str) -> Result<Table, ReadFault>
 impl Table {
     /// Reads a table text.
     ///
-    /// Each line defines a character or an upper and a lower one, gives a rule, the cells of a sign or the characters
-    /// of a set, is a comment, or has no field. Definitions may stand before or after the rules and sets that use
-    /// them.
+    /// Each line defines a character or an upper and a lower one, gives a rule, the cells of a sign
+    /// or the characters of a set, is a comment, or has no field. Definitions may stand before or
+    /// after the rules and sets that use them.
     ///
     /// # Errors
     ///
-    /// `Table` reports the first line that has a fault, with its smallest cause, and if no line has one, the first
-    /// rule or set with a character that no line defines. `NoMemory` says that an allocation failed; a text that isn't
-    /// UTF-8 is reported without any allocation.
+    /// `Table` reports the first line that has a fault, with its smallest cause, and if no line has
+    /// one, the first rule or set with a character that no line defines. `NoMemory` says that an
+    /// allocation failed; a text that isn't UTF-8 is reported without any allocation.
     pub fn read(alloc: Global, text: &[u8]) -> Result<Table, ReadFault>
         ensures ok { IfOk result (Means text.now) }
         ensures err { IfErr result (Tells text.now) }

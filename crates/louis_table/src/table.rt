@@ -1,7 +1,8 @@
 //! A table that was read.
 ghost use Rattle.std.specs.Prelude.{◌≡◌, ◌≢◌, ◌∷◌, ◌++◌, [], None, Some, OnOk, option_map, is_some};
 ghost use Rattle.louis_table.specs.Meaning.{definition_of, fold_of, partner_of, set_characters, sign_cells};
-ghost use Rattle.louis_table.specs.Steps.Table.{CanTake, is_known, no_meaning, with_definition, with_given, with_partner};
+ghost use Rattle.louis_table.specs.Steps.Table.{CanTake, is_known, no_meaning};
+ghost use Rattle.louis_table.specs.Steps.Table.{with_definition, with_given, with_partner};
 ghost use Rattle.louis_table.specs.Table.{Announces, Collects, Pairs};
 ghost use Rattle.louis_table.specs.declared.character_set.CharacterSet.TheVariants as sets;
 ghost use Rattle.louis_table.specs.declared.sign.Sign.TheVariants as signs;
@@ -39,7 +40,8 @@ impl Model for Table {
     } };
 }
 
-// Written out: a derived drop appears part by part in each function that drops a table, which makes those long to prove.
+// Written out: a derived drop appears part by part in each function that drops a table, which makes
+// those long to prove.
 impl Drop for Table {
     fn drop(self) {
         let Table {
@@ -229,23 +231,24 @@ impl Table {
         self.sign(Sign::CapitalWord)
     }
 
-    /// The sign before a character that follows a number and would read as part of it, empty if the table lacks it.
+    /// The sign before a character that follows a number and would read as part of it, empty if the
+    /// table lacks it.
     pub fn nocontractsign(&self) -> &[Cell]
         ensures { result.now ≡ sign_cells self.now signs.NoContraction }
     {
         self.sign(Sign::NoContraction)
     }
 
-    /// The characters that stand within a number besides its digits, as they are written, none if the table lacks
-    /// them.
+    /// The characters that stand within a number besides its digits, as they are written, none if
+    /// the table lacks them.
     pub fn mode_chars(&self) -> &[char]
         ensures { result.now ≡ set_characters self.now sets.NumericMode }
     {
         self.set(CharacterSet::NumericMode)
     }
 
-    /// The characters that need the sign of no contraction when they follow a number, as they are written, none if the
-    /// table lacks them.
+    /// The characters that need the sign of no contraction when they follow a number, as they are
+    /// written, none if the table lacks them.
     pub fn nocontract_chars(&self) -> &[char]
         ensures { result.now ≡ set_characters self.now sets.NoContraction }
     {

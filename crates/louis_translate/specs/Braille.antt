@@ -1,5 +1,6 @@
 -- The cells of a tiling, and which places of the print and which cells belong together.
-use Rattle.std.specs.Prelude.{◌≡◌, ℕ, ◌+◌, ◌<◌, ◌≤◌, List, [], ◌∷◌, ◌++◌, length, slice_get, slice_index, Option, Some, None}
+use Rattle.std.specs.Prelude.{◌≡◌, ℕ, ◌+◌, ◌<◌, ◌≤◌, List, [], ◌∷◌, ◌++◌, length}
+use Rattle.std.specs.Prelude.{slice_get, slice_index, Option, Some, None}
 use Rattle.std.specs.List.{flat_map}
 use Rattle.std.specs.Option.{option_and_then, option_map_or}
 use Rattle.louis_table.specs.Meaning.{Meaning, definition_of}
@@ -16,7 +17,8 @@ own_cells meaning definition (Some k) = option_map_or (λ rule. rule.cells) (sli
 
 -- the cells that the table gives for the definition of the character at a place, or for a rule
 abbrev pub chosen_cells : Meaning → List ℕ → ℕ → Option ℕ → List ℕ
-chosen_cells meaning print i choice = own_cells meaning (option_and_then (definition_of meaning) (slice_get print i)) choice
+chosen_cells meaning print i choice =
+    own_cells meaning (option_and_then (definition_of meaning) (slice_get print i)) choice
 
 -- one of the choices, with those before it and those after it
 pub record IsAmong (choices before : List Choice) (choice : Choice) : Type 0 where
@@ -38,7 +40,8 @@ module _ (sign : ℕ → List ℕ) (meaning : Meaning) (print : List ℕ) where
   abbrev pub braille_by : List Choice → List ℕ
   braille_by choices = flat_map cells_of_by choices
 
-  -- the output place of a place of the print: as many cells come before those of the choice that covers it
+  -- the output place of a place of the print: as many cells come before those of the choice that
+  -- covers it
   pub record IsOutputPlaceBy (choices : List Choice) (i place : ℕ) : Type 0 where
     pub before : List Choice
     pub choice : Choice
@@ -46,7 +49,8 @@ module _ (sign : ℕ → List ℕ) (meaning : Meaning) (print : List ℕ) where
     pub holds : Holds choice i
     pub place_is : place ≡ length (braille_by before)
 
-  -- the choice made the cell: the choices before it make no more cells than the cell's number, and more with its own
+  -- the choice made the cell: the choices before it make no more cells than the cell's number, and
+  -- more with its own
   pub record MakesCellBy (choices : List Choice) (choice : Choice) (cell : ℕ) : Type 0 where
     pub before : List Choice
     pub among : IsAmong choices before choice
@@ -84,7 +88,8 @@ module _ (meaning : Meaning) (print : List ℕ) where
   abbrev pub IsPrintEnd : List Choice → ℕ → ℕ → Type 0
   IsPrintEnd choices cell end = (choice : Choice) × MakesCell choices choice cell × (end ≡ choice.end)
 
-  -- the print is defined; its cells, the output place of each of its places, and the print place of each cell
+  -- the print is defined; its cells, the output place of each of its places, and the print place of
+  -- each cell
   pub record IsTranslation (cells outputs inputs : List ℕ) : Type 0 where
     pub defined : AreDefined meaning print
     pub choices : List Choice
@@ -106,7 +111,8 @@ module _ (meaning : Meaning) (print : List ℕ) (room : ℕ) where
     pub longest : (prefix rest : List Choice) → choices ≡ prefix ++ rest
         → length (braille meaning print prefix) ≤ room → length prefix ≤ length front
 
-  -- the print is defined; the cells of the longest front that fits, and how many places of the print it covers
+  -- the print is defined; the cells of the longest front that fits, and how many places of the
+  -- print it covers
   pub record IsPart (cells : List ℕ) (used : ℕ) : Type 0 where
     pub defined : AreDefined meaning print
     pub choices : List Choice

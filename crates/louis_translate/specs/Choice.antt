@@ -1,6 +1,7 @@
--- Which candidate is chosen at a place of a print. A candidate is the index of a rule, or none for the definition of the
--- character there.
-use Rattle.std.specs.Prelude.{◌≡◌, ℕ, ◌+◌, ◌<◌, ◌≤◌, ◌⊎◌, true, List, [], length, take, drop, map, slice_get, Option, Some, None, IsSomeAnd}
+-- Which candidate is chosen at a place of a print. A candidate is the index of a rule, or none for
+-- the definition of the character there.
+use Rattle.std.specs.Prelude.{◌≡◌, ℕ, ◌+◌, ◌<◌, ◌≤◌, ◌⊎◌, true, List, [], length, take, drop}
+use Rattle.std.specs.Prelude.{map, slice_get, Option, Some, None, IsSomeAnd}
 use Rattle.std.specs.Option.{option_map_or}
 use Rattle.louis_table.specs.Meaning.{Meaning, fold_of}
 use Rattle.louis_table.specs.declared.rule.Rule.{Rule}
@@ -28,8 +29,8 @@ YieldsTo meaning d c =
 -- ---- candidates, by any signs before the places of the print
 
 module _ (sign : ℕ → List ℕ) (meaning : Meaning) (print : List ℕ) where
-  -- the rule may be used at place i: its characters are the folded print's, its position test holds, and no sign stands
-  -- inside it
+  -- the rule may be used at place i: its characters are the folded print's, its position test
+  -- holds, and no sign stands inside it
   pub record MatchesBy (i : ℕ) (rule : Rule) : Type 0 where
     pub characters : map (fold_of meaning) (take (length rule.chars) (drop i print)) ≡ rule.chars
     pub position : fits meaning print rule.kind i (i + length rule.chars) ≡ true
@@ -61,7 +62,8 @@ module _ (meaning : Meaning) (print : List ℕ) where
   abbrev pub IsChosen : ℕ → Option ℕ → Type 0
   IsChosen = IsChosenBy (sign_at meaning print) meaning print
 
-  -- the position test of the kind holds from place i up to but not including j, and no sign stands between the two
+  -- the position test of the kind holds from place i up to but not including j, and no sign stands
+  -- between the two
   abbrev pub MayCover : RuleKind → ℕ → ℕ → Type 0
   MayCover kind i j = (fits meaning print kind i j ≡ true) × ((k : ℕ) → i < k → k < j → sign_at meaning print k ≡ [])
 

@@ -1,5 +1,6 @@
 -- What is left of the tiling of a print, as a function: `Tiling` says what a tiling is.
-use Rattle.std.specs.Prelude.{ℕ, zero, suc, ◌+◌, ◌-◌, Bool, false, ◌&&◌, ◌==◌, nat_lt, if◌then◌else◌, List, [], ◌∷◌, length, take, drop, map, slice_get, Option, Some, None}
+use Rattle.std.specs.Prelude.{ℕ, zero, suc, ◌+◌, ◌-◌, Bool, false, ◌&&◌, ◌==◌, nat_lt, if◌then◌else◌, List}
+use Rattle.std.specs.Prelude.{[], ◌∷◌, length, take, drop, map, slice_get, Option, Some, None}
 use Rattle.std.specs.List.{list_all, range_with_len}
 use Rattle.std.specs.Option.{option_map_or}
 use Rattle.std.specs.Str.{bytes_eq}
@@ -29,7 +30,8 @@ to_beat meaning (Some k) = span meaning (Some k)
 -- whether rule k may be used at place i, and goes before what was found among the rules before it
 abbrev pub goes_before : Meaning → List ℕ → ℕ → ℕ → Option ℕ → Bool
 goes_before meaning print i k found =
-    option_map_or (λ rule. matches meaning print i rule && nat_lt (to_beat meaning found) (length rule.chars)) (slice_get meaning.rules k) false
+    option_map_or (λ rule. matches meaning print i rule && nat_lt (to_beat meaning found) (length rule.chars))
+    (slice_get meaning.rules k) false
 
 -- the chosen one among the definition and the first k rules
 abbrev pub chosen_of : Meaning → List ℕ → ℕ → ℕ → Option ℕ

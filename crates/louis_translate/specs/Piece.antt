@@ -1,5 +1,5 @@
--- Pieces of one cell: characters that stand as one cell wherever their definition is chosen and no number reaches them, and
--- the places where they do.
+-- Pieces of one cell: characters that stand as one cell wherever their definition is chosen and no
+-- number reaches them, and the places where they do.
 use Rattle.std.specs.Prelude.{◌≡◌, ◌⊎◌, ◌<◌, ◌+◌, ℕ, List, [], ◌∷◌, Option, Some, None, false, length, slice_get}
 use Rattle.louis_table.specs.declared.definition.Definition.{Definition}
 use Rattle.louis_table.specs.declared.sign.Sign.TheVariants.{NoContraction}
@@ -13,8 +13,8 @@ use Rattle.louis_translate.specs.Sign.{follows_number, is_capital, sign_at}
 
 -- ---- characters
 
--- the definition of the character has this cell alone, and the character is neither a digit nor a capital: so the only sign
--- that may stand before it is the one after a number
+-- the definition of the character has this cell alone, and the character is neither a digit nor a
+-- capital: so the only sign that may stand before it is the one after a number
 pub record IsLoneCell (meaning : Meaning) (character cell : ℕ) : Type 0 where
   pub defined : Definition
   pub definition : definition_of meaning character ≡ Some defined
@@ -34,8 +34,8 @@ AreLoneCells meaning cells =
 abbrev pub IsFree : Meaning → List ℕ → ℕ → Type 0
 IsFree meaning print i = (sign_cells meaning NoContraction ≡ []) ⊎ (follows_number meaning print i ≡ false)
 
--- at the place of the print the definition of its character is chosen, which makes this cell and has no sign; and the next
--- place is free of a sign after a number
+-- at the place of the print the definition of its character is chosen, which makes this cell and
+-- has no sign; and the next place is free of a sign after a number
 pub record IsLoneAt (meaning : Meaning) (print : List ℕ) (i cell : ℕ) : Type 0 where
   pub within : i < length print
   pub chosen : IsChosen meaning print i None

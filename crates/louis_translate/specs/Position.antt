@@ -1,5 +1,6 @@
 -- Where words begin and end in a print, and where the kinds of rules may stand, by the print alone.
-use Rattle.std.specs.Prelude.{◌≡◌, ℕ, ◌-◌, ◌<◌, Bool, true, false, ◌&&◌, ◌==◌, if◌then◌else◌, List, length, slice_get, slice_index, Option, Some, None, IsSome, EachIndex, option_map}
+use Rattle.std.specs.Prelude.{◌≡◌, ℕ, ◌-◌, ◌<◌, Bool, true, false, ◌&&◌, ◌==◌, if◌then◌else◌, List, length}
+use Rattle.std.specs.Prelude.{slice_get, slice_index, Option, Some, None, IsSome, EachIndex, option_map}
 use Rattle.std.specs.Option.{option_and_then}
 use Rattle.louis_table.specs.Meaning.{Meaning, definition_of}
 use Rattle.louis_table.specs.declared.definition.Class.{Class}
@@ -21,15 +22,18 @@ pub record IsFirstUndefined (meaning : Meaning) (print : List ℕ) (place : ℕ)
 abbrev pub class_of : Meaning → ℕ → Option Class
 class_of meaning character = option_map (λ defined. defined.class) (definition_of meaning character)
 
--- the class of the character at a place, and none past the print's end or if the table doesn't define it
+-- the class of the character at a place, and none past the print's end or if the table doesn't
+-- define it
 abbrev pub class_at : Meaning → List ℕ → ℕ → Option Class
 class_at meaning print i = option_and_then (class_of meaning) (slice_get print i)
 
--- the class of the character before a place, and none before the first or if the table doesn't define it
+-- the class of the character before a place, and none before the first or if the table doesn't
+-- define it
 abbrev pub class_before : Meaning → List ℕ → ℕ → Option Class
 class_before meaning print i = if i == 0 then None else class_at meaning print (i - 1)
 
--- a word ends at the print's ends, at spaces and at punctuation; a digit is neither an edge nor a letter
+-- a word ends at the print's ends, at spaces and at punctuation; a digit is neither an edge nor a
+-- letter
 abbrev pub is_edge : Option Class → Bool
 is_edge None = true
 is_edge (Some Space) = true

@@ -17,15 +17,18 @@ folded_from meaning print i = map (fold_of meaning) (drop i print)
 pub record IsBestBelow (meaning : Meaning) (print : List ℕ) (i d : ℕ) (found : Option ℕ) : Type 0 where
   pub candidate : IsCandidate meaning print i found
   pub definition : YieldsTo meaning None found
-  pub best : (j : ℕ) → IsCandidate meaning print i (Some j) → span meaning (Some j) < d → YieldsTo meaning (Some j) found
+  pub best : (j : ℕ) → IsCandidate meaning print i (Some j) → span meaning (Some j) < d
+      → YieldsTo meaning (Some j) found
 
 -- the first rule of a list that may be used, if there is one
 abbrev pub IsFirstOf : Meaning → List ℕ → ℕ → List ℕ → Option ℕ → Type 0
 IsFirstOf meaning print i here None = (j : ℕ) → IsAt here j → ¬ IsCandidate meaning print i (Some j)
 IsFirstOf meaning print i here (Some k) =
-    IsAt here k × IsCandidate meaning print i (Some k) × ((j : ℕ) → IsAt here j → IsCandidate meaning print i (Some j) → k ≤ j)
+    IsAt here k × IsCandidate meaning print i (Some k)
+    × ((j : ℕ) → IsAt here j → IsCandidate meaning print i (Some j) → k ≤ j)
 
--- these rules, in their order, have the d characters from place i on, and all candidates of d characters are among them
+-- these rules, in their order, have the d characters from place i on, and all candidates of d
+-- characters are among them
 pub record AreThose (meaning : Meaning) (print : List ℕ) (i d : ℕ) (here : List ℕ) : Type 0 where
   pub right : (j : ℕ) → IsAt here j → HasCharacters meaning.rules j (take d (folded_from meaning print i))
   pub ascending : AreAscending here

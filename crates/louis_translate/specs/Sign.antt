@@ -1,5 +1,7 @@
--- The signs before numbers, capitals and what follows a number, by the signs of the table and the print.
-use Rattle.std.specs.Prelude.{◌≡◌, ℕ, ◌+◌, ◌-◌, ◌<◌, ◌≤◌, Bool, true, false, ◌&&◌, ◌||◌, not, ◌==◌, nat_eq, nat_le, nat_lt, if◌then◌else◌, List, [], length, take, drop, slice_get, is_some}
+-- The signs before numbers, capitals and what follows a number, by the signs of the table and the
+-- print.
+use Rattle.std.specs.Prelude.{◌≡◌, ℕ, ◌+◌, ◌-◌, ◌<◌, ◌≤◌, Bool, true, false, ◌&&◌, ◌||◌, not, ◌==◌, nat_eq, nat_le}
+use Rattle.std.specs.Prelude.{nat_lt, if◌then◌else◌, List, [], length, take, drop, slice_get, is_some}
 use Rattle.std.specs.List.{list_all, list_any, prefix_len, range_with_len, suffix_len}
 use Rattle.std.specs.Option.{option_map_or}
 use Rattle.louis_table.specs.declared.character_set.CharacterSet.TheVariants as sets
@@ -37,14 +39,15 @@ pub record IsRun (meaning : Meaning) (print : List ℕ) (i a b : ℕ) : Type 0 w
   pub capitals : AreCapitals meaning print a b
   pub longest : (c d : ℕ) → c ≤ i → i < d → AreCapitals meaning print c d → (a ≤ c) × (d ≤ b)
 
--- one sign may stand before the whole run around a place: it has two capitals or more, and no letter follows it
+-- one sign may stand before the whole run around a place: it has two capitals or more, and no
+-- letter follows it
 abbrev pub takes_one_sign : Meaning → List ℕ → ℕ → Bool
 takes_one_sign meaning print i =
     nat_le (run_start meaning print i + 2) (run_end meaning print i)
     && not (is_letter (class_at meaning print (run_end meaning print i)))
 
--- before a capital: if the table has `begcapsword` and the run takes one sign, that one before the run's first and none
--- before its others; else `capsletter`
+-- before a capital: if the table has `begcapsword` and the run takes one sign, that one before the
+-- run's first and none before its others; else `capsletter`
 abbrev pub capital_sign : Meaning → List ℕ → ℕ → List ℕ
 capital_sign meaning print i =
     if nat_lt 0 (length (sign_cells meaning signs.CapitalWord)) && takes_one_sign meaning print i
@@ -69,7 +72,8 @@ is_mode_char_at meaning print i = option_map_or (is_mode_char meaning) (slice_ge
 abbrev pub goes_on_at : Meaning → List ℕ → ℕ → Bool
 goes_on_at meaning print i = is_digit_at meaning print i || is_mode_char_at meaning print i
 
--- a number that begins at place j reaches place i: a digit stands at j, and what stands from there to i continues a number
+-- a number that begins at place j reaches place i: a digit stands at j, and what stands from there
+-- to i continues a number
 abbrev pub is_number_from : Meaning → List ℕ → ℕ → ℕ → Bool
 is_number_from meaning print i j =
     is_digit_at meaning print j && list_all (goes_on_at meaning print) (range_with_len j (i + 1 - j))
@@ -112,8 +116,9 @@ plain_sign_at meaning print i =
     then (if is_digit (class_before meaning print i) then [] else sign_cells meaning signs.Number)
     else (if is_capital_at meaning print i then capital_sign meaning print i else [])
 
--- the signs with numeric mode: one before a digit that no number reaches, those before capitals, and one before a
--- character that could be read as more of a number; a sign that the table lacks is empty
+-- the signs with numeric mode: one before a digit that no number reaches, those before capitals,
+-- and one before a character that could be read as more of a number; a sign that the table lacks is
+-- empty
 abbrev pub sign_at : Meaning → List ℕ → ℕ → List ℕ
 sign_at meaning print i =
     if is_digit_at meaning print i

@@ -9,16 +9,19 @@ use Rattle.louis_translate.specs.Choice.{IsChosen}
 use Rattle.louis_translate.specs.Search.{IsBestBelow, IsOnWay}
 use Rattle.louis_translate.specs.Tree.{leads, rules_at}
 
--- a walk may begin there, by two folded characters: nowhere, if no rule begins with them or is the first alone; at
--- the group of the first; or where both lead, if no rule is the first alone
+-- a walk may begin there, by two folded characters: nowhere, if no rule begins with them or is the
+-- first alone; at the group of the first; or where both lead, if no rule is the first alone
 abbrev pub IsStart : RuleTree → ℕ → ℕ → Start → Type 0
-IsStart tree a b Nowhere = (n : ℕ) → leads tree None a ≡ Some n → (rules_at tree.nodes.items n ≡ []) × (leads tree (Some n) b ≡ None)
+IsStart tree a b Nowhere = (n : ℕ) → leads tree None a ≡ Some n
+    → (rules_at tree.nodes.items n ≡ []) × (leads tree (Some n) b ≡ None)
 IsStart tree a b Group = Unit {0}
-IsStart tree a b (Child m) = (n : ℕ) × (leads tree None a ≡ Some n) × (rules_at tree.nodes.items n ≡ []) × (leads tree (Some n) b ≡ Some m)
+IsStart tree a b (Child m) =
+    (n : ℕ) × (leads tree None a ≡ Some n) × (rules_at tree.nodes.items n ≡ []) × (leads tree (Some n) b ≡ Some m)
 
 -- the starts of pairs of characters as they are written, row by row
 pub record AreStarts (meaning : Meaning) (tree : RuleTree) (starts : List Start) : Type 0 where
-  pub each : (i : ℕ) (start : Start) → slice_get starts i ≡ Some start → IsStart tree (fold_of meaning (i / 128)) (fold_of meaning (i % 128)) start
+  pub each : (i : ℕ) (start : Start) → slice_get starts i ≡ Some start
+      → IsStart tree (fold_of meaning (i / 128)) (fold_of meaning (i % 128)) start
 
 -- a table with rules has the starts of all pairs
 abbrev pub AreAll : Meaning → List Start → Type 0

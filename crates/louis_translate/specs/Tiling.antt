@@ -14,8 +14,8 @@ module _ (sign : ℕ → List ℕ) (meaning : Meaning) (print : List ℕ) where
     pub end : choice.end ≡ i + span meaning choice.rule
     pub chosen : IsChosenBy sign meaning print i choice.rule
 
-  -- the choices cover the places of the print from i up to but not including j, without gap or overlap, each chosen at
-  -- its start
+  -- the choices cover the places of the print from i up to but not including j, without gap or
+  -- overlap, each chosen at its start
   abbrev pub CoversBy : ℕ → List Choice → ℕ → Type 0
   CoversBy i [] j = i ≡ j
   CoversBy i (choice ∷ choices) j = (i < length print) × IsChoiceAtBy i choice × CoversBy choice.end choices j

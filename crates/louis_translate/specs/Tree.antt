@@ -1,5 +1,6 @@
 -- Rules in a tree of their characters. A place in it is the top or, by its index, a node.
-use Rattle.std.specs.Prelude.{◌≡◌, ◌≢◌, ℕ, ◌+◌, ◌<◌, ◌≤◌, ◌⊎◌, List, [], ◌∷◌, ◌++◌, length, slice_get, nat_eq, Option, Some, None, IsSomeAnd}
+use Rattle.std.specs.Prelude.{◌≡◌, ◌≢◌, ℕ, ◌+◌, ◌<◌, ◌≤◌, ◌⊎◌, List, [], ◌∷◌, ◌++◌, length}
+use Rattle.std.specs.Prelude.{slice_get, nat_eq, Option, Some, None, IsSomeAnd}
 use Rattle.std.specs.Map.{lookup}
 use Rattle.std.specs.Option.{option_map_or}
 use Rattle.louis_table.specs.declared.rule.Rule.{Rule}
@@ -40,7 +41,8 @@ StandsIn tree chars j = (n : ℕ) × LeadTo tree None chars (Some n) × IsAt (ru
 abbrev pub HasCharacters : List Rule → ℕ → List ℕ → Type 0
 HasCharacters rules j chars = IsSomeAnd (slice_get rules j) (λ rule. rule.chars ≡ chars)
 
--- each of the first k rules that has characters stands where they lead, and a node has no others, in their order
+-- each of the first k rules that has characters stands where they lead, and a node has no others,
+-- in their order
 pub record IsTree (rules : List Rule) (k : ℕ) (tree : RuleTree) : Type 0 where
   -- the characters on the way to a place
   pub text : Option ℕ → List ℕ
@@ -50,20 +52,24 @@ pub record IsTree (rules : List Rule) (k : ℕ) (tree : RuleTree) : Type 0 where
   pub right : (n j : ℕ) → IsAt (rules_at tree.nodes.items n) j → HasCharacters rules j (text (Some n))
   pub known : (n j : ℕ) → IsAt (rules_at tree.nodes.items n) j → j < k
   pub ascending : (n : ℕ) → AreAscending (rules_at tree.nodes.items n)
-  pub all : (j : ℕ) (rule : Rule) → j < k → slice_get rules j ≡ Some rule → 0 < length rule.chars → StandsIn tree rule.chars j
+  pub all : (j : ℕ) (rule : Rule) → j < k → slice_get rules j ≡ Some rule → 0 < length rule.chars
+      → StandsIn tree rule.chars j
 
 -- the place is the top or a node
 abbrev pub IsPlace : RuleTree → Option ℕ → Type 0
 IsPlace tree None = Unit {0}
 IsPlace tree (Some n) = n < length tree.nodes.items
 
--- a character leads from a place to this node, which is new if it led nowhere; all else is as before
+-- a character leads from a place to this node, which is new if it led nowhere; all else is as
+-- before
 pub record LeadsFrom (tree more : RuleTree) (from : Option ℕ) (c n : ℕ) : Type 0 where
   pub leads_to : leads more from c ≡ Some n
-  pub node : (leads tree from c ≡ Some n) ⊎ (IsPlace tree from × (n ≡ length tree.nodes.items) × (n < length more.nodes.items))
+  pub node : (leads tree from c ≡ Some n)
+      ⊎ (IsPlace tree from × (n ≡ length tree.nodes.items) × (n < length more.nodes.items))
   pub len : length tree.nodes.items ≤ length more.nodes.items
   pub stays : (f : Option ℕ) (d m : ℕ) → leads tree f d ≡ Some m → leads more f d ≡ Some m
-  pub comes : (f : Option ℕ) (d m : ℕ) → leads more f d ≡ Some m → (leads tree f d ≡ Some m) ⊎ ((f ≡ from) × (d ≡ c) × (m ≡ n))
+  pub comes : (f : Option ℕ) (d m : ℕ) → leads more f d ≡ Some m
+      → (leads tree f d ≡ Some m) ⊎ ((f ≡ from) × (d ≡ c) × (m ≡ n))
   pub rules : (m : ℕ) → rules_at more.nodes.items m ≡ rules_at tree.nodes.items m
 
 -- a further node, which leads nowhere

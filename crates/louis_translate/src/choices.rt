@@ -20,8 +20,8 @@ pub struct Choice {
     pub end: usize,
 }
 
-/// The choices that cover a print from its front to its end, each chosen at its start. Nothing is allocated. Contracts
-/// see the list of those that are left.
+/// The choices that cover a print from its front to its end, each chosen at its start. Nothing is
+/// allocated. Contracts see the list of those that are left.
 #[derive(Drop)]
 pub struct Choices<'a, B: RuleBook> {
     book: &'a B,

@@ -1,4 +1,5 @@
-//! The cell that belongs to one place of a print, and the place that belongs to one cell. Neither search allocates.
+//! The cell that belongs to one place of a print, and the place that belongs to one cell. Neither
+//! search allocates.
 ghost use Rattle.louis_translate.specs.Braille.{IsOutputPlace, IsPrintPlace, MakesCell, braille};
 ghost use Rattle.louis_translate.specs.Position.{AreDefined};
 ghost use Rattle.louis_translate.specs.Tiling.{Tiles};
@@ -8,8 +9,9 @@ use super::choices::Choice;
 use super::pieces::Pieces;
 use super::rule_book::RuleBook;
 
-/// The output place of a place of a print, from 0: how many cells come before those of the choice that covers the
-/// place. The table defines the print's characters, and all cells of the print can be counted.
+/// The output place of a place of a print, from 0: how many cells come before those of the choice
+/// that covers the place. The table defines the print's characters, and all cells of the print can
+/// be counted.
 pub fn output_place<B: RuleBook>(book: &B, print: &[char], place: usize) -> usize
     requires defined { AreDefined (B.meaning book.now) print.now }
     requires within { place < length print.now }
@@ -28,8 +30,8 @@ pub fn output_place<B: RuleBook>(book: &B, print: &[char], place: usize) -> usiz
     unreachable!()
 }
 
-/// The choice that made a cell of a print's braille, the cell's number from 0; `None` exactly if the braille has no
-/// such cell. The table defines the print's characters.
+/// The choice that made a cell of a print's braille, the cell's number from 0; `None` exactly if
+/// the braille has no such cell. The table defines the print's characters.
 pub fn choice_of_cell<B: RuleBook>(book: &B, print: &[char], cell: usize) -> Option<Choice>
     requires { AreDefined (B.meaning book.now) print.now }
     ensures found { IfSome result (λ choice. (choices : List Choice)
@@ -49,8 +51,9 @@ pub fn choice_of_cell<B: RuleBook>(book: &B, print: &[char], cell: usize) -> Opt
     None
 }
 
-/// The print place of a cell of a print's braille, from 0: the first place of the choice that made the cell; `None`
-/// exactly if the braille has no such cell. The table defines the print's characters.
+/// The print place of a cell of a print's braille, from 0: the first place of the choice that made
+/// the cell; `None` exactly if the braille has no such cell. The table defines the print's
+/// characters.
 pub fn print_place<B: RuleBook>(book: &B, print: &[char], cell: usize) -> Option<usize>
     requires { AreDefined (B.meaning book.now) print.now }
     ensures found { IfSome result (λ place. (choices : List Choice)

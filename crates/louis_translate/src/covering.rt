@@ -8,7 +8,8 @@ use super::position::{fits, is_digit};
 use super::sign::Signs;
 use louis_table::{RuleKind, Table};
 
-/// Whether a sign never stands before a character: it is neither a capital nor a digit, and takes no sign after a number.
+/// Whether a sign never stands before a character: it is neither a capital nor a digit, and takes
+/// no sign after a number.
 #[inline(always)]
 fn never_has_sign(table: &Table, character: char) -> bool
     ensures { OnTrue result (NeverHasSign table.now character) }
@@ -43,7 +44,8 @@ fn has_no_sign_inside(table: &Table, print: &[char], start: usize, end: usize) -
     true
 }
 
-/// Whether a rule of a kind may cover the places from `start` up to `end`, if its characters stand there.
+/// Whether a rule of a kind may cover the places from `start` up to `end`, if its characters stand
+/// there.
 pub(crate) fn may_cover(
     table: &Table,
     print: &[char],

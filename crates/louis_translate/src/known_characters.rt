@@ -12,7 +12,8 @@ const CODES: usize = 256;
 /// How many of the first characters of Unicode are looked up: those of ASCII.
 const ASCII: usize = 128;
 
-/// Which characters of ASCII a table defines, found by their code. Contracts see the list of what is said of each code.
+/// Which characters of ASCII a table defines, found by their code. Contracts see the list of what
+/// is said of each code.
 #[derive(Drop)]
 pub(crate) struct KnownCharacters {
     known: [bool; CODES],
@@ -38,8 +39,8 @@ impl KnownCharacters {
         KnownCharacters { known }
     }
 
-    /// Whether a character is known to be defined. For one that fits in a byte, a list of as many as bytes there are needs no
-    /// test of its bounds.
+    /// Whether a character is known to be defined. For one that fits in a byte, a list of as many
+    /// as bytes there are needs no test of its bounds.
     #[inline(always)]
     pub(crate) fn has(&self, character: char) -> bool
         ensures { result ≡ is_known self.now character }

@@ -1,9 +1,9 @@
-//! Translates print to braille by a table: which rules and definitions stand for the characters of a print,
-//! which cells they make, and which places of print and cells belong together.
+//! Translates print to braille by a table: which rules and definitions stand for the characters of
+//! a print, which cells they make, and which places of print and cells belong together.
 //!
-//! At each place the longest rule or definition that may be used there is chosen, and the next choice begins
-//! where it ends. So the choices cover the print without gap or overlap; their cells, each with the sign
-//! before its start, are the braille.
+//! At each place the longest rule or definition that may be used there is chosen, and the next
+//! choice begins where it ends. So the choices cover the print without gap or overlap; their cells,
+//! each with the sign before its start, are the braille.
 //!
 //! ```rust
 //! use louis_table::{EN, Table};
@@ -16,9 +16,10 @@
 //! assert_eq!(rt; part.used, 2);
 //! ```
 //!
-//! A rule book is a table with a way to find the chosen rule: [`PlainRules`] looks at all rules, [`RuleIndex`]
-//! walks along the print down a tree of the rules' characters. All else is proved once over [`RuleBook`].
-//! Reading tables is left to `louis_table`; lines, books and pages to the crates above.
+//! A rule book is a table with a way to find the chosen rule: [`PlainRules`] looks at all rules,
+//! [`RuleIndex`] walks along the print down a tree of the rules' characters. All else is proved
+//! once over [`RuleBook`]. Reading tables is left to `louis_table`; lines, books and pages to the
+//! crates above.
 #![tactic(auto)]
 
 mod choices;

@@ -1,4 +1,5 @@
-//! Characters that stand as one cell wherever their definition is chosen and no number reaches them.
+//! Characters that stand as one cell wherever their definition is chosen and no number reaches
+//! them.
 ghost use Rattle.louis_translate.specs.Piece.{AreLoneCells, IsLoneCell};
 ghost use Rattle.std.specs.Option.{option_and_then, option_copied};
 ghost use Rattle.std.specs.Prelude.{◌≡◌, ◌<◌, IfSome, slice_get};
@@ -11,7 +12,8 @@ use std::marker::Model;
 /// How many of the first characters of Unicode have their lone cells kept.
 const DIRECT: usize = 256;
 
-/// The lone cells of the first characters of Unicode, found by their code. Contracts see their list.
+/// The lone cells of the first characters of Unicode, found by their code. Contracts see their
+/// list.
 #[derive(Drop)]
 pub(crate) struct LoneCells {
     cells: [Option<Cell>; DIRECT],

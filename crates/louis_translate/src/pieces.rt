@@ -4,7 +4,8 @@ ghost use Rattle.louis_translate.specs.Piece.{IsFree, IsLoneAt, IsLoneCell};
 ghost use Rattle.louis_translate.specs.Position.{AreDefined};
 ghost use Rattle.std.specs.Bool.{OnTrue};
 ghost use Rattle.std.specs.Option.{ForSome, option_copied};
-ghost use Rattle.std.specs.Prelude.{IfSome, List, MatchOption, None, Some, [], length, option_map, slice_get, true, ℕ, ◌+◌, ◌<◌, ◌≡◌, ◌∷◌};
+ghost use Rattle.std.specs.Prelude.{IfSome, List, MatchOption, None, Some, [], length};
+ghost use Rattle.std.specs.Prelude.{option_map, slice_get, true, ℕ, ◌+◌, ◌<◌, ◌≡◌, ◌∷◌};
 
 use super::choices::{Choice, choose};
 use super::position::is_digit;
@@ -26,11 +27,11 @@ pub struct Piece<'a> {
     pub own: &'a [Cell],
 }
 
-/// The pieces of a print's braille from its front to its end, one for each choice. Nothing is allocated. Contracts see
-/// the list of what those that are left show.
+/// The pieces of a print's braille from its front to its end, one for each choice. Nothing is
+/// allocated. Contracts see the list of what those that are left show.
 ///
-/// Most of a print is runs of characters that each stand as one cell. A loop that has to be fast takes these by
-/// [`Pieces::next_lone`], and the piece after them by [`Pieces::next_chosen`].
+/// Most of a print is runs of characters that each stand as one cell. A loop that has to be fast
+/// takes these by [`Pieces::next_lone`], and the piece after them by [`Pieces::next_chosen`].
 #[derive(Drop)]
 pub struct Pieces<'a, B: RuleBook> {
     book: &'a B,
@@ -51,7 +52,8 @@ impl<'a, B: RuleBook> Model for Pieces<'a, B> {
 
     ghost Value = { List PieceItem };
 
-    ghost view = { λ p. map (made_by (B.meaning p.book.now) p.print.now) (choices_from (B.meaning p.book.now) p.print.now p.at) };
+    ghost view = { λ p. map (made_by (B.meaning p.book.now) p.print.now)
+        (choices_from (B.meaning p.book.now) p.print.now p.at) };
 
     ghost invariant = { λ p. (p.at ≤ length p.print.now) × AreDefined (B.meaning p.book.now) p.print.now
         × (p.is_free ≡ true → IsFree (B.meaning p.book.now) p.print.now p.at)
@@ -65,7 +67,8 @@ impl<'a, B: RuleBook> Pieces<'a, B> {
     ghost use Rattle.louis_translate.specs.Tiling.{Tiles};
     ghost use Rattle.std.specs.Prelude.{[], ◌∷◌, ◌≡◌, List, MatchOption, map};
 
-    /// The pieces of a print whose characters the table defines: what the choices of its tiling make.
+    /// The pieces of a print whose characters the table defines: what the choices of its tiling
+    /// make.
     pub fn new(book: &'a B, print: &'a [char]) -> Self
         requires { AreDefined (B.meaning book.now) print.now }
         ensures { (choices : List Choice) → Tiles (B.meaning book.now) print.now choices
@@ -80,8 +83,8 @@ impl<'a, B: RuleBook> Pieces<'a, B> {
         }
     }
 
-    /// Takes the next piece, and gives its cell, if it is seen at once that the piece is one cell without a sign.
-    /// Otherwise nothing is taken, and `next_chosen` finds the piece.
+    /// Takes the next piece, and gives its cell, if it is seen at once that the piece is one cell
+    /// without a sign. Otherwise nothing is taken, and `next_chosen` finds the piece.
     #[inline(always)]
     pub fn next_lone(&mut self) -> Option<Cell>
         ensures { MatchOption result (self.new ≡ self.old) (BeginsWithLone self.old self.new) }
@@ -94,7 +97,8 @@ impl<'a, B: RuleBook> Pieces<'a, B> {
     /// The next piece, as `next` gives it, without looking whether it is a lone cell.
     #[inline(always)]
     pub fn next_chosen(&mut self) -> Option<Piece<'a>>
-        ensures { MatchOption result ((self.old ≡ []) × (self.new ≡ [])) (λ piece. self.old ≡ item_of piece ∷ self.new) }
+        ensures { MatchOption result ((self.old ≡ []) × (self.new ≡ []))
+            (λ piece. self.old ≡ item_of piece ∷ self.new) }
     {
         if self.at == self.print.len() {
             return None;
@@ -156,10 +160,12 @@ fn own_or_lone<'a>(table: &'a Table, cell: &'a Cell, rule: Option<usize>) -> &'a
     }
 }
 
-/// The lone cell of a character at a place that is free of a sign after a number: no sign stands before it there.
+/// The lone cell of a character at a place that is free of a sign after a number: no sign stands
+/// before it there.
 #[inline(always)]
 fn unsigned_cell<B: RuleBook>(book: &B, character: char, is_free: bool) -> Option<&Cell>
-    ensures { IfSome (option_copied result) (λ cell. (is_free ≡ true) × IsLoneCell (B.meaning book.now) character cell) }
+    ensures { IfSome (option_copied result)
+        (λ cell. (is_free ≡ true) × IsLoneCell (B.meaning book.now) character cell) }
 {
     if !is_free {
         return None;
@@ -167,8 +173,8 @@ fn unsigned_cell<B: RuleBook>(book: &B, character: char, is_free: bool) -> Optio
     book.lone_cell(character)
 }
 
-/// The only cell that is made at a place, if it is seen at once that there is no other. A place that may follow a
-/// number has none.
+/// The only cell that is made at a place, if it is seen at once that there is no other. A place
+/// that may follow a number has none.
 #[inline(always)]
 fn lone_at<'a, B: RuleBook>(
     book: &'a B,
@@ -186,11 +192,12 @@ fn lone_at<'a, B: RuleBook>(
     Some(cell)
 }
 
-/// Whether no sign after a number can stand right after a character: the table has none, or no number continues over
-/// the character.
+/// Whether no sign after a number can stand right after a character: the table has none, or no
+/// number continues over the character.
 #[inline(always)]
 fn frees_next(table: &Table, character: char) -> bool
-    ensures { OnTrue result ((print : List ℕ) (i : ℕ) → slice_get print i ≡ Some character → IsFree table.now print (i + 1)) }
+    ensures { OnTrue result
+        ((print : List ℕ) (i : ℕ) → slice_get print i ≡ Some character → IsFree table.now print (i + 1)) }
 {
     if table.nocontractsign().is_empty() {
         return true;

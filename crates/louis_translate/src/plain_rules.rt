@@ -2,14 +2,16 @@
 ghost use Rattle.louis_table.specs.Meaning.{fold_of};
 ghost use Rattle.louis_translate.specs.Choice.{IsChosen, Matches};
 ghost use Rattle.std.specs.Bool.{OnTrue, OnFalse};
-ghost use Rattle.std.specs.Prelude.{◌≡◌, ◌≢◌, ◌+◌, ◌<◌, ◌≤◌, ◌⊎◌, ◌↔◌, ℕ, [], None, Some, slice_get, length, map, take, drop, slice_index, IsTrue, MatchBool};
+ghost use Rattle.std.specs.Prelude.{◌≡◌, ◌≢◌, ◌+◌, ◌<◌, ◌≤◌, ◌⊎◌, ◌↔◌, ℕ, [], None, Some, slice_get};
+ghost use Rattle.std.specs.Prelude.{length, map, take, drop, slice_index, IsTrue, MatchBool};
 
 use super::covering::may_cover;
 use super::rule_book::RuleBook;
 use louis_table::{Rule, Table};
 use std::marker::Model;
 
-/// A table, all of whose rules are looked at for each choice. Contracts see it as what the table says.
+/// A table, all of whose rules are looked at for each choice. Contracts see it as what the table
+/// says.
 #[derive(Drop)]
 pub struct PlainRules {
     table: Table,
@@ -61,8 +63,8 @@ fn begins_with(characters: &[char], first: char) -> bool
     }
 }
 
-/// Whether a rule may be used at a place whose folded character is `first`. A rule without characters never
-/// is.
+/// Whether a rule may be used at a place whose folded character is `first`. A rule without
+/// characters never is.
 fn matches(table: &Table, rule: &Rule, print: &[char], at: usize, first: char) -> bool
     requires within { at < length print.now }
     requires first { first ≡ fold_of table.now (slice_index print.now at) }

@@ -1,5 +1,7 @@
 //! Where words begin and end, and where the kinds of rules may stand.
-ghost use Rattle.louis_translate.specs.Position.{class_at as class_at_lem, class_before as class_before_lem, fits as fits_lem, is_digit as is_digit_lem, is_edge as is_edge_lem, is_letter as is_letter_lem};
+ghost use Rattle.louis_translate.specs.Position.{class_at as class_at_lem, class_before as class_before_lem};
+ghost use Rattle.louis_translate.specs.Position.{fits as fits_lem, is_digit as is_digit_lem};
+ghost use Rattle.louis_translate.specs.Position.{is_edge as is_edge_lem, is_letter as is_letter_lem};
 ghost use Rattle.std.specs.Prelude.{◌≡◌};
 
 use louis_table::{Class, RuleKind, Table};

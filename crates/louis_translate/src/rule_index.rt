@@ -16,8 +16,8 @@ use louis_table::Table;
 use std::alloc::{AllocError, Global};
 use std::marker::Model;
 
-/// A table, whose rules are found by a walk along the print down a tree of their characters. Contracts see it as
-/// what the table says.
+/// A table, whose rules are found by a walk along the print down a tree of their characters.
+/// Contracts see it as what the table says.
 pub struct RuleIndex {
     index: IndexedTable,
     // where walks begin
@@ -57,7 +57,8 @@ impl Drop for RuleIndex {
 impl RuleIndex {
     ghost use Rattle.std.specs.Prelude.{◌≡◌, IfOk};
 
-    /// The index of a table, which it owns from then on. If an allocation for it fails, the table is dropped.
+    /// The index of a table, which it owns from then on. If an allocation for it fails, the table
+    /// is dropped.
     pub fn new(alloc: Global, table: Table) -> Result<Self, AllocError>
         ensures { IfOk result (λ index. index ≡ table) }
     {
@@ -89,7 +90,8 @@ fn start_here(index: &IndexedTable, starts: &[Start], print: &[char], at: usize)
     start_at(starts, print[at], print[at + 1])
 }
 
-/// Whether no walk begins at a place, and so the definition of its character is chosen, by a table that has rules.
+/// Whether no walk begins at a place, and so the definition of its character is chosen, by a table
+/// that has rules.
 #[inline(always)]
 fn begins_nowhere(index: &IndexedTable, starts: &[Start], print: &[char], at: usize) -> bool
     requires whole { IsWhole index.now }

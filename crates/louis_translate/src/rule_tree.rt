@@ -1,5 +1,7 @@
 //! Rules in a tree of their characters, grouped by the first one.
-ghost use Rattle.louis_translate.specs.Tree.{AddsNode, LeadsFrom, PutsChildren, PutsRules, children_at as children_at_lem, leads, rules_at as rules_at_lem};
+ghost use Rattle.louis_translate.specs.Tree.{AddsNode, LeadsFrom, PutsChildren};
+ghost use Rattle.louis_translate.specs.Tree.{PutsRules, children_at as children_at_lem};
+ghost use Rattle.louis_translate.specs.Tree.{leads, rules_at as rules_at_lem};
 ghost use Rattle.std.specs.Map.{lookup};
 ghost use Rattle.std.specs.Prelude.{nat_eq, ◌≡◌, ◌<◌, ◌++◌, ◌∷◌, [], None, Some, length, IfOk, OnOk};
 

@@ -2,15 +2,24 @@
 ghost use Rattle.louis_table.specs.Meaning.{sign_cells};
 ghost use Rattle.louis_table.specs.declared.sign.Sign.TheVariants.{Capital, Number};
 ghost use Rattle.louis_translate.specs.Position.{class_at as class_at_lem};
-ghost use Rattle.louis_translate.specs.Sign.{capital_sign as capital_sign_lem, ends_number as ends_number_lem, follows_number as follows_number_lem, is_capital_at as is_capital_at_lem, is_digit_at, is_mode_char as is_mode_char_lem, is_nocontract_char as is_nocontract_char_lem, run_end, run_start, sign_at};
+ghost use Rattle.louis_translate.specs.Sign.{capital_sign as capital_sign_lem};
+ghost use Rattle.louis_translate.specs.Sign.{ends_number as ends_number_lem};
+ghost use Rattle.louis_translate.specs.Sign.{follows_number as follows_number_lem};
+ghost use Rattle.louis_translate.specs.Sign.{is_capital_at as is_capital_at_lem};
+ghost use Rattle.louis_translate.specs.Sign.{is_digit_at};
+ghost use Rattle.louis_translate.specs.Sign.{is_mode_char as is_mode_char_lem};
+ghost use Rattle.louis_translate.specs.Sign.{is_nocontract_char as is_nocontract_char_lem};
+ghost use Rattle.louis_translate.specs.Sign.{run_end, run_start, sign_at};
 ghost use Rattle.std.specs.Bool.{OnTrue};
-ghost use Rattle.std.specs.Prelude.{◌≡◌, ◌+◌, ◌≤◌, ◌<◌, ◌↔◌, ◌&&◌, [], false, true, if◌then◌else◌, not, ℕ, length, IsTrue};
+ghost use Rattle.std.specs.Prelude.{◌≡◌, ◌+◌, ◌≤◌, ◌<◌, ◌↔◌, ◌&&◌, [], false, true};
+ghost use Rattle.std.specs.Prelude.{if◌then◌else◌, not, ℕ, length, IsTrue};
 
 use super::position::{class_at, is_digit, is_letter};
 use cell_core::Cell;
 use louis_table::{Class, Table};
 
-/// The place after the last capital of the run around a place, and the place itself if no capital stands there.
+/// The place after the last capital of the run around a place, and the place itself if no capital
+/// stands there.
 #[inline(never)]
 fn end_of_run(table: &Table, print: &[char], place: usize) -> usize
     requires { place ≤ length print.now }
@@ -82,7 +91,8 @@ pub(crate) fn is_mode_char(table: &Table, character: char) -> bool
     table.mode_chars().contains(&character)
 }
 
-/// Whether a character takes a sign right after a number: it is one of those that do, and doesn't continue one.
+/// Whether a character takes a sign right after a number: it is one of those that do, and doesn't
+/// continue one.
 #[inline(never)]
 fn takes_sign_after_number(table: &Table, character: char) -> bool
     ensures { result ≡ (not (is_mode_char_lem table.now character) && is_nocontract_char_lem table.now character) }
@@ -90,8 +100,8 @@ fn takes_sign_after_number(table: &Table, character: char) -> bool
     !is_mode_char(table, character) && table.nocontract_chars().contains(&character)
 }
 
-/// Whether the place before this one is in numeric mode, if that is known of an earlier place. The walk back ends there or
-/// at the first digit, and passes only characters that continue a number.
+/// Whether the place before this one is in numeric mode, if that is known of an earlier place. The
+/// walk back ends there or at the first digit, and passes only characters that continue a number.
 #[inline(never)]
 fn follows_number(table: &Table, print: &[char], known: usize, at_known: bool, place: usize) -> bool
     requires order { known ≤ place }
@@ -112,7 +122,8 @@ fn follows_number(table: &Table, print: &[char], known: usize, at_known: bool, p
     at_known
 }
 
-/// Whether a number reaches a place whose character has this class, and so the next place follows it.
+/// Whether a number reaches a place whose character has this class, and so the next place follows
+/// it.
 #[inline(always)]
 fn goes_on(table: &Table, print: &[char], place: usize, class: Option<Class>, follows: bool) -> bool
     requires place { place < length print.now }
@@ -129,7 +140,8 @@ fn goes_on(table: &Table, print: &[char], place: usize, class: Option<Class>, fo
     is_mode_char(table, print[place])
 }
 
-/// Whether a number has ended before a place that has no digit, and the character there takes a sign after one.
+/// Whether a number has ended before a place that has no digit, and the character there takes a
+/// sign after one.
 #[inline(always)]
 fn ends_number(table: &Table, print: &[char], place: usize, follows: bool) -> bool
     requires place { place < length print.now }
@@ -150,7 +162,8 @@ fn number_sign(table: &Table, follows: bool) -> &[Cell]
     if follows { &[] } else { table.numsign() }
 }
 
-/// The sign before a place that has neither a digit nor a capital, and which follows a number or doesn't.
+/// The sign before a place that has neither a digit nor a capital, and which follows a number or
+/// doesn't.
 fn sign_after_number<'a>(
     table: &'a Table,
     print: &[char],
@@ -170,8 +183,9 @@ fn sign_after_number<'a>(
     }
 }
 
-/// The signs along a print. The run around the last capital is remembered, and whether a number goes on, so that each is
-/// walked once if places are asked for in their order, whichever are left out.
+/// The signs along a print. The run around the last capital is remembered, and whether a number
+/// goes on, so that each is walked once if places are asked for in their order, whichever are left
+/// out.
 #[derive(Drop)]
 pub(crate) struct Signs<'a> {
     table: &'a Table,
@@ -219,7 +233,8 @@ impl<'a> Signs<'a> {
         self.end
     }
 
-    /// Whether a place whose character has this class follows a number. The same is remembered of the next place.
+    /// Whether a place whose character has this class follows a number. The same is remembered of
+    /// the next place.
     #[inline(always)]
     fn follows_at(&mut self, place: usize, class: Option<Class>) -> bool
         requires within { place < length self.old.print.now }
@@ -266,8 +281,8 @@ impl<'a> Signs<'a> {
         self.at_class(place, class_at(self.table, self.print, place))
     }
 
-    /// The sign before a place whose character has this class. Whether the place follows a number matters only at a digit,
-    /// and if the table has a sign after numbers.
+    /// The sign before a place whose character has this class. Whether the place follows a number
+    /// matters only at a digit, and if the table has a sign after numbers.
     #[inline(always)]
     pub(crate) fn at_class(&mut self, place: usize, class: Option<Class>) -> &'a [Cell]
         requires within { place < length self.old.print.now }

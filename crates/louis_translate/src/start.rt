@@ -20,8 +20,8 @@ pub(crate) enum Start {
     Child(u32),
 }
 
-/// Where a walk begins, by two folded characters. If the number of the node is too great to be kept, it
-/// begins at the group.
+/// Where a walk begins, by two folded characters. If the number of the node is too great to be
+/// kept, it begins at the group.
 fn start_of(index: &IndexedTable, first: char, second: char) -> Start
     requires { IsWhole index.now }
     ensures { IsStart index.now.tree first second result }
@@ -42,8 +42,8 @@ fn start_of(index: &IndexedTable, first: char, second: char) -> Start
     }
 }
 
-/// The starts of all pairs of the first characters of Unicode, as they are written. A table without rules has
-/// none.
+/// The starts of all pairs of the first characters of Unicode, as they are written. A table without
+/// rules has none.
 pub(crate) fn make_starts(alloc: Global, index: &IndexedTable) -> Result<Vec<Start>, AllocError>
     requires { IsWhole index.now }
     ensures starts { IfOk result (λ starts. AreStarts index.now.table index.now.tree starts.items) }
@@ -61,7 +61,8 @@ pub(crate) fn make_starts(alloc: Global, index: &IndexedTable) -> Result<Vec<Sta
     Ok(starts)
 }
 
-/// Where a walk begins at a place that isn't the last, by the two characters there as they are written.
+/// Where a walk begins at a place that isn't the last, by the two characters there as they are
+/// written.
 #[inline(always)]
 pub(crate) fn start_at(starts: &[Start], first: char, second: char) -> Start
     requires { length starts.now ≡ 128 * 128 }

@@ -1,7 +1,8 @@
 //! The cells of a print, and which places belong together.
 ghost use Rattle.louis_translate.specs.Braille.{IsPart, IsTranslation};
 ghost use Rattle.louis_translate.specs.Position.{AreDefined, IsFirstUndefined};
-ghost use Rattle.std.specs.Prelude.{◌≡◌, ◌+◌, ◌≤◌, ◌<◌, ◌↔◌, ◌++◌, ℕ, Err, IfOk, IsTrue, MatchBool, OnOk, length, replicate};
+ghost use Rattle.std.specs.Prelude.{◌≡◌, ◌+◌, ◌≤◌, ◌<◌, ◌↔◌, ◌++◌, ℕ, Err, IfOk, IsTrue};
+ghost use Rattle.std.specs.Prelude.{MatchBool, OnOk, length, replicate};
 ghost use Rattle.std.specs.Str.{chars};
 
 use super::pieces::Pieces;
@@ -16,7 +17,8 @@ use std::alloc::{AllocError, Global};
 pub struct Translation {
     /// The cells.
     pub cells: Cells,
-    /// For each place of the print, the first cell made for the choice that covers it, its sign included.
+    /// For each place of the print, the first cell made for the choice that covers it, its sign
+    /// included.
     pub output_pos: Places,
     /// For each cell, the first place of the choice that made it.
     pub input_pos: Places,
@@ -78,8 +80,9 @@ fn translate_print<B: RuleBook>(
 ///
 /// # Errors
 ///
-/// [`Fault::Undefined`] exactly if the table doesn't define a character of the text, with the smallest place
-/// of one, before anything is allocated; otherwise [`Fault::NoMemory`] if an allocation failed.
+/// [`Fault::Undefined`] exactly if the table doesn't define a character of the text, with the
+/// smallest place of one, before anything is allocated; otherwise [`Fault::NoMemory`] if an
+/// allocation failed.
 pub fn translate<B: RuleBook>(alloc: Global, book: &B, text: &str) -> Result<Translation, Fault>
     ensures translation { IfOk result (λ t.
         IsTranslation (B.meaning book.now) (chars text.now) t.cells t.output_pos t.input_pos) }
@@ -128,7 +131,8 @@ fn fill<B: RuleBook>(
     })
 }
 
-/// The cells of the longest front of a text's choices that fit in a room of so many cells. No choice is cut.
+/// The cells of the longest front of a text's choices that fit in a room of so many cells. No
+/// choice is cut.
 ///
 /// # Errors
 ///

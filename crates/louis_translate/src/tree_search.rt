@@ -7,7 +7,8 @@ use super::covering::may_cover;
 use super::indexed_table::IndexedTable;
 use louis_table::Table;
 
-/// The first of the rules of a node that may be used, if the characters from `at` up to `end` lead to the node.
+/// The first of the rules of a node that may be used, if the characters from `at` up to `end` lead
+/// to the node.
 #[inline(always)]
 fn first_of(table: &Table, print: &[char], at: usize, end: usize, rules: &[usize]) -> Option<usize>
     requires order { at < end }
@@ -23,7 +24,8 @@ fn first_of(table: &Table, print: &[char], at: usize, end: usize, rules: &[usize
     None
 }
 
-/// The first of the rules of a node that may be used, which is longer than the best one so far, or else that one.
+/// The first of the rules of a node that may be used, which is longer than the best one so far, or
+/// else that one.
 #[inline(always)]
 fn better_of(
     table: &Table,
@@ -45,8 +47,8 @@ fn better_of(
     }
 }
 
-/// The rule that is chosen at a place, found by a walk from a node, to which the characters from there up to
-/// `first_end` lead, and on the way to which no rule may be used.
+/// The rule that is chosen at a place, found by a walk from a node, to which the characters from
+/// there up to `first_end` lead, and on the way to which no rule may be used.
 #[inline(never)]
 pub(crate) fn walk(
     index: &IndexedTable,

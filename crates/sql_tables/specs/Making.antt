@@ -22,8 +22,8 @@ use Rattle.sql_tables.specs.Tables.{counter}
 abbrev pub IndexesLow : Schema → Type 0
 IndexesLow s = (i : Index) → Has s.indexes i → i.table < next_tree s
 
--- The schema after a first table is made. If a table counts its rowids and the database's counter of them isn't there, the database makes
--- the counter right after it.
+-- The schema after a first table is made. If a table counts its rowids and the database's counter
+-- of them isn't there, the database makes the counter right after it.
 abbrev pub first_created : Schema → Table → Schema
 first_created s table = if lacks_sequence s then created (created s table) (counter 0) else created s table
 
@@ -31,9 +31,9 @@ first_created s table = if lacks_sequence s then created (created s table) (coun
 abbrev pub first_rows : Schema → Trees → Trees
 first_rows s rows tree = if nat_lt tree (next_tree s) then rows tree else []
 
--- A tree that the database keeps as it is: that of a table that it doesn't understand or that something binds, or of an index on one,
--- whether it understands the index or not. Such a tree is listed among the schema's views, and sqlite_schema lists it with the code of one
--- that is frozen.
+-- A tree that the database keeps as it is: that of a table that it doesn't understand or that
+-- something binds, or of an index on one, whether it understands the index or not. Such a tree is
+-- listed among the schema's views, and sqlite_schema lists it with the code of one that is frozen.
 pub record IsForeignTree (s : Schema) (db : Trees) (tree : ℕ) : Type 0 where
   pub view : Stored
   pub listed : Has s.views view
@@ -43,13 +43,15 @@ pub record IsForeignTree (s : Schema) (db : Trees) (tree : ℕ) : Type 0 where
   pub no_table : AllByRecursion (λ t. t.tree ≢ tree) s.tables
   pub no_index : IsNoIndex s tree
 
--- The rows of such trees stay, and so do the user version and each row of sqlite_schema that lists such a tree or a trigger.
+-- The rows of such trees stay, and so do the user version and each row of sqlite_schema that lists
+-- such a tree or a trigger.
 pub record KeepsAside (s : Schema) (old new : Trees) : Type 0 where
   pub rows : (tree : ℕ) → IsForeignTree s old tree → new tree ≡ old tree
   pub texts : KeepsForeign (old catalog_tree) (new catalog_tree)
   pub version : new version_tree ≡ old version_tree
 
--- within a transaction over this commit the schema is this one so far, and the tables have those rows
+-- within a transaction over this commit the schema is this one so far, and the tables have those
+-- rows
 pub record IsMaking (committed : Database) (first : Schema) (rows : Trees) (now : Schema) (s : State)
     : Type 0 where
   pub schema : s.now.schema ≡ now

@@ -42,8 +42,9 @@ pub record HasTable (table : Table) (s : State) : Type 0 where
   pub declared : IsDeclared s.now.schema table
   pub sound : IsSound s.now.schema s.now.trees
 
--- A statement without parameters has an answer in this state: it is understood there, is one statement and doesn't read the time, and
--- nothing that it reads is of a wrong type or gives a sum that overflows.
+-- A statement without parameters has an answer in this state: it is understood there, is one
+-- statement and doesn't read the time, and nothing that it reads is of a wrong type or gives a sum
+-- that overflows.
 pub record HasAnswer (text : List ℕ) (s : State) : Type 0 where
   pub compiled : Compiled
   pub is : IsStatement s text [] compiled

@@ -1,6 +1,6 @@
--- Tables as they are declared, and when a schema declares one so, whatever stands beside it. Names are compared as written: a table named
--- `Book` isn't `book`. A table that has a trigger, or an index that the database can't read, isn't among the schema's tables, so it isn't
--- declared.
+-- Tables as they are declared, and when a schema declares one so, whatever stands beside it. Names
+-- are compared as written: a table named `Book` isn't `book`. A table that has a trigger, or an
+-- index that the database can't read, isn't among the schema's tables, so it isn't declared.
 use Rattle.std.specs.Prelude.{◌≡◌, true, false, List, [], ◌∷◌, map, Option, Some, None, codes, ℕ, filter, slice_get}
 use Rattle.sqlite_value.specs.declared.keys.Collation.TheVariants.{Binary}
 use Rattle.sqlite_value.specs.declared.keys.Order.{Order}
@@ -52,14 +52,16 @@ numbered_table name columns = plain_table name columns (Some 0) (0 ∷ []) [] []
 abbrev pub keyed_table : List ℕ → List ℕ → List Column → ℕ → Table
 keyed_table name places columns = plain_table name columns None places (places ∷ []) (plain ∷ [])
 
--- the table in which the database counts the rowids of those that are declared with AUTOINCREMENT, in two columns with no type and no rule
+-- the table in which the database counts the rowids of those that are declared with AUTOINCREMENT,
+-- in two columns with no type and no rule
 abbrev pub counter : ℕ → Table
 counter =
     plain_table (codes "sqlite_sequence")
     (map (λ name. record (needed name Any) { is_strict = false; not_null = false }) (codes "name" ∷ codes "seq" ∷ []))
     None [] [] []
 
--- The schema has this table under its name, in a tree that is no other table's, and no unique index on it except those of its key.
+-- The schema has this table under its name, in a tree that is no other table's, and no unique index
+-- on it except those of its key.
 pub record IsDeclared (schema : Schema) (table : Table) : Type 0 where
   pub at : ℕ
   pub named : table_named schema table.name ≡ Some at

@@ -1,5 +1,6 @@
 -- The characters of an operand, read one by one.
-use Rattle.std.specs.Prelude.{ℕ, zero, suc, ◌+◌, ◌*◌, ◌==◌, nat_lt, if◌then◌else◌, List, [], ◌∷◌, length, take, drop, Option, Some, None, option_map}
+use Rattle.std.specs.Prelude.{ℕ, zero, suc, ◌+◌, ◌*◌, ◌==◌, nat_lt, if◌then◌else◌, List, [], ◌∷◌}
+use Rattle.std.specs.Prelude.{length, take, drop, Option, Some, None, option_map}
 use Rattle.std.specs.Char.{digit_value}
 use Rattle.std.specs.Option.{option_and_then}
 use lib.Utf8.{scalar}
@@ -15,7 +16,8 @@ with_rest (Some character) rest = Some (character, rest)
 -- the number that hexadecimal digits spell after others, unless one isn't a digit
 abbrev pub hex_value : ℕ → List ℕ → Option ℕ
 hex_value n [] = Some n
-hex_value n (digit ∷ digits) = if nat_lt (digit_value digit) 16 then hex_value (16 * n + digit_value digit) digits else None
+hex_value n (digit ∷ digits) =
+    if nat_lt (digit_value digit) 16 then hex_value (16 * n + digit_value digit) digits else None
 
 -- the number, if it is that of a Unicode scalar value
 abbrev pub scalar_from : Option ℕ → Option ℕ
@@ -24,7 +26,9 @@ scalar_from (Some number) = if scalar number then Some number else None
 
 -- the character that so many digits at the front number, and what follows them
 abbrev pub number_at : ℕ → List ℕ → Option (ℕ × List ℕ)
-number_at count text = if nat_lt (length text) count then None else with_rest (scalar_from (hex_value 0 (take count text))) (drop count text)
+number_at count text =
+    if nat_lt (length text) count then None
+    else with_rest (scalar_from (hex_value 0 (take count text))) (drop count text)
 
 -- the character of an escape, by its letter or by its digits, and what follows it
 abbrev pub escape_by : Option ℕ → Option ℕ → List ℕ → Option (ℕ × List ℕ)
@@ -49,7 +53,8 @@ abbrev pub characters_within : ℕ → List ℕ → Option (List ℕ)
 characters_within n [] = Some []
 characters_within zero (c ∷ text) = None
 characters_within (suc n) (c ∷ text) =
-    option_and_then (λ found. option_map (λ more. found.0 ∷ more) (characters_within n found.1)) (character_at (c ∷ text))
+    option_and_then (λ found. option_map (λ more. found.0 ∷ more) (characters_within n found.1))
+    (character_at (c ∷ text))
 
 -- the characters of an operand, unless it has a bad escape
 unfoldable pub characters_in : List ℕ → Option (List ℕ)

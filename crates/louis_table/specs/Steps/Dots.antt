@@ -1,5 +1,6 @@
 -- The cells of dots operands, or that they are too many.
-use Rattle.std.specs.Prelude.{◌≡◌, ℕ, ◌+◌, Bool, not, ◌||◌, ◌==◌, nat_lt, true, false, if◌then◌else◌, List, length, take, drop, Option, Some, None, option_map, Result, Ok, Err, codes}
+use Rattle.std.specs.Prelude.{◌≡◌, ℕ, ◌+◌, Bool, not, ◌||◌, ◌==◌, nat_lt, true, false, if◌then◌else◌, List}
+use Rattle.std.specs.Prelude.{length, take, drop, Option, Some, None, option_map, Result, Ok, Err, codes}
 use Rattle.std.specs.List.{prefix_len}
 use Rattle.std.specs.Str.{bytes_eq}
 use Rattle.cell_core.specs.Reading.{cells_in}

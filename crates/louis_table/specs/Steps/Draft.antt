@@ -10,7 +10,8 @@ use Rattle.louis_table.specs.Steps.Table.{with_given}
 abbrev pub written_by : ℕ → Entry → List PendingEntry
 written_by n (Defines character definition) = []
 written_by n (Pairs upper upper_cells lower lower_cells) = []
-written_by n (Replaces kind text cells) = pending.Rule (record { line = n; kind = kind; characters = text; cells = cells }) ∷ []
+written_by n (Replaces kind text cells) =
+    pending.Rule (record { line = n; kind = kind; characters = text; cells = cells }) ∷ []
 written_by n (Announces sign cells) = []
 written_by n (Collects set text) = pending.Set (record { line = n; characters = text }) ∷ []
 

@@ -13,4 +13,5 @@ field_len text = prefix_len (λ c. not (is_gap c)) text
 
 -- the next field, which is empty if there is none, and what follows it
 abbrev pub field_at : List ℕ → List ℕ × List ℕ
-field_at text = (take (field_len (behind_gap text)) (behind_gap text), drop (field_len (behind_gap text)) (behind_gap text))
+field_at text =
+    (take (field_len (behind_gap text)) (behind_gap text), drop (field_len (behind_gap text)) (behind_gap text))

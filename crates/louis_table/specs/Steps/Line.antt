@@ -1,5 +1,7 @@
--- What one line gives to the table that the lines before it make, or the smallest cause for which it gives nothing.
-use Rattle.std.specs.Prelude.{◌≡◌, ℕ, Bool, not, ◌||◌, ◌==◌, nat_lt, false, if◌then◌else◌, List, [], ◌∷◌, length, Option, Some, None, option_map, Result, Ok, Err}
+-- What one line gives to the table that the lines before it make, or the smallest cause for which
+-- it gives nothing.
+use Rattle.std.specs.Prelude.{◌≡◌, ℕ, Bool, not, ◌||◌, ◌==◌, nat_lt, false, if◌then◌else◌, List, []}
+use Rattle.std.specs.Prelude.{◌∷◌, length, Option, Some, None, option_map, Result, Ok, Err}
 use Rattle.cell_core.specs.Reading.{cells_in}
 use Rattle.louis_table.specs.declared.character_set.CharacterSet.{CharacterSet}
 use Rattle.louis_table.specs.declared.opcode.Opcode.{Opcode}
@@ -9,7 +11,8 @@ use Rattle.louis_table.specs.declared.fault.LineFault.TheVariants as line_faults
 use Rattle.louis_table.specs.declared.line_entry.LineEntry.{LineEntry}
 use Rattle.louis_table.specs.declared.line_entry.LineEntry.TheVariants as line_entries
 use Rattle.louis_table.specs.Meaning.{Meaning, sign_cells, set_characters}
-use Rattle.louis_table.specs.Table.{most_rule_characters, most_set_characters, Entry, Defines, Pairs, Replaces, Announces, Collects}
+use Rattle.louis_table.specs.Table.{most_rule_characters, most_set_characters, Entry}
+use Rattle.louis_table.specs.Table.{Defines, Pairs, Replaces, Announces, Collects}
 use Rattle.louis_table.specs.Steps.Fields.{field_at}
 use Rattle.louis_table.specs.Steps.Characters.{characters_in}
 use Rattle.louis_table.specs.Steps.Opcode.{opcode_named}
@@ -44,11 +47,13 @@ or_cause cause (Some entry) = Ok entry
 -- what the characters and the dots operand give to the opcode
 abbrev pub entry_from : Opcode → List ℕ → List ℕ → Result Entry ℕ
 entry_from (Define class) [] dots = Err 3
-entry_from (Define class) (character ∷ []) dots = or_cause 4 (option_map (λ cells. Defines character (record { class = class; cells = cells })) (cells_in dots))
+entry_from (Define class) (character ∷ []) dots =
+    or_cause 4 (option_map (λ cells. Defines character (record { class = class; cells = cells })) (cells_in dots))
 entry_from (Define class) (character ∷ other ∷ text) dots = Err 3
 entry_from UpLow [] dots = Err 3
 entry_from UpLow (upper ∷ []) dots = Err 3
-entry_from UpLow (upper ∷ lower ∷ []) dots = or_cause 4 (option_map (λ cells. Pairs upper cells.0 lower cells.1) (pair_in dots))
+entry_from UpLow (upper ∷ lower ∷ []) dots =
+    or_cause 4 (option_map (λ cells. Pairs upper cells.0 lower cells.1) (pair_in dots))
 entry_from UpLow (upper ∷ lower ∷ other ∷ text) dots = Err 3
 entry_from (Replace kind) text dots = or_cause 4 (option_map (λ cells. Replaces kind text cells) (rule_in dots))
 entry_from (Announce sign) text dots = or_cause 4 (option_map (λ cells. Announces sign cells) (cells_in dots))

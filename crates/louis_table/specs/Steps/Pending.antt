@@ -1,5 +1,7 @@
--- Rules and sets as they are written, and the rules that they become once all definitions are known.
-use Rattle.std.specs.Prelude.{◌≡◌, ℕ, Bool, true, false, if◌then◌else◌, List, [], ◌∷◌, ◌++◌, map, Option, Some, None, Result, Ok, Err, Vec}
+-- Rules and sets as they are written, and the rules that they become once all definitions are
+-- known.
+use Rattle.std.specs.Prelude.{◌≡◌, ℕ, Bool, true, false, if◌then◌else◌, List, [], ◌∷◌, ◌++◌}
+use Rattle.std.specs.Prelude.{map, Option, Some, None, Result, Ok, Err, Vec}
 use Rattle.std.specs.List.{flat_map}
 use Rattle.std.specs.declared.alloc.Global.{Global}
 use Rattle.louis_table.specs.declared.rule.Rule.{Rule}
@@ -18,7 +20,8 @@ use Rattle.louis_table.specs.Steps.Table.{is_known}
 -- the meaning defines each of the characters
 abbrev pub are_defined : Meaning → List ℕ → Bool
 are_defined meaning [] = true
-are_defined meaning (character ∷ characters) = if is_known meaning character then are_defined meaning characters else false
+are_defined meaning (character ∷ characters) =
+    if is_known meaning character then are_defined meaning characters else false
 
 -- the meaning defines each folded character of the rule
 abbrev pub is_complete_rule : Meaning → PendingRule → Bool
@@ -69,16 +72,18 @@ ChecksSet (Err (faults.Table fault)) meaning set =
     (are_defined meaning set.characters ≡ false) × (fault.line ≡ set.line) × (fault.cause ≡ 7)
 ChecksSet (Err faults.NoMemory) meaning set = ⊥
 
--- what is written was finished, its rule put after the others, or has a character that is not defined
+-- what is written was finished, its rule put after the others, or has a character that is not
+-- defined
 abbrev pub Finishes : Result (Unit {0}) ReadFault → Meaning → PendingEntry → List Rule → List Rule → Type 0
 Finishes (Ok _) meaning one old new = (is_complete meaning one ≡ true) × (new ≡ old ++ complete_rules meaning one)
 Finishes (Err (faults.Table fault)) meaning one old new =
     (is_complete meaning one ≡ false) × (fault.line ≡ line_of one) × (fault.cause ≡ 7)
 Finishes (Err faults.NoMemory) meaning one old new = Unit {0}
 
--- all that is written was finished, or one has a character that is not defined; rules and sets stand
--- in one list, by their lines, so that the smallest line is reported
+-- all that is written was finished, or one has a character that is not defined; rules and sets
+-- stand in one list, by their lines, so that the smallest line is reported
 abbrev pub FinishesAll : Result (Vec Rule Global) ReadFault → Meaning → List PendingEntry → Type 0
-FinishesAll (Ok rules) meaning all = (first_lacking meaning all ≡ None) × (rules.items ≡ flat_map (complete_rules meaning) all)
+FinishesAll (Ok rules) meaning all =
+    (first_lacking meaning all ≡ None) × (rules.items ≡ flat_map (complete_rules meaning) all)
 FinishesAll (Err (faults.Table fault)) meaning all = (first_lacking meaning all ≡ Some fault.line) × (fault.cause ≡ 7)
 FinishesAll (Err faults.NoMemory) meaning all = Unit {0}

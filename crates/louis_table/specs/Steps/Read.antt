@@ -1,5 +1,6 @@
 -- What lines give, one after another, and what is reported of them.
-use Rattle.std.specs.Prelude.{◌≡◌, ℕ, ◌+◌, ◌||◌, ◌⊎◌, nat_lt, nat_le, if◌then◌else◌, List, length, map, Option, Some, None, Result, Ok, Err}
+use Rattle.std.specs.Prelude.{◌≡◌, ℕ, ◌+◌, ◌||◌, ◌⊎◌, nat_lt, nat_le, if◌then◌else◌, List}
+use Rattle.std.specs.Prelude.{length, map, Option, Some, None, Result, Ok, Err}
 use Rattle.std.specs.List.{flat_map}
 use Rattle.louis_table.specs.declared.pending.PendingEntry.{PendingEntry}
 use Rattle.louis_table.specs.declared.draft.Draft.{Draft}
@@ -9,7 +10,8 @@ use Rattle.louis_table.specs.declared.fault.ReadFault.{ReadFault}
 use Rattle.louis_table.specs.declared.fault.ReadFault.TheVariants as faults
 use Rattle.louis_table.specs.Meaning.{Meaning, every_sign, every_set}
 use Rattle.louis_table.specs.Profile.{WithNumericMode}
-use Rattle.louis_table.specs.Table.{most_lines, most_line_characters, Entry, GiveFrom, HasCause, IsToldNoLater, definitions_in, partners_in, cells_for, characters_for}
+use Rattle.louis_table.specs.Table.{most_lines, most_line_characters, Entry, GiveFrom, HasCause}
+use Rattle.louis_table.specs.Table.{IsToldNoLater, definitions_in, partners_in, cells_for, characters_for}
 use Rattle.louis_table.specs.Steps.Fault.{cause_number}
 use Rattle.louis_table.specs.Steps.Line.{judge_line}
 use Rattle.louis_table.specs.Steps.Draft.{written_by, Adds}
@@ -19,7 +21,8 @@ use Rattle.louis_table.specs.Steps.Pending.{complete_rules, first_lacking}
 
 -- what a line gives, or 8 where the line is too long or one too many and has no smaller cause
 abbrev pub within_limits : ℕ → List ℕ → Result (Option Entry) ℕ → Result (Option Entry) ℕ
-within_limits before line (Ok given) = if nat_lt most_line_characters (length line) || nat_le most_lines before then Err 8 else Ok given
+within_limits before line (Ok given) =
+    if nat_lt most_line_characters (length line) || nat_le most_lines before then Err 8 else Ok given
 within_limits before line (Err cause) = Err cause
 
 -- what a line after this many others gives to their table, or the smallest cause
@@ -28,7 +31,8 @@ judge meaning before line = within_limits before line (judge_line meaning line)
 
 -- a line was taken into a draft, or has this fault
 abbrev pub TakesLine : Result (Unit {0}) LineFault → ℕ → Draft → Draft → Result (Option Entry) ℕ → Type 0
-TakesLine (Ok _) before old new verdict = (given : Option Entry) × (verdict ≡ Ok given) × Adds old new (before + 1) given
+TakesLine (Ok _) before old new verdict =
+    (given : Option Entry) × (verdict ≡ Ok given) × Adds old new (before + 1) given
 TakesLine (Err (line_faults.Bad cause)) before old new verdict = verdict ≡ Err (cause_number cause)
 TakesLine (Err line_faults.NoMemory) before old new verdict = Unit {0}
 
@@ -77,5 +81,6 @@ LinesTellEarly lines faults.NoMemory = Unit {0}
 
 -- what is reported of the lines
 abbrev pub LinesTell : List (List ℕ) → ReadFault → Type 0
-LinesTell lines (faults.Table fault) = IsTold lines fault.line fault.cause ⊎ (IsLackingIn lines fault.line × (fault.cause ≡ 7))
+LinesTell lines (faults.Table fault) =
+    IsTold lines fault.line fault.cause ⊎ (IsLackingIn lines fault.line × (fault.cause ≡ 7))
 LinesTell lines faults.NoMemory = Unit {0}

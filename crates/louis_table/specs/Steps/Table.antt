@@ -1,7 +1,9 @@
 -- A table that grows entry by entry.
-use Rattle.std.specs.Prelude.{◌≡◌, ◌≢◌, ℕ, Bool, List, [], ◌∷◌, ◌++◌, map, slice_index_or, slice_set, Option, Some, None, is_some}
+use Rattle.std.specs.Prelude.{◌≡◌, ◌≢◌, ℕ, Bool, List, [], ◌∷◌, ◌++◌, map}
+use Rattle.std.specs.Prelude.{slice_index_or, slice_set, Option, Some, None, is_some}
 use Rattle.louis_table.specs.declared.definition.Definition.{Definition}
-use Rattle.louis_table.specs.Meaning.{Meaning, every_sign, sign_place, every_set, set_place, definition_of, partner_of, sign_cells, set_characters}
+use Rattle.louis_table.specs.Meaning.{Meaning, every_sign, sign_place, every_set, set_place}
+use Rattle.louis_table.specs.Meaning.{definition_of, partner_of, sign_cells, set_characters}
 use Rattle.louis_table.specs.Table.{Entry, Defines, Pairs, Replaces, Announces, Collects, definitions_in, partners_in}
 
 -- the meaning defines the character
@@ -23,7 +25,8 @@ no_meaning =
 
 -- the meaning with one more definition
 abbrev pub with_definition : Meaning → ℕ → Definition → Meaning
-with_definition meaning character definition = record meaning { definitions = meaning.definitions ++ (character, definition) ∷ [] }
+with_definition meaning character definition =
+    record meaning { definitions = meaning.definitions ++ (character, definition) ∷ [] }
 
 -- the meaning with one more capital and its lower character
 abbrev pub with_partner : Meaning → ℕ → ℕ → Meaning
@@ -70,7 +73,8 @@ with_given meaning (Some entry) = with_entry meaning entry
 abbrev pub IsNewFor : Meaning → Entry → Type 0
 IsNewFor meaning (Defines character definition) = definition_of meaning character ≡ None
 IsNewFor meaning (Pairs upper upper_cells lower lower_cells) =
-    (definition_of meaning upper ≡ None) × (definition_of meaning lower ≡ None) × (upper ≢ lower) × (partner_of meaning upper ≡ None)
+    (definition_of meaning upper ≡ None) × (definition_of meaning lower ≡ None) × (upper ≢ lower)
+    × (partner_of meaning upper ≡ None)
 IsNewFor meaning (Replaces kind text cells) = Unit {0}
 IsNewFor meaning (Announces sign cells) = sign_cells meaning sign ≡ []
 IsNewFor meaning (Collects set text) = set_characters meaning set ≡ []
@@ -82,4 +86,5 @@ CanTake meaning (Some entry) = IsNewFor meaning entry
 
 -- each capital is defined
 abbrev pub HasDefinedPartners : Meaning → Type 0
-HasDefinedPartners meaning = (character : ℕ) → definition_of meaning character ≡ None → partner_of meaning character ≡ None
+HasDefinedPartners meaning = (character : ℕ) → definition_of meaning character ≡ None
+    → partner_of meaning character ≡ None
