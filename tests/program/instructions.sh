@@ -77,6 +77,9 @@ repeat $times 'print 11'$'\n' > writing.1.$short
 repeat $times 'print 12'$'\n' > writing.1.$long
 repeat $times 'print 13'$'\n' > writing.2.$short
 repeat $times 'print 14'$'\n' > writing.2.$long
+# short requests with short replies
+repeat $times $'version\n' > asking.1
+cat asking.1 asking.1 > asking.2
 
 # ---- the runs
 
@@ -104,7 +107,7 @@ export -f count fail
     echo 'more.check nothing more.book check book'
     echo 'ten.check nothing ten.book check book'
     for volume in 1 2; do echo "pages.$volume nothing pages.book export book $volume"; done
-    for what in {reading,writing}.{1,2}.{$short,$long}; do echo "texts.$what $what texts.book session book"; done
+    for what in asking.{1,2} {reading,writing}.{1,2}.{$short,$long}; do echo "texts.$what $what texts.book session book"; done
 } > runs
 xargs -P "${JOBS:-$(nproc)}" -L 1 bash -euc 'count "$@"' count < runs || fail 'a run fails'
 
@@ -118,6 +121,7 @@ for size in long short; do
         wanted $size.refused.$what $times 'no 16'
     done
 done
+for number in 1 2; do wanted texts.asking.$number $((number * times)) end; done
 for what in {1,2}.{$short,$long}; do
     wanted texts.reading.$what $times 'no 16'
     wanted texts.writing.$what $times end
@@ -158,6 +162,7 @@ figure() { # UNITS RUN LESS WHAT: what a unit takes, by which a run differs from
         figure $times $size.typing $size.refused.typing "a paragraph typed in $where"
         figure $times $size.correcting $size.refused.correcting "a correction in $where"
     done
+    figure $times texts.asking.2 texts.asking.1 'a query for the version, with its reply'
     for bytes in 1 2; do
         [ $bytes = 1 ] && of='of characters of one byte' || of='of characters of two bytes'
         units=$((times * bytes * (long - short)))
