@@ -7,7 +7,7 @@ from typing import BinaryIO
 from zlib import crc32
 
 from braildesk import program as programs
-from braildesk.opening import MAGIC, has_page, has_work
+from braildesk.opening import MAGIC, has_page, has_work, is_used
 from braildesk.program import StrPath
 from braildesk.protocol.asked import real_path
 from braildesk.refusals import Failed, Unopened
@@ -84,6 +84,13 @@ class OpenFile:
         size = os.fstat(self._descriptor).st_size
         self._most = max(self._most, size)
         return size < self._most or not self._is_database(self._descriptor)
+
+    @property
+    def is_used(self) -> bool:
+        """Whether a program has the file open as a book, by its lock."""
+        if self._descriptor is None:
+            return False
+        return is_used(self._descriptor)
 
     def note(self) -> None:
         """Notes what the file holds, while the program waits for a request and writes nothing."""

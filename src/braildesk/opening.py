@@ -227,7 +227,7 @@ def take_alone(file: BinaryIO) -> bool:
     return _take(file, fcntl.F_WRLCK)
 
 
-def is_used(file: BinaryIO) -> bool:
+def is_used(file: BinaryIO | int) -> bool:
     """Whether a program uses the file, or reads it with a shared lock."""
     found: bytes = fcntl.fcntl(file, fcntl.F_OFD_GETLK, _lock(fcntl.F_WRLCK))
     return bool(_LOCK.unpack(found)[0] != fcntl.F_UNLCK)

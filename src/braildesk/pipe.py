@@ -75,6 +75,11 @@ class Pipe:
         return self._process.pid
 
     @property
+    def is_running(self) -> bool:
+        """Whether the program has not ended yet."""
+        return self._process.poll() is None
+
+    @property
     def queued(self) -> int:
         """How many requests there are of which nothing is written yet."""
         return len(self._queue)

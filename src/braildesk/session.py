@@ -123,7 +123,7 @@ class Session:
             return
         self._settle()
         # looked at while nobody else can have it: once the program has ended, anybody may replace it
-        is_gone, is_foreign = not self._file.is_at_its_path, self._file.is_written_into
+        is_gone, is_foreign = not self._file.is_at_its_path, self._is_foreign
         if is_gone and self._is_at_stake:
             raise self._displaced()
         if is_foreign and self._is_at_stake or self._file.is_overwritten:
@@ -343,7 +343,7 @@ class Session:
         if reply.word == "ok" and not self._is_saving:
             if not self._file.is_at_its_path:
                 raise self._displaced()
-            is_foreign = self._is_at_rest and self._file.is_written_into
+            is_foreign = self._is_at_rest and self._is_foreign
             if is_foreign or self._file.is_overwritten:
                 raise self._overwritten()
         return reply
@@ -353,13 +353,24 @@ class Session:
         """Whether the program waits for a request, since each that was sent is answered."""
         return all(isinstance(each, Refused) for each in self._sent)
 
+    @property
+    def _is_foreign(self) -> bool:
+        """Whether others wrote into the file while the program had it open.
+
+        Once the program has ended, another session may have the book, and write into its file. Its
+        end is looked for last, since it may come in between.
+        """
+        return (
+            self._file.is_written_into and self._file.is_used and self._pipe.is_running
+        )
+
     def _judge_file(self, request: Request[Any]) -> None:
         """Whether the file still holds what the program wrote there, which waits for a request.
 
         A session that only asks has nothing to lose there.
         """
         is_at_stake = self._is_at_stake or isinstance(request, Command)
-        if is_at_stake and not self._is_saving and self._file.is_written_into:
+        if is_at_stake and not self._is_saving and self._is_foreign:
             raise self._overwritten()
 
     def _note(self, request: Request[Any], reply: Reply) -> None:

@@ -787,6 +787,34 @@ def test_a_book_that_is_touched_and_written_by_its_own_program_is_no_other_book(
         assert session.add_paragraph("end", "en", "Three.").version == 746
 
 
+@pytest.mark.parametrize("outlived", ["exec {}", "{}; read -r line; exit 1"])
+@pytest.mark.parametrize(
+    "go_on",
+    [lambda s: s.add_paragraph("end", "en", "One."), Session.version, Session.close],
+)
+def test_what_another_session_kept_after_the_program_ended_is_no_other_book(
+    book: Path,
+    script: Callable[[str], Path],
+    program: str,
+    outlived: str,
+    go_on: Callable[[Session], object],
+) -> None:
+    number = book.with_name("number")
+    noting = 'echo $$ > "$0"; exec "$@"'
+    noted = f"sh -c '{noting}' '{number}' '{program}' \"$@\""
+    session = Session(book, script(outlived.format(noted)))
+    session.guard()
+    os.kill(int(number.read_text()), signal.SIGKILL)
+    with Session(book, timeout=60) as another:
+        another.add_paragraph("end", "en", "Two.")
+    with pytest.raises(SessionEnded):
+        go_on(session)
+    assert session.strayed == ""
+    assert not list(book.parent.glob("*-saved-*"))
+    with Session(book) as another:
+        assert another.print_of(1) == "Two."
+
+
 def test_a_session_that_asked_alone_does_not_mind_what_became_of_the_file(
     book: Path,
 ) -> None:
