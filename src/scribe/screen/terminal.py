@@ -151,12 +151,16 @@ class Screen:
         self._watched: int | None = None
         self._drawn = (state, draw(state))
         self._translates = False
+        self._input = _Input(self._came, self._paused)
+        self._app = self._application()
+
+    def _application(self) -> Application[None]:
+        """What draws the screen, and takes what comes."""
         agree_on_widths()
         control = FormattedTextControl(
             self._fragments, show_cursor=True, get_cursor_position=self._cursor
         )
-        self._input = _Input(self._came, self._paused)
-        self._app: Application[None] = Application(
+        application: Application[None] = Application(
             layout=Layout(Window(control)),
             input=self._input,
             style=_STYLE,
@@ -165,7 +169,8 @@ class Screen:
             before_render=lambda app: self._fit(),
             after_render=lambda app: self._end_drawing(),
         )
-        self._app.ttimeoutlen = _ESCAPE_SECONDS
+        application.ttimeoutlen = _ESCAPE_SECONDS
+        return application
 
     def run(self) -> None:
         """Shows the book until it is left, or until the terminal hangs up."""
