@@ -117,6 +117,12 @@ def test_a_manuscript_is_imported_with_its_headings_and_a_report(
         "2 paragraphs typed, numbers 4 to 5, by the table en.",
     ]
     assert desk.window.message.text == reported[-1]
+    # the heading is a command of its own, and is no other program's
+    monkeypatch.setattr(dialogs, "choice", lambda *_: 0)
+    desk.act("take_back")
+    assert desk.window.message.text == (
+        "Taken back: 2 paragraphs were imported, 4 to 5. The book keeps them, struck."
+    )
 
 
 def test_what_takes_long_is_cancelled_by_its_dialog(desk: Desk) -> None:

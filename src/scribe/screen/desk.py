@@ -78,7 +78,6 @@ from scribe.screen.state import (
     State,
     Step,
     at_paragraph,
-    commands_between,
     done_by_one_key,
     draft_of,
     draft_of_pasted,
@@ -1035,7 +1034,7 @@ def _of(number: int) -> list[Request[Any]]:
 
 def _changed_between(before: State, after: State) -> tuple[str, ...]:
     """What is said if the book has been changed by more than an import."""
-    commands = commands_between(before, after)
+    commands = deeds.commands_between(before.book, after.book)
     if after.version - before.version == commands:
         return ()
     return (

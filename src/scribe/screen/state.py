@@ -5,7 +5,7 @@ from dataclasses import dataclass, field, replace
 from enum import Enum, auto
 from typing import Any
 
-from braildesk import Mark, Paragraph, Style, limits
+from braildesk import Mark, Paragraph, limits
 from braildesk.desk.draft import Aim, Draft
 from braildesk.desk.highlighting import Highlighted
 from braildesk.desk.layout import PageSize
@@ -25,7 +25,7 @@ from scribe.screen.actions import (
     TakeBack,
 )
 from scribe.screen.field import Cut, Field, Purpose
-from scribe.words.deeds import Deed, together, typed
+from scribe.words.deeds import Deed, imported, together
 from scribe.words.preview import Preview
 
 
@@ -364,23 +364,8 @@ def done_by_one_key(state: State, before: int) -> State:
 
 def with_imported(before: State, after: State) -> State:
     """The state with an import as a deed, if nothing else changed the book."""
-    there = {each.id for each in before.book}
-    new = sorted(each.id for each in after.book if each.id not in there)
-    if not new or after.version - before.version != commands_between(before, after):
-        return after
-    return replace(after, deeds=(*before.deeds, typed(new, "imported")))
-
-
-def commands_between(before: State, after: State) -> int:
-    """How many commands an import was: one for each paragraph, heading and begin of a volume."""
-    earlier = {each.id: each for each in before.book}
-    count = 0
-    for each in after.book:
-        was = earlier.get(each.id)
-        count += was is None
-        count += each.style is not (was.style if was else Style.BODY)
-        count += each.begins_volume is not (was.begins_volume if was else False)
-    return count
+    deed = imported(before.book, after.book, after.version - before.version)
+    return after if deed is None else replace(after, deeds=(*before.deeds, deed))
 
 
 def so_far(state: State, done: int) -> State:

@@ -421,10 +421,10 @@ class OpenBook:
     def imported(self, before: Contents) -> Contents:
         """The book after an import, which is taken back at once if nothing else changed it."""
         now = self.opened()
-        there = {each.id for each in before.paragraphs}
-        new = sorted(each.id for each in now.paragraphs if each.id not in there)
-        if new and now.version - before.version == len(new):
-            self._deeds = (*self._deeds, deeds.typed(new, "imported"))
+        commands = now.version - before.version
+        deed = deeds.imported(before.paragraphs, now.paragraphs, commands)
+        if deed is not None:
+            self._deeds = (*self._deeds, deed)
         elif now.version != before.version:
             self._deeds = ()
         return now

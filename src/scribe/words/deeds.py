@@ -108,6 +108,29 @@ def typed(numbers: Sequence[int], how: str) -> Deed:
     return Deed(what, back, _ALL_STRUCK)
 
 
+def imported(
+    before: Sequence[Paragraph], now: Sequence[Paragraph], commands: int
+) -> Deed | None:
+    """What an import did to a book, if so many commands were that and nothing else."""
+    there = {each.id for each in before}
+    new = sorted(each.id for each in now if each.id not in there)
+    if not new or commands != commands_between(before, now):
+        return None
+    return typed(new, "imported")
+
+
+def commands_between(before: Sequence[Paragraph], now: Sequence[Paragraph]) -> int:
+    """How many commands an import was: one for each paragraph, heading and begin of a volume."""
+    earlier = {each.id: each for each in before}
+    count = 0
+    for each in now:
+        was = earlier.get(each.id)
+        count += was is None
+        count += each.style is not (was.style if was else Style.BODY)
+        count += each.begins_volume is not (was.begins_volume if was else False)
+    return count
+
+
 def together(deeds: Sequence[Deed]) -> Deed:
     """What one key did by several commands: a correction perhaps, and new paragraphs."""
     backs = [command for each in reversed(deeds) for command in each.back]
