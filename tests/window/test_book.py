@@ -7,13 +7,15 @@ from typing import Any
 
 import pytest
 
-from braildesk import Displaced, Session, Style, requests
+from braildesk import Displaced, Session, Style, new_book, requests
 from braildesk.desk.draft import Aim, Draft
 from braildesk.desk.search import Spot
-from braildesk.protocol.requests import Command
+from braildesk.protocol.requests import Command, Correct, Mark, Table, Type
 from braildesk.text.spans import Span
 
 from scribe.window.book import Done, NotAll, NothingToTakeBack, OpenBook
+
+from conftest import prints
 
 
 @pytest.fixture
@@ -84,6 +86,23 @@ def test_a_correction_is_the_smallest_one(book: OpenBook) -> None:
     assert done is not None and done.said == "kept: correction 1 of paragraph 2"
     (entry,) = book.session.history_of(2)
     assert (entry.start, entry.count, entry.text) == (6, 0, "o")
+
+
+def test_a_correction_leaves_what_stands_elsewhere_in_no_normal_form(
+    tmp_path: Path,
+) -> None:
+    table = "space \\s 0\nletter a 1\nletter e 15\nletter é 123456\nletter \u0301 4\n"
+    path = tmp_path / "own.braildesk"
+    # a request puts the accent in, which is no part of its letter then
+    typed = [Type("end", "own", "e aa"), Correct(1, 1, 0, "\u0301"), Mark(1, 0, 1, "")]
+    new_book(path, holding=[Table("own", table.encode()), *typed])
+    its = OpenBook(path, None, 0.0)
+    (paragraph,) = its.opened().paragraphs
+    its.corrected(its.reading(paragraph), "e\u0301 a")
+    assert not its.session.marks_of(1)[0].touched
+    its.corrected(its.reading(paragraph), "e\u0301 ae\u0301")
+    its.close()
+    assert prints(path) == ["e\u0301 aé"]
 
 
 def test_what_stands_next_is_found(book: OpenBook) -> None:

@@ -58,6 +58,12 @@ def replaced(text: str, start: int, stop: int, by: str) -> str:
     return joined[:first] + composed(joined[first:last]) + joined[last:]
 
 
+def with_typed(old: str, typed: str) -> str:
+    """A print once another was typed over it: what is new in normal form C, as the book keeps it."""
+    least = smallest_correction(old, typed)
+    return old if least is None else replaced(old, least.start, least.stop, least.text)
+
+
 def _shared(some: list[str], others: list[str]) -> int:
     """How many sequences two lists have in common at their fronts."""
     return sum(1 for _ in takewhile(lambda pair: pair[0] == pair[1], zip(some, others)))

@@ -5,7 +5,7 @@ from dataclasses import dataclass, replace
 
 from braildesk import After, Paragraph, Style, requests
 from braildesk.desk.change_all import Replacement
-from braildesk.desk.correction import replaced, smallest_correction
+from braildesk.desk.correction import smallest_correction, with_typed
 from braildesk.text import limits
 from braildesk.text.characters import control_refused
 from braildesk.text.sequences import composed, parted
@@ -520,11 +520,7 @@ def print_of(state: State, typed: Field) -> str:
     """The print that what is typed will be: what is new in normal form C, as the book keeps it."""
     if typed.purpose is not Purpose.EDIT or state.reading is None:
         return composed(typed.text)
-    old = state.reading.text
-    least = smallest_correction(old, typed.text)
-    if least is None:
-        return old
-    return replaced(old, least.start, least.stop, least.text)
+    return with_typed(state.reading.text, typed.text)
 
 
 def _corrected(state: State, typed: Field) -> Step:

@@ -18,7 +18,7 @@ from braildesk.desk.change_all import (
     Replacement,
     change_all,
 )
-from braildesk.desk.correction import smallest_correction
+from braildesk.desk.correction import smallest_correction, with_typed
 from braildesk.desk.draft import Aim, Draft
 from braildesk.desk.find import alike
 from braildesk.desk.highlighting import (
@@ -243,7 +243,8 @@ class OpenBook:
 
     def corrected(self, reading: ChosenParagraph, text: str) -> Done | None:
         """Makes a print what was typed, by the smallest correction; nothing where it is that."""
-        least = smallest_correction(reading.its.text, composed(text))
+        old = reading.its.text
+        least = smallest_correction(old, with_typed(old, text))
         if least is None:
             return None
         number = reading.its.paragraph.id

@@ -14,6 +14,7 @@ from PyQt6.QtWidgets import QWidget
 from PyQt6.sip import voidptr
 
 from braildesk import After, DeskError, Lost, Mark, Paragraph, Refused, requests
+from braildesk.desk.correction import with_typed
 from braildesk.desk.draft import Aim, Draft
 from braildesk.desk.drafts import Drafts, LeftAt, NotKept
 from braildesk.desk.highlighting import Highlighted
@@ -523,6 +524,12 @@ class Desk:
         """Has a text wait until the book has it, or nothing."""
 
         def look(found: "Future[None]") -> None:
+    def print_of(self, text: str) -> str:
+        """The print that a text will be once it is kept."""
+        return (
+            composed(text) if self.new is not None else with_typed(self.before(), text)
+        )
+
             try:
                 found.result()
             except NotKept as fault:
@@ -558,10 +565,8 @@ class Desk:
                 self._is_showing = False
                 self._unlinked()
 
-        tables = self.book.tables
-        self.ahead.latest(
-            "preview", partial(tables.preview, table, text, composed(text)), take
-        )
+        tables, now = self.book.tables, self.print_of(text)
+        self.ahead.latest("preview", partial(tables.preview, table, text, now), take)
         self._unlinked()
 
     def table_of_typed(self) -> str | None:
