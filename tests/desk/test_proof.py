@@ -10,6 +10,7 @@ import pytest
 from braildesk import Session, Style
 from braildesk.desk.layout import PageSize
 from braildesk.desk.proof import ProofLine, ProofPage, ProofWord, proof_pages
+from braildesk.text.cells import EMPTY_CELL
 
 from scribe.words.proof_html import Proof
 from tool import ROOT, scribe
@@ -84,6 +85,20 @@ def test_a_mark_stands_at_the_line_of_its_first_word(moon: Path) -> None:
     with Session(moon) as session:
         session.resolve_mark(1)
     assert not any(each.is_marked for each in words_of(pages_of(moon)))
+
+
+def test_a_mark_on_a_blank_or_after_all_words_stands_at_a_line_too(moon: Path) -> None:
+    with Session(moon) as session:
+        blanks = [
+            n for n, cell in enumerate(session.braille_of(1)) if cell == EMPTY_CELL
+        ]
+        session.add_mark(1, blanks[0], 1, "a word?")
+        session.add_mark(1, blanks[-1], 6, "gone?")
+        session.correct(1, 15, 6, "")
+    (page,) = pages_of(moon)
+    marks = {line.number: [mark.note for mark in line.marks] for line in page.lines}
+    assert marks == {1: ["spelled so?", "a word?", "gone?"], 2: [], 3: [], 4: []}
+    assert page.has_open_mark
 
 
 def test_a_word_that_is_cut_has_its_print_under_its_front(book: Path) -> None:

@@ -2,7 +2,7 @@
 
 import re
 from bisect import bisect_left
-from collections.abc import Iterable, Iterator, Mapping, Sequence
+from collections.abc import Iterator, Mapping, Sequence
 from dataclasses import dataclass
 from itertools import groupby
 
@@ -142,18 +142,18 @@ class _Lines:
         self._words = words
         self._paragraph = 0
         self._marked = _Marked(())
-        #: The word of the paragraph that comes next.
-        self._next = 0
+        #: The word of the paragraph that comes next, and the place up to which marks were shown.
+        self._next = self._shown = 0
 
     def of(self, row: Row, is_heading: bool) -> ProofLine:
         """The line of a row, which comes after those of the rows before."""
         is_new = row.paragraph != self._paragraph
         if is_new:
-            self._paragraph, self._next = row.paragraph, 0
+            self._paragraph, self._next, self._shown = row.paragraph, 0, 0
             self._marked = _Marked(self._marks[row.paragraph])
         text, braille = self._texts[row.paragraph], self._brailles[row.paragraph]
         words: list[ProofWord] = []
-        begun: list[_Word] = []
+        front = self._shown
         column = len(row.shown) - len(row.shown.lstrip(" "))
         for word in self._on(row):
             start, stop = max(word.start, row.start), min(word.stop, row.stop)
@@ -161,14 +161,16 @@ class _Lines:
             shown = text[word.first : word.last].strip() if is_begun else ""
             is_marked = self._marked.is_on(word.first, word.last)
             words.append(ProofWord(column, braille[start:stop], shown, is_marked))
-            begun += [word] if is_begun else []
+            # a blank goes with the word after it, and what is after the last word with that
+            is_last = word is self._words[row.paragraph][-1]
+            self._shown = len(text) + 1 if is_last else word.last
             column += stop - start + 1
         return ProofLine(
             row.line,
             row.paragraph if is_new else None,
             is_heading,
             tuple(words),
-            self._marked.begun_in((word.first, word.last) for word in begun),
+            self._marked.begun_in(front, self._shown),
         )
 
     def _on(self, row: Row) -> Iterator[_Word]:
@@ -201,16 +203,10 @@ class _Marked:
         before = bisect_left(self._opened, last)
         return before > 0 and first < self._reach[before - 1]
 
-    def begun_in(self, spans: Iterable[tuple[int, int]]) -> tuple[Mark, ...]:
+    def begun_in(self, first: int, last: int) -> tuple[Mark, ...]:
         """The marks that begin at any of some places, in the order of the marks."""
-        found = {
-            at
-            for first, last in spans
-            for at in self._order[
-                bisect_left(self._starts, first) : bisect_left(self._starts, last)
-            ]
-        }
-        return tuple(self._marks[at] for at in sorted(found))
+        start, stop = bisect_left(self._starts, first), bisect_left(self._starts, last)
+        return tuple(self._marks[at] for at in sorted(self._order[start:stop]))
 
 
 def _stop(mark: Mark) -> int:
