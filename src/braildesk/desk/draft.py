@@ -52,12 +52,16 @@ class Draft:
         """The first of its lines."""
         return self.text.partition("\n")[0]
 
-    def after_first_line(self, paragraph: int) -> "Draft | None":
-        """The lines after the first one, which is in a paragraph; none if there are none."""
+    def after_first_line(self, newest: int) -> "Draft | None":
+        """The lines after the first one, which is in the book; none if there are none.
+
+        That one is the newest paragraph, unless the print of another one was typed.
+        """
         _, _, rest = self.text.partition("\n")
         if not rest:
             return None
-        return replace(self, aim=Aim.AFTER, paragraph=paragraph, text=rest)
+        number = self.paragraph if self.aim is Aim.EDIT else newest
+        return replace(self, aim=Aim.AFTER, paragraph=number, text=rest)
 
     def values(self) -> dict[str, object]:
         """What is kept of it as JSON."""

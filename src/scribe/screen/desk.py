@@ -461,8 +461,7 @@ class Desk:
         where = self._where_kept(state, saved)
         if where:
             newest = max(each.id for each in state.book)
-            is_edit = saved.aim is Aim.EDIT
-            rest = saved.after_first_line((is_edit and saved.paragraph) or newest)
+            rest = saved.after_first_line(newest)
             if rest is None:
                 said = f"What was typed last is in the book, {where}: {quoted(saved.text)}."
                 said = f"{state.message} {said}" if state.message else said

@@ -99,6 +99,10 @@ class Application:
     ) -> None:
         """A fault of scribe ends it, as elsewhere, and not without what is typed being kept."""
         self._fault = self._fault or fault
+        self._end()
+
+    def _end(self) -> None:
+        self._desk.is_ending = True
         self._qt.exit()
 
     def _take_signals(
@@ -119,7 +123,7 @@ class Application:
 
         def ended(number: int, frame: object) -> None:
             self._ended_by = signal.Signals(number)
-            self._qt.exit()
+            self._end()
 
         for number in _SIGNALS:
             if signal.getsignal(number) is not signal.SIG_IGN:

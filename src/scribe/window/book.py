@@ -311,18 +311,19 @@ class OpenBook:
     def typed_all(
         self,
         commands: Sequence[Callable[[int | None], Command[Any]]],
-        report: Callable[[int], None],
+        report: Callable[[int, int | None], None],
     ) -> Done:
         """Carries out commands, each with the number of the paragraph that was typed before it.
 
-        They are taken back together. Raises `NotAll`.
+        How many are done is reported before each, with that number. They are taken back together.
+        Raises `NotAll`.
         """
         before, newest, done = self._deeds, None, 0
         last: tuple[Command[Any], Any] | None = None
         cause: BaseException | None = None
         for command in commands:
             try:
-                report(done)
+                report(done, newest)
                 asked = command(newest)
                 last = (asked, self._sent(asked))
             except (Refused, KeyboardInterrupt) as stopped:
@@ -542,6 +543,12 @@ class OpenBook:
         if self._laid is None or not self._laid.is_of(volume):
             self._laid = pagelook.laid_out(self._session, volume, report)
         return self._laid
+
+    def unkept(self, contents: Contents, draft: Draft) -> Draft | None:
+        """What of a text that waits isn't in the book: all, the lines after the first, or nothing."""
+        if not self.where_kept(contents, draft):
+            return draft
+        return draft.after_first_line(max(each.id for each in contents.paragraphs))
 
     def where_kept(self, contents: Contents, draft: Draft) -> str:
         """Where a text that waits, or its first line, is in the book, in words; or nothing.

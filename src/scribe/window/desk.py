@@ -40,7 +40,7 @@ from scribe.window.menus import MENUS
 from scribe.window.window import Window
 from scribe.window.worker import Worker
 from scribe.words import pagelook
-from scribe.words.drafts import Unsent, not_kept
+from scribe.words.drafts import Unsent, not_kept, what_for
 from scribe.words.paragraph import mark_line, title
 from scribe.words.preview import Preview
 from scribe.words.status import Stop, in_sentences
@@ -79,6 +79,10 @@ class Desk:
         self.row = -1
         self.reading: ChosenParagraph | None = None
         self.new: New | None = None
+        #: What is typed and isn't in the print: a note, or lines that are to be paragraphs.
+        self.beside: Draft | None = None
+        #: The window is ended by a signal or a fault, and what is typed waits.
+        self.is_ending = False
         self.in_hand: int | None = None
         self.is_ascii = False
         #: The page and line are said of marks and words that are gone to.
@@ -502,12 +506,20 @@ class Desk:
         """The print in which something may be typed, as the book has it."""
         return "" if self.new is not None or not self.reading else self.reading.its.text
 
+    def print_of(self, text: str) -> str:
+        """The print that a text will be once it is kept."""
+        return (
+            composed(text) if self.new is not None else with_typed(self.before(), text)
+        )
+
     def is_typed(self) -> bool:
         """Whether a text is typed that the book doesn't have."""
         return self.typed_text() != self.before()
 
     def draft(self) -> Draft | None:
         """What is typed and not in the book yet."""
+        if self.beside is not None:
+            return self.beside
         text = self.typed_text()
         if not self.is_typed() or not text:
             return None
@@ -524,12 +536,6 @@ class Desk:
         """Has a text wait until the book has it, or nothing."""
 
         def look(found: "Future[None]") -> None:
-    def print_of(self, text: str) -> str:
-        """The print that a text will be once it is kept."""
-        return (
-            composed(text) if self.new is not None else with_typed(self.before(), text)
-        )
-
             try:
                 found.result()
             except NotKept as fault:
@@ -538,6 +544,17 @@ class Desk:
                     self.say(not_kept(fault))
 
         self.aside.latest("draft", lambda: self.unsent.keep(draft), look)
+
+    def have_wait(self, beside: Draft | None) -> None:
+        """Has what is typed elsewhere than in the print wait, or nothing."""
+        self.beside = beside
+        self.keep_draft(beside)
+
+    def put_by(self, draft: Draft) -> str:
+        """Gives up a text that waits, and says how it is brought back."""
+        fault = self.aside.result(lambda: self.unsent.put_by(draft), False)
+        self.have_wait(None)
+        return fault or "Ctrl+B brings it back."
 
     def wait_for_draft(self) -> None:
         """Waits until what is typed is kept as what waits."""
@@ -700,27 +717,32 @@ class Desk:
             found, said = None, [lost.sentence, str(failed)]
         if found is None:
             self.is_closed, self.loss = True, " ".join(said)
-            if self.is_typed():
+            if self.draft() is not None:
                 said.append(f"What is typed is kept in {self.drafts.place}.")
             self.refuse(" ".join(said))
             return
-        self.taken_again(found)
-        self.refuse(" ".join(said))
+        said.append(self.taken_again(found))
+        self.refuse(" ".join(filter(None, said)))
 
-    def taken_again(self, contents: Contents) -> None:
-        """Shows a book that was opened again; what is typed and isn't in it stays typed."""
+    def taken_again(self, contents: Contents) -> str:
+        """Shows a book that was opened again; what is typed and isn't in it stays typed.
+
+        If it was typed elsewhere than in the print, it is given up, which is said.
+        """
         self.is_closed, self.loss = False, ""
         self.watch()
         draft, new, number = self.draft(), self.new, self.number
-        place = self.window.print.place
-        there = bool(
-            draft and self.asked(partial(self.book.where_kept, contents, draft))
-        )
+        place, beside = self.window.print.place, self.beside
+        if draft is not None:
+            draft = self.asked(partial(self.book.unkept, contents, draft))
+        self.beside = None
         self.window.model.all_unread()
         self.show(contents, number)
-        if draft is None or there:
+        if draft is not None and beside is not None:
+            return f"{what_for(draft)} isn't in the book. {self.put_by(draft)}"
+        if draft is None:
             self.keep_draft(None)
-            return
+            return ""
         if new is not None:
             self.begin_new(new, draft.text)
         elif self.number == number:
@@ -730,6 +752,7 @@ class Desk:
             table = draft.table or contents.tables[0]
             self.begin_new(New(Aim.AFTER, self.number, table), draft.text)
         self.window.print.put_caret(place)
+        return ""
 
     def _may_close(self) -> bool:
         """Whether the window may go: what is typed is kept in the book, or waits."""

@@ -25,7 +25,7 @@ from PyQt6.QtWidgets import (
     QWidget,
 )
 
-from scribe.window.fields import Field
+from scribe.window.fields import Field, lines_of
 from scribe.window.worker import Worker
 
 Result = TypeVar("Result")
@@ -84,10 +84,19 @@ def text(
     dialog.setLabelText(asked)
     dialog.setTextValue(first)
     dialog.resize(480, dialog.height())
-    if changed is not None:
-        dialog.textValueChanged.connect(changed)
+
+    def typed(line: str) -> None:
+        if changed is not None:
+            changed(_in_a_line(line))
+
+    dialog.textValueChanged.connect(typed)
     with _back_to(over, dialog):
-        return dialog.textValue() if dialog.exec() else None
+        return _in_a_line(dialog.textValue()) if dialog.exec() else None
+
+
+def _in_a_line(typed: str) -> str:
+    """What was typed on a line, where Qt leaves the ends of lines that were pasted."""
+    return " ".join(lines_of(typed))
 
 
 def one_of(
@@ -128,7 +137,9 @@ def fields(
         is_given = dialog.exec()
     if not is_given:
         return None
-    return [line.text() for line in lines], [box.isChecked() for box in boxes]
+    return [_in_a_line(line.text()) for line in lines], [
+        box.isChecked() for box in boxes
+    ]
 
 
 def report(over: QWidget, title: str, lines: Sequence[str]) -> None:

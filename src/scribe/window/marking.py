@@ -2,7 +2,7 @@
 
 from functools import partial
 
-from braildesk import requests
+from braildesk import Refused, requests
 from braildesk.desk import search
 from braildesk.desk.draft import Aim, Draft
 from braildesk.text.spans import Span
@@ -48,26 +48,39 @@ class Marking:
         assert reading is not None
         its, version = reading.its, desk.contents.version
         number, table = its.paragraph.id, its.paragraph.table
+        if cells.stop > len(its.braille):
+            # those for which it was typed are gone
+            cells = Span(0, 1)
 
         def typed(text: str) -> None:
             draft = Draft(Aim.NOTE, number, table, its.text, text, cells, version)
-            desk.keep_draft(draft if text else None)
+            desk.have_wait(draft if text else None)
 
-        words = desk.asked(partial(desk.book.words_of, reading, cells))
-        asked = f"The note of a mark on {quoted(words)}, {cells.counted('cell')}:"
-        found = dialogs.text(
-            desk.window, f"Mark in paragraph {number}", asked, note, typed
-        )
-        if found is None:
-            desk.keep_draft(None)
-            return
-        desk.wait_for_draft()
-        count = cells.stop - cells.start
-        desk.do(requests.Mark(number, cells.start, count, found))
-        desk.keep_draft(None)
+        typed(note)
+        try:
+            words = desk.asked(partial(desk.book.words_of, reading, cells))
+            asked = f"The note of a mark on {quoted(words)}, {cells.counted('cell')}:"
+            title = f"Mark in paragraph {number}"
+            found = dialogs.text(desk.window, title, asked, note, typed)
+            if found is None:
+                self._given_up()
+                return
+            desk.wait_for_draft()
+            count = cells.stop - cells.start
+            desk.do(requests.Mark(number, cells.start, count, found))
+        except Refused as refused:
+            back = desk.put_by(desk.beside) if desk.beside is not None else ""
+            raise Stop(f"{refused.sentence} {back}".rstrip()) from refused
+        desk.have_wait(None)
         put = desk.reading.its.marks if desk.reading else ()
         desk.in_hand = put[-1].id if put else None
         desk.link()
+
+    def _given_up(self) -> None:
+        """The note that was typed is given up, unless the window is ended, where it waits."""
+        desk, note = self.desk, self.desk.beside
+        if note is not None and not desk.is_ending:
+            desk.say(f"Given up. The book is as it was. {desk.put_by(note)}")
 
     def next_mark(self) -> None:
         """Goes to the next open mark."""

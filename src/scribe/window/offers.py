@@ -54,7 +54,7 @@ class Offers:
         contents = desk.contents
         where = desk.asked(lambda: desk.book.where_kept(contents, waiting))
         if where:
-            rest = waiting.after_first_line(desk.number or 0)
+            rest = desk.asked(lambda: desk.book.unkept(contents, waiting))
             if rest is None:
                 desk.keep_draft(None)
                 desk.say(
@@ -71,9 +71,7 @@ class Offers:
         if answer == 0:
             self._typed.type_further(waiting)
         elif answer == 1:
-            desk.aside.result(lambda: desk.unsent.put_by(waiting), False)
-            desk.keep_draft(None)
-            desk.say("Given up. The book is as it was. Ctrl+B brings it back.")
+            desk.say(f"Given up. The book is as it was. {desk.put_by(waiting)}")
         else:
             desk.unsent.put_off()
             desk.say(

@@ -2,11 +2,13 @@
 
 import signal
 from collections.abc import Callable, Sequence
+from contextlib import suppress
 from dataclasses import replace
 from typing import Any
 
 from braildesk import After, Refused, requests
 from braildesk.desk.draft import Aim, Draft
+from braildesk.desk.drafts import NotKept
 from braildesk.protocol.requests import Command
 from braildesk.text import limits
 from braildesk.text.sequences import composed, parted
@@ -82,7 +84,7 @@ class Typed:
     def _is_parted(self) -> bool:
         """Whether what is typed is too long for a paragraph, and was typed as several."""
         desk, text, most = self.desk, self.desk.typed_text(), limits.PRINT_CHARACTERS
-        if not desk.is_typed() or len(composed(text)) <= most:
+        if not desk.is_typed() or len(desk.print_of(text)) <= most:
             return False
         lines, rest = [], text
         while rest:
@@ -119,16 +121,10 @@ class Typed:
             if focused is not desk.window.print:
                 desk.go_back()
             return
-        fault = ""
-        if draft is not None:
-            kept = draft
-            fault = desk.aside.result(lambda: desk.unsent.put_by(kept), False)
-        desk.keep_draft(None)
+        back = desk.put_by(draft)
         desk.new = None
         desk.show_reading(0)
-        desk.say(
-            f"Given up. The book is as it was. {fault or 'Ctrl+B brings it back.'}"
-        )
+        desk.say(f"Given up. The book is as it was. {back}")
 
     def bring_back(self) -> None:
         """Asks which text that was given up is typed further."""
@@ -193,59 +189,57 @@ class Typed:
     def typed_lines(self, lines: Sequence[str]) -> None:
         """Types paragraphs: the first is what is typed, the others come after it."""
         desk = self.desk
-        draft, reading, new = desk.draft(), desk.reading, desk.new
+        reading, new, number = desk.reading, desk.new, desk.number
         table = desk.table_of_typed() or desk.table_of_new()
-        if draft is not None:
-            desk.keep_draft(replace(draft, text="\n".join(lines)))
-            desk.wait_for_draft()
-        number = desk.number
+        aim, beside = (new.aim, new.paragraph) if new else (Aim.EDIT, number)
+        whole = Draft(aim, beside, table, desk.before(), "\n".join(lines))
+        self._wait(whole)
         commands: list[Callable[[int | None], Command[Any]]] = []
-        rest = list(lines)
         if new is not None:
             after = desk.after(new)
             commands.append(
                 lambda newest: requests.Type(after, table, composed(lines[0]))
             )
-            rest = rest[1:]
-        else:
-            rest = rest[1:]
-            if reading is not None:
-                self._corrected_first(reading, lines, table)
-        for line in rest:
-            commands.append(_typed_after(number, table, line))
-        self._typed_all(commands, lines, table)
+        elif reading is not None:
+            others = whole.after_first_line(reading.its.paragraph.id)
+            self._corrected_first(reading, lines[0], others)
+            self._wait(others)
+        commands += [_typed_after(number, table, line) for line in lines[1:]]
+        self._typed_all(commands)
+
+    def _wait(self, lines: Draft | None) -> None:
+        """Has lines wait until the book has them, which lacks them as it is now."""
+        desk, version = self.desk, self.desk.contents.version
+        desk.have_wait(lines and replace(lines, version=version))
+        desk.wait_for_draft()
 
     def _corrected_first(
-        self, reading: ChosenParagraph, lines: Sequence[str], table: str
+        self, reading: ChosenParagraph, line: str, others: Draft | None
     ) -> None:
         """Makes the chosen paragraph the first of some lines; of a refusal no line is lost."""
         desk = self.desk
         try:
-            done = desk.asked(lambda: desk.book.corrected(reading, lines[0]))
+            done = desk.asked(lambda: desk.book.corrected(reading, line))
         except Refused:
-            self._put_by(lines[1:], table)
+            if others is not None:
+                desk.put_by(others)
+            desk.have_wait(None)
+            desk.keep_draft(desk.draft())
             raise
         if done is not None:
             desk.show_done(done)
 
-    def _put_by(self, lines: Sequence[str], table: str) -> None:
-        """Keeps lines that weren't typed, so that they can be brought back."""
-        desk, text = self.desk, "\n".join(lines)
-        version = desk.contents.version
-        draft = Draft(Aim.AFTER, desk.number, table, "", text, None, version)
-        desk.aside.result(lambda: desk.unsent.put_by(draft), False)
-
     def _typed_all(
-        self,
-        commands: Sequence[Callable[[int | None], Command[Any]]],
-        lines: Sequence[str],
-        table: str,
+        self, commands: Sequence[Callable[[int | None], Command[Any]]]
     ) -> None:
+        """Types the lines that wait, each of which waits until the book has it."""
         desk = self.desk
 
         def act(say: Say, is_stopped: IsStopped) -> Done:
-            def report(done: int) -> None:
+            def report(done: int, newest: int | None) -> None:
                 say(f"{done:,} of {len(commands):,} paragraphs are typed.")
+                if newest is not None:
+                    self._wait_without_first(newest)
                 if is_stopped():
                     raise Interrupted(signal.SIGINT)
 
@@ -254,18 +248,30 @@ class Typed:
         try:
             done = dialogs.long(desk.window, desk.work, "Paragraphs", act)
         except NotAll as part:
-            left = lines[len(lines) - len(commands) + part.done :]
+            left = desk.beside
+            assert left is not None
             desk.new = None
-            desk.show(desk.asked(desk.book.contents), None)
-            self._put_by(left, table)
-            desk.keep_draft(None)
+            desk.show(desk.asked(desk.book.contents), left.paragraph)
+            desk.put_by(left)
             why = getattr(part.cause, "sentence", "Stopped.")
             raise Stop(
                 f"{part.done:,} typed. {why} The others can be brought back: Ctrl+B."
             ) from part
-        desk.keep_draft(None)
+        desk.have_wait(None)
         desk.new = None
         desk.show_done(done)
+
+    def _wait_without_first(self, newest: int) -> None:
+        """Has lines wait without the first of them, which is the newest paragraph now.
+
+        It is in the thread of the session, while the window keeps nothing else.
+        """
+        desk = self.desk
+        left = desk.beside and desk.beside.after_first_line(newest)
+        if left is not None:
+            desk.beside = replace(left, version=desk.book.session.last_version)
+            with suppress(NotKept):
+                desk.unsent.keep(desk.beside)
 
 
 def _typed_after(

@@ -136,8 +136,9 @@ class View:
         if not desk.is_closed:
             desk.say("The book is open.")
             return
-        desk.taken_again(desk.work.result(desk.book.opened_again))
-        desk.say(f"The book is open again, at version {desk.contents.version:,}.")
+        more = desk.taken_again(desk.work.result(desk.book.opened_again))
+        version = desk.contents.version
+        desk.say(f"The book is open again, at version {version:,}. {more}".rstrip())
 
     def leave(self) -> None:
         """Ends the work, once this action is done."""

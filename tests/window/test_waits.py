@@ -1,0 +1,236 @@
+"""Notes and lines, which are typed elsewhere than in the print: none is lost, and none typed twice."""
+
+import os
+import signal
+from collections.abc import Callable, Iterator
+from contextlib import AbstractContextManager, contextmanager
+from pathlib import Path
+
+import pytest
+from PyQt6.QtWidgets import QApplication
+
+from braildesk import Session, requests
+from braildesk.desk.draft import Aim, Draft
+from braildesk.desk.drafts import Drafts
+from braildesk.desk.layout import PageSize
+from braildesk.text.spans import Span
+
+from scribe.window import dialogs
+from scribe.window.actions import Actions
+from scribe.window.desk import Desk
+
+from conftest import Open, prints
+from test_cancelled import STAND_IN
+
+Note = Callable[[str, str | None], None]
+Opened = Callable[..., AbstractContextManager[Desk]]
+
+
+@pytest.fixture
+def noted(monkeypatch: pytest.MonkeyPatch) -> Note:
+    """Has a note be typed, and then entered, or given up where nothing is."""
+
+    def note(typed: str, entered: str | None) -> None:
+        def text(
+            over: object,
+            title: str,
+            asked: str,
+            first: str = "",
+            changed: Callable[[str], None] = lambda _: None,
+        ) -> str | None:
+            changed(first + typed)
+            return entered
+
+        monkeypatch.setattr(dialogs, "text", text)
+
+    return note
+
+
+@pytest.fixture
+def opened(
+    application: QApplication, moon: Path, monkeypatch: pytest.MonkeyPatch
+) -> Opened:
+    """Opens the book, with its program ended at a command."""
+
+    @contextmanager
+    def at(moment: str = "") -> Iterator[Desk]:
+        program = os.environ["BRAILDESK"]
+        if moment:
+            monkeypatch.setenv("BRAILDESK", str(STAND_IN))
+            monkeypatch.setenv("STAND_IN_FOR", program)
+            monkeypatch.setenv("STAND_IN_AT", f"{moment} kill-program")
+        desk = Desk(moon, None, 0.0, PageSize())
+        desk.acts = Actions(desk).by_name
+        desk.begin()
+        monkeypatch.setenv("BRAILDESK", program)
+        yield desk
+        desk.close()
+
+    return at
+
+
+def _given_up(book: Path) -> list[str]:
+    return [each.text for each in Drafts(book).given_up()]
+
+
+def _waiting(desk: Desk) -> Draft | None:
+    desk.wait_for_draft()
+    return Drafts(desk.path).waiting()
+
+
+def test_a_note_that_is_given_up_is_brought_back(
+    desk: Desk, noted: Note, monkeypatch: pytest.MonkeyPatch
+) -> None:
+    noted("who?", None)
+    desk.act("mark")
+    said = "Given up. The book is as it was. Ctrl+B brings it back."
+    assert desk.window.message.text == said
+    assert (_given_up(desk.path), _waiting(desk)) == (["who?"], None)
+    name = "1. A note for a mark in paragraph 1: “who?”"
+    monkeypatch.setattr(dialogs, "one_of", lambda *_: name)
+    noted("", "who?")
+    desk.act("bring_back")
+    assert desk.window.message.text == "Kept: mark 2."
+    assert (_given_up(desk.path), _waiting(desk)) == ([], None)
+
+
+def test_a_note_that_the_book_refuses_is_brought_back(desk: Desk, noted: Note) -> None:
+    note = "why? " * 120
+    noted(note, note)
+    desk.act("mark")
+    assert desk.window.message.text.endswith(" Ctrl+B brings it back.")
+    # what is typed next takes the place of what waits
+    desk.window.print.textCursor().insertText("A")
+    assert desk.settle()
+    assert (_given_up(desk.path), _waiting(desk)) == ([note], None)
+
+
+def test_the_lines_of_a_note_are_joined(moon: Path, at: Open) -> None:
+    window = at(moon)
+    window.press("Ctrl+m")
+    top = window.dialog("Mark in paragraph 1")
+    window.insert_in(window.first("text", top), "who?\nand why?")
+    window.press("Return")
+    window.no_dialog()
+    window.reads("Message", "Kept: mark 2.")
+    window.press("Ctrl+q")
+    assert window.end() == 0
+    with Session(moon) as session:
+        assert [mark.note for mark in session.marks_of(1)] == ["who? and why?"]
+
+
+@pytest.mark.parametrize("how", ["read", "kept"])
+def test_a_note_is_not_lost_with_the_session(
+    opened: Opened, noted: Note, how: str
+) -> None:
+    noted("who?", "who?")
+    with opened(f"1 {how}") as desk:
+        desk.act("mark")
+        said = desk.window.message.text
+        assert said.startswith("The session was ended by signal 9.")
+        back = (
+            "A note for a mark in paragraph 1 isn't in the book. Ctrl+B brings it back."
+        )
+        assert said.endswith(back) is (how == "read")
+        marks = desk.asked(lambda: desk.book.session.marks_of(1))
+        assert len(marks) + len(_given_up(desk.path)) == 1
+        assert _waiting(desk) is None
+
+
+def test_a_note_waits_if_the_window_is_ended(moon: Path, at: Open) -> None:
+    def is_there() -> bool:
+        found = Drafts(moon).waiting()
+        return found is not None and (found.aim, found.text) == (Aim.NOTE, "who?")
+
+    window = at(moon)
+    window.press("Ctrl+m")
+    window.dialog("Mark in paragraph 1")
+    window.type("who?")
+    window.until("the note as what waits", is_there)
+    window.program.send_signal(signal.SIGTERM)
+    assert window.end() == -signal.SIGTERM
+    assert is_there()
+
+
+def test_a_note_whose_cells_are_gone_is_not_lost(
+    desk: Desk, noted: Note, monkeypatch: pytest.MonkeyPatch
+) -> None:
+    note = Draft(Aim.NOTE, 1, "en", "The Moon", "who?", Span(6, 9), 6)
+    monkeypatch.setattr(dialogs, "one_of", lambda _, t, a, names, f: names[0])
+    desk.do(requests.Correct(1, 3, 5, ""))
+    desk.put_by(note)
+    noted("", None)
+    # on the first cell, as on the screen
+    desk.act("bring_back")
+    assert (_given_up(desk.path), _waiting(desk)) == (["who?"], None)
+    # and no mark can be put on a paragraph without cells
+    desk.do(requests.Correct(1, 0, 3, ""))
+    desk.act("bring_back")
+    assert desk.window.message.text.endswith(" Ctrl+B brings it back.")
+    assert (_given_up(desk.path), _waiting(desk)) == (["who?"], None)
+
+
+@pytest.mark.parametrize("how", ["read", "kept"])
+@pytest.mark.parametrize("command", range(1, 5))
+@pytest.mark.parametrize("is_new", [True, False])
+def test_of_lines_none_is_lost_with_the_session_and_none_typed_twice(
+    opened: Opened,
+    moon: Path,
+    asked: dict[str, int],
+    monkeypatch: pytest.MonkeyPatch,
+    is_new: bool,
+    command: int,
+    how: str,
+) -> None:
+    monkeypatch.setattr(dialogs, "one_of", lambda _, t, a, names, f: names[0])
+    asked["Pasted lines"] = 0
+    with opened(f"{command} {how}") as desk:
+        if is_new:
+            desk.act("new_after")
+        else:
+            desk.window.print.put_caret(8)
+        desk.window.print.pasted.emit(["s", "One.", "Two.", "Three."])
+        assert desk.window.message.text.startswith("The session was ended by signal 9.")
+        assert (desk.is_typed(), desk.new, _waiting(desk)) == (False, None, None)
+        if (command, how) != (4, "kept"):
+            desk.act("bring_back")
+            # one line alone is typed further, and not sent yet
+            assert desk.settle()
+        assert (_given_up(moon), _waiting(desk)) == ([], None)
+    lines = ["The Moon", "s"] if is_new else ["The Moons"]
+    assert prints(moon)[: len(lines) + 3] == [*lines, "One.", "Two.", "Three."]
+
+
+def test_lines_after_one_that_is_refused_come_back_after_those_before(
+    desk: Desk, asked: dict[str, int], monkeypatch: pytest.MonkeyPatch
+) -> None:
+    asked["Pasted lines"] = 0
+    desk.act("new_after")
+    desk.window.print.pasted.emit(["One.", "#", "Two."])
+    (left,) = Drafts(desk.path).given_up()
+    assert (left.paragraph, left.text) == (4, "#\nTwo.")
+    assert desk.number == 4
+
+
+def test_lines_of_which_the_first_is_in_the_book_go_on_after_it(
+    desk: Desk, asked: dict[str, int]
+) -> None:
+    draft = Draft(Aim.AFTER, 1, "en", "", "One.\nTwo.\nThree.", None, 5)
+    desk.do(requests.Type(1, "en", "One."))
+    desk.choose(3)
+    Drafts(desk.path).save(draft)
+    asked["Unsent text"] = 0
+    desk.acting(Actions(desk).offer)
+    assert prints_of(desk)[:5] == [
+        "The Moon",
+        "One.",
+        "Two.",
+        "Three.",
+        "The mon is far away.",
+    ]
+
+
+def prints_of(desk: Desk) -> list[str]:
+    """The prints of the book at work."""
+    session, book = desk.book.session, desk.asked(desk.book.contents).paragraphs
+    return desk.asked(lambda: [session.print_of(each.id) for each in book])
