@@ -151,6 +151,25 @@ def test_what_takes_long_is_cancelled_by_its_dialog(desk: Desk) -> None:
     assert said
 
 
+def test_what_was_read_before_a_change_is_not_listed_after_it(desk: Desk) -> None:
+    model = desk.window.model
+
+    def listed(place: int) -> list[str]:
+        return [model.data(model.index(place, n)) for n in (2, 3)]
+
+    assert listed(1) == ["", ""]
+    # it was read by now, and is handed over only after the correction
+    desk.asked(lambda: None)
+    time.sleep(0.1)
+    desk.do(requests.Correct(2, 6, 0, "o"))
+    desk.do(requests.Resolve(1))
+    QApplication.processEvents()
+    end = time.monotonic() + 10
+    while listed(1) != ["", "The moon is far away."]:
+        assert time.monotonic() < end, listed(1)
+        QApplication.processEvents()
+
+
 def test_sizes_and_fonts_are_remembered(desk: Desk, moon: Path) -> None:
     desk.act("larger")
     points = desk.window.cells.font().pointSizeF()

@@ -369,11 +369,13 @@ class Desk:
         """Has paragraphs read that are listed."""
         if self.is_closed or not numbers:
             return
+        model = self.window.model
+        turn = model.turn
 
         def take(found: "Future[dict[int, Opening]]") -> None:
             # where the session was lost or is closed for a while, it is seen to elsewhere
             with suppress(DeskError, RuntimeError):
-                self.window.model.take(found.result())
+                model.take(found.result(), turn)
 
         self.work.post(lambda: self.book.openings(numbers), take)
 

@@ -31,6 +31,8 @@ class Paragraphs(QAbstractTableModel):
         self._book: tuple[Paragraph, ...] = ()
         self._openings: dict[int, Opening] = {}
         self._asked: set[int] = set()
+        #: How often the book was another one; what was asked before may have been read before.
+        self.turn = 0
 
     def rowCount(self, parent: QModelIndex = QModelIndex()) -> int:
         return 0 if parent.isValid() else len(self._book)
@@ -62,6 +64,7 @@ class Paragraphs(QAbstractTableModel):
     def show(self, book: tuple[Paragraph, ...], changed: int | None = None) -> None:
         """Shows a book, of which one paragraph may read otherwise than before."""
         before, self._asked = self._book, set()
+        self.turn += 1
         if changed is not None:
             self._openings.pop(changed, None)
         old, new = [each.id for each in before], [each.id for each in book]
@@ -86,9 +89,10 @@ class Paragraphs(QAbstractTableModel):
             self._openings = {} if changed is None else self._openings
             self.endResetModel()
 
-    def take(self, found: dict[int, Opening]) -> None:
-        """Takes what was read of paragraphs."""
-        self._openings |= found
+    def take(self, found: dict[int, Opening], turn: int) -> None:
+        """Takes what was read of paragraphs, or has it read again if the book is another one."""
+        if turn == self.turn:
+            self._openings |= found
         rows = [n for n, each in enumerate(self._book) if each.id in found]
         if rows:
             self._tell(rows[0], rows[-1])
@@ -96,6 +100,7 @@ class Paragraphs(QAbstractTableModel):
     def all_unread(self) -> None:
         """Forgets what was read."""
         self._openings, self._asked = {}, set()
+        self.turn += 1
         if self._book:
             self._tell(0, len(self._book) - 1)
 
