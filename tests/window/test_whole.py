@@ -218,6 +218,37 @@ def test_headings_and_marks_are_gone_to_by_their_lists(
     assert desk.window.message.text == "Mark 1, open, on “mon”: spelled so?"
 
 
+def test_a_mark_is_in_hand_until_the_caret_is_moved_off_it(desk: Desk) -> None:
+    window = desk.window
+    desk.do(requests.Mark(2, 16, 4, "why?"))
+    desk.choose(1)
+    desk.act("next_mark")
+    # an edit that ends beyond its words keeps it in hand
+    window.print.put_caret(6)
+    window.print.textCursor().insertText("o")
+    window.print.put_caret(12)
+    assert desk.settle()
+    marks_here = window.here.text.split("\u2029")[1:]
+    assert marks_here == ["Mark 1, open, touched, on “moon”: spelled so?"]
+    window.print.put_caret(17)
+    marks_here = window.here.text.split("\u2029")[1:]
+    assert marks_here == ["Mark 2, open, on “away”: why?"]
+    desk.act("resolve")
+    assert window.message.text == "Kept: mark 2 resolved."
+
+
+def test_a_mark_at_the_caret_is_come_to_after_another_one_was_in_hand(
+    desk: Desk,
+) -> None:
+    desk.do(requests.Mark(2, 0, 1, "why?"))
+    desk.choose(1)
+    desk.act("next_mark")
+    assert desk.in_hand == 2
+    desk.window.print.put_caret(4)
+    desk.act("next_mark")
+    assert desk.window.message.text == "Mark 1, open, on “mon”: spelled so?"
+
+
 def test_page_and_line_are_said_of_what_is_gone_to(desk: Desk, given: Answers) -> None:
     desk.page_size = PageSize(10, 3)
     desk.act("pages_said")

@@ -383,14 +383,17 @@ class Desk:
 
     def _in_print(self) -> None:
         if not self._is_showing and not self.window.cells.hasFocus():
-            self.link()
+            self.link(True)
 
     def _in_cells(self) -> None:
         if not self._is_showing and self.window.cells.hasFocus():
-            self.link()
+            self.link(True)
 
-    def link(self) -> None:
-        """Has the caret of the other text stand where this one's does, and says where that is."""
+    def link(self, is_moved: bool = False) -> None:
+        """Has the caret of the other text stand where this one's does, and says where that is.
+
+        A caret that was moved off the mark in hand lets go of it.
+        """
         reading, window = self.reading, self.window
         if self.is_closed or reading is None or self.is_typed():
             self._light = None
@@ -404,6 +407,8 @@ class Desk:
         if self._light is None:
             return
         words, cells = self._light.words, self._light.cells
+        if is_moved and not any(m.id == self.in_hand for m in self._marks_at_caret()):
+            self.in_hand = None
         marks = [Span(m.start, m.stop) for m in reading.its.marks if not m.resolved]
         self._is_showing = True
         try:
@@ -457,18 +462,31 @@ class Desk:
 
     def marks_here(self) -> list[Mark]:
         """The marks at the caret, and the one in hand; open ones first."""
+        found = {mark.id: mark for mark in self._marks_at_caret()}
+        held = self.held_mark
+        if held is not None:
+            found[held.id] = held
+        order = found.values()
+        return sorted(order, key=lambda m: (m.resolved, m.id != self.in_hand, m.id))
+
+    @property
+    def held_mark(self) -> Mark | None:
+        """The mark in hand, which is one of the chosen paragraph."""
+        marks = self.reading.its.marks if self.reading else ()
+        return next((mark for mark in marks if mark.id == self.in_hand), None)
+
+    def _marks_at_caret(self) -> list[Mark]:
+        """The marks on what the caret stands on."""
         if self.reading is None:
             return []
         last = max(0, len(self.reading.its.text) - 1)
         words = self._light.words if self._light else Span(self.place, self.place + 1)
-        found = [
+        return [
             mark
             for mark in self.reading.its.marks
-            if mark.id == self.in_hand
-            or min(mark.start, last) < max(words.stop, words.start + 1)
+            if min(mark.start, last) < max(words.stop, words.start + 1)
             and words.start < max(mark.stop, mark.start + 1)
         ]
-        return sorted(found, key=lambda m: (m.resolved, m.id != self.in_hand, m.id))
 
     # the page of the caret
 

@@ -1,5 +1,6 @@
 """The marks of the book at work."""
 
+from dataclasses import replace
 from functools import partial
 
 from braildesk import Refused, requests
@@ -94,7 +95,9 @@ class Marking:
         desk = self.desk
         if not desk.settle():
             return
-        here = search.Spot(max(0, desk.row), desk.place, desk.in_hand or 0)
+        here, held = search.Spot(max(0, desk.row), desk.place), desk.held_mark
+        if held is not None:
+            here = replace(here, place=held.start, mark=held.id)
         contents = desk.contents
         found = None
         if contents.paragraphs:
@@ -116,10 +119,9 @@ class Marking:
                 if is_back
                 else "This is the first in the book. "
             )
-        its = desk.reading.its if desk.reading else None
-        marks = its.marks if its else ()
-        lines = [mark_line(m, its.text) for m in marks if its and m.id == desk.in_hand]
-        say_there(desk, said + " ".join(lines))
+        held, reading = desk.held_mark, desk.reading
+        line = mark_line(held, reading.its.text) if held and reading else ""
+        say_there(desk, said + line)
 
     def resolve(self) -> None:
         """Resolves the mark in hand, or the first open one at the caret."""
