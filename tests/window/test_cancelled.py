@@ -2,6 +2,7 @@
 
 import errno
 import os
+import signal
 import time
 from collections.abc import Callable, Iterator, Sequence
 from pathlib import Path
@@ -18,6 +19,7 @@ from scribe.window import dialogs
 from scribe.window.desk import Desk
 
 from conftest import Open
+from reader import Reader
 
 MANY = 300
 #: Stands in the place of the program, and waits where it is told.
@@ -167,9 +169,8 @@ def queue(tmp_path: Path) -> Iterator[Path]:
     os.close(both_ends)
 
 
-def test_a_table_is_cancelled_while_the_book_takes_it(
-    moon: Path, at: Open, queue: Path
-) -> None:
+def _at_a_table(moon: Path, at: Open, queue: Path) -> tuple[Reader, int]:
+    """A window whose program waits before it takes a table, and what has it wait."""
     window = at(
         moon,
         BRAILDESK=str(STAND_IN),
@@ -180,10 +181,11 @@ def test_a_table_is_cancelled_while_the_book_takes_it(
     window.press("Ctrl+l")
     window.part("combo box", "en", window.dialog("Table"))
     window.press("Down", "Return")
-    top = window.dialog("Table: please wait")
-    window.part("label", "The table ueb is put into the book.", top)
-    window.click(window.part("push button", "Cancel", top))
-    window.part("label", "It ends after this step.", top)
+    return window, there
+
+
+def _let_on(window: Reader, queue: Path, there: int) -> None:
+    """Has the program of a window wait no more."""
     os.close(there)
 
     def is_let_on() -> bool:
@@ -196,6 +198,17 @@ def test_a_table_is_cancelled_while_the_book_takes_it(
         return True
 
     window.until("the program that waits", is_let_on)
+
+
+def test_a_table_is_cancelled_while_the_book_takes_it(
+    moon: Path, at: Open, queue: Path
+) -> None:
+    window, there = _at_a_table(moon, at, queue)
+    top = window.dialog("Table: please wait")
+    window.part("label", "The table ueb is put into the book.", top)
+    window.click(window.part("push button", "Cancel", top))
+    window.part("label", "It ends after this step.", top)
+    _let_on(window, queue, there)
     window.no_dialog()
     said = "Kept: table ueb. Stopped before paragraph 1 was given it."
     window.reads("Message", said)
@@ -203,6 +216,20 @@ def test_a_table_is_cancelled_while_the_book_takes_it(
     assert window.end() == 0
     with Session(moon) as session:
         assert [each.name for each in session.tables()] == ["en", "ueb"]
+        assert {each.table for each in session.paragraphs()} == {"en"}
+
+
+def test_a_window_that_is_ended_while_it_works_ends_after_the_step(
+    moon: Path, at: Open, queue: Path
+) -> None:
+    window, there = _at_a_table(moon, at, queue)
+    window.dialog("Table: please wait")
+    window.program.send_signal(signal.SIGTERM)
+    _let_on(window, queue, there)
+    shown, said = window.program.communicate(timeout=60)
+    assert (window.program.returncode, shown) == (-signal.SIGTERM, b"")
+    assert b"fault" not in said
+    with Session(moon) as session:
         assert {each.table for each in session.paragraphs()} == {"en"}
 
 

@@ -301,5 +301,9 @@ def long(
     with _back_to(over, dialog):
         if not found:
             dialog.exec()
+        while not found:
+            # the window is being ended, and the work is in the middle of a step
+            dialog.is_stopped = True
+            loop.processEvents(flags.ExcludeUserInputEvents | flags.WaitForMoreEvents)
     timer.stop()
     return found[0].result()
