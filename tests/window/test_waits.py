@@ -2,7 +2,7 @@
 
 import os
 import signal
-from collections.abc import Callable, Iterator
+from collections.abc import Callable, Iterator, Sequence
 from contextlib import AbstractContextManager, contextmanager
 from pathlib import Path
 
@@ -227,6 +227,25 @@ def test_lines_of_which_the_first_is_in_the_book_go_on_after_it(
         "Two.",
         "Three.",
         "The mon is far away.",
+    ]
+
+
+def test_it_is_said_if_the_print_was_changed_since_a_text_was_typed(
+    desk: Desk, monkeypatch: pytest.MonkeyPatch
+) -> None:
+    said: list[str] = []
+
+    def choice(over: object, title: str, asked: str, answers: Sequence[str]) -> int:
+        said.append(asked)
+        return 2
+
+    monkeypatch.setattr(dialogs, "choice", choice)
+    draft = Draft(Aim.EDIT, 1, "en", "The Mon", "The Mon.", None, 5)
+    Drafts(desk.path).save(draft)
+    desk.acting(Actions(desk).offer)
+    assert said == [
+        "A text of paragraph 1 was typed and isn't in the book: “The Mon.”. The print there has"
+        " been changed since. Shall it be typed further?"
     ]
 
 

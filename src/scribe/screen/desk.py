@@ -89,7 +89,7 @@ from scribe.screen.state import (
 from scribe.words import deeds, pagelook
 from scribe.words.aftermath import found_again
 from scribe.words.deeds import Deed, kept
-from scribe.words.drafts import Unsent, not_kept, what_for
+from scribe.words.drafts import Unsent, changed_since, not_kept, what_for
 from scribe.words.import_text import came_to, not_seen
 from scribe.words.paragraph import quoted
 from scribe.words.preview import Tables
@@ -481,8 +481,7 @@ class Desk:
         if places:
             state = state.at(places[0])
             now = self._session.print_of(state.book[places[0]].id)
-            if not saved.aim.is_new and now != saved.before:
-                changed = " The print there has been changed since."
+            changed = changed_since(saved, now)
         amount = _amount(saved)
         sentence = (
             f"{what_for(saved)} {became}: {quoted(saved.joined)}.{amount}{changed}"

@@ -11,7 +11,7 @@ from scribe.window import dialogs
 from scribe.window.desk import Desk
 from scribe.window.files import Files
 from scribe.window.typed import Typed
-from scribe.words.drafts import not_kept, what_for
+from scribe.words.drafts import changed_since, not_kept, what_for
 from scribe.words.import_text import came_to, not_seen
 from scribe.words.paragraph import quoted
 
@@ -64,7 +64,7 @@ class Offers:
             waiting = rest
         asked = (
             f"{what_for(waiting)} was typed and isn't in the book: {quoted(waiting.joined)}."
-            " Shall it be typed further?"
+            f"{self._changed(waiting)} Shall it be typed further?"
         )
         answers = ("&Type it further", "&Give it up", "&Later")
         answer = dialogs.choice(desk.window, "Unsent text", asked, answers)
@@ -77,3 +77,11 @@ class Offers:
             desk.say(
                 "The text waits for the next opening. Ctrl+B asks about it before."
             )
+
+    def _changed(self, waiting: Draft) -> str:
+        """That the print at which a text was typed has been changed since; or nothing."""
+        desk, row = self.desk, self.desk.contents.place(waiting.paragraph)
+        if row is None:
+            return ""
+        session, number = desk.book.session, desk.contents.paragraphs[row].id
+        return changed_since(waiting, desk.asked(lambda: session.print_of(number)))

@@ -30,6 +30,13 @@ def what_for(draft: Draft) -> str:
     return f"A text of paragraph {draft.paragraph}" if draft.paragraph else "A text"
 
 
+def changed_since(draft: Draft, now: str) -> str:
+    """That a print has been changed since a text was typed there, after a blank; or nothing."""
+    if draft.aim.is_new or now == draft.before:
+        return ""
+    return " The print there has been changed since."
+
+
 def not_kept(fault: NotKept) -> str:
     """The sentence for what can't be kept, or can't be read."""
     match fault:
