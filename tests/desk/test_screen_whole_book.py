@@ -10,6 +10,7 @@ from braildesk import Session
 from braildesk.desk.layout import PageSize
 
 from scribe.screen import whole_book
+from scribe.screen.state import HEAD_LINE, Size
 from sitting import Sat, Sit
 from terminal import Open
 
@@ -126,6 +127,24 @@ def test_places_are_changed_and_left_one_by_one(tides: Path, sit: Sit) -> None:
     assert sat.state.message == "Taken back: paragraph 2 was corrected."
     sat.desk.close()
     assert prints(tides) == ["The tide", TIDES.replace("The tide", "The flood")]
+
+
+@pytest.mark.parametrize("size", [Size(24, 16), Size(200, 60)])
+def test_a_terminal_of_another_size_has_the_same_place_under_the_cursor(
+    tides: Path, sit: Sit, size: Size
+) -> None:
+    sat = sit(tides)
+    asked(sat, "tide", "flood")
+    sat.press("down", "n", "?")
+    sat.state = sat.desk.resized(sat.state, size)
+    sat.press("escape", "y")
+    assert sat.state.message.startswith("Paragraph 2 is changed. This touched mark 1.")
+    sat.state = sat.desk.resized(sat.state, Size(80, 24))
+    sat.press("y", "home")
+    sat.state = sat.desk.resized(sat.state, size)
+    assert sat.state.pages and sat.state.pages.place == HEAD_LINE
+    sat.desk.close()
+    assert prints(tides) == ["The tide", TIDES.replace("tide", "flood")]
 
 
 def test_the_keys_of_both_lists_name_those_that_move_in_it(

@@ -34,7 +34,7 @@ from braildesk.text.excerpt import opening
 from braildesk.text.sequences import composed
 from braildesk.text.spans import Span
 
-from scribe.screen import by_pages, finding, keys, lists, whole_book
+from scribe.screen import by_pages, finding, keys, lists, pager, whole_book
 from scribe.screen.actions import (
     Action,
     AskForNote,
@@ -197,7 +197,8 @@ class Desk:
     def resized(self, state: State, size: Size) -> State:
         """The state on a terminal of another size."""
         place, span = state.place, state.anchor
-        state = replace(state, size=size).at(state.chosen, place)
+        pages = state.pages and pager.resized(state.pages, state.size, size)
+        state = replace(state, size=size, pages=pages).at(state.chosen, place)
         return self._taken(Step(replace(state, anchor=span)))
 
     def previewed(self, state: State) -> State:

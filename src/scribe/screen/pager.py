@@ -91,6 +91,15 @@ def fitted(pages: Pages, size: Size) -> Pages:
     return replace(pages, top=min(top, pages.place))
 
 
+def resized(pages: Pages, before: Size, size: Size) -> Pages:
+    """The lines on a screen of another size, with the cursor on the same one of them."""
+    number = _number(pages, before)
+    front = replace(pages, top=0, place=HEAD_LINE)
+    moved = front if number < 0 else at_line(front, size, number)
+    under = pages.under and resized(pages.under, before, size)
+    return replace(moved, under=under)
+
+
 def moved(pages: Pages, size: Size, key: str) -> Pages | None:
     """The lines after a key that moves the cursor, or None for another key."""
     last, most = len(_wrapped(pages, size)) - 1, _most(pages, size)
