@@ -218,6 +218,28 @@ def test_a_text_that_can_not_be_kept_at_the_end_is_said(moon: Path, at: Open) ->
     assert said.endswith(" This was typed: Oh, The moon is far away. ")
 
 
+@pytest.mark.parametrize("is_seen", [True, False])
+def test_a_text_that_can_not_be_kept_is_said_beside_where_the_book_was_saved(
+    moon: Path, at: Open, is_seen: bool
+) -> None:
+    terminal = at(moon, XDG_STATE_HOME="/proc/nowhere")
+    terminal.wait("? shows the keys.")
+    terminal.keys("s")
+    terminal.wait("kept: paragraph 1 struck")
+    terminal.keys("down", "enter", "Oh, ")
+    terminal.wait("Oh, The Tides")
+    moon.unlink()
+    if is_seen:
+        terminal.keys("enter")
+        terminal.wait("Enter opens the book again")
+    terminal.send_signal(signal.SIGTERM)
+    assert terminal.ended() == 3
+    # a path may be parted at the end of a line
+    said = "".join(terminal.said.split())
+    assert f"isinthenewfile“{moon}-saved-1”." in said
+    assert said.count("Oh,TheTides") == 1
+
+
 def written(file: TextIO) -> None:
     """Writes to a terminal, and then has what is left written where nothing is refused."""
     output = Output.from_pty(file, term="xterm")

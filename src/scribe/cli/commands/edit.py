@@ -88,13 +88,15 @@ def _end(desk: "Desk", screen: "Screen", name: str, console: Console) -> Status:
         desk.close()
     except Lost as lost:
         if not screen.is_hung_up:
-            console.say(lost.sentence)
+            console.say(lost.sentence, *screen.unseen)
         return Status.FAILED
     if screen.is_hung_up:
         return Status.FAILED
     if screen.state.is_lost:
         lines_said = screen.state.pages.lines if screen.state.pages else ()
-        console.say(*(screen.unseen or lines_said))
+        # what is typed stands last, and may be said there already
+        is_said = not screen.unseen or screen.unseen[-1] in lines_said
+        console.say(*lines_said, *(() if is_said else screen.unseen))
         return Status.FAILED
     tell_end(console, name, screen.state.version, desk.strayed)
     console.say(*screen.unseen)
