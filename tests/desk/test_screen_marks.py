@@ -296,3 +296,19 @@ def test_a_mark_is_put_on_what_was_found(
     assert sat.state.reading
     mark = sat.state.reading.marks[-1]
     assert (mark.start, mark.stop, mark.note) == (*words, "so?")
+
+
+def test_a_mark_that_comes_to_end_within_a_contraction_is_on_its_cell(
+    moon: Path, sit: Sit
+) -> None:
+    table = (moon.parent / "plain.utb").read_bytes() + b"always the 2346\n"
+    with Session(moon) as session:
+        session.put_table("own", table)
+        session.add_paragraph("front", "own", "t he sea")
+        session.add_mark(4, 0, 1, "so?")
+    sat = sit(moon)
+    sat.press("enter", "right", "delete", "enter")
+    assert sat.state.kept == "kept: correction 1 of paragraph 4"
+    assert sat.state.marked_cells == (Span(0, 1),)
+    assert said(sat).startswith("the sea ⠮⠀⠎⠑⠁")
+    assert "Mark 2, open, on “t”: so?" in said(sat)

@@ -62,7 +62,8 @@ def cells_of_marks(session: Session, reading: ParagraphReading) -> tuple[Span, .
         place for start, stop in spans for place in (start, max(start, stop - 1), stop)
     }
     places = sorted(place for place in asked if place < len(text))
-    found = answers(session, (Where(number, place) for place in places))
+    # all of them, since the session answers nothing else before
+    found = list(answers(session, (Where(number, place) for place in places)))
     cells = dict(zip(places, found))
     cells[len(text)] = len(reading.braille)
 
