@@ -66,6 +66,18 @@ def test_of_paragraphs_one_of_which_is_refused_those_before_it_are_typed(
     assert [each.id for each in book.contents().paragraphs] == [1, 4, 2, 3]
 
 
+def test_a_correction_that_was_taken_back_by_itself_is_not_taken_back_once_more(
+    book: OpenBook,
+) -> None:
+    book.session.correct(2, 6, 0, "o")
+    book.done(requests.Style(1, Style.HEADING))
+    book.done(requests.Correct(2, 0, 3, "A"))
+    book.done(requests.Undo(2))
+    done = book.taken_back(lambda *_: None)
+    assert done.said == "Taken back: paragraph 1 was made a heading."
+    assert book.session.print_of(2) == "The moon is far away."
+
+
 def test_a_mark_that_was_resolved_is_put_again(book: OpenBook) -> None:
     reading = book.reading(book.contents().paragraphs[1])
     assert reading.marked_cells == (Span(5, 8),)

@@ -598,6 +598,8 @@ class OpenBook:
             if not any(each.id == command.paragraph for each in before):
                 before = self.contents().paragraphs
         answer = self._ask(command)
+        if isinstance(command, requests.Undo):
+            self._deeds = deeds.undone(self._deeds, command)
         noted = deed or deeds.deed_of(command, answer, before)
         if noted:
             self._deeds = (*self._deeds, noted)
