@@ -151,6 +151,22 @@ def test_what_takes_long_is_cancelled_by_its_dialog(desk: Desk) -> None:
     assert said
 
 
+def test_what_is_typed_stays_what_it_is_where_cells_are_shown_otherwise(
+    desk: Desk,
+) -> None:
+    desk.act("new_after")
+    desk.act("notation")
+    # nothing was typed, and the paragraph beside isn't either
+    assert (desk.window.print.text, desk.is_typed()) == ("", False)
+    desk.window.print.insertPlainText("So")
+    end = time.monotonic() + 10
+    while not desk.window.cells.text and time.monotonic() < end:
+        QApplication.processEvents()
+    assert desk.window.cells.text == ",SO"
+    desk.act("notation")
+    assert (desk.window.print.text, desk.window.cells.text) == ("So", "⠠⠎⠕")
+
+
 def test_what_was_read_before_a_change_is_not_listed_after_it(desk: Desk) -> None:
     model = desk.window.model
 

@@ -323,6 +323,16 @@ class Desk:
             self._is_showing = False
         self.link()
 
+    def show_cells(self) -> None:
+        """Shows the cells of the paragraph, or of what is typed, as they are shown now."""
+        if self.new is None and not self.is_typed():
+            self.show_reading(self.window.print.place)
+            return
+        self._is_showing = True
+        braille = self._preview.braille if self._preview else ""
+        self.window.cells.show_text(self.shown(braille))
+        self._is_showing = False
+
     def shown(self, cells: str) -> str:
         """Cells as they are shown: Unicode, or Braille ASCII."""
         return braille_ascii(cells) if self.is_ascii else cells

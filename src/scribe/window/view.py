@@ -71,8 +71,7 @@ class View:
         """Shows cells in Braille ASCII, or as Unicode characters."""
         desk = self.desk
         desk.is_ascii = not desk.is_ascii
-        if not desk.is_typed():
-            desk.show_reading(desk.window.print.place)
+        desk.show_cells()
         desk.update_page(True)
         desk.say(
             f"Cells are shown {'in Braille ASCII' if desk.is_ascii else 'as Unicode'}."
