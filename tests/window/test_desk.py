@@ -12,6 +12,7 @@ from PyQt6.QtWidgets import QApplication, QDialog, QLabel
 from braildesk import Style, requests
 from braildesk.desk.drafts import Drafts
 from braildesk.desk.layout import PageSize
+from braildesk.text.spans import Span
 
 from scribe.window import dialogs
 from scribe.window.desk import Desk
@@ -165,6 +166,12 @@ def test_what_is_typed_stays_what_it_is_where_cells_are_shown_otherwise(
     assert desk.window.cells.text == ",SO"
     desk.act("notation")
     assert (desk.window.print.text, desk.window.cells.text) == ("So", "⠠⠎⠕")
+    # and these are the cells that are copied
+    desk.window.cells.select(Span(1, 3))
+    desk.act("copy_ascii")
+    assert desk.window.message.text == "Copied in Braille ASCII: 2 cells."
+    clipboard = QApplication.clipboard()
+    assert clipboard is not None and clipboard.text() == "SO"
 
 
 def test_what_was_read_before_a_change_is_not_listed_after_it(desk: Desk) -> None:

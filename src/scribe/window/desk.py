@@ -329,9 +329,19 @@ class Desk:
             self.show_reading(self.window.print.place)
             return
         self._is_showing = True
-        braille = self._preview.braille if self._preview else ""
-        self.window.cells.show_text(self.shown(braille))
+        self.window.cells.show_text(self.shown(self.braille))
         self._is_showing = False
+
+    @property
+    def braille(self) -> str:
+        """The cells of the paragraph, or of what is typed."""
+        text, table = self.typed_text(), self.table_of_typed()
+        if self.new is None and not self.is_typed() or table is None:
+            return self.reading.its.braille if self.reading else ""
+        if self._preview is None or self._preview.text != text:
+            look = partial(self.book.tables.preview, table, text, self.print_of(text))
+            self._preview = self.ahead.result(look)
+        return self._preview.braille
 
     def shown(self, cells: str) -> str:
         """Cells as they are shown: Unicode, or Braille ASCII."""

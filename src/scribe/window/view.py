@@ -116,10 +116,9 @@ class View:
             self.desk.say(f"{said} Those with dot 7 or 8, which it lacks, are Unicode.")
 
     def _cells_to_copy(self) -> str:
-        reading, selected = self.desk.reading, self.desk.window.cells.selected
-        if reading is None:
+        cells, selected = self.desk.braille, self.desk.window.cells.selected
+        if self.desk.reading is None and self.desk.new is None:
             raise Stop(NO_PARAGRAPH)
-        cells = reading.its.braille
         part = cells[selected.start : selected.stop]
         return part or cells
 
