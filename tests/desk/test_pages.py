@@ -119,6 +119,16 @@ def test_words_and_marks_are_found_with_their_pages(moon: Path) -> None:
     )
 
 
+def test_what_no_page_can_have_is_on_none(moon: Path) -> None:
+    with Session(moon) as session:
+        session.put_table("dots", b"space \\s 0\nletter a 7\n")
+        session.add_paragraph("front", "dots", "a a")
+    ran = scribe("find", moon, "men", "--pages", "--width", "200", folder=moon.parent)
+    assert ran.shown == (
+        "Paragraph 1, on no page, character 21: On 20 July 1969 two [men] stood on the moon.\n"
+    )
+
+
 def test_a_talk_says_what_stands_on_a_page(moon: Path) -> None:
     given = "pages --page 1 --line 2\npages --page 9\npages --line 2\n"
     ran = scribe("talk", moon, "--width", "80", folder=moon.parent, given=given)

@@ -7,6 +7,7 @@ from braildesk import Session
 from braildesk.desk.layout import Layout, PageSize, Placed, Row, Volume, parted, volume
 from braildesk.desk.places import words_of
 from braildesk.desk.readings import prints
+from braildesk.text.cells import braille_ascii
 from braildesk.text.spans import Span
 
 
@@ -27,8 +28,11 @@ class PageMap:
         self._page_size = page_size
         self._placed: dict[int, tuple[int, Placed]] = {}
         for number, paragraphs in enumerate(parted(session.paragraphs()), 1):
-            for placed in volume(session, number, paragraphs, page_size).layout.placed:
-                self._placed[placed.section.paragraph] = number, placed
+            its = volume(session, number, paragraphs, page_size)
+            # a volume with a cell that pages can't have has none
+            if all(braille_ascii(cells).isascii() for cells in its.brailles.values()):
+                for placed in its.layout.placed:
+                    self._placed[placed.section.paragraph] = number, placed
 
     def of_character(self, paragraph: int, place: int, text: str) -> PagePlace | None:
         """Where a character of a print stands; none if that is on no page."""
