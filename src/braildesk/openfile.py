@@ -1,6 +1,7 @@
 """The file of a book that a session has open: whether it still is there and a book, and what is in it."""
 
 import os
+from contextlib import suppress
 from dataclasses import dataclass
 from pathlib import Path
 from typing import BinaryIO
@@ -24,6 +25,7 @@ from braildesk.workshop import (
 _SUMMED, _PART = 1 << 21, 1 << 16
 #: The bytes of a log before its first page.
 _FRONT = 32
+_READ = os.O_RDONLY | os.O_NOFOLLOW | os.O_NONBLOCK | os.O_CLOEXEC
 
 
 @dataclass(frozen=True)
@@ -48,6 +50,9 @@ class OpenFile:
         self._noted: _Noted | None = None
         #: Whether the program may have written into it since then.
         self._is_lent = False
+        #: The log beside it, held open as well, and its size and front while the program waited.
+        self._log: int | None = None
+        self._log_noted: tuple[int, bytes] | None = None
         if os.path.isfile(self.path):
             try:
                 # a pipe that stands there by now isn't waited for
@@ -60,17 +65,29 @@ class OpenFile:
     @property
     def is_at_its_path(self) -> bool:
         """Whether the file has its name still; True if there was none to be held, or nobody can tell."""
-        if self._descriptor is None:
-            return True
-        try:
-            # by a link that stands there by now the log would be looked for in another place
-            found = os.stat(self.path, follow_symlinks=False)
-            return os.path.samestat(found, os.fstat(self._descriptor))
-        except (FileNotFoundError, NotADirectoryError):
+        return _is_at(self.path, self._descriptor)
+
+    @property
+    def has_its_log(self) -> bool:
+        """Whether the log has its name still, by which it is found if the program is stopped."""
+        return _is_at(f"{self.path}-wal", self._log)
+
+    @property
+    def is_log_written_into(self) -> bool:
+        """Whether others wrote into the log since it was noted, while the program waits."""
+        if self._log is None or self._log_noted is None:
             return False
-        except OSError:
-            # a folder that may not be entered any more says nothing of its files
-            return True
+        return _log_state(self._log) != self._log_noted
+
+    def note_log(self) -> None:
+        """Notes the log, unless it is noted, while the program waits and writes nothing there."""
+        if self._log_noted is not None or self._descriptor is None:
+            return
+        if self._log is None:
+            with suppress(OSError):
+                self._log = os.open(f"{self.path}-wal", _READ)
+        if self._log is not None:
+            self._log_noted = _log_state(self._log)
 
     @property
     def is_overwritten(self) -> bool:
@@ -99,8 +116,8 @@ class OpenFile:
             self._is_lent = False
 
     def lend(self) -> None:
-        """Says that the program gets a command, for which it may write into the file."""
-        self._is_lent = True
+        """Says that the program gets a command, for which it may write into the file and the log."""
+        self._is_lent, self._log_noted = True, None
 
     @property
     def is_written_into(self) -> bool:
@@ -126,9 +143,8 @@ class OpenFile:
 
         Of a log in which nothing is, as a program leaves it at its end, that is nothing.
         """
-        flags = os.O_RDONLY | os.O_NOFOLLOW | os.O_NONBLOCK | os.O_CLOEXEC
         try:
-            with open(os.open(f"{self.path}-wal", flags), "rb", buffering=0) as log:
+            with open(os.open(f"{self.path}-wal", _READ), "rb", buffering=0) as log:
                 is_empty = not has_page(os.fstat(log.fileno()).st_size)
                 return b"" if is_empty else log.read(_FRONT)
         except OSError:
@@ -140,8 +156,7 @@ class OpenFile:
 
     def opened(self) -> BinaryIO:
         """The file, to be read from its front, and closed."""
-        flags = os.O_RDONLY | os.O_NOFOLLOW | os.O_NONBLOCK | os.O_CLOEXEC
-        return open(os.open(self.path, flags), "rb")
+        return open(os.open(self.path, _READ), "rb")
 
     def save(self, program: StrPath | None, version: int) -> str:
         """Puts what is in the file to a new path beside its own, once no program has it open.
@@ -187,10 +202,31 @@ class OpenFile:
             return ""
 
     def close(self) -> None:
-        """Holds the file no longer."""
-        if self._descriptor is not None:
-            os.close(self._descriptor)
-            self._descriptor = None
+        """Holds the file and the log no longer."""
+        for each in (self._descriptor, self._log):
+            if each is not None:
+                os.close(each)
+        self._descriptor = self._log = None
+
+
+def _is_at(path: str, descriptor: int | None) -> bool:
+    """Whether a file is at its path; True if there is none, or nobody can tell."""
+    if descriptor is None:
+        return True
+    try:
+        # by a link that stands there by now the log would be looked for in another place
+        found = os.stat(path, follow_symlinks=False)
+        return os.path.samestat(found, os.fstat(descriptor))
+    except (FileNotFoundError, NotADirectoryError):
+        return False
+    except OSError:
+        # a folder that may not be entered any more says nothing of its files
+        return True
+
+
+def _log_state(log: int) -> tuple[int, bytes]:
+    """What is another one once something was written into a log: its size, or its front."""
+    return os.fstat(log).st_size, os.pread(log, _FRONT, 0)
 
 
 def _state(descriptor: int) -> tuple[int, int, int]:

@@ -17,7 +17,7 @@ from braildesk.pipe import Ending, Pipe
 from braildesk.program import StrPath
 from braildesk.protocol import requests
 from braildesk.protocol.answers import Answer
-from braildesk.protocol.asked import BookFile, Refusal
+from braildesk.protocol.asked import BookFile, Refusal, log_path
 from braildesk.protocol.codes import Code
 from braildesk.protocol.fields import Unwritable
 from braildesk.protocol.replies import Reply, Unreadable
@@ -131,8 +131,11 @@ class Session:
         if is_gone or is_foreign:
             self._strayed = self._gone() if is_gone else self._written_over()
         self._is_closed = True
+        if is_foreign:
+            # at its end the program would empty the log that others may have put there
+            self._pipe.kill()
         ending = self._pipe.close()
-        if ending.status:
+        if ending.status and not is_foreign:
             raise self._lose(SessionEnded, _ended(ending))
         self._file.close()
 
@@ -241,6 +244,7 @@ class Session:
                 raise
             if file.is_at_its_path:
                 file.note()
+                file.note_log()
                 return pipe, file, version
             # another file was put there while the program opened it
             pipe.close()
@@ -346,6 +350,10 @@ class Session:
             is_foreign = self._is_at_rest and self._is_foreign
             if is_foreign or self._file.is_overwritten:
                 raise self._overwritten()
+            if not self._file.has_its_log:
+                raise self._without_log()
+        if self._is_at_rest:
+            self._file.note_log()
         return reply
 
     @property
@@ -355,14 +363,13 @@ class Session:
 
     @property
     def _is_foreign(self) -> bool:
-        """Whether others wrote into the file while the program had it open.
+        """Whether others wrote into the file, or into the log, while the program had it open.
 
         Once the program has ended, another session may have the book, and write into its file. Its
         end is looked for last, since it may come in between.
         """
-        return (
-            self._file.is_written_into and self._file.is_used and self._pipe.is_running
-        )
+        is_changed = self._file.is_written_into or self._file.is_log_written_into
+        return is_changed and self._file.is_used and self._pipe.is_running
 
     def _judge_file(self, request: Request[Any]) -> None:
         """Whether the file still holds what the program wrote there, which waits for a request.
@@ -370,8 +377,11 @@ class Session:
         A session that only asks has nothing to lose there.
         """
         is_at_stake = self._is_at_stake or isinstance(request, Command)
-        if is_at_stake and not self._is_saving and self._is_foreign:
-            raise self._overwritten()
+        if is_at_stake and not self._is_saving:
+            if self._is_foreign:
+                raise self._overwritten()
+            if not self._file.has_its_log and self._file.is_at_its_path:
+                raise self._without_log()
 
     def _note(self, request: Request[Any], reply: Reply) -> None:
         """Notes the reply to a request; a command that isn't kept stays among those sent."""
@@ -463,7 +473,7 @@ class Session:
                 f" file: {failed.sentence} Copy what you typed last."
             )
         # while nobody else can open what stands there, and put the log into it
-        log = self._file.put_log_by()
+        log = "" if self._file.is_log_written_into else self._file.put_log_by()
         if log:
             shown = shortened(log, len(log))
             kept += f" The log of what stood there before is now {shown}."
@@ -475,6 +485,22 @@ class Session:
         self._lost = self._lost_as(Displaced, cause, kept)
         return self._lost
 
+    def _without_log(self) -> Lost:
+        """The exception of a session whose log isn't at its path any more.
+
+        All of the book is in its file once the program has ended.
+        """
+        ending, shown = self._pipe.close(), self._shown_log()
+        cause = (
+            f"The log of the book, {shown}, was removed or replaced while it was open. So the session"
+            " was ended, by which what was in the log came into the book's file."
+        )
+        return self._lose(SessionEnded, _ended(ending) if ending.status else cause)
+
+    def _shown_log(self) -> str:
+        log = log_path(self._book.path)
+        return shortened(log, len(log))
+
     def _gone(self) -> str:
         """That the file isn't at its path any more."""
         shown = shortened(self._book.path, len(self._book.path))
@@ -485,7 +511,12 @@ class Session:
         )
 
     def _written_over(self) -> str:
-        """That others wrote into the file."""
+        """That others wrote into the file, or into the log."""
+        if self._file.is_log_written_into:
+            return (
+                f"Another program wrote into the log of the book, {self._shown_log()}, while it was"
+                " open: what was kept last may not be there any more."
+            )
         shown = shortened(self._book.path, len(self._book.path))
         return (
             f"Another program wrote into the file of the book, {shown}, while it was open: it isn't"

@@ -787,6 +787,119 @@ def test_a_book_that_is_touched_and_written_by_its_own_program_is_no_other_book(
         assert session.add_paragraph("end", "en", "Three.").version == 746
 
 
+def log_of(book: Path) -> Path:
+    return Path(f"{book}-wal")
+
+
+@pytest.fixture
+def backup(book: Path) -> Path:
+    """A copy of the book and its log from while it was open, with a paragraph in the log."""
+    copied = book.with_name("backup")
+    with Session(book) as session:
+        session.add_paragraph("end", "en", "Of the backup.")
+        for path, to in ((book, copied), (log_of(book), log_of(copied))):
+            shutil.copyfile(path, to)
+        session.add_paragraph("end", "en", "After it.")
+    return copied
+
+
+@pytest.mark.parametrize(
+    "moment", ["before a command", "before many", "before the end"]
+)
+@pytest.mark.parametrize("how", ["both restored", "its log alone", "emptied"])
+def test_a_log_that_others_write_into_is_noticed(
+    book: Path, backup: Path, how: str, moment: str
+) -> None:
+    with pytest.raises(Displaced) as caught:
+        with Session(book) as session:
+            session.add_paragraph("end", "en", "Kept.")
+            if how == "both restored":
+                shutil.copyfile(backup, book)
+            if how == "emptied":
+                os.truncate(log_of(book), 0)
+            else:
+                shutil.copyfile(log_of(backup), log_of(book))
+            if moment == "before a command":
+                session.strike(1)
+            elif moment == "before many":
+                list(session.each([requests.Strike(1)] * 3))
+    assert caught.value.cause == (
+        f"Another program wrote into the log of the book, “{log_of(book)}”, while it was open: what"
+        " was kept last may not be there any more."
+    )
+    # a command is not sent to such a file
+    saved = Path(f"{book}-saved-1.txt").read_text()
+    assert saved == "Of the backup.\n\nAfter it.\n\nKept.\n"
+    # and what was put there stays as it is
+    texts = ["Of the backup."] + ["After it."] * (how != "both restored")
+    if how == "emptied":
+        log_of(book).unlink()
+    if how == "its log alone":
+        assert log_of(book).read_bytes() == log_of(backup).read_bytes()
+        log_of(book).unlink()
+    with Session(book) as session:
+        assert [session.print_of(each.id) for each in session.paragraphs()] == texts
+
+
+def test_a_session_that_only_asked_leaves_a_backup_with_its_log_as_it_is(
+    book: Path, backup: Path
+) -> None:
+    with Session(book) as session:
+        shutil.copyfile(backup, book)
+        shutil.copyfile(log_of(backup), log_of(book))
+        assert session.print_of(2) == "After it."
+    assert session.strayed.startswith("Another program wrote into the log of the book")
+    with Session(book) as session:
+        assert [session.print_of(each.id) for each in session.paragraphs()] == [
+            "Of the backup."
+        ]
+
+
+@pytest.mark.parametrize("is_replaced", [False, True])
+@pytest.mark.parametrize("count", [0, 1, 3])
+def test_what_is_in_a_log_that_is_removed_comes_into_the_file(
+    book: Path, count: int, is_replaced: bool
+) -> None:
+    other = book.with_name("other")
+    shutil.copyfile(book, other)
+    with Session(book) as session:
+        session.add_paragraph("end", "en", "One.")
+        log_of(book).unlink()
+        if is_replaced:
+            shutil.copyfile(other, log_of(book))
+        if count:
+            with pytest.raises(SessionEnded) as caught:
+                list(session.each([requests.Type("end", "en", "Two.")] * count))
+            assert caught.value.sentence == (
+                f"The log of the book, “{log_of(book)}”, was removed or replaced while it was open. So"
+                " the session was ended, by which what was in the log came into the book's file. The"
+                " last command that was reported as kept is the new paragraph “One.”, by which the book"
+                " came to version 2. All up to it is in the book."
+            )
+    if is_replaced:
+        log_of(book).unlink()
+    # were it killed now, nothing would be lost
+    shutil.copyfile(book, other)
+    with Session(other) as session:
+        assert [session.print_of(each.id) for each in session.paragraphs()] == ["One."]
+
+
+def test_a_log_that_is_removed_while_many_commands_are_sent_costs_none_that_was_kept(
+    book: Path,
+) -> None:
+    kept = 0
+    with Session(book) as session:
+        with pytest.raises(SessionEnded) as caught:
+            for answer in session.each([requests.Type("end", "en", "Two.")] * 2_000):
+                kept += isinstance(answer, Typed)
+                if kept == 100:
+                    log_of(book).unlink()
+    with Session(book) as session:
+        count = len(session.paragraphs())
+        assert 100 <= kept < caught.value.version <= count + 1 < 2_001
+        assert session.last_version == count + 1
+
+
 @pytest.mark.parametrize("outlived", ["exec {}", "{}; read -r line; exit 1"])
 @pytest.mark.parametrize(
     "go_on",

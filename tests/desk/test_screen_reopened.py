@@ -273,6 +273,28 @@ def test_a_book_that_cannot_be_opened_again_says_why_until_it_can(
     assert sat.state.kept == "kept: paragraph 4"
 
 
+def test_who_types_goes_on_where_the_log_of_the_book_was_removed(
+    moon: Path, sit: Sit
+) -> None:
+    log = Path(f"{moon}-wal")
+    sat = sit(moon)
+    sat.press("s", "o")
+    sat.write("Soon.")
+    log.unlink()
+    sat.press("enter")
+    assert sat.state.message == (
+        f"The log of the book, “{log}”, was removed or replaced while it was open. So the session was"
+        " ended, by which what was in the log came into the book's file. The book was opened again:"
+        " it is at version 8, as before. What is typed is still here: type on."
+    )
+    sat.press("enter")
+    assert sat.state.kept == "kept: paragraph 4"
+    sat.press("escape", "s")
+    sat.desk.close()
+    with Session(moon) as session:
+        assert session.last_version == 10
+
+
 def test_nothing_is_said_to_be_kept_in_a_file_into_which_another_book_was_copied(
     moon: Path, sit: Sit
 ) -> None:
