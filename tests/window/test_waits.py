@@ -2,6 +2,7 @@
 
 import os
 import signal
+import time
 from collections.abc import Callable, Iterator, Sequence
 from contextlib import AbstractContextManager, contextmanager
 from pathlib import Path
@@ -168,6 +169,32 @@ def test_a_note_whose_cells_are_gone_is_not_lost(
     desk.act("bring_back")
     assert desk.window.message.text.endswith(" Ctrl+B brings it back.")
     assert (_given_up(desk.path), _waiting(desk)) == (["who?"], None)
+
+
+def test_while_a_note_is_typed_the_end_of_the_session_is_not_looked_at_again_and_again(
+    desk: Desk, monkeypatch: pytest.MonkeyPatch
+) -> None:
+    looks: list[None] = []
+    acting = desk.acting
+
+    def counted(act: Callable[[], None]) -> None:
+        looks.append(None)
+        acting(act)
+
+    def text(*_: object) -> None:
+        monkeypatch.setattr(desk, "acting", counted)
+        os.kill(desk.book.pid, signal.SIGKILL)
+        end = time.monotonic() + 0.3
+        while time.monotonic() < end:
+            QApplication.processEvents()
+
+    monkeypatch.setattr(dialogs, "text", text)
+    desk.act("mark")
+    assert len(looks) == 1
+    end = time.monotonic() + 10
+    while not desk.window.message.text and time.monotonic() < end:
+        QApplication.processEvents()
+    assert desk.window.message.text.startswith("The session was ended by signal 9.")
 
 
 @pytest.mark.parametrize("how", ["read", "kept"])

@@ -183,6 +183,8 @@ class Desk:
                 act()
         finally:
             self._is_acting = False
+            if self._watched is not None:
+                self._watched.setEnabled(True)
 
     @contextmanager
     def failures(self) -> Iterator[None]:
@@ -732,7 +734,7 @@ class Desk:
         its = QSocketNotifier(
             voidptr(os.pidfd_open(self.book.pid)), QSocketNotifier.Type.Read
         )
-        its.activated.connect(lambda: self.acting(self._ended))
+        its.activated.connect(self._seen_to_end)
         self._watched = its
 
     def unwatch(self) -> None:
@@ -741,6 +743,12 @@ class Desk:
         if its is not None:
             its.setEnabled(False)
             os.close(int(its.socket()))
+
+    def _seen_to_end(self) -> None:
+        """The session ended, which is seen to once nothing else is being done."""
+        if self._is_acting and self._watched is not None:
+            self._watched.setEnabled(False)
+        self.acting(self._ended)
 
     def _ended(self) -> None:
         self.unwatch()
