@@ -10,7 +10,7 @@ from pathlib import Path
 import pytest
 from PyQt6.QtWidgets import QApplication
 
-from braildesk import Session, requests
+from braildesk import Paragraph, Session, requests
 from braildesk.desk.draft import Aim, Draft
 from braildesk.desk.drafts import Drafts
 from braildesk.desk.layout import PageSize
@@ -18,6 +18,7 @@ from braildesk.text.spans import Span
 
 from scribe.window import dialogs
 from scribe.window.actions import Actions
+from scribe.window.book import ChosenParagraph
 from scribe.window.desk import Desk
 
 from conftest import Open, prints
@@ -195,6 +196,32 @@ def test_while_a_note_is_typed_the_end_of_the_session_is_not_looked_at_again_and
     while not desk.window.message.text and time.monotonic() < end:
         QApplication.processEvents()
     assert desk.window.message.text.startswith("The session was ended by signal 9.")
+
+
+def test_the_session_may_end_while_another_paragraph_is_gone_to(desk: Desk) -> None:
+    os.kill(desk.book.pid, signal.SIGKILL)
+    desk.acting(lambda: desk.choose(2))
+    assert desk.window.message.text.startswith("The session was ended by signal 9.")
+    assert (desk.number, desk.is_typed(), _waiting(desk)) == (3, False, None)
+
+
+def test_what_is_in_the_book_is_not_typed_where_the_session_ends_before_it_is_shown(
+    desk: Desk, monkeypatch: pytest.MonkeyPatch
+) -> None:
+    desk.act("new_after")
+    desk.window.print.textCursor().insertText("One.")
+    reading = desk.book.reading
+
+    def killed(paragraph: Paragraph) -> ChosenParagraph:
+        monkeypatch.setattr(desk.book, "reading", reading)
+        os.kill(desk.book.pid, signal.SIGKILL)
+        return reading(paragraph)
+
+    monkeypatch.setattr(desk.book, "reading", killed)
+    desk.act("keep")
+    assert desk.window.message.text.startswith("The session was ended by signal 9.")
+    assert not desk.is_typed()
+    assert prints_of(desk)[:3] == ["The Moon", "One.", "The mon is far away."]
 
 
 @pytest.mark.parametrize("how", ["read", "kept"])

@@ -555,8 +555,9 @@ class Desk:
         )
 
     def is_typed(self) -> bool:
-        """Whether a text is typed that the book doesn't have."""
-        return self.typed_text() != self.before()
+        """Whether a text is typed that the book doesn't have; none is while no paragraph is shown."""
+        is_shown = self.reading is not None or self.new is not None
+        return is_shown and self.typed_text() != self.before()
 
     def draft(self) -> Draft | None:
         """What is typed and not in the book yet."""
