@@ -233,3 +233,18 @@ def test_a_full_book_says_so_and_what_was_typed_stays(
         " added. Begin another book."
     )
     assert sat.state.typed and sat.state.typed.text == "N"
+
+
+def test_a_table_that_a_paragraph_is_not_given_is_said_to_be_in_the_book(
+    empty_book: Path, sit: Sit
+) -> None:
+    with Session(empty_book) as session:
+        session.put_table("own", "letter п 1\n".encode())
+        session.add_paragraph("end", "own", "п")
+    sat = sit(empty_book)
+    sat.press("t", *"ueb", "enter")
+    assert sat.state.message == (
+        "The table ueb has no cells for “п” (U+043F CYRILLIC SMALL LETTER PE), character 1 of"
+        " paragraph 1: “п”. Table ueb is in the book now, and paragraph 1 wasn't given it."
+    )
+    assert (sat.state.version, sat.state.tables) == (3, ("own", "ueb"))

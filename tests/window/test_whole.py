@@ -330,6 +330,20 @@ def test_a_table_is_given_and_taken_back(desk: Desk, given: Answers) -> None:
     assert desk.contents.paragraphs[0].table == "en"
 
 
+def test_a_table_that_a_paragraph_is_not_given_is_said_to_be_in_the_book(
+    desk: Desk, given: Answers, tmp_path: Path
+) -> None:
+    given["one_of"], given["file"] = "From a file…", tmp_path / "own.utb"
+    given["file"].write_text("letter a 1\n")
+    desk.act("table")
+    assert desk.window.message.text == (
+        "The table own has no cells for “T” (U+0054 LATIN CAPITAL LETTER T), character 1 of"
+        " paragraph 1: “The Moon”. Table own is in the book now, and paragraph 1 wasn't given it."
+    )
+    assert desk.contents.tables == ("en", "own")
+    assert desk.contents.version == desk.asked(desk.book.session.version)
+
+
 @pytest.mark.parametrize(
     "text, said",
     [

@@ -88,6 +88,7 @@ from scribe.screen.state import (
 )
 from scribe.words import deeds, pagelook
 from scribe.words.aftermath import found_again
+from scribe.words.changes import not_given
 from scribe.words.deeds import Deed, kept
 from scribe.words.drafts import Unsent, changed_since, not_kept, what_for
 from scribe.words.import_text import came_to, not_seen
@@ -947,7 +948,8 @@ class Desk:
 
     def _with_table(self, state: State, name: str) -> State:
         """Puts an installed table into the book if it has none of that name, then gives it."""
-        if name not in state.tables:
+        is_new = name not in state.tables
+        if is_new:
             request = table_request(name, None)
             text = request.text if isinstance(request, requests.Table) else None
             answer = self._session.ask(replace(request, expect=state.version))
@@ -964,7 +966,14 @@ class Desk:
             said = f"New paragraphs have the table {name}. o types the first one."
             return replace(state, table=name).saying(said)
         number = state.paragraph.id
-        return self._sent(state, requests.Retable(number, name, expect=state.version))
+        try:
+            command = requests.Retable(number, name, expect=state.version)
+            return self._sent(state, command)
+        except _Interrupted as interrupted:
+            if not is_new or not isinstance(interrupted.cause, Refused):
+                raise
+            said = not_given(name, number, interrupted.cause)
+            return interrupted.state.saying(said)
 
     def _typed_all(self, state: State, action: TypeAll) -> State:
         """Types paragraphs until one is refused, which stays typed; U brings back those after it."""

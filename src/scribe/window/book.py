@@ -281,7 +281,8 @@ class OpenBook:
         """Gives a paragraph a table, which is put into the book where it isn't there.
 
         It may be that of a file. What the book makes of its text is for the book to say. Each step is
-        said before it is done, and is done where it goes on; raises `Stop` where none was done.
+        said before it is done, and is done where it goes on; raises `Stop` where none was done, and
+        `NotAll` where the paragraph is refused the table that was put into the book.
         """
         done = None
         if name not in self.tables.names or path is not None:
@@ -289,7 +290,12 @@ class OpenBook:
         if paragraph is None:
             return done or Done(self.contents(), f"kept: table {name}", None)
         if go_on(f"Paragraph {paragraph} is given the table {name}."):
-            return self.done(requests.Retable(paragraph, name))
+            try:
+                return self.done(requests.Retable(paragraph, name))
+            except Refused as refused:
+                if done is None:
+                    raise
+                raise NotAll(1, refused) from refused
         if done is None:
             raise Stop(_AS_IT_WAS)
         stopped = f"{done.said}. Stopped before paragraph {paragraph} was given it."

@@ -2,15 +2,15 @@
 
 from pathlib import Path
 
-from braildesk import After, Style, requests
+from braildesk import After, Refused, Style, requests
 from braildesk.desk.draft import Aim
 from braildesk.desk.tables import SUPPLIED, table_names
 
 from scribe.window import dialogs
-from scribe.window.book import Done
+from scribe.window.book import Done, NotAll
 from scribe.window.desk import CLOSED, STRUCK, Desk, New
 from scribe.window.dialogs import IsStopped, Say
-from scribe.words.changes import nothing_found, paragraph_history
+from scribe.words.changes import not_given, nothing_found, paragraph_history
 from scribe.words.status import Stop
 
 _HISTORY_COLUMNS = 72
@@ -94,7 +94,12 @@ class Structure:
 
             return desk.book.with_table(number, name, path, go_on)
 
-        desk.show_done(dialogs.long(desk.window, desk.work, "Table", act))
+        try:
+            desk.show_done(dialogs.long(desk.window, desk.work, "Table", act))
+        except NotAll as part:
+            desk.show(desk.asked(desk.book.contents), None)
+            assert number is not None and isinstance(part.cause, Refused)
+            raise Stop(not_given(name, number, part.cause)) from part
 
     def move_up(self) -> None:
         """Moves the chosen paragraph before the one before it."""

@@ -278,6 +278,12 @@ def no_place(none: NoPlace) -> str:
     return f"{quoted(none.sought)} isn't {where}. Nothing was changed."
 
 
+def not_given(table: str, paragraph: int, refused: Refused) -> str:
+    """The sentence for a table that was put into the book, and that a paragraph isn't given."""
+    why = refused.sentence.replace(" Nothing was changed.", "")
+    return f"{why} Table {table} is in the book now, and paragraph {paragraph} wasn't given it."
+
+
 def history_lines(found: Iterable[Step], width: int) -> Iterator[list[str]]:
     """The lines of each entry: which it is, who made it, for which words, and the print after it."""
     for step in found:
