@@ -10,7 +10,7 @@ from pathlib import Path
 
 import pytest
 
-from braildesk import Session
+from braildesk import After, Session
 from braildesk.desk.drafts import Drafts
 from braildesk.desk.import_note import ImportNote
 
@@ -253,6 +253,34 @@ def test_an_import_that_goes_on_and_is_cut_short_again_goes_on_once_more(
         assert again(killed).said.startswith(where(kept))
     assert again(killed, "--continue").status == 0
     assert prints(killed) == ["front", *LINES, "end"]
+
+
+@pytest.mark.parametrize("after", [7, "end"])
+def test_an_earlier_copy_has_no_part_of_an_import_that_went_on_later(
+    front: Path, after: After
+) -> None:
+    text = front.with_name("text.txt")
+    earlier = Path(shutil.copyfile(front, front.with_name("earlier")))
+    digest = hashlib.sha256(text.read_bytes()).hexdigest()
+    # the first five were typed before, and it was cut short once more before the sixth
+    with Session(front) as session:
+        for line in LINES[:5]:
+            session.add_paragraph("end", "en", line)
+    note = ImportNote(str(text), digest, True, 6, 7, "en", after, 8, 7)
+    Drafts(front).begin_import(note)
+    assert (
+        "5 of its 12 paragraphs are in the book"
+        in scribe("show", front.name, "1", folder=front.parent).said
+    )
+    shutil.copyfile(earlier, front)
+    words = ["import", front.name, text.name, "--lines"]
+    ran = scribe(*words, "--continue", folder=front.parent)
+    assert ran.said == (
+        "No import of text.txt is known that was cut short. Nothing was typed.\n"
+    )
+    ran = scribe(*words, folder=front.parent)
+    assert ran.shown == "12 paragraphs typed, numbers 3 to 14, by the table en.\n"
+    assert prints(front) == ["front", "end", *LINES]
 
 
 def test_the_desk_asks_whether_an_import_that_was_cut_short_goes_on(

@@ -270,6 +270,8 @@ class Importer:
         with Session(job.book, timeout=job.wait) as session:
             its = unfinished(session, session.paragraphs(), note)
         if job.way is Way.GO_ON:
+            if not its.has_before:
+                raise NoneCutShort(job.text)
             if its.is_all_there:
                 raise AllThere(note)
             how = replace(job, by_lines=note.by_lines, table=note.table, how=note.how)

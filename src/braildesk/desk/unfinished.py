@@ -42,6 +42,8 @@ class Unfinished:
     is_taken_back: bool
     #: Whether the last of these isn't as it was to be, as a heading.
     is_lacking: bool = False
+    #: Whether the book has the paragraphs before; an earlier copy, or another book, hasn't.
+    has_before: bool = True
 
     @property
     def done(self) -> int:
@@ -51,7 +53,7 @@ class Unfinished:
     @property
     def is_to_go_on(self) -> bool:
         """Whether a part of the text is in the book, and not all of it."""
-        has_part = self.done > 0 and not self.is_all_there
+        has_part = self.done > 0 and self.has_before and not self.is_all_there
         return has_part and not self.is_taken_back
 
     @property
@@ -93,7 +95,20 @@ def unfinished(
         for each in book
         if each.id == last
     )
-    return Unfinished(note, kept, before, rest, is_taken_back, is_lacking)
+    has_before = kept > 0 or _has_last(session, book, note, before)
+    return Unfinished(note, kept, before, rest, is_taken_back, is_lacking, has_before)
+
+
+def _has_last(
+    session: Session,
+    book: Sequence[Paragraph],
+    note: ImportNote,
+    before: Sequence[Passage],
+) -> bool:
+    """Whether the last of some paragraphs of the text stands where the others were to go."""
+    there = [each.id for each in book if each.id <= note.there]
+    last = there[-1:] if note.after == "end" else [n for n in there if n == note.after]
+    return came_from(session, last, before[-1:]) == len(before[-1:])
 
 
 def digest_of(data: bytes) -> str:
