@@ -36,10 +36,13 @@ def worded(refusal: Refusal) -> str:
 
 
 def said_of_room(room: int | None) -> str:
-    """How little room there is on a disk, to stand after what is said of it."""
+    """That there is little room on a disk, to stand after what is said of it.
+
+    It isn't said for how many bytes: the program has emptied its log since something was too many.
+    """
     if room is None:
         return ""
-    return f": it has room for {room:,} bytes" if room else ": there is no room on it"
+    return f": there is {'little' if room else 'no'} room on it"
 
 
 #: What was asked with a number, and what a sentence has if it wasn't.
