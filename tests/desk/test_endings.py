@@ -13,6 +13,9 @@ import pytest
 
 import braildesk
 from braildesk import Session, SessionEnded
+
+from scribe.cli import make_parser
+from scribe.cli.commands import may_change
 from tool import Ran, environment, scribe
 from words import GIVEN, LOOKING, WORDS
 
@@ -32,10 +35,11 @@ sys.exit(cli.main())
 """
 
 
-def faulty(fault: str, folder: Path, **more: str) -> Ran:
+def faulty(fault: str, folder: Path, *words: str, **more: str) -> Ran:
     """A run of scribe in which something goes wrong that nobody thought of."""
+    words = words or ("run", "moon.braildesk")
     done = subprocess.run(
-        [sys.executable, "-c", FAULTY.format(fault=fault), "run"],
+        [sys.executable, "-c", FAULTY.format(fault=fault), *words],
         cwd=folder,
         env=environment(**more),
         capture_output=True,
@@ -80,6 +84,56 @@ def test_a_want_of_memory_is_no_fault_of_scribe(tmp_path: Path) -> None:
         "ok 8\n",
         f"There was no memory for this. {IN_THE_BOOK} Close other programs, and try again.\n",
     )
+
+
+#: Commands that change no book.
+CHANGING_NONE = (
+    *("check-table", "try", "show", "list", "history", "compare", "find", "marks"),
+    *("next", "volumes", "pages", "export", "proof", "bring"),
+)
+#: Words by which others change none either, and words by which one of these does.
+WITHOUT_CHANGE = [
+    ["change-all", "moon.braildesk", "far", "near", "--dry-run"],
+    ["import", "moon.braildesk", "text.txt", "--dry-run"],
+    ["tune", "moon.braildesk", "de-g2"],
+]
+WITH_CHANGE = [
+    ["volumes", "moon.braildesk", "--pages", "9", "--set"],
+    ["tune", "moon.braildesk", "de-g2", "--apply"],
+]
+
+
+def test_only_words_that_may_change_a_book_are_taken_for_such(
+    moon: Path, monkeypatch: pytest.MonkeyPatch
+) -> None:
+    monkeypatch.chdir(moon.parent)
+    Path("text.txt").write_text("The sun\n")
+    changing = WITH_CHANGE + [
+        [name, *WORDS[name]] for name in WORDS if name not in CHANGING_NONE
+    ]
+    others = WITHOUT_CHANGE + [[name, *WORDS[name]] for name in CHANGING_NONE]
+    for words in changing + others:
+        arguments = make_parser(words[:1]).parse_args(words)
+        assert (words, may_change(arguments)) == (words, words in changing)
+
+
+@pytest.mark.parametrize(
+    "words, kept",
+    [
+        (("show", "moon.braildesk"), "No book was changed."),
+        (("find", "moon.braildesk", "moon"), "No book was changed."),
+        (("show", "--help"), "No book was changed."),
+        (("show",), "No book was changed."),
+        (("strike", "moon.braildesk", "1"), IN_THE_BOOK),
+    ],
+)
+def test_what_may_be_in_the_book_is_said_only_where_a_change_was_asked(
+    tmp_path: Path, words: tuple[str, ...], kept: str
+) -> None:
+    stopped = faulty("KeyboardInterrupt", tmp_path, *words)
+    assert stopped == Ran(-signal.SIGINT, "ok 8\n", f"Stopped. {kept}\n")
+    at_fault = faulty("KeyError('moon')", tmp_path, *words)
+    assert f"line 6). {kept} Please report it" in at_fault.said
 
 
 @pytest.fixture

@@ -5,7 +5,7 @@ from argparse import Namespace
 from collections.abc import Collection, Sequence
 from contextlib import suppress
 
-from scribe.cli.commands import COMMANDS, command
+from scribe.cli.commands import COMMANDS, command, may_change
 from scribe.cli.endings import ended, said_of
 from scribe.cli.parser import Parser, TextAsked, WordsRefused, as_asked, unknown_command
 from scribe.words.console import Console, InputFailed, OutputFailed
@@ -74,7 +74,16 @@ def run_words(words: Sequence[str], console: Console) -> Status:
 
 def main() -> int:
     """Runs the words of this process, and gives its status."""
-    return ended(_run_process)
+    return ended(_run_process, _may_change)
+
+
+def _may_change() -> bool:
+    """Whether the words of this process may change a book; those that are refused do nothing."""
+    words = sys.argv[1:]
+    try:
+        return may_change(make_parser(words[:1]).parse_args(words))
+    except (TextAsked, WordsRefused):
+        return False
 
 
 def _run_process() -> int:

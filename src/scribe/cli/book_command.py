@@ -72,9 +72,13 @@ class BookCommand:
                 outcome = self.answer(session, arguments, console)
         return outcome if isinstance(outcome, Status) else Status.DONE
 
+    def may_change(self, arguments: Namespace) -> bool:
+        """Whether its words may have it change the book."""
+        return not self.looks or self.changes(arguments)
+
     @contextmanager
     def _opened(self, arguments: Namespace, console: Console) -> Iterator[Session]:
-        if self.looks and not self.changes(arguments):
+        if not self.may_change(arguments):
             with looked_at(arguments, console) as (session, arguments.read_at):
                 yield session
             return

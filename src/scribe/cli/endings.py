@@ -21,30 +21,43 @@ from scribe.words.status import Interrupted, Status, number_of, stopped_by
 _DETAILS = "fault.txt"
 _SIGNALS = (signal.SIGINT, signal.SIGTERM, signal.SIGHUP, signal.SIGXCPU)
 _IN_THE_BOOK = "What was reported as kept is in the book, and what was asked after that may be there too."
+_NOTHING_CHANGED = "No book was changed."
 
 
-def ended(run: Callable[[], int]) -> int:
-    """What a run of the process ends with: its status, if no signal ends the process first."""
+def ended(run: Callable[[], int], may_change: Callable[[], bool]) -> int:
+    """What a run of the process ends with: its status, if no signal ends the process first.
+
+    Whether it may have changed a book is asked where it has to be said.
+    """
     open_closed()
     try:
         _take_signals()
-        status = _status(run)
+        status = _status(run, may_change)
         _leave_signals()
     except KeyboardInterrupt as cause:
-        _end_by_signal(cause)
+        _end_by_signal(cause, may_change)
         return Status.FAILED
     return status
 
 
-def _status(run: Callable[[], int]) -> int:
+def _status(run: Callable[[], int], may_change: Callable[[], bool]) -> int:
     try:
         return run()
     except OutputFailed as failed:
         if not failed.reader_left:
             say_last(failed.sentence)
     except Exception as fault:
-        say_last(of_fault(fault))
+        say_last(of_fault(fault, _in_the_book(may_change)))
     return Status.FAILED
+
+
+def _in_the_book(may_change: Callable[[], bool]) -> str:
+    """What is in the book after an end that nobody foresaw."""
+    # where even this fails, as without memory, nobody knows it
+    with suppress(Exception):
+        if not may_change():
+            return _NOTHING_CHANGED
+    return _IN_THE_BOOK
 
 
 def said_of(
@@ -80,10 +93,15 @@ def open_closed() -> None:
             os.open(os.devnull, os.O_RDWR)
 
 
-def of_fault(fault: Exception) -> str:
-    """What is said of an exception that nobody expected, whose details are kept in a file."""
+def of_fault(fault: Exception, kept: str) -> str:
+    """What is said of an exception that nobody expected, and of what was kept before it.
+
+    Its details are kept in a file.
+    """
     if isinstance(fault, MemoryError):
-        return f"There was no memory for this. {_IN_THE_BOOK} Close other programs, and try again."
+        return (
+            f"There was no memory for this. {kept} Close other programs, and try again."
+        )
     import traceback  # which nobody hopes for
 
     last = traceback.extract_tb(fault.__traceback__)[-1:]
@@ -93,12 +111,10 @@ def of_fault(fault: Exception) -> str:
         path = _kept(fault)
     except OSError as error:
         return (
-            f"{what} {_IN_THE_BOOK} Please report it. Its details could not be written to a file:"
+            f"{what} {kept} Please report it. Its details could not be written to a file:"
             f" {error.strerror}."
         )
-    return (
-        f"{what} {_IN_THE_BOOK} Please report it with its details, which are in {path}."
-    )
+    return f"{what} {kept} Please report it with its details, which are in {path}."
 
 
 def say_last(sentence: str) -> None:
@@ -147,10 +163,10 @@ def _nothing(number: int, frame: FrameType | None) -> None:
     """What a signal does while scribe ends by an earlier one."""
 
 
-def _end_by_signal(cause: KeyboardInterrupt) -> None:
+def _end_by_signal(cause: KeyboardInterrupt, may_change: Callable[[], bool]) -> None:
     """Says what is so, unless it was said, and ends the process by the signal that stopped it."""
     if not (isinstance(cause, Interrupted) and cause.is_said):
-        say_last(f"{stopped_by(cause)} {_IN_THE_BOOK}")
+        say_last(f"{stopped_by(cause)} {_in_the_book(may_change)}")
     number = number_of(cause)
     signal.signal(number, signal.SIG_DFL)
     os.kill(os.getpid(), number)

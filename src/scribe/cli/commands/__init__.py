@@ -56,6 +56,9 @@ COMMANDS: Mapping[str, tuple[str, str]] = {
 }
 
 
+#: The commands that change no book, whatever their words; of the others a `BookCommand` says it.
+CHANGES_NONE = ("check-table", "try", "export", "proof", "bring")
+
 #: The commands that `scribe talk` takes too, by the same words, in the order in which its help lists
 #: them: each module has a `BookCommand`.
 AT_PROMPT = (
@@ -92,6 +95,21 @@ def command(name: str) -> Command:
     if module == _EDITS:
         return cast(Command, found.EDITS[name])
     return cast(Command, getattr(found, "COMMAND", found))
+
+
+def may_change(arguments: Namespace) -> bool:
+    """Whether a command may change a book by its words."""
+    # imported here, since most commands come to their end
+    from scribe.cli.book_command import BookCommand
+
+    is_trial = getattr(arguments, "dry_run", False)
+    if arguments.command in CHANGES_NONE or is_trial:
+        return False
+    if not getattr(arguments, "apply", True):
+        # what tune finds is put into the book only if that is asked for
+        return False
+    its = command(arguments.command)
+    return its.may_change(arguments) if isinstance(its, BookCommand) else True
 
 
 def prompt_command(name: str) -> "BookCommand":
