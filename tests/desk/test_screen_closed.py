@@ -15,6 +15,7 @@ from stand_in import KEPT, READ, WAIT
 from terminal import Open, Terminal, once_free, standing_in
 from tool import ROOT
 
+WAITS = "What was typed and isn't in the book is kept, and is offered when the book is next opened. "
 HUNG_UP, SIGNALS = "hung up", ["SIGHUP", "SIGTERM", "SIGHUP SIGTERM"]
 WAYS = [HUNG_UP, *SIGNALS]
 
@@ -28,11 +29,14 @@ def close(terminal: Terminal, way: str) -> None:
         terminal.send_signal(signal.Signals[name])
 
 
-def check_has_ended(terminal: Terminal, way: str) -> None:
-    """Waits until scribe has ended by itself, without what nobody understands."""
+def check_has_ended(terminal: Terminal, way: str, waits: str = "") -> None:
+    """Waits until scribe has ended by itself, without what nobody understands.
+
+    Who can still read it reads whether a text waits.
+    """
     status = terminal.left() if way == HUNG_UP else terminal.ended()
     assert status == (-signal.SIGTERM if way == "SIGTERM" else 3)
-    assert terminal.said == ""
+    assert terminal.said.replace("\n", " ") == (waits if way == "SIGTERM" else "")
     assert b"Traceback" not in terminal.written
     assert b"Unhandled" not in terminal.written
 
@@ -46,7 +50,7 @@ def test_print_that_is_edited_is_offered_again(moon: Path, at: Open, way: str) -
     terminal.keys("down", "enter", "Oh, ")
     terminal.wait("Oh, The Tides")
     close(terminal, way)
-    check_has_ended(terminal, way)
+    check_has_ended(terminal, way, WAITS)
     with once_free(moon) as session:
         assert session.last_version == 8 and session.print_of(2) == "The Tides"
     again = at(moon)
@@ -146,7 +150,7 @@ def test_a_question_about_a_text_stays_where_it_isnt_answered(
         again = at(moon)
         again.wait("further? y is yes, n is no.")
         close(again, way)
-        check_has_ended(again, way)
+        check_has_ended(again, way, WAITS)
     again = at(moon)
     again.wait("further? y is yes, n is no.")
     os.kill(again.program(), signal.SIGKILL)

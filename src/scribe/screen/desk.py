@@ -147,6 +147,11 @@ class Desk:
         """What became of the file of a book in which nothing was kept, once it is closed."""
         return self._session.strayed
 
+    @property
+    def has_waiting(self) -> bool:
+        """Whether a text is kept that the book doesn't have, to be offered at the next opening."""
+        return self._unsent.waiting is not None
+
     def take_over(self) -> None:
         """Has the session belong to the thread that calls this, before or after work aside."""
         self._session.take_over()

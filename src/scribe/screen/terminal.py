@@ -52,6 +52,7 @@ _CLASSES = {
 _SAVE_SECONDS = 1.0
 # how long Escape waits for a key that would make it Alt
 _ESCAPE_SECONDS = 0.1
+_WAITS = "What was typed and isn't in the book is kept, and is offered when the book is next opened."
 _NO_END = "The end of the pasted text didn't come. All that came is taken as pasted, and keys act again."
 
 
@@ -206,13 +207,15 @@ class Screen:
                 is_of_line = False
 
     def _keep_last(self) -> None:
-        """Keeps what is typed at the end, or has it said if it can't be kept."""
+        """Keeps what is typed at the end, and has it said if it can't be, or if it waits."""
         self._desk.keep_place(self.state)
         state = self.state if self.state.typed else replace(self.state, cut=None)
         kept = self._desk.saved(state)
         if kept is not state and kept.typed is not None:
             typed = ("This was typed:", visible(kept.typed.text))
             self.unseen = (*self.unseen, kept.message, *typed)
+        elif self.ended_by is not None and self._desk.has_waiting and not kept.is_lost:
+            self.unseen = (*self.unseen, _WAITS)
         self.state = kept
 
     def _settle(self) -> None:
