@@ -130,7 +130,7 @@ def test_lines_that_were_pasted_and_not_answered_for_are_asked_about_again(
     again.wait("Are they 2 paragraphs? y is yes, n is no.")
     again.answer("y")
     again.wait("kept: paragraph 5")
-    again.keys("q")
+    again.keys("escape", "q")
     assert again.ended() == 0
     with once_free(moon) as session:
         prints = [session.print_of(each.id) for each in session.paragraphs()]

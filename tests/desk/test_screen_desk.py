@@ -18,6 +18,7 @@ from braildesk.text.cells import braille_patterns
 
 from scribe.screen.background import ActionResult
 from scribe.screen.desk import Desk
+from scribe.screen.field import Field, Purpose
 from scribe.screen.state import Size
 from scribe.words.preview import Preview, Tables
 from sitting import Sat, Sit
@@ -141,7 +142,10 @@ def test_paragraphs_are_typed_and_pasted_up_to_one_that_is_refused(
     assert "kept: paragraph 5" in sat.lines[0]
     sat.press("escape", "o")
     sat.state = sat.desk.paste(sat.state, "One.\nTwo.\n")
-    sat.press("y", "o")
+    sat.press("y")
+    # the next one is begun, as after Enter
+    assert sat.state.typed == Field(Purpose.AFTER)
+    assert "kept: paragraph 7" in sat.lines[0]
     sat.state = sat.desk.paste(sat.state, "Three.\nTěo.\nFour.")
     sat.press("y")
     assert sat.state.typed and sat.state.typed.text == "Těo."

@@ -94,7 +94,7 @@ def test_a_terminal_may_change_its_size_while_print_is_typed_or_a_question_waits
         "     4 body: It rose.Then",
         ">    5 body: it set.",
     ]
-    terminal.keys("q")
+    terminal.keys("escape", "q")
     assert terminal.ended() == 0
 
 

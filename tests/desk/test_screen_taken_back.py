@@ -251,7 +251,7 @@ def test_what_is_refused_midway_is_said_and_the_rest_is_taken_back_later(
     sat = sit(moon)
     sat.press("o")
     paste(sat, "One.\nTwo.\nThree.")
-    sat.press("y", "u", "y")
+    sat.press("y", "escape", "u", "y")
     sat.state = sat.desk.away(sat.state, print)
     assert sat.state.message.startswith("1 of 3 done. ")
     assert [each.struck for each in sat.state.book[1:4]] == [False, False, True]
@@ -270,7 +270,7 @@ def test_what_a_lost_session_left_is_taken_back_later(
     sat = sit(moon)
     sat.press("o")
     paste(sat, "One.\nTwo.\nThree.")
-    sat.press("y", "u", "y")
+    sat.press("y", "escape", "u", "y")
     sat.state = sat.desk.away(sat.state, print)
     assert "what was asked last is not in it" in sat.state.message
     assert [each.struck for each in sat.state.book[1:4]] == [False, False, True]

@@ -36,7 +36,7 @@ WORK = (
     "l c-home o 'It rose.' second ' It' second ' set.' enter"
     " escape o 'Given up.' second escape"
     " down enter end ', she said' second c-w c-y second escape"
-    " o 'Noon' second [One.|Two.|Three.] second y"
+    " o 'Noon' second [One.|Two.|Three.] second y escape"
     " up u y away"
     " [pasted|where none|is typed] U U y n second ' And on.' enter"
     " escape m 'which?' second escape U U n"

@@ -549,7 +549,7 @@ class Desk:
                 state = self._done(state, step.asked)
         except _Interrupted as interrupted:
             state = self._after_failure(interrupted.state, interrupted.cause)
-            if isinstance(step.asked, requests.Type):
+            if _is_gone_on_from(step.asked):
                 state = self._begun_where_typed(state)
         except Stop as stop:
             state = state.saying(stop.sentence)
@@ -567,10 +567,9 @@ class Desk:
             found = self._sent(state, asked)
             said = f"Mark {asked.mark} is resolved." if found.message else ""
             return saying_first(said, found)
-        if isinstance(asked, requests.Type):
-            return self._begun(self._sent(state, asked))
         if isinstance(asked, Command):
-            return self._sent(state, asked)
+            sent = self._sent(state, asked)
+            return self._begun(sent) if _is_gone_on_from(asked) else sent
         return state if asked is None else self._run(state, asked)
 
     def _begun(self, state: State, text: str = "") -> State:
@@ -1002,7 +1001,10 @@ class Desk:
                 said = f"{sent} typed. {interrupted.cause.sentence}"
                 state = self._refused_among(interrupted.state.saying(said), lines)
                 return done_by_one_key(state, before)
-        return done_by_one_key(replace(state, typed=None, preview=None), before)
+        state = replace(state, typed=None, preview=None)
+        return done_by_one_key(
+            self._begun(state) if _is_gone_on_from(action) else state, before
+        )
 
     def _refused_among(self, state: State, lines: Sequence[str]) -> State:
         """The state in which the first of some lines is typed further, and the others are set aside."""
@@ -1030,6 +1032,12 @@ def preview_of(state: State, typed: Field) -> tuple[str, str, str]:
     if typed.purpose is Purpose.EDIT and state.paragraph:
         table = state.paragraph.table
     return table or "", typed.text, keys.print_of(state, typed)
+
+
+def _is_gone_on_from(asked: Command[Any] | Action | None) -> bool:
+    """Whether another new paragraph is typed after what a key asked for."""
+    is_of_new = isinstance(asked, TypeAll) and asked.purpose.is_new
+    return is_of_new or isinstance(asked, requests.Type)
 
 
 def _amount(saved: Draft) -> str:
