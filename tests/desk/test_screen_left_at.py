@@ -2,6 +2,8 @@
 
 import json
 import shutil
+import signal
+import time
 from pathlib import Path
 
 import pytest
@@ -13,7 +15,7 @@ from braildesk.desk.own_folder import MOST_BYTES
 
 from scribe.screen.state import Pane
 from sitting import Sat, Sit
-from terminal import Open
+from terminal import Open, once_free
 
 OPENED_THERE = "The book is open where it was left. ? shows the keys."
 
@@ -154,6 +156,24 @@ def test_a_copy_of_a_book_opens_at_its_front(moon: Path, sit: Sit) -> None:
     left(sat)
     copy = Path(shutil.copyfile(moon, moon.with_name("copy.braildesk")))
     assert sit(copy).state.chosen == 0
+
+
+def test_a_book_opens_where_it_rested_before_scribe_was_killed(
+    moon: Path, at: Open, sit: Sit
+) -> None:
+    terminal = at(moon, 40, 12)
+    terminal.wait("? shows the keys.")
+    terminal.keys("down", "right", "z")
+    terminal.wait("Now without the list, and without")
+    end = time.monotonic() + 20
+    while Drafts(moon).left_at() != LeftAt(2, 1, is_quiet=True):
+        assert time.monotonic() < end
+        time.sleep(0.1)
+    terminal.send_signal(signal.SIGKILL)
+    assert terminal.ended() == -signal.SIGKILL
+    once_free(moon).close()
+    sat = sit(moon)
+    assert (sat.state.chosen, sat.state.place, sat.state.is_quiet) == (1, 1, True)
 
 
 def test_a_terminal_that_is_closed_leaves_the_place_too(moon: Path, at: Open) -> None:

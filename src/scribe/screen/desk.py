@@ -131,6 +131,8 @@ class Desk:
         self._notices = self._take_up()
         #: What was last said to be in the way of keeping what is typed.
         self._fault = ""
+        #: Where the book would be left, as it was kept last.
+        self._left: LeftAt | None = None
         #: The signal by which the work with the session closed is to end.
         self._stopped_by: signal.Signals | None = None
         #: The volumes that were laid out.
@@ -296,16 +298,18 @@ class Desk:
 
     def keep_place(self, state: State) -> None:
         """Keeps where the book is left, so that it opens there again."""
-        if state.paragraph is not None:
-            self.drafts.leave_at(
-                LeftAt(
-                    state.paragraph.id,
-                    state.place,
-                    state.pane is Pane.CELLS,
-                    state.is_quiet,
-                    state.has_dots,
-                )
-            )
+        if state.paragraph is None:
+            return
+        left = LeftAt(
+            state.paragraph.id,
+            state.place,
+            state.pane is Pane.CELLS,
+            state.is_quiet,
+            state.has_dots,
+        )
+        if left != self._left:
+            self._left = left
+            self.drafts.leave_at(left)
 
     def _where_left(self, state: State) -> State:
         """The state at the place where the book was left, if that is there still."""

@@ -418,16 +418,22 @@ class Screen:
         self._app.invalidate()
 
     async def _keep(self) -> None:
-        """Keeps what is typed, again and again."""
+        """Keeps what is typed, and where the cursor rests, again and again."""
+        before, loop = self.state, asyncio.get_running_loop()
         while True:
             await asyncio.sleep(_SAVE_SECONDS)
-            if self.state.typed:
+            state = self.state
+            if state.typed:
                 self._begin_work()
-                kept = self._desk.save_draft(self.state)
-                if kept.message != self.state.message:
+                kept = self._desk.save_draft(state)
+                if kept.message != state.message:
                     self._app.invalidate()
                 self.state = kept
                 self._end_work()
+            if state.typed or state is before:
+                # a slow disk holds up no key
+                await loop.run_in_executor(None, self._desk.keep_place, state)
+            before = self.state
 
     def _fail(self, loop: asyncio.AbstractEventLoop, context: dict[str, Any]) -> None:
         """What a key, or what goes on beside the keys, failed by.
