@@ -22,7 +22,7 @@ WAIT_SECONDS = 60
 _DRAWN_SECONDS = 1
 # how long nothing is written once all is drawn, and how long Escape waits for a key with Alt
 _QUIET_SECONDS, _ESCAPE_SECONDS = 0.02, 0.15
-# longer than a question about lines is on the screen before a key answers it
+# longer than a question that comes by itself is on the screen before a key answers it
 _READING_SECONDS = 0.5
 # what shows the cursor once the screen is drawn to its end, and what hides it before
 _SHOWN, _HIDDEN = b"\x1b[?25h", b"\x1b[?25l"
@@ -122,7 +122,7 @@ class Terminal:
             self._child.send(_sent_for(name))
 
     def answer(self, name: str) -> None:
-        """Answers a question about lines by a key, once there was time to read it."""
+        """Answers a question that comes by itself by a key, once there was time to read it."""
         time.sleep(_READING_SECONDS)
         self.keys(name)
 

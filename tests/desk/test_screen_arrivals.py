@@ -8,8 +8,10 @@ from pathlib import Path
 import pytest
 
 from braildesk import Session
+from braildesk.desk.draft import Aim, Draft
+from braildesk.desk.drafts import Drafts
 
-from scribe.screen.arrivals import Arrivals, Lull, ToBeRead
+from scribe.screen.arrivals import UNREAD, Arrivals, Lull, ToBeRead
 from scribe.screen.keyboard import Keyboard, Pasted, Stroke
 from stand_in import READ, WAIT
 from terminal import Open, standing_in
@@ -152,6 +154,62 @@ def test_a_question_is_read_once_it_stood_for_a_third_of_a_second_without_keys()
         assert question.is_read is is_read, pressed_at
     question.came("Other lines?", 20.0, 10.6)
     assert not question.is_read
+
+
+@pytest.mark.parametrize(
+    "text, wanted",
+    [
+        ("n", UNREAD),
+        ("nnn", UNREAD),
+        ("n\r", UNREAD),
+        ("no", Pasted("no", is_keys=True)),
+        ("The moon\r", Pasted("The moon\n", is_keys=True)),
+    ],
+)
+@pytest.mark.parametrize("gap", [0.0, 0.2])
+def test_keys_before_an_offer_was_read_are_one_text_or_answer_nothing(
+    text: str, wanted: Stroke, gap: float
+) -> None:
+    arrivals, keyboard, now = Arrivals(is_unread=True), Keyboard(), 10.0
+    for key in text:
+        now += gap
+        assert arrivals.came(keyboard.strokes(key), now, now - gap) == []
+    assert arrivals.due == pytest.approx(now + 0.3)
+    assert arrivals.let_go(now + 0.29) == []
+    assert arrivals.let_go(now + 0.31) == [wanted]
+
+
+SOON = Draft(Aim.EDIT, 1, "en", "The moon is far away.", "The moon is near.")
+
+
+@pytest.mark.parametrize("key", ["y", "n", "l"])
+def test_a_key_before_the_screen_is_there_answers_no_offer_of_a_text(
+    moon: Path, at: Open, key: str
+) -> None:
+    Drafts(moon).save(SOON)
+    terminal = at(moon, 160)
+    terminal.send(key)
+    terminal.wait(
+        "That key came before the question could be read, and was no answer to it."
+    )
+    terminal.wait("Shall it be typed further? y is yes, n is no.")
+    assert Drafts(moon).waiting() == SOON and not Drafts(moon).given_up()
+    terminal.answer("y")
+    terminal.wait("You are editing paragraph 1.")
+    terminal.keys("enter")
+    terminal.wait("kept: correction 2 of paragraph 1")
+
+
+def test_a_line_before_the_screen_is_there_is_kept_and_answers_no_offer(
+    moon: Path, at: Open
+) -> None:
+    Drafts(moon).save(SOON)
+    terminal = at(moon, 160)
+    terminal.send("no\r")
+    terminal.wait("U brings it back, for a new paragraph.")
+    terminal.wait("Shall it be typed further? y is yes, n is no.")
+    assert Drafts(moon).waiting() == SOON
+    assert [each.text for each in Drafts(moon).given_up()] == ["no"]
 
 
 def test_letters_that_are_typed_on_after_keys_that_came_at_once_answer_no_question(

@@ -55,7 +55,7 @@ def test_print_that_is_edited_is_offered_again(moon: Path, at: Open, way: str) -
         assert session.last_version == 8 and session.print_of(2) == "The Tides"
     again = at(moon)
     again.wait("further? y is yes, n is no.")
-    again.keys("y")
+    again.answer("y")
     again.wait("Oh, The Tides")
     again.keys("enter")
     again.wait("kept: correction 1 of paragraph 2")
@@ -102,7 +102,7 @@ def test_a_note_that_is_typed_is_offered_again_on_its_cells(
         "A note for a mark in paragraph 2 was typed and isn't in the book: “which?”."
         in (" ".join(lines))
     )
-    again.keys("y")
+    again.answer("y")
     again.wait("Note of the mark: which?")
     again.keys("enter")
     again.wait("kept: mark 2")
@@ -126,7 +126,7 @@ def test_lines_that_were_pasted_and_not_answered_for_are_asked_about_again(
     check_has_ended(terminal, HUNG_UP)
     again = at(moon)
     again.wait("further? y is yes, n is no.")
-    again.keys("y")
+    again.answer("y")
     again.wait("Are they 2 paragraphs? y is yes, n is no.")
     again.answer("y")
     again.wait("kept: paragraph 5")

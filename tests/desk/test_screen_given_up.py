@@ -378,7 +378,7 @@ def test_what_was_cut_out_of_a_text_that_waits_comes_back_by_ctrl_y(
     assert terminal.ended() == -signal.SIGTERM
     again = at(moon)
     again.wait("y is yes, n is no. l leaves it for later.")
-    again.keys("y")
+    again.answer("y")
     again.wait("-- New paragraph after paragraph 1")
     again.keys("c-y")
     again.wait("It rose")

@@ -131,5 +131,5 @@ def test_what_was_typed_two_seconds_before_scribe_is_killed_is_offered_again(
     assert shown(moon) == BOOKS[0]
     again = at(moon)
     again.wait("further? y is yes, n is no.")
-    again.keys("y")
+    again.answer("y")
     again.wait("Oh, The moon is far away.")

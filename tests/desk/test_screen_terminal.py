@@ -85,7 +85,7 @@ def test_a_terminal_that_is_closed_leaves_the_text_which_is_offered_again(
     assert waits and waits.text == "Oh, The moon is far away."
     again = at(moon, LC_ALL="C", TERM="linux")
     again.wait("further? y is yes, n is no.")
-    again.keys("y")
+    again.answer("y")
     again.wait("Oh, The moon is far away.")
     again.keys("enter")
     lines = again.wait("kept: correction 2 of paragraph 1")

@@ -21,6 +21,8 @@ _LULL_SECONDS = 3.0
 # how long a question is on the screen, and no key comes, before one is an answer to it
 _READING_SECONDS = 0.3
 _FEW = 3
+#: What comes in place of a key that was pressed before what is offered could be read.
+UNREAD = "unread"
 _TEXT = {"enter": "\n", "tab": "\t"}
 
 
@@ -32,6 +34,9 @@ class Arrivals:
     seconds, of any clock that only goes on.
     """
 
+    #: Whether something is offered that nobody has read: no key is meant for it, and what hands type
+    #: until they pause is one text.
+    is_unread: bool = False
     _held: list[str] = field(default_factory=list)
     _latest: float = 0.0
 
@@ -40,6 +45,8 @@ class Arrivals:
         """The time at which nothing more comes with what is held; None if nothing is."""
         if not self._held:
             return None
+        if self.is_unread:
+            return self._latest + _READING_SECONDS
         is_text = _is_pasted(self._held)
         return self._latest + (_PASTE_SECONDS if is_text else _TOGETHER_SECONDS)
 
@@ -57,7 +64,7 @@ class Arrivals:
         for stroke in strokes:
             if isinstance(stroke, Pasted) or not _is_text(stroke):
                 done += [*self._judged(), stroke]
-            elif is_typed:
+            elif is_typed and not self.is_unread:
                 done += [*self._judged(), stroke]
             else:
                 self._held.append(stroke)
@@ -75,9 +82,11 @@ class Arrivals:
 
     def _judged(self) -> list[Stroke]:
         held, self._held = self._held, []
-        if not _is_pasted(held):
+        if not (self.is_unread or _is_pasted(held)):
             return list(held)
         text = "".join(_TEXT.get(key, key) for key in held)
+        if self.is_unread and len(set(text.strip())) < 2:
+            return [UNREAD] if held else []
         return [Pasted(text, is_keys=True)]
 
 

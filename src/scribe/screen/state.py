@@ -73,6 +73,12 @@ class Question:
     older: int | None = None
     more: str = ""
 
+    @property
+    def is_offer(self) -> bool:
+        """Whether no key has asked for it, so that who types on may not have read it."""
+        is_of_waiting = self.draft is not None and self.older is None
+        return is_of_waiting or isinstance(self.yes, ImportFrom)
+
 
 #: Where the cursor stands when it is on what is said above the lines that are looked at.
 HEAD_LINE = -1

@@ -26,7 +26,7 @@ from prompt_toolkit.styles import Style
 from braildesk.text.characters import visible
 from braildesk.text.sequences import JOINING_JAMO
 
-from scribe.screen.arrivals import Arrivals, Lull, ToBeRead
+from scribe.screen.arrivals import UNREAD, Arrivals, Lull, ToBeRead
 from scribe.screen.desk import Desk, preview_of
 from scribe.screen.drawing import Drawing, draw
 from scribe.words.encoding import in_encoding
@@ -54,6 +54,7 @@ _SAVE_SECONDS = 1.0
 _ESCAPE_SECONDS = 0.1
 _WAITS = "What was typed and isn't in the book is kept, and is offered when the book is next opened."
 _NO_END = "The end of the pasted text didn't come. All that came is taken as pasted, and keys act again."
+_TOO_SOON = "That key came before the question could be read, and was no answer to it."
 
 
 class _Input(Vt100Input):
@@ -304,9 +305,11 @@ class Screen:
         since = None if self._is_idle else max(self._busy_from, read_at)
         pressed_at = now if since is None else since
         self._question.came(self.state.question, pressed_at, read_at)
+        held = self._arrivals.let_go(pressed_at)
+        self._arrivals.is_unread = self._is_unread_offer
         strokes = self._keyboard.strokes(text)
         self._lull.came(len(text), self._keyboard.is_pasting, now)
-        self._do(self._arrivals.came(strokes, now, since))
+        self._do([*held, *self._arrivals.came(strokes, now, since)])
 
     def _paused(self) -> None:
         """Nothing comes after Escape, so it is that key."""
@@ -338,10 +341,19 @@ class Screen:
         elif isinstance(stroke, Pasted):
             state = self._desk.paste(self.state, stroke.text, stroke.is_keys)
             self._become(state if stroke.has_end else state.saying_too(_NO_END))
+        elif stroke == UNREAD:
+            self._become(self.state.saying(_TOO_SOON).after(self.state))
         elif self._is_typed_on(stroke):
             self._become(self._desk.paste(self.state, stroke))
         else:
             self._become(self._desk.press(self.state, stroke))
+
+    @property
+    def _is_unread_offer(self) -> bool:
+        """Whether something is offered that was not there to be read before the last key."""
+        question = self.state.question
+        is_offer = question is not None and question.is_offer
+        return is_offer and not (self._question.is_read or self.state.is_lost)
 
     def _is_typed_on(self, key: str) -> bool:
         """Whether a key that answers a question about what is typed came too soon, and is a letter."""
