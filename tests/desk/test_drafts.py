@@ -116,6 +116,63 @@ def test_a_draft_goes_with_a_book_that_is_moved_and_not_with_a_copy(
     assert Drafts(moon).waiting() is None
 
 
+@pytest.fixture
+def in_folder(moon: Path, store: Path) -> Path:
+    """A book in a folder that is renamed."""
+    folder = moon.with_name("books")
+    folder.mkdir()
+    return moon.rename(folder / "moon.braildesk")
+
+
+def test_a_text_that_was_typed_before_or_while_its_folder_was_renamed_is_offered(
+    in_folder: Path, sit: Sit
+) -> None:
+    drafts = Drafts(in_folder)
+    drafts.save(NOTE)
+    for count in (2, 3):
+        was, renamed = in_folder.parent, in_folder.parent.with_name(f"books{count}")
+        was.rename(renamed)
+        if count == 3:
+            # who types on where the folder was renamed
+            drafts.save(replace(NOTE, text="On."))
+        in_folder = renamed / in_folder.name
+        sat = sit(in_folder)
+        assert sat.state.question is not None
+        assert f"It was typed when the book was {was / in_folder.name}." in (
+            sat.state.question.sentence
+        )
+        sat.desk.close()
+        drafts = Drafts(in_folder)
+    waits = drafts.waiting()
+    assert waits and waits.text == "On."
+
+
+def test_a_text_is_not_offered_for_a_copy_in_another_folder(
+    in_folder: Path, sit: Sit
+) -> None:
+    Drafts(in_folder).save(NOTE)
+    copied = Path(shutil.copytree(in_folder.parent, in_folder.parent.with_name("copy")))
+    sat = sit(copied / in_folder.name)
+    assert sat.state.question is None
+    assert Drafts(in_folder).waiting() == NOTE
+
+
+def test_a_book_is_known_again_by_a_number_of_any_size(
+    in_folder: Path, monkeypatch: pytest.MonkeyPatch
+) -> None:
+    stat_of = Path.stat
+
+    def large(path: Path, **more: bool) -> os.stat_result:
+        found = stat_of(path, **more)
+        return os.stat_result((found[0], found.st_ino + 2**62, *found[2:]))
+
+    monkeypatch.setattr(Path, "stat", large)
+    Drafts(in_folder).save(NOTE)
+    moved = in_folder.rename(in_folder.with_name("moved.braildesk"))
+    Drafts(moved).take_in()
+    assert Drafts(moved).waiting() == NOTE
+
+
 def test_of_two_drafts_that_a_moved_book_finds_none_is_lost(
     moon: Path, store: Path
 ) -> None:

@@ -106,6 +106,8 @@ class Drafts:
         self.book = Path(os.path.realpath(book))
         self._key = hashlib.sha256(os.fsencode(self.book)).hexdigest()[:32]
         self._folder = OwnFolder(state_folder())
+        # what is kept once the book is moved away, as with its folder, is known by this
+        self._file = _identity(self.book)
 
     @property
     def place(self) -> Path:
@@ -115,6 +117,15 @@ class Drafts:
     def waiting(self) -> Draft | None:
         """The text that waits, none if there is none."""
         return self._read(Begun.WAITING, draft_in)
+
+    def typed_at(self) -> Path | None:
+        """Where the book was as the text that waits was kept, if that isn't where it is now."""
+        try:
+            kept = self._folder.read(self._name(Begun.WAITING))
+            path = None if kept is None else Path(Record.of(kept).path("book"))
+        except (NotSuch, OSError):
+            return None
+        return None if path == self.book else path
 
     def save(self, draft: Draft) -> None:
         """Has a text wait, in place of the one that did."""
@@ -244,10 +255,9 @@ class Drafts:
         try:
             kept = Record.of(self._folder.read(name) or b"")
             path = Path(kept.path("book"))
-            is_same = kept.has("file") and kept.numbers("file") == identity
         except NotSuch:
             return False
-        return is_same and _identity(path) != identity
+        return kept.is_equal("file", identity) and _identity(path) != identity
 
     def _others(self, note: ImportNote) -> tuple[ImportNote, ...]:
         return tuple(each for each in self.imports() if not each.is_of(note))
@@ -292,7 +302,8 @@ class Drafts:
         return aside
 
     def _write(self, what: Begun, values: dict[str, object]) -> None:
-        of_book = {"book": str(self.book), "file": _identity(self.book)}
+        identity = _identity(self.book) or self._file
+        of_book = {"book": str(self.book), "file": identity}
         whole: dict[str, object] = {**of_book, **values}
         data = json.dumps(whole, ensure_ascii=True, indent=1) + "\n"
         try:

@@ -32,6 +32,10 @@ class Record:
         """Whether there is a value of this name, and not null."""
         return self._values.get(name) is not None
 
+    def is_equal(self, name: str, value: object) -> bool:
+        """Whether the value of this name is a given one."""
+        return self._values.get(name) == value
+
     def text(self, name: str) -> str:
         """A text that can be written as UTF-8."""
         value = self._values.get(name)

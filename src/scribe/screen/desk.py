@@ -90,7 +90,13 @@ from scribe.words import deeds, pagelook
 from scribe.words.aftermath import found_again
 from scribe.words.changes import not_given
 from scribe.words.deeds import Deed, kept
-from scribe.words.drafts import Unsent, changed_since, not_kept, what_for
+from scribe.words.drafts import (
+    Unsent,
+    changed_since,
+    not_kept,
+    what_for,
+    where_typed,
+)
 from scribe.words.import_text import came_to, not_seen
 from scribe.words.paragraph import quoted
 from scribe.words.preview import Tables
@@ -478,13 +484,15 @@ class Desk:
                 said = f"{state.message} {said}" if state.message else said
                 return self.save_draft(state.saying(said))
             saved = rest
-        return self._asked_about(state, saved)
+        moved = where_typed(self._unsent.typed_at)
+        return self._asked_about(state, saved, moved=moved)
 
     def _asked_about(
         self,
         state: State,
         saved: Draft,
         became: str = "was typed and isn't in the book",
+        moved: str = "",
     ) -> State:
         """Asks whether a text that waits is taken up, at its paragraph."""
         places = [n for n, each in enumerate(state.book) if each.id == saved.paragraph]
@@ -494,9 +502,7 @@ class Desk:
             now = self._session.print_of(state.book[places[0]].id)
             changed = changed_since(saved, now)
         amount = _amount(saved)
-        sentence = (
-            f"{what_for(saved)} {became}: {quoted(saved.joined)}.{amount}{changed}"
-        )
+        sentence = f"{what_for(saved)} {became}: {quoted(saved.joined)}.{amount}{moved}{changed}"
         field = field_of(saved)
         if saved.aim is Aim.NOTE and places:
             state = self._on_cells(state, saved)

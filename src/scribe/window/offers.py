@@ -11,7 +11,7 @@ from scribe.window import dialogs
 from scribe.window.desk import Desk
 from scribe.window.files import Files
 from scribe.window.typed import Typed
-from scribe.words.drafts import changed_since, not_kept, what_for
+from scribe.words.drafts import changed_since, not_kept, what_for, where_typed
 from scribe.words.import_text import came_to, not_seen
 from scribe.words.paragraph import quoted
 
@@ -64,7 +64,8 @@ class Offers:
             waiting = rest
         asked = (
             f"{what_for(waiting)} was typed and isn't in the book: {quoted(waiting.joined)}."
-            f"{self._changed(waiting)} Shall it be typed further?"
+            f"{where_typed(desk.unsent.typed_at)}{self._changed(waiting)}"
+            " Shall it be typed further?"
         )
         answers = ("&Type it further", "&Give it up", "&Later")
         answer = dialogs.choice(desk.window, "Unsent text", asked, answers)

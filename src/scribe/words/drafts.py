@@ -1,5 +1,7 @@
 """What a person began and the book doesn't have yet, in words, what becomes of it, and why it isn't kept."""
 
+from pathlib import Path
+
 from braildesk.desk.draft import Aim, Draft
 from braildesk.desk.drafts import (
     Begun,
@@ -35,6 +37,11 @@ def changed_since(draft: Draft, now: str) -> str:
     if draft.aim.is_new or now == draft.before:
         return ""
     return " The print there has been changed since."
+
+
+def where_typed(book: Path | None) -> str:
+    """What is said of a text that was typed while its book was elsewhere; nothing if it was here."""
+    return f" It was typed when the book was {book}." if book else ""
 
 
 def not_kept(fault: NotKept) -> str:
@@ -75,6 +82,8 @@ class Unsent:
         self._drafts = drafts
         #: The text that waits, which is offered at the next opening.
         self.waiting: Draft | None = None
+        #: Where the book was as that was kept, if it was moved since.
+        self.typed_at: Path | None = None
         #: What was last cut out of a text that was typed, which is put in again by a key.
         self.cut = ""
         # the text that was left for later, and waits again once no other one does
@@ -86,6 +95,7 @@ class Unsent:
         """Reads what waits from before, or raises `NotKept`."""
         self.cut = self._drafts.cut()
         self.waiting = self._drafts.waiting()
+        self.typed_at = self._drafts.typed_at()
 
     def keep(self, typed: Draft | None) -> None:
         """Has what is typed wait, or what was left for later, or nothing; may raise `NotKept`."""
@@ -102,7 +112,7 @@ class Unsent:
                 # it is found there if the machine stops before it waits again
                 self._drafts.put_by(self._later)
             self._drafts.save(wanted)
-        self.waiting = wanted
+        self.waiting, self.typed_at = wanted, None
 
     def keep_cut(self, text: str) -> None:
         """Keeps what was last cut out of a text, or nothing; may raise `NotKept`."""
