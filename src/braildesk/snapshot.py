@@ -18,7 +18,7 @@ from typing import BinaryIO
 from braildesk.held import copy_held, is_at_path, open_file
 from braildesk.opening import is_log
 from braildesk.program import StrPath
-from braildesk.protocol.asked import BookFile, log_path
+from braildesk.protocol.asked import AskedOfFile, BookFile, log_path
 from braildesk.protocol.sentences import Why
 from braildesk.refusals import Failed, Refused, cannot_open, refused_as
 from braildesk.session import Session
@@ -52,16 +52,26 @@ def snapshot(path: StrPath) -> Iterator[Path]:
 @contextmanager
 def copied_session(path: StrPath) -> Iterator[tuple[Session, Path]]:
     """A session with a copy of a book, and where that is; what is refused names the book itself."""
-    with snapshot(path) as copied:
-        # the book may be one that this user may only read
-        copied.chmod(0o600)
+    with copied(path) as copy, Session(copy) as session:
+        yield session, copy
+
+
+@contextmanager
+def copied(path: StrPath) -> Iterator[Path]:
+    """A copy that may be opened, also of a book that may only be read.
+
+    What is refused of the copy names the book itself.
+    """
+    with snapshot(path) as copy:
+        copy.chmod(0o600)
         try:
-            session = Session(copied)
+            yield copy
         except Refused as refusal:
-            book = BookFile(fspath(path))
+            asked = refusal.asked
+            if not isinstance(asked, AskedOfFile) or asked.path != fspath(copy):
+                raise
+            book = replace(asked, path=fspath(path))
             raise refused_as(replace(refusal.refusal, asked=book)) from None
-        with session:
-            yield session, copied
 
 
 def _copy(book: BookFile, copied: Path) -> None:

@@ -286,13 +286,18 @@ def left_in_log(folder: Path) -> None:
         session.close()
 
 
-def test_who_may_only_read_a_book_may_look_at_it(locked: Path, installed: Path) -> None:
+def test_who_may_only_read_a_book_may_look_at_it_and_export_it(
+    locked: Path, installed: Path
+) -> None:
     left_in_log(locked)
     asked = [
         [name, *(str(locked / w) if w in PLACES else w for w in ALL[name])]
         for name in LOOKS
     ]
-    asked.append(["proof", str(locked / "moon.braildesk"), str(installed / "p.html")])
+    book, made = str(locked / "moon.braildesk"), installed / "pages"
+    asked.append(["proof", book, str(installed / "p.html")])
+    asked.append(["export", book, str(made), "--page", "1"])
+    asked.append(["export", book, str(made)])
     for file in locked.iterdir():
         file.chmod(0o444)
     locked.chmod(0o555)
@@ -303,6 +308,7 @@ def test_who_may_only_read_a_book_may_look_at_it(locked: Path, installed: Path) 
     locked.chmod(0o755)
     for each in locked.iterdir():
         each.chmod(0o644)
+    shutil.rmtree(made)
     for words, mine, other in zip(asked, map(ran, asked), found):
         assert (words[0], other.status, other.shown) == (words[0], 0, mine.shown)
     assert "A moon is far away." in found[0].shown

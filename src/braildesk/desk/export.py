@@ -30,6 +30,13 @@ class Job:
     wait: float
     #: Whether the pages that differ from those of the older file are written beside it too.
     has_changed_pages: bool = False
+    #: A copy of the book, where that may only be read.
+    copy: Path | None = None
+
+    @property
+    def read_at(self) -> Path:
+        """Where the book is read."""
+        return self.copy or self.book
 
     @property
     def name(self) -> str:
@@ -311,7 +318,7 @@ def _only_volume(job: Job) -> int:
 
 def _pages_of(job: Job, volume: int) -> bytes:
     size = job.page_size
-    return export(job.book, volume, size.width, size.lines, timeout=job.wait)
+    return export(job.read_at, volume, size.width, size.lines, timeout=job.wait)
 
 
 def _parted(pages: bytes) -> list[bytes]:
@@ -330,7 +337,7 @@ def _read(file: Path) -> bytes | None:
 
 def _version(job: Job) -> tuple[int, int, int]:
     """The version of the book, and the device and inode of its file: a copy may replace that."""
-    version, found = check(job.book, timeout=job.wait), job.book.stat()
+    version, found = check(job.read_at, timeout=job.wait), job.read_at.stat()
     return version, found.st_dev, found.st_ino
 
 

@@ -1,9 +1,13 @@
 """`scribe export`: all volumes of a book as pages for an embosser."""
 
 from argparse import ArgumentParser, Namespace
+from collections.abc import Sequence
+from dataclasses import replace
 from pathlib import Path
 
+from braildesk import CannotOpen, Why
 from braildesk.desk.export import Job
+from braildesk.desk.ranges import PageRange
 
 from scribe.cli.page_size import add_page_size, page_size_of
 from scribe.cli.parser import (
@@ -73,6 +77,24 @@ def run(arguments: Namespace, console: Console) -> Status:
         arguments.wait,
         arguments.only_changed,
     )
+    try:
+        return _exported(job, volume, wanted, console)
+    except CannotOpen as refusal:
+        if refusal.why not in (Why.DENIED, Why.READ_ONLY):
+            raise
+    # imported here, since few books may only be read
+    from braildesk.snapshot import copied
+
+    with copied(job.book) as copy:
+        return _exported(replace(job, copy=copy), volume, wanted, console)
+
+
+def _exported(
+    job: Job,
+    volume: int | None,
+    wanted: Sequence[PageRange] | None,
+    console: Console,
+) -> Status:
     if wanted is None:
         return export_in_words(job, console)
     console.show(pages_in_words(job, volume, wanted))
