@@ -5,8 +5,9 @@ Both ways go on at once, so that no sizes of requests and replies make the two w
 
 import os
 import select
+import time
 from collections import deque
-from collections.abc import Sequence
+from collections.abc import Callable, Sequence
 from dataclasses import dataclass
 from subprocess import PIPE, Popen
 from typing import IO
@@ -18,6 +19,10 @@ from braildesk.protocol.replies import Reader, Reply
 _WHOLE = select.PIPE_BUF
 #: What is read at once.
 _READ = 1 << 16
+#: How long nothing comes before somebody is told that the program is waited for, in milliseconds.
+_LONG = 1_000
+#: How many seconds a program is waited for still, once somebody stopped the waiting.
+_PATIENCE = 2.0
 
 
 @dataclass(frozen=True, eq=False)
@@ -28,6 +33,8 @@ class Ending:
     status: int
     #: What it wrote on standard error.
     errors: str
+    #: Whether it was ended here, since it didn't answer any more.
+    is_given_up: bool = False
 
 
 class Steps:
@@ -47,7 +54,13 @@ class Steps:
 class Pipe:
     """The program of a session, with the pipes to it."""
 
-    def __init__(self, words: Sequence[str]) -> None:
+    def __init__(
+        self, words: Sequence[str], while_waiting: Callable[[], None] = lambda: None
+    ) -> None:
+        self._while_waiting = while_waiting
+        #: The time until which the program is waited for; None if that has no end.
+        self._until: float | None = None
+        self._is_given_up = False
         # in a group of its own, so that Ctrl-C at a terminal interrupts the client alone
         self._process = Popen(
             words, bufsize=0, stdin=PIPE, stdout=PIPE, stderr=PIPE, process_group=0
@@ -142,7 +155,8 @@ class Pipe:
         for stream in (self._process.stdout, self._process.stderr):
             if stream is not None:
                 stream.close()
-        return Ending(status, self._error_bytes.decode(errors="replace"))
+        errors = self._error_bytes.decode(errors="replace")
+        return Ending(status, errors, self._is_given_up)
 
     def abandon(self) -> None:
         """Ends the input, and doesn't wait for the program, which ends by that."""
@@ -181,9 +195,27 @@ class Pipe:
             self._receive()
 
     def _receive(self) -> None:
-        for stream, _ in self._poll.poll():
+        for stream, _ in self._awaited():
             if stream != self._input:
                 self._take(stream)
+
+    def _awaited(self) -> list[tuple[int, int]]:
+        """The streams on which something is to be done, which are waited for.
+
+        Once somebody stopped that, as by Ctrl-C, a program that does nothing is ended by a signal.
+        """
+        try:
+            while not (found := self._poll.poll(_LONG)):
+                if self._until is None:
+                    self._while_waiting()
+                elif time.monotonic() > self._until:
+                    self._is_given_up = True
+                    self.kill()
+                    break
+            return found
+        except KeyboardInterrupt:
+            self._until = time.monotonic() + _PATIENCE
+            raise
 
     def _take(self, stream: int) -> None:
         with self.steps:

@@ -60,7 +60,8 @@ class Session:
     There is a method for each request of docs/FORMATS.md. A command is kept in the file before its
     method returns. ``expect`` is the version that the book has to be at.
 
-    While another program has the book open, the session tries again for ``timeout`` seconds. It
+    While another program has the book open, the session tries again for ``timeout`` seconds. For
+    each second in which the program doesn't answer, ``while_waiting`` is called. The session
     belongs to the thread that opened it, and is closed by ``close`` or at the end of a ``with`` block.
     """
 
@@ -73,9 +74,11 @@ class Session:
         program: StrPath | None = None,
         *,
         timeout: float = 0.0,
+        while_waiting: Callable[[], None] = lambda: None,
     ) -> None:
         self._book = BookFile(fspath(path))
         self._program = program
+        self._while_waiting = while_waiting
         self._pipe, self._file, self._seen = waited(self._open, timeout)
         #: The requests of ``each`` whose answers weren't taken yet, in order.
         self._sent: deque[Request[Any] | Refused] = deque()
@@ -237,7 +240,7 @@ class Session:
         while True:
             file = OpenFile(self._book.path)
             try:
-                pipe = _started(words)
+                pipe = _started(words, self._while_waiting)
                 version = _first_version(pipe, self._book)
             except BaseException:
                 file.close()
@@ -671,10 +674,10 @@ class Session:
         return self.ask(requests.Version())
 
 
-def _started(words: list[str]) -> Pipe:
+def _started(words: list[str], while_waiting: Callable[[], None]) -> Pipe:
     """The pipes to the program that these words start."""
     try:
-        return Pipe(words)
+        return Pipe(words, while_waiting)
     except OSError as error:
         raise programs.cannot_run(words[0], error) from error
 
@@ -739,6 +742,8 @@ def _query_about(refusal: Refused) -> Request[str] | None:
 
 def _ended(ending: Ending) -> str:
     """How the program ended before it should have."""
+    if ending.is_given_up:
+        return "braildesk didn't answer any more, and was ended."
     if ending.status < 0:
         return f"The session was ended by {programs.of_signal(-ending.status)}."
     if ending.status == 3:

@@ -295,6 +295,46 @@ def test_what_was_not_kept_says_how_little_room_there_is(
     )
 
 
+def test_who_waits_for_an_answer_is_called_each_second(
+    book: Path, script: Callable[[str], Path]
+) -> None:
+    calls: list[float] = []
+    program = script("sleep 2; read line; echo end 3; read line; sleep 2; echo end 3")
+    started = time.monotonic()
+    with Session(
+        book, program, while_waiting=lambda: calls.append(time.monotonic())
+    ) as session:
+        opened = len(calls)
+        assert session.version() == 3
+    assert (1, 2) <= (opened, len(calls)) and len(calls) <= time.monotonic() - started
+    assert calls[0] - started >= 1
+
+
+@pytest.mark.parametrize("is_many", [False, True])
+def test_a_program_that_does_not_answer_is_ended_soon_after_ctrl_c(
+    book: Path, is_many: bool
+) -> None:
+    def stop() -> None:
+        raise KeyboardInterrupt
+
+    with pytest.raises(KeyboardInterrupt) as caught:
+        with Session(book, while_waiting=stop) as session:
+            os.kill(session.pid, signal.SIGSTOP)
+            started = time.monotonic()
+            if is_many:
+                list(session.each([requests.Supply("en")] * 2_000))
+            session.strike(1)
+    assert time.monotonic() - started < 20
+    (note,) = caught.value.__notes__
+    assert note.startswith(
+        "braildesk didn't answer any more, and was ended. No command of this session was reported"
+        " as kept."
+    )
+    # the file is free again
+    with Session(book) as session:
+        assert session.last_version == 1
+
+
 def test_a_program_that_answers_something_else_is_ended(
     book: Path, script: Callable[[str], Path]
 ) -> None:

@@ -138,7 +138,8 @@ def test_a_journal_beside_a_book_is_never_put_into_it(book: Path, kind: str) -> 
 
 @pytest.mark.parametrize("kind", ["pipe", "link", "folder"])
 def test_what_has_the_name_of_a_log_and_is_none_is_named(book: Path, kind: str) -> None:
-    log, attempts = Path(f"{book}-wal"), [Session, braildesk.check]
+    log = Path(f"{book}-wal")
+    attempts: list[Callable[[Path], object]] = [Session, braildesk.check]
     log.unlink(missing_ok=True)
     if kind == "pipe":
         os.mkfifo(log)

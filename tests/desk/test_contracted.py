@@ -7,6 +7,7 @@ import subprocess
 import sys
 from argparse import Namespace
 from collections.abc import Iterable, Mapping, Sequence
+from io import BytesIO, StringIO
 from itertools import product
 from pathlib import Path
 from typing import cast
@@ -44,6 +45,7 @@ from braildesk.tables.convert.word_list import (
 from braildesk.tables.tiling import braille, pieces
 
 from scribe.cli.commands import tune as tune_command
+from scribe.words.console import Console
 from tool import environment, scribe
 
 SMALL = """\
@@ -760,6 +762,7 @@ def test_a_table_that_is_tuned_is_that_of_the_paragraphs_also_where_the_book_is_
         shutil.copyfile(made_once / "empty.braildesk", moon)
 
     monkeypatch.setattr(Session, "close", closed)
-    found = tune_command._book(Namespace(file=moon, wait=0.0, table=None))
+    console = Console(BytesIO(), StringIO(), StringIO())
+    found = tune_command._book(Namespace(file=moon, wait=0.0, table=None), console)
     assert (found.version, len(found.texts)) == (7, 3)
     assert found.table.text == wanted["en"]

@@ -60,11 +60,17 @@ class Import:
     how: How = How(ReadingOptions())
     #: The file of characters that stand in place of others; else those that were kept for the book.
     replacements: Path | None = None
+    #: What is called each second in which the program doesn't answer.
+    while_waiting: Callable[[], None] = lambda: None
 
     @property
     def kind(self) -> ManuscriptKind:
         """Which kind the manuscript is, once that is known."""
         return self.how.reading.kind or ManuscriptKind.TEXT
+
+    def opened(self) -> Session:
+        """A session with the book."""
+        return Session(self.book, timeout=self.wait, while_waiting=self.while_waiting)
 
 
 @dataclass(frozen=True)
@@ -177,6 +183,7 @@ class Importer:
                 lambda done: progress(done, count),
                 lambda: self._begin(note),
                 wait=job.wait,
+                while_waiting=job.while_waiting,
             )
         except CutShort as cut:
             look_for(job.book, intake, job.wait, cut)
@@ -267,7 +274,7 @@ class Importer:
             return job
         if job.way is Way.AGAIN or job.line is not None:
             return job
-        with Session(job.book, timeout=job.wait) as session:
+        with job.opened() as session:
             its = unfinished(session, session.paragraphs(), note)
         if job.way is Way.GO_ON:
             if not its.has_before:
@@ -292,7 +299,7 @@ def bytes_of(path: Path) -> bytes:
 def _intake(job: Import, whole: Sequence[Passage]) -> Intake:
     """What is to be typed of a text, all of it judged."""
     before, rest = _parted(job, whole)
-    with Session(job.book, timeout=job.wait) as session:
+    with job.opened() as session:
         book = session.paragraphs()
         anchor = paragraph_before(book, job.after)
         stored = session.print_of(anchor.id) if anchor and before else None
@@ -328,7 +335,7 @@ def _parted(
 
 def _signs_for(job: Import, reading: ReadingOptions) -> ReadingOptions:
     """The reading with signs that the table has: another bullet and brackets if it lacks the usual."""
-    with Session(job.book, timeout=job.wait) as session:
+    with job.opened() as session:
         anchor = paragraph_before(session.paragraphs(), job.after)
     table = table_for(read_tables(job.book, timeout=job.wait), anchor, job.table)
     bullet, *brackets = translate(table, [BULLET, *BRACKETS])

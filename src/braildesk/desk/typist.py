@@ -39,6 +39,7 @@ def type_all(
     begin: Callable[[], None] = lambda: None,
     *,
     wait: float = 0.0,
+    while_waiting: Callable[[], None] = lambda: None,
 ) -> None:
     """Types all paragraphs, or raises `CutShort`; `ChangedMeanwhile` if the book isn't as it was.
 
@@ -47,7 +48,7 @@ def type_all(
     """
     done = 0
     try:
-        with Session(path, timeout=wait) as session:
+        with Session(path, timeout=wait, while_waiting=while_waiting) as session:
             if session.last_version != intake.version:
                 raise ChangedMeanwhile(session.last_version)
             begin()

@@ -85,8 +85,15 @@ class BookCommand:
         if self.looks:
             # what looks at a book doesn't wait, and this isn't just a look
             arguments.wait = arguments.wait or USUAL_WAIT
-        with Session(arguments.file, timeout=arguments.wait) as session:
+        with open_session(arguments, console) as session:
             yield session
+
+
+def open_session(arguments: Namespace, console: Console) -> Session:
+    """A session with the book that the words name, which says where it waits for the program."""
+    return Session(
+        arguments.file, timeout=arguments.wait, while_waiting=console.waiting()
+    )
 
 
 @contextmanager
@@ -129,7 +136,7 @@ def looked_at(arguments: Namespace, console: Console) -> Iterator[tuple[Session,
     nothing may be written a copy as well.
     """
     try:
-        session = Session(arguments.file, timeout=arguments.wait)
+        session = open_session(arguments, console)
     except CannotOpen as refusal:
         if refusal.why not in (Why.IN_USE, Why.DENIED, Why.READ_ONLY):
             raise

@@ -126,8 +126,15 @@ class _Interrupted(Exception):
 class Desk:
     """The session with a book, and the texts of its tables."""
 
-    def __init__(self, path: Path, wait: float = 0.0) -> None:
+    def __init__(
+        self,
+        path: Path,
+        wait: float = 0.0,
+        while_waiting: Callable[[], None] = lambda: None,
+    ) -> None:
         self.path = path
+        #: What is called each second in which the program doesn't answer.
+        self.while_waiting = while_waiting
         #: How many seconds the book is waited for if another program has it open.
         self._wait = wait
         self.drafts = Drafts(path)
@@ -433,7 +440,9 @@ class Desk:
 
     def _open(self, wait: float) -> None:
         """Opens the session, and reads the tables that the book has."""
-        session = Session(self.path, timeout=wait)
+        session = Session(
+            self.path, timeout=wait, while_waiting=lambda: self.while_waiting()
+        )
         try:
             found = session.tables()
         except BaseException:

@@ -6,6 +6,7 @@ import os
 import signal
 import sys
 import time
+from collections import deque
 from collections.abc import Callable, Sequence
 from concurrent.futures import Future, ThreadPoolExecutor
 from contextlib import suppress
@@ -26,14 +27,16 @@ from prompt_toolkit.styles import Style
 from braildesk.text.characters import visible
 from braildesk.text.sequences import JOINING_JAMO
 
+from scribe.screen.actions import ExportTo, ImportFrom
 from scribe.screen.arrivals import UNREAD, Arrivals, Lull, ToBeRead
 from scribe.screen.desk import Desk, preview_of
 from scribe.screen.drawing import Drawing, draw
-from scribe.words.encoding import in_encoding
 from scribe.screen.keyboard import Keyboard, Pasted, Stroke
 from scribe.screen.lines import CHOSEN, HEAD, HIGHLIGHTED, MARKED, PLAIN
 from scribe.screen.state import Size, State
-from scribe.words.status import of_system
+from scribe.words.console import WAITING
+from scribe.words.encoding import in_encoding
+from scribe.words.status import Interrupted, of_system
 
 # no colours: what is highlighted is reversed, what is marked is underlined
 _STYLE = Style(
@@ -153,6 +156,7 @@ class Screen:
         self._watched: int | None = None
         self._drawn = (state, draw(state))
         self._translates = False
+        self._say_waiting, desk.while_waiting = desk.while_waiting, self._waits
         self._input = _Input(self._came, self._paused)
         self._app = self._application()
 
@@ -278,7 +282,8 @@ class Screen:
         if self.state.away or self.state.is_lost:
             self.state = replace(self.state, size=size)
         else:
-            self.state = self._desk.resized(self.state, size)
+            with suppress(Interrupted):
+                self.state = self._desk.resized(self.state, size)
 
     def _begin_work(self) -> None:
         """From here on keys wait, if they don't already."""
@@ -326,9 +331,13 @@ class Screen:
     def _do(self, strokes: Sequence[Stroke]) -> None:
         """Carries out keys, and sees to it that those that are held are let go."""
         self._begin_work()
+        rest = deque(strokes)
         try:
-            for stroke in strokes:
-                self._carry_out(stroke)
+            while rest:
+                self._carry_out(rest.popleft())
+        except Interrupted:
+            # text among what is left is kept at the end
+            self._waiting += rest
         finally:
             self._end_work()
             self._wait_for_held()
@@ -382,6 +391,23 @@ class Screen:
             self._watch()
             self._look_ahead()
         self._app.invalidate()
+
+    def _waits(self) -> None:
+        """Says that the program doesn't answer, while no key can act; a signal ends the waiting."""
+        is_told = self.ended_by is not None or self.is_hung_up
+        # an export and an import end between their own steps, and the book is opened again then
+        if is_told and not isinstance(self.state.away, ExportTo | ImportFrom):
+            raise Interrupted(self.ended_by or signal.SIGHUP)
+        if not self._app.is_running:
+            self._say_waiting()
+        elif self.state.away and self._app.loop is not None:
+            # what is done beside the screen waits
+            self._app.loop.call_soon_threadsafe(self._say, WAITING)
+        elif self.state.message != WAITING:
+            self.state = self.state.saying(WAITING)
+            # what was drawn last isn't kept
+            self._app.render_counter += 1
+            self._app.renderer.render(self._app, self._app.layout)
 
     async def _go_away(self) -> None:
         """Does what needs the session closed beside the terminal, which goes on."""
@@ -501,4 +527,5 @@ class Screen:
     def _ended(self) -> None:
         self._unwatch()
         if not self.state.is_lost and not self.state.is_over:
-            self._become(self._desk.lost(self.state))
+            with suppress(Interrupted):
+                self._become(self._desk.lost(self.state))

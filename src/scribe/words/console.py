@@ -18,6 +18,8 @@ from braildesk.text.wrapping import columns, wrap
 from scribe.words import encoding
 
 PROGRESS_SECONDS = 2.0
+#: What is said while the program of a session doesn't answer, and for how long it isn't said again.
+WAITING, _WAITING_SECONDS = "Waiting for braildesk to answer.", 10.0
 LEAST_WIDTH = 10
 USUAL_WIDTH = 80
 _INDENT = "  "
@@ -182,6 +184,24 @@ class Console:
                 last = time.monotonic()
                 with suppress(OutputFailed):
                     self.say(f"{done:,} of {total:,} {what}.")
+
+        return report
+
+    def waiting(self) -> Callable[[], None]:
+        """A function that says, each second in which a session waits, that it does; once at a time.
+
+        If the errors are no terminal nothing is said.
+        """
+        is_followed = self.errors.isatty()
+        last = -_WAITING_SECONDS
+
+        def report() -> None:
+            nonlocal last
+            self.check()
+            before, last = last, time.monotonic()
+            if is_followed and last - before >= _WAITING_SECONDS:
+                with suppress(OutputFailed):
+                    self.say(WAITING)
 
         return report
 

@@ -77,7 +77,7 @@ def import_in_words(
     named. If it was cut short, `again` says how to go on where that isn't by a command. Raises
     `NotImported`.
     """
-    importer = Importer(job, lambda fault: console.say(not_kept(fault)))
+    importer = _importer(job, console)
     intake = prepared(importer, console, console.say, report)
     try:
         typed = importer.type_text(intake, console.progress("paragraphs typed"))
@@ -101,11 +101,17 @@ def import_in_words(
 
 def trial_in_words(job: Import, console: Console, report: Path | None = None) -> Status:
     """Judges a text and types nothing, and says how much would be typed."""
-    importer = Importer(job, lambda fault: console.say(not_kept(fault)))
+    importer = _importer(job, console)
     intake = prepared(importer, console, console.show, report)
     count, table = _paragraphs(len(intake.passages)), intake.table.name
     console.show(f"{count} would be typed, by the table {table}.")
     return Status.DONE
+
+
+def _importer(job: Import, console: Console) -> Importer:
+    """What imports a text, and says what it waits for, and what is in the way of noting that."""
+    job = replace(job, while_waiting=console.waiting())
+    return Importer(job, lambda fault: console.say(not_kept(fault)))
 
 
 def prepared(

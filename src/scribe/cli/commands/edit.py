@@ -69,7 +69,7 @@ def run(arguments: Namespace, console: Console) -> Status:
             " python3-prompt-toolkit. scribe talk works without it.",
             Status.FAILED,
         ) from None
-    desk = Desk(arguments.file, arguments.wait)
+    desk = Desk(arguments.file, arguments.wait, console.waiting())
     columns, lines = shutil.get_terminal_size()
     environment = encoding.first_environment()
     is_ascii = encoding.is_plain(environment)

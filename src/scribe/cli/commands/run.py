@@ -8,6 +8,7 @@ from braildesk import Refused, Session, limits
 from braildesk.protocol.requests import Request, TableHead
 from braildesk.text.characters import control_refused
 
+from scribe.cli.book_command import open_session
 from scribe.cli.parser import Subparsers, add_file, command_parser
 from scribe.prompt.grammar import NotARequest, read_head
 from scribe.words.console import Console
@@ -43,7 +44,7 @@ def run(arguments: Namespace, console: Console) -> Status:
     """Answers requests up to the first refusal, or all of them."""
     requests = RequestLines(console)
     status = Status.DONE
-    with Session(arguments.file, timeout=arguments.wait) as session:
+    with open_session(arguments, console) as session:
         while (head := requests.next_head()) is not None:
             refusal = answered(session, requests, head, console)
             if refusal is None:

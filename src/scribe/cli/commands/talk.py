@@ -5,11 +5,12 @@ from contextlib import AbstractContextManager, ExitStack, nullcontext
 from dataclasses import replace
 from pathlib import Path
 
-from braildesk import Lost, Refused, Session
+from braildesk import Lost, Refused
 from braildesk.protocol.requests import BY_NAME
 from braildesk.text.characters import visible
 
 from scribe.cli import prompt_words
+from scribe.cli.book_command import open_session
 from scribe.cli.commands import AT_PROMPT
 from scribe.cli.parser import (
     Subparsers,
@@ -66,7 +67,7 @@ def add_parser(subparsers: Subparsers) -> ArgumentParser:
 def run(arguments: Namespace, console: Console) -> Status:
     """Talks until the person ends it."""
     with ExitStack() as opened:
-        session = opened.enter_context(Session(arguments.file, timeout=arguments.wait))
+        session = opened.enter_context(open_session(arguments, console))
         lines = opened.enter_context(_lines(console))
         usual = arguments.columns or min(USUAL_WIDTH, console.columns)
         console = replace(console, width=usual)

@@ -5,7 +5,7 @@ from collections import Counter
 from collections.abc import Sequence
 from dataclasses import dataclass
 
-from braildesk import Paragraph, Session, Table
+from braildesk import Paragraph, Table
 from braildesk.desk.contracted import means_for
 from braildesk.desk.readings import prints
 from braildesk.protocol import requests
@@ -15,6 +15,7 @@ from braildesk.tables.convert.source import NoTable
 from braildesk.tables.convert.tuning import Tuned, tune
 from braildesk.text.wrapping import wrap
 
+from scribe.cli.book_command import open_session
 from scribe.cli.parser import Subparsers, add_file, add_width, command_parser, readable
 from scribe.words.changes import at_version
 from scribe.words.console import Console
@@ -77,7 +78,7 @@ def run(arguments: Namespace, console: Console) -> Status:
         source = named_table(arguments.source)
     except NoTable as found:
         raise Stop(found.sentence, more=found.more) from found
-    book = _book(arguments)
+    book = _book(arguments, console)
     try:
         means = means_for(source, arguments.words, console.progress)
         tuned = tune(book.table, book.texts, source, means)
@@ -112,16 +113,16 @@ def _end(arguments: Namespace, book: _Book, tuned: Tuned, console: Console) -> N
         )
         return
     request = requests.Table(book.table.name, tuned.text, expect=book.version)
-    with Session(arguments.file, timeout=arguments.wait) as session:
+    with open_session(arguments, console) as session:
         done = session.ask(request)
     console.show(
         f"The rules are in the table {book.table.name}.", at_version(done.version)
     )
 
 
-def _book(arguments: Namespace) -> _Book:
+def _book(arguments: Namespace, console: Console) -> _Book:
     """The paragraphs that have the table, and its text, as they are now."""
-    with Session(arguments.file, timeout=arguments.wait) as session:
+    with open_session(arguments, console) as session:
         paragraphs = [each for each in session.paragraphs() if not each.struck]
         name = _table_name(arguments.table, paragraphs)
         having = [each for each in paragraphs if each.table == name]

@@ -1,0 +1,94 @@
+"""What is said while the program of a session doesn't answer, and what becomes of keys meanwhile."""
+
+import os
+import signal
+import time
+from io import BytesIO, StringIO
+from pathlib import Path
+
+import pytest
+
+from braildesk.desk.drafts import Drafts
+
+from scribe.cli import run_words
+from scribe.words.console import Console
+from terminal import Open, once_free
+
+WAITING = "Waiting for braildesk to answer."
+
+
+class Followed(StringIO):
+    """Standard error that a person follows."""
+
+    def isatty(self) -> bool:
+        return True
+
+
+@pytest.fixture
+def slow(moon: Path, program: str, monkeypatch: pytest.MonkeyPatch) -> Path:
+    """A book whose program takes more than two seconds to begin."""
+    path = moon.with_name("slow")
+    path.write_text(f'#!/bin/sh\nsleep 2.5\nexec "{program}" "$@"\n')
+    path.chmod(0o755)
+    monkeypatch.setenv("BRAILDESK", str(path))
+    return moon
+
+
+@pytest.mark.parametrize("words", [["show"], ["strike", "1"], ["run"], ["talk"]])
+@pytest.mark.parametrize("errors, wanted", [(Followed, 1), (StringIO, 0)])
+def test_a_command_says_once_that_it_waits_if_a_person_follows_it(
+    slow: Path, words: list[str], errors: type[StringIO], wanted: int
+) -> None:
+    name, *others = words
+    said = errors()
+    console = Console(BytesIO(b""), StringIO(), said)
+    assert run_words([name, str(slow), *others], console) == 0
+    assert said.getvalue().splitlines().count(WAITING) == wanted
+
+
+def test_an_import_says_that_it_waits(slow: Path) -> None:
+    text = slow.with_name("text.txt")
+    text.write_text("The sun\n")
+    errors = Followed()
+    console = Console(BytesIO(b""), StringIO(), errors)
+    assert run_words(["import", str(slow), str(text)], console) == 0
+    assert errors.getvalue().splitlines().count(WAITING) == 1
+
+
+def test_the_screen_says_that_it_waits_and_keeps_the_keys(moon: Path, at: Open) -> None:
+    terminal = at(moon, 40, 12)
+    terminal.wait("? shows the keys.")
+    program = terminal.program()
+    os.kill(program, signal.SIGSTOP)
+    terminal.keys("down")
+    lines = terminal.wait(WAITING)
+    assert WAITING in lines
+    # Ctrl-C is a key here that does nothing
+    terminal.send("\x03")
+    terminal.keys("down", "enter")
+    for letter in "No, ":
+        terminal.send(letter)
+        time.sleep(0.06)
+    os.kill(program, signal.SIGCONT)
+    lines = terminal.wait("No, Twice a day the sea comes up.")
+    assert WAITING not in " ".join(lines)
+
+
+def test_a_signal_ends_the_screen_while_it_waits_and_what_is_typed_is_kept(
+    moon: Path, at: Open
+) -> None:
+    terminal = at(moon)
+    terminal.wait("? shows the keys.")
+    terminal.keys("enter", *"Oh, ")
+    terminal.wait("Oh, The moon is far away.")
+    os.kill(terminal.program(), signal.SIGSTOP)
+    terminal.keys("enter")
+    terminal.wait(WAITING)
+    terminal.send_signal(signal.SIGTERM)
+    assert terminal.ended() == 3
+    said = " ".join(terminal.said.split())
+    assert said.startswith("braildesk didn't answer any more, and was ended.")
+    assert said.endswith("is offered when the book is next opened.")
+    waits = Drafts(moon).waiting()
+    assert waits and waits.text == "Oh, The moon is far away."
+    once_free(moon).close()
