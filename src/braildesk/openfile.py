@@ -1,6 +1,7 @@
 """The file of a book that a session has open: whether it still is there and a book, and what is in it."""
 
 import os
+import time
 from contextlib import suppress
 from dataclasses import dataclass
 from pathlib import Path
@@ -8,7 +9,7 @@ from typing import BinaryIO
 from zlib import crc32
 
 from braildesk import program as programs
-from braildesk.opening import MAGIC, has_page, has_work, is_used
+from braildesk.opening import MAGIC, has_work, is_used
 from braildesk.program import StrPath
 from braildesk.protocol.asked import real_path
 from braildesk.refusals import Failed, Unopened
@@ -23,6 +24,10 @@ from braildesk.workshop import (
 
 #: So much of a file is summed up at most, in parts that lie evenly in a larger one.
 _SUMMED, _PART = 1 << 21, 1 << 16
+#: How long the times of a file may stay as they are while it is written, in nanoseconds.
+_TICK = 2 * 10**9
+#: How long a log is looked at that a program may be emptying, in seconds.
+_MOMENT = 0.5
 #: The bytes of a log before its first page.
 _FRONT = 32
 _READ = os.O_RDONLY | os.O_NOFOLLOW | os.O_NONBLOCK | os.O_CLOEXEC
@@ -35,6 +40,8 @@ class _Noted:
     state: tuple[int, int, int]
     sum: int
     front: bytes | None
+    #: Whether a later write may leave the times as they are, since their clock ticks so slowly.
+    is_fresh: bool
 
 
 class OpenFile:
@@ -123,30 +130,34 @@ class OpenFile:
     def is_written_into(self) -> bool:
         """Whether others wrote into the file since it was noted, while the program waits.
 
-        The program writes there to empty its log, which has another front then, or is empty once it
-        ended. Who touches the file, or changes its mode, changes its times alone.
+        The program writes there to empty its log, which has another front then. Who touches the
+        file, or changes its mode, changes its times alone.
         """
         noted, descriptor = self._noted, self._descriptor
         if noted is None or descriptor is None:
             return False
         front = self._front() if self._is_lent else noted.front
-        if (_state(descriptor), front) == (noted.state, noted.front):
+        is_same = (_state(descriptor), front) == (noted.state, noted.front)
+        if is_same and not noted.is_fresh:
             return False
-        was_lent, front = self._is_lent, self._front()
+        front = self._front()
         self._noted, self._is_lent = _noted(descriptor, front), False
-        is_emptied = front is None or front != noted.front or was_lent and not front
+        is_emptied = front is None or front != noted.front
         was, now = (noted.state[0], noted.sum), (self._noted.state[0], self._noted.sum)
-        return not is_emptied and was != now
+        if is_emptied or was == now:
+            return False
+        # a program that has come to its end by itself may be emptying its log just now
+        time.sleep(_MOMENT)
+        return self._front() == front
 
     def _front(self) -> bytes | None:
         """The front of the log, which is another one once the log was emptied, and none if it isn't seen.
 
-        Of a log in which nothing is, as a program leaves it at its end, that is nothing.
+        A program has put it there before it answers, also in a log without a page.
         """
         try:
             with open(os.open(f"{self.path}-wal", _READ), "rb", buffering=0) as log:
-                is_empty = not has_page(os.fstat(log.fileno()).st_size)
-                return b"" if is_empty else log.read(_FRONT)
+                return log.read(_FRONT) or None
         except OSError:
             return None
 
@@ -237,7 +248,9 @@ def _state(descriptor: int) -> tuple[int, int, int]:
 
 def _noted(descriptor: int, front: bytes | None) -> _Noted:
     state = _state(descriptor)
-    return _Noted(state, _sum(descriptor, state[0]), front)
+    sum_of_all = _sum(descriptor, state[0])
+    is_fresh = time.time_ns() - max(state[1:]) < _TICK
+    return _Noted(state, sum_of_all, front, is_fresh)
 
 
 def _sum(descriptor: int, size: int) -> int:

@@ -30,9 +30,10 @@ from braildesk import (
     Why,
     requests,
 )
+from braildesk import openfile
 from braildesk.pipe import Ending, Pipe
 from braildesk.protocol.replies import Reader, Reply, Unreadable
-from stand_in import KEPT, KILL_PROGRAM
+from stand_in import KEPT, KILL_PROGRAM, READ, WAIT
 from terminal import standing_in
 
 PYTHON = str(Path(__file__).parents[2] / "src")
@@ -805,6 +806,62 @@ def test_another_book_that_is_copied_into_the_file_of_an_open_one_is_noticed(
     assert book.read_bytes() == other.read_bytes()
     with Session(book) as session:
         assert [session.print_of(each.id) for each in session.paragraphs()] == ["Two."]
+
+
+@pytest.fixture
+def other(book: Path) -> Path:
+    """Another book of the same size, which begins with the same bytes."""
+    path = Path(shutil.copyfile(book, book.with_name("other")))
+    for each, text in ((book, "One."), (path, "Two.")):
+        with Session(each) as session:
+            session.add_paragraph("end", "en", text)
+    return path
+
+
+@pytest.mark.parametrize("far", [READ, KEPT])
+@pytest.mark.parametrize("number", [1, 2])
+def test_another_book_that_is_copied_over_while_a_command_runs_is_noticed(
+    book: Path, other: Path, monkeypatch: pytest.MonkeyPatch, far: str, number: int
+) -> None:
+    queue = book.with_name("queue")
+    os.mkfifo(queue)
+    for name, value in standing_in(number, far, WAIT, str(queue)).items():
+        monkeypatch.setenv(name, value)
+
+    def put() -> None:
+        queue.read_bytes()
+        shutil.copyfile(other, book)
+        queue.write_bytes(b"")
+
+    thread = threading.Thread(target=put)
+    thread.start()
+    with pytest.raises(Displaced):
+        with Session(book) as session:
+            for _ in range(number):
+                session.add_paragraph("end", "en", "Three.")
+    thread.join()
+    assert Path(f"{book}-saved-1.txt").read_text().startswith("One.\n\nThree.")
+
+
+def test_another_book_that_is_copied_over_within_one_tick_of_the_clock_is_noticed(
+    book: Path, other: Path, monkeypatch: pytest.MonkeyPatch
+) -> None:
+    tick = 2 * 10**9
+
+    def coarse(descriptor: int) -> tuple[int, int, int]:
+        found = os.fstat(descriptor)
+        times = found.st_mtime_ns // tick * tick, found.st_ctime_ns // tick * tick
+        return found.st_size, *times
+
+    monkeypatch.setattr(openfile, "_state", coarse)
+    # what comes now is done within the tick in which the file was written last
+    time.sleep(2.05 - time.time() % 2)
+    os.utime(book)
+    with pytest.raises(Displaced):
+        with Session(book) as session:
+            session.add_paragraph("end", "en", "Three.")
+            shutil.copyfile(other, book)
+            session.add_paragraph("end", "en", "Four.")
 
 
 def test_a_book_that_is_touched_and_written_by_its_own_program_is_no_other_book(
