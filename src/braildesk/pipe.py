@@ -79,6 +79,8 @@ class Pipe:
         self._chunk = memoryview(b"")
         self._writable = True
         self._is_closing = False
+        #: How often replies were read.
+        self.reads = 0
         #: What belongs together, here or of the caller, is done within these.
         self.steps = Steps()
 
@@ -226,6 +228,7 @@ class Pipe:
             elif stream == self._errors:
                 self._error_bytes += data
             elif not self._is_closing:
+                self.reads += 1
                 self._reader.feed(data)
 
 

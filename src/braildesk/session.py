@@ -93,6 +93,8 @@ class Session:
         self._is_at_stake = False
         self._strayed = ""
         self._answered = 0
+        #: Until which read of replies the file was looked at.
+        self._judged = 0
 
     def __del__(self) -> None:
         if not self._is_closed:
@@ -267,8 +269,13 @@ class Session:
             )
 
     def _send_ahead(self, source: Iterator[Request[Any]]) -> bool:
-        """Sends requests as far ahead as there is room, and says whether any answer is to come."""
+        """Sends requests as far ahead as there is room, and says whether any answer is to come.
+
+        There has to be room for a group of them, since few at a time take longer.
+        """
         self._judge_open()
+        if len(self._sent) > _AHEAD - _GROUP:
+            return True
         while len(self._sent) < _AHEAD and self._pipe.queued_bytes < _AHEAD_BYTES:
             request = next(source, None)
             if request is None:
@@ -348,21 +355,32 @@ class Session:
                 Lost, refused_as(Refusal(Code.NOT_KEPT, request, room=room)).sentence
             )
         if reply.word == "ok" and not self._is_saving:
-            if not self._file.is_at_its_path:
-                raise self._displaced()
-            is_foreign = self._is_at_rest and self._is_foreign
-            if is_foreign or self._file.is_overwritten:
-                raise self._overwritten()
-            if not self._file.has_its_log:
-                raise self._without_log()
+            self._judge_kept()
         if self._is_at_rest:
             self._file.note_log()
         return reply
 
+    def _judge_kept(self) -> None:
+        """Whether the file is there and holds what was reported as kept.
+
+        It is looked at once for all replies that came at once.
+        """
+        is_new, self._judged = self._judged != self._pipe.reads, self._pipe.reads
+        if is_new and not self._file.is_at_its_path:
+            raise self._displaced()
+        is_foreign = self._is_at_rest and self._is_foreign
+        if is_foreign or is_new and self._file.is_overwritten:
+            raise self._overwritten()
+        if is_new and not self._file.has_its_log:
+            raise self._without_log()
+
     @property
     def _is_at_rest(self) -> bool:
         """Whether the program waits for a request, since each that was sent is answered."""
-        return all(isinstance(each, Refused) for each in self._sent)
+        for each in self._sent:
+            if not isinstance(each, Refused):
+                return False
+        return True
 
     @property
     def _is_foreign(self) -> bool:

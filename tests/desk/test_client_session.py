@@ -655,6 +655,23 @@ def test_a_book_that_is_gone_from_its_path_is_saved_and_said(
         assert [session.print_of(1), session.print_of(2)] == ["One.", "Two."]
 
 
+def test_a_book_that_is_gone_while_answers_come_is_noticed_among_them(
+    book: Path,
+) -> None:
+    texts, typed = [f"line {n}." for n in range(2_000)], 0
+    with pytest.raises(Displaced), Session(book) as session:
+        for answer in session.each(requests.Type("end", "en", text) for text in texts):
+            assert isinstance(answer, Typed)
+            typed = answer.id
+            if typed == 100:
+                removed(book)
+    # what was on its way by then was answered, and all that was answered is saved
+    assert 100 <= typed < 1_000
+    with Session(Path(f"{book}-saved-1")) as session:
+        prints = list(session.each(requests.Print(p.id) for p in session.paragraphs()))
+    assert len(prints) >= typed and prints == texts[: len(prints)]
+
+
 @pytest.mark.parametrize("moved", [removed, renamed, replaced, linked])
 def test_what_an_earlier_session_kept_is_saved_by_a_later_one_that_only_asks(
     book: Path, moved: Callable[[Path], None]
