@@ -2,6 +2,7 @@
 
 from collections import deque
 from collections.abc import Iterator
+from functools import lru_cache
 from typing import NamedTuple
 
 
@@ -55,15 +56,22 @@ class Reader:
 
     def _end(self, text: str) -> None:
         """Takes the line that ends a reply."""
-        word, *numbers = text.split(" ")
-        try:
-            reply = Reply(tuple(self._lines), word, tuple(map(int, numbers)))
-        except ValueError:
-            raise Unreadable(text.encode()) from None
-        if word not in ("ok", "no", "end") or not numbers:
-            raise Unreadable(text.encode())
+        self._replies.append(Reply(tuple(self._lines), *_ending(text)))
         self._lines = []
-        self._replies.append(reply)
+
+
+# replies to queries end in the same line until the book has another version
+@lru_cache(maxsize=16)
+def _ending(text: str) -> tuple[str, tuple[int, ...]]:
+    """The word and the numbers of the line that ends a reply."""
+    word, *numbers = text.split(" ")
+    try:
+        found = word, tuple(map(int, numbers))
+    except ValueError:
+        raise Unreadable(text.encode()) from None
+    if word not in ("ok", "no", "end") or not numbers:
+        raise Unreadable(text.encode())
+    return found
 
 
 def _decoded(lines: bytes) -> Iterator[str]:
