@@ -18,8 +18,10 @@ _LONGEST = limits.PRINT_CHARACTERS + 3
 _AT_ONCE = 1_000
 # where a sentence ends, with the blanks after it; compiled where it is looked for, which is rare
 _SENTENCE = r"[.!?\u2026][\u201d\u2019\u00bb\"')\]]*\s+"
-# those that may belong to the character before them: none of Latin, of punctuation and of braille
-_LATE = re.compile("[^\0-\u02ff\u2010-\u2027\u2800-\u28ff]")
+# characters that never belong to the one before them: those of Latin, of punctuation and of braille
+_ALONE = "\0-\u02ff\u2010-\u2027\u2800-\u28ff"
+_ALL_ALONE = re.compile(f"[{_ALONE}]*")
+_LATE = re.compile(f"[^{_ALONE}]")
 JOINING_JAMO = range(0x1160, 0x1200)
 _MORE_JOINING_JAMO = range(0xD7B0, 0xD800)
 
@@ -42,7 +44,7 @@ def belongs(before: str, character: str) -> bool:
 def seams(text: str) -> Sequence[int]:
     """The places of a text where no sequence is cut, its front and its end among them."""
     places = range(len(text) + 1)
-    if text.isascii():
+    if text.isascii() or _ALL_ALONE.fullmatch(text):
         return places
     lates = (late.start() for late in _LATE.finditer(text, 1))
     joined = {place for place in lates if belongs(text[place - 1], text[place])}
