@@ -3,7 +3,6 @@
 import re
 from collections.abc import Sequence
 from dataclasses import dataclass
-from importlib.resources import files
 from itertools import takewhile
 from pathlib import Path
 
@@ -51,7 +50,8 @@ def table_request(name: str, path: Path | None) -> requests.Table | requests.Sup
         raise UnreadableTable(found, cause) from cause
 
 
-FOLDER = Path(str(files("braildesk.tables")))
+#: Beside what reads tables, which takes long to import and isn't needed for their names.
+FOLDER = Path(__file__).parents[1] / "tables"
 _NAME = re.compile("[a-z0-9_-]{1,32}")
 
 

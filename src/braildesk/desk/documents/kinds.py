@@ -1,15 +1,17 @@
 """Which kind of manuscript a file is, by what it begins with and what it contains."""
 
-import zipfile
 import zlib
 from collections.abc import Iterator
 from contextlib import contextmanager
 from enum import Enum, auto
 from io import BytesIO
 from pathlib import PurePath
-from xml.etree import ElementTree
+from typing import TYPE_CHECKING
 
 from braildesk.desk.manuscript import UnreadableText
+
+if TYPE_CHECKING:
+    from zipfile import ZipFile
 
 
 class ManuscriptKind(Enum):
@@ -119,9 +121,7 @@ _ENCRYPTED_FLAG = 1
 
 #: What is raised for containers that are damaged, or made to do damage.
 _FAULTS = (
-    zipfile.BadZipFile,
     zlib.error,
-    ElementTree.ParseError,
     NotImplementedError,
     RuntimeError,
     EOFError,
@@ -158,10 +158,14 @@ def is_container(front: bytes) -> bool:
 
 
 @contextmanager
-def unpacked(data: bytes) -> Iterator[zipfile.ZipFile]:
+def unpacked(data: bytes) -> Iterator["ZipFile"]:
     """The container that some bytes are; `NoDocument` if it can't be read, or has too much."""
+    # imported here, since a text needs none of it
+    from xml.etree.ElementTree import ParseError
+    from zipfile import BadZipFile, ZipFile
+
     try:
-        with zipfile.ZipFile(BytesIO(data)) as container:
+        with ZipFile(BytesIO(data)) as container:
             sizes = [
                 entry.file_size
                 for entry in container.infolist()
@@ -170,7 +174,7 @@ def unpacked(data: bytes) -> Iterator[zipfile.ZipFile]:
             if sum(sizes) > MOST_BYTES:
                 raise NoDocument(WhyNot.TOO_LARGE)
             yield container
-    except _FAULTS as fault:
+    except (BadZipFile, ParseError, *_FAULTS) as fault:
         raise NoDocument(WhyNot.DAMAGED) from fault
 
 
@@ -179,7 +183,7 @@ def is_media(name: str) -> bool:
     return PurePath(name).suffix.lower() in _MEDIA
 
 
-def part_of(container: zipfile.ZipFile, name: str) -> bytes:
+def part_of(container: "ZipFile", name: str) -> bytes:
     """The bytes of a part, of which no more is unpacked than any manuscript has."""
     with container.open(name) as part:
         return part.read(MOST_BYTES)
@@ -206,9 +210,11 @@ def _kind_of_zip(data: bytes) -> ManuscriptKind:
 
 
 def _judge_open(
-    container: zipfile.ZipFile, kind: ManuscriptKind, names: frozenset[str]
+    container: "ZipFile", kind: ManuscriptKind, names: frozenset[str]
 ) -> None:
     """`NoDocument` if the parts of a container are encrypted each by itself."""
+    from xml.etree import ElementTree
+
     manifest, rights = "META-INF/manifest.xml", "META-INF/encryption.xml"
     if kind is ManuscriptKind.ODT and manifest in names:
         root = ElementTree.fromstring(part_of(container, manifest))
