@@ -46,24 +46,25 @@ class TextFault:
 
 def faults(passages: Sequence[Passage], table: Table) -> list[TextFault]:
     """Each character that can't be typed with a table, and each paragraph that is too long."""
-    whole = "".join(passage.text for passage in passages)
-    characters = set(whole)
-    barred = {each for each in characters if unicodedata.category(each) == "Cc"}
-    others = sorted(characters - barred)
+    unprintable = "".join(p.text for p in passages if not p.text.isprintable())
+    barred = {each for each in set(unprintable) if unicodedata.category(each) == "Cc"}
     lines = [each for each in passages if not _is_faulty(each, barred)]
-    # the table is read once for the characters and for the lines
-    answers = translate(table, [*others, *(each.text for each in lines)])
-    lacking = _refused(others, answers)
-    unfit = barred | lacking
-    # if nothing is unfit, as in most texts, none is looked at a second time
-    counts = Counter(whole) if unfit else Counter[str]()
+    answers = translate(table, [each.text for each in lines])
+    is_refused = any(isinstance(each, Refused) for each in answers)
+    if len(lines) == len(passages) and not is_refused:
+        # as of most texts, of which no character has to be looked at by itself
+        return []
+    whole = "".join(passage.text for passage in passages)
+    others = sorted(set(whole) - barred)
+    lacking = _refused(others, translate(table, others))
+    counts = Counter(whole)
     found = [
         *_of_characters(passages, barred, lambda each: Barred(each, counts[each])),
         *_of_characters(
             passages, lacking, lambda each: Lacking(each, counts[each], table.name)
         ),
         *(_too_long(each) for each in passages if _is_too_long(each)),
-        *_of_lines(lines, answers[len(others) :], lacking),
+        *_of_lines(lines, answers, lacking),
     ]
     return sorted(found, key=lambda fault: fault.position)
 
