@@ -1,4 +1,4 @@
-"""What the file of a book holds: its tables."""
+"""What the file of a book holds: its tables, and its version."""
 
 import sqlite3
 from collections.abc import Iterator
@@ -39,6 +39,16 @@ def read_tables(path: StrPath, *, timeout: float = 0.0) -> tuple[Table, ...]:
     """
     book = BookFile(fspath(path))
     return waited(lambda: _tables(book), timeout)
+
+
+def read_version(path: StrPath) -> int:
+    """The version of the book in a closed file, whose other contents aren't judged."""
+    book = BookFile(fspath(path))
+    with contents(book) as database:
+        try:
+            return opening.version_in(database)
+        except (sqlite3.Error, ValueError, TypeError, OverflowError):
+            raise refused(Code.NOT_A_BOOK, book) from None
 
 
 def open_tables(book: BookFile, file: BinaryIO) -> tuple[Table, ...]:

@@ -306,7 +306,7 @@ def goes_on(earlier: str | PathLike[str], later: str | PathLike[str]) -> bool:
     """
     try:
         with closing(_whole(earlier)) as before, closing(_whole(later)) as after:
-            if _version(before) > _version(after):
+            if version_in(before) > version_in(after):
                 return False
             return all(_has_all(before.execute(q), after.execute(q)) for q in _LASTING)
     except sqlite3.Error:
@@ -321,7 +321,8 @@ def _whole(path: str | PathLike[str]) -> sqlite3.Connection:
     return database
 
 
-def _version(database: sqlite3.Connection) -> int:
+def version_in(database: sqlite3.Connection) -> int:
+    """The version of the book that a file holds."""
     ((version,),) = database.execute("SELECT version FROM main.book")
     return int(version)
 

@@ -4,10 +4,11 @@ import os
 import re
 import stat
 import subprocess
-from collections.abc import Iterable, Iterator
+from collections.abc import Callable, Iterable, Iterator
 from contextlib import contextmanager
 from os import PathLike, fspath
 from pathlib import Path
+from subprocess import PIPE, Popen
 
 from braildesk import opening
 from braildesk.held import copy_held, held
@@ -117,14 +118,35 @@ def export(
 
     While another program has the book open, this is tried again for ``timeout`` seconds.
     """
+    asked, words = _of_export(path, volume, width, lines)
+    return waited(lambda: _run(program, words, asked), timeout)
+
+
+@contextmanager
+def exporting(
+    path: StrPath,
+    volume: int,
+    width: int = 40,
+    lines: int = 25,
+    program: StrPath | None = None,
+) -> Iterator[Callable[[], bytes]]:
+    """An export that goes on beside other work, and what waits for it and gives its pages."""
+    asked, words = _of_export(path, volume, width, lines)
+    with _begun(program, words, asked) as process:
+        yield lambda: _answered_by(process, asked)
+
+
+def _of_export(
+    path: StrPath, volume: int, width: int, lines: int
+) -> tuple[Pages, list[str]]:
+    """What an export asks for, and its words."""
     asked = Pages(fspath(path), volume, width, lines)
     if not 1 <= volume <= limits.PARAGRAPHS:
         raise refused(Code.NO_VOLUME, asked)
     if not (_is_within(width, limits.WIDTHS) and _is_within(lines, limits.PAGE_LINES)):
         raise refused(Code.BAD_PAGE_SIZE, asked)
     sizes = ["--width", str(width), "--lines", str(lines)]
-    words = ["export", *sizes, "--", _word(asked), str(volume)]
-    return waited(lambda: _run(program, words, asked), timeout)
+    return asked, ["export", *sizes, "--", _word(asked), str(volume)]
 
 
 def translate(
@@ -305,17 +327,40 @@ def _run(
     sent: bytes = b"",
     shared: tuple[int, ...] = (),
 ) -> bytes:
+    """What the program answers."""
+    with _begun(program, words, asked, shared) as process:
+        return _answered_by(process, asked, sent)
+
+
+@contextmanager
+def _begun(
+    program: StrPath | None,
+    words: list[str],
+    asked: AskedOfFile,
+    shared: tuple[int, ...] = (),
+) -> Iterator[Popen[bytes]]:
+    """The program at work, which is ended by a signal if its end isn't waited for."""
     found = find(program)
     judge(asked, found)
     try:
-        done = subprocess.run(
-            [found, *words], input=sent, capture_output=True, pass_fds=shared
+        process = Popen(
+            [found, *words], stdin=PIPE, stdout=PIPE, stderr=PIPE, pass_fds=shared
         )
     except OSError as error:
         raise cannot_run(found, error) from error
-    if done.returncode:
-        raise unopened(done.returncode, done.stderr.decode(errors="replace"), asked)
-    return done.stdout
+    with process:
+        try:
+            yield process
+        finally:
+            process.kill()
+
+
+def _answered_by(process: Popen[bytes], asked: AskedOfFile, sent: bytes = b"") -> bytes:
+    """What the program answers, which comes to its end by that."""
+    output, errors = process.communicate(sent)
+    if process.returncode:
+        raise unopened(process.returncode, errors.decode(errors="replace"), asked)
+    return output
 
 
 def _word(asked: AskedOfFile) -> str:

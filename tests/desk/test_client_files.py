@@ -33,7 +33,7 @@ from braildesk import (
     requests,
     workshop,
 )
-from braildesk.files import contents
+from braildesk.files import contents, read_version
 from braildesk.protocol.asked import BookFile
 
 from strangers import NEEDS_ROOT, as_stranger
@@ -78,7 +78,21 @@ def test_tables_are_read_with_what_stands_beside_the_file(book: Path) -> None:
             session.version()
     before = {path: path.read_bytes() for path in book.parent.iterdir()}
     assert [table.name for table in braildesk.read_tables(book)] == ["en", "new"]
+    assert read_version(book) == 2
     assert {path: path.read_bytes() for path in book.parent.iterdir()} == before
+
+
+@pytest.mark.parametrize(
+    "rows", ["", "(1), (2)", "('no')", "(x'01')", "(9e999)", "(NULL)"]
+)
+def test_a_file_without_a_version_is_no_book(tmp_path: Path, rows: str) -> None:
+    path = tmp_path / "other.braildesk"
+    with closing(sqlite3.connect(path)) as database, database:
+        database.execute("CREATE TABLE book (version)")
+        if rows:
+            database.execute(f"INSERT INTO book VALUES {rows}")
+    with pytest.raises(braildesk.NotABook):
+        read_version(path)
 
 
 def test_reading_tables_leaves_nothing_beside_the_file(book: Path) -> None:

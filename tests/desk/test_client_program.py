@@ -11,6 +11,7 @@ import pytest
 
 import braildesk
 from braildesk import CannotOpen, Failed, NoProgram, Refused, Session, Why
+from braildesk.program import exporting
 
 ROOT = Path(__file__).parents[2]
 
@@ -140,6 +141,20 @@ def test_a_volume_is_exported_as_pages(book: Path) -> None:
         "".join(line + "\r\n" for line in lines).encode() + b"\f"
     )
     assert braildesk.export(book, 1).count(b"\r\n") == 25
+
+
+def test_an_export_goes_on_beside_other_work_and_ends_with_it(book: Path) -> None:
+    with Session(book) as session:
+        session.add_paragraph("end", "en", "The Moon")
+    wanted = braildesk.export(book, 1, 20, 5)
+    with exporting(book, 1, 20, 5) as pages:
+        assert pages() == wanted
+    with exporting(book, 2) as pages, pytest.raises(braildesk.NotFound):
+        pages()
+    with exporting(book, 1):
+        pass
+    # nobody has it open any more
+    assert braildesk.check(book) == 2
 
 
 def test_lines_are_translated_or_refused_one_by_one() -> None:

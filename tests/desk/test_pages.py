@@ -276,13 +276,16 @@ def test_nobody_changes_a_book_while_its_pages_are_compared(
     moon: Path, program: str
 ) -> None:
     other = moon.parent / "other"
+    # before the first export the book isn't opened yet, so that it can be changed
     other.write_text(
-        '#!/bin/sh\n[ "$1" = export ] || exec "$PROGRAM" "$@"\n'
-        'echo "style 1 heading" | "$PROGRAM" session "$BOOK" > changed\n'
-        'exec "$PROGRAM" "$@"\n'
+        '#!/bin/sh\ncase "$1" in\n'
+        'export) echo "style 1 heading" | "$PROGRAM" session "$BOOK" >> changed\n'
+        "touch tried;;\n"
+        "session) while [ ! -e tried ]; do sleep 0.02; done;;\n"
+        'esac\nexec "$PROGRAM" "$@"\n'
     )
     other.chmod(other.stat().st_mode | stat.S_IXUSR)
-    version, wanted = braildesk.check(moon), pages(moon)
+    version, before = braildesk.check(moon), pages(moon)
     ran = scribe(
         "pages",
         moon,
@@ -291,6 +294,6 @@ def test_nobody_changes_a_book_while_its_pages_are_compared(
         PROGRAM=program,
         BOOK=str(moon),
     )
-    assert ran == wanted and ran.status == 0
-    assert (moon.parent / "changed").read_text() == ""
-    assert braildesk.check(moon) == version
+    assert (moon.parent / "changed").read_text() == f"ok {version + 1}\n"
+    assert braildesk.check(moon) == version + 1
+    assert ran == pages(moon) != before and ran.status == 0

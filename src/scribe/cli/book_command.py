@@ -2,7 +2,7 @@
 
 from argparse import ArgumentParser, ArgumentTypeError, Namespace
 from collections.abc import Callable, Iterator
-from contextlib import contextmanager, suppress
+from contextlib import AbstractContextManager, contextmanager, nullcontext, suppress
 from dataclasses import dataclass
 from pathlib import Path
 from typing import TYPE_CHECKING, TypeAlias
@@ -49,6 +49,8 @@ class BookCommand:
     looks: bool = False
     #: Whether its words have it change the book though it looks at it without them.
     changes: Callable[[Namespace], bool] = lambda _: False
+    #: Begins at a shell what goes on beside the opening of the book.
+    beside: Callable[[Namespace], AbstractContextManager[object]] = nullcontext
 
     def add_parser(self, subparsers: Subparsers) -> Parser:
         """Adds its words, and those for the book's file."""
@@ -67,7 +69,7 @@ class BookCommand:
 
     def run(self, arguments: Namespace, console: Console) -> Status:
         """Opens the book, and does what the words ask for."""
-        with places_shown(console.columns):
+        with places_shown(console.columns), self.beside(arguments):
             with self._opened(arguments, console) as session:
                 outcome = self.answer(session, arguments, console)
         return outcome if isinstance(outcome, Status) else Status.DONE

@@ -1,14 +1,17 @@
 """`scribe pages`: on which page and line each paragraph stands, and what stands on a page."""
 
 from argparse import Namespace
-from collections.abc import Sequence
+from collections.abc import Callable, Iterator, Sequence
+from contextlib import ExitStack, contextmanager, suppress
 from dataclasses import dataclass
-from pathlib import Path
+from functools import partial
 
-from braildesk import NotFound, Session, export
+from braildesk import DeskError, NotFound, Session, export
 from braildesk.desk.layout import PageSize, Row, Volume, parted, volume
 from braildesk.desk.page_places import printed, rows_of, rows_on
 from braildesk.desk.readings import prints
+from braildesk.files import read_version
+from braildesk.program import exporting
 from braildesk.snapshot import snapshot
 from braildesk.text.characters import visible
 from braildesk.text.excerpt import opening
@@ -47,7 +50,7 @@ def add_words(parser: Parser) -> None:
     parser.add_argument(
         "--line", metavar="N", type=number, help="one line of the page, with its words"
     )
-    parser.set_defaults(usage=parser.format_usage().strip())
+    parser.set_defaults(usage=parser.format_usage().strip(), exported=None)
 
 
 def answer(session: Session, arguments: Namespace, console: Console) -> None:
@@ -56,11 +59,34 @@ def answer(session: Session, arguments: Namespace, console: Console) -> None:
         raise WordsRefused("Argument --line: say the page by --page.", arguments.usage)
     volumes = laid_out(session, arguments)
     parts = shown(session, volumes, arguments)
-    # a book that is open is exported from a copy, and nobody else changes it meanwhile
-    with snapshot(arguments.read_at) as copied:
-        counts = [_pages_of(copied, part) for part in parts]
+    counts = _compared(session, parts, arguments)
     for part, count in zip(parts, counts):
         console.show(volume_title(part.volume, count), *part.lines)
+
+
+@dataclass(frozen=True)
+class Exported:
+    """An export of a volume of a copy of the book at a version, which may go on yet."""
+
+    version: int
+    volume: int
+    pages: Callable[[], bytes]
+
+
+@contextmanager
+def exported_beside(arguments: Namespace) -> Iterator[None]:
+    """Begins the export that is needed for most books, which takes as long as opening the book."""
+    with ExitStack() as begun:
+        # what is in the way of this is in the way of opening the book
+        with suppress(DeskError):
+            copied = begun.enter_context(snapshot(arguments.file))
+            # the book may be one that this user may only read
+            copied.chmod(0o600)
+            version, number = read_version(copied), arguments.volume or 1
+            size = arguments.width, arguments.lines
+            pages = begun.enter_context(exporting(copied, number, *size))
+            arguments.exported = Exported(version, number, pages)
+        yield
 
 
 @dataclass(frozen=True)
@@ -72,12 +98,28 @@ class Part:
     pages: Sequence[int]
 
 
-def _pages_of(book: Path, part: Part) -> int:
+def _compared(
+    session: Session, parts: Sequence[Part], arguments: Namespace
+) -> list[int]:
+    """How many pages export writes of each volume, which are compared with those that are shown."""
+    exported = arguments.exported
+    if exported is not None and exported.version == session.last_version:
+        if [part.volume.number for part in parts] == [exported.volume]:
+            return [_pages_of(parts[0], exported.pages)]
+    # a book that is open is exported from a copy, and nobody else changes it meanwhile
+    with snapshot(arguments.read_at) as copied:
+        size = arguments.width, arguments.lines
+        return [
+            _pages_of(part, partial(export, copied, part.volume.number, *size))
+            for part in parts
+        ]
+
+
+def _pages_of(part: Part, exported: Callable[[], bytes]) -> int:
     """How many pages export writes of a volume; of these are compared those that are shown."""
     its = part.volume.layout
-    width, lines = its.page_size.width, its.page_size.lines
     try:
-        written = export(book, part.volume.number, width, lines)
+        written = exported()
     except NotFound:
         raise _otherwise(part.volume) from None
     # the last one ends in a form feed too
@@ -167,4 +209,6 @@ def _detailed(
     return parts
 
 
-COMMAND = BookCommand("pages", EXAMPLE, add_words, answer, MORE, looks=True)
+COMMAND = BookCommand(
+    "pages", EXAMPLE, add_words, answer, MORE, looks=True, beside=exported_beside
+)
