@@ -34,8 +34,9 @@ from scribe.screen.actions import (
     TypeAll,
 )
 from scribe.screen.field import Field, Purpose
-from scribe.screen.keys import KEYS, keys_of, pasted, step
+from scribe.screen.keys import KEYS, keys_of, step
 from scribe.screen.lines import rows
+from scribe.screen.pasted_lines import pasted
 from scribe.screen.state import (
     Opening,
     Pages,

@@ -34,7 +34,16 @@ from braildesk.text.excerpt import opening
 from braildesk.text.sequences import composed
 from braildesk.text.spans import Span
 
-from scribe.screen import by_pages, finding, keys, lists, pager, whole_book
+from scribe.screen import (
+    by_pages,
+    finding,
+    keys,
+    lists,
+    pager,
+    pasted_lines,
+    typing_keys,
+    whole_book,
+)
 from scribe.screen.actions import (
     Action,
     AskForNote,
@@ -204,7 +213,7 @@ class Desk:
 
         It may have come as keys, all at once.
         """
-        step = keys.pasted(state, text, is_keys)
+        step = pasted_lines.pasted(state, text, is_keys)
         question, before = step.state.question, state.question
         is_new = before is None or question and question.sentence != before.sentence
         if question is not None and question.lines and is_new:
@@ -608,10 +617,10 @@ class Desk:
         """Keeps the first part of a text that is too long, and goes on with the rest."""
         typed = state.typed
         assert typed is not None
-        asked = keys.entered(state, replace(typed, text=action.first)).asked
+        asked = typing_keys.entered(state, replace(typed, text=action.first)).asked
         if isinstance(asked, Command):
             # until the book has the first part, both wait as lines
-            about = keys.about_lines(typed.purpose, (action.first, action.rest))
+            about = pasted_lines.about_lines(typed.purpose, (action.first, action.rest))
             waiting = replace(state, question=about)
             try:
                 state = replace(self._sent(waiting, asked), question=None)
@@ -1005,11 +1014,11 @@ class Desk:
             lines = action.lines[count:]
             rest = " ".join(lines)
             field = Field(Purpose.AFTER if count else action.purpose, rest, len(rest))
-            asked = keys.entered(state, replace(field, text=line)).asked
+            asked = typing_keys.entered(state, replace(field, text=line)).asked
             if not isinstance(asked, Command):
                 # the first line leaves the paragraph as it is
                 continue
-            about = keys.about_lines(field.purpose, lines)
+            about = pasted_lines.about_lines(field.purpose, lines)
             waiting = replace(state, typed=field, question=about)
             try:
                 state = replace(self._sent(waiting, asked), question=None)
@@ -1050,7 +1059,7 @@ def preview_of(state: State, typed: Field) -> tuple[str, str, str]:
     table = state.table
     if typed.purpose is Purpose.EDIT and state.paragraph:
         table = state.paragraph.table
-    return table or "", typed.text, keys.print_of(state, typed)
+    return table or "", typed.text, typing_keys.print_of(state, typed)
 
 
 def _is_gone_on_from(asked: Command[Any] | Action | None) -> bool:

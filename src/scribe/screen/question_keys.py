@@ -1,0 +1,124 @@
+"""What a key answers while something is asked."""
+
+from dataclasses import replace
+
+from braildesk import requests
+from braildesk.text.characters import control_refused
+
+from scribe.screen.actions import (
+    Action,
+    BringBack,
+    GiveUp,
+    GoOn,
+    ImportFrom,
+    PutOff,
+    TakeBack,
+    TypeAll,
+)
+from scribe.screen.field import Field, Purpose
+from scribe.screen.pasted_lines import about_lines, typed_on
+from scribe.screen.state import Question, State, Step
+from scribe.screen.typing_keys import is_character, no_table, table_of_new, while_typing
+
+_NO_ANSWER = "That key is no answer to the question."
+_ASKED_LATER = "Nothing was typed. It is asked again when the book is opened."
+_STAYS_GIVEN_UP = "It stays given up. U asks about it again."
+_STAYS_TYPED = "It stays as it is typed. Enter asks again."
+_DONE = {ImportFrom: "typed", TakeBack: "taken back", requests.Resolve: "resolved"}
+
+
+def answered(state: State, question: Question, key: str) -> Step:
+    """What a key asks for as the answer to a question."""
+    if question.yes is not None:
+        return _about_errand(state, question, question.yes, key)
+    state = replace(state, question=None)
+    if question.draft is not None:
+        return _about_text(state, question, question.draft, key)
+    if question.parts is not None and state.typed is not None:
+        if key == "y":
+            return Step(state, GoOn(state.typed.purpose, *question.parts))
+        if key in ("n", "escape"):
+            return Step(state.saying(_STAYS_TYPED))
+        if is_character(key):
+            # hands that don't read the question type on
+            return Step(
+                while_typing(state, state.typed, key).state.saying(_STAYS_TYPED)
+            )
+    if question.lines and state.typed is not None:
+        return _about_lines(state, state.typed, question, key)
+    return Step(replace(state, question=question).saying(_NO_ANSWER))
+
+
+def _about_lines(state: State, typed: Field, question: Question, key: str) -> Step:
+    """Lines that were pasted are paragraphs, or are joined; what is no answer goes on in them."""
+    asked = replace(state, question=question)
+    if key == "escape":
+        return Step(asked, GiveUp())
+    if key in ("y", "n") and not question.is_typed_on:
+        if key == "n":
+            joined = asked.joined
+            if joined is not None and question.joint == " ":
+                joined = joined.inserted(" ")
+            return Step(replace(state, typed=joined))
+        for line in question.lines:
+            refused = control_refused(line.encode())
+            if refused:
+                return Step(asked.saying(refused))
+        lines = tuple(line for line in question.lines if line.strip())
+        return Step(state, TypeAll(typed.purpose, lines))
+    if key == "enter" and question.is_typed_on:
+        key = "\n"
+    elif key == "backspace" and question.is_typed_on:
+        key = "\x7f"
+    elif not is_character(key):
+        return Step(asked.saying(_NO_ANSWER))
+    return Step(typed_on(asked, typed, question, key))
+
+
+def _about_errand(
+    state: State,
+    question: Question,
+    action: ImportFrom | TakeBack | requests.Resolve,
+    key: str,
+) -> Step:
+    """An import goes on or is done again; what keys did is taken back; a mark is resolved."""
+    answered = replace(state, question=None)
+    if key == "y":
+        return Step(answered, action)
+    if key == "n" and question.no:
+        return Step(answered, question.no)
+    if question.no and key in ("l", "escape"):
+        return Step(answered.saying(_ASKED_LATER))
+    if key in ("n", "escape"):
+        return Step(answered.saying(f"Nothing was {_DONE[type(action)]}."))
+    return Step(state.saying(_NO_ANSWER))
+
+
+def _about_text(state: State, question: Question, draft: Field, key: str) -> Step:
+    """A text that waits or was given up: it is typed further, given up, or left for later."""
+    asked = replace(state, question=question)
+    if key == "y":
+        return _taken_up(asked, draft)
+    actions: dict[str, Action] = {"n": GiveUp(), "l": PutOff()}
+    if question.older is None and key in actions:
+        return Step(asked, actions[key])
+    if question.older is not None and key == "U":
+        return Step(asked, BringBack(question.older))
+    if question.older is not None and key in ("n", "escape"):
+        return Step(replace(state, anchor=None).saying(_STAYS_GIVEN_UP))
+    return Step(asked.saying(_NO_ANSWER))
+
+
+def _taken_up(asked: State, draft: Field) -> Step:
+    """A text that waits or was given up is typed further."""
+    table = table_of_new(asked)
+    if draft.purpose is not Purpose.EDIT:
+        table = asked.table or table
+    if draft.purpose.is_new and table is None:
+        return Step(asked.saying(no_table(asked)))
+    state = replace(asked, question=None, table=table)
+    lines = draft.text.split("\n")
+    if len(lines) == 1:
+        return Step(replace(state, typed=draft))
+    typed = Field(draft.purpose)
+    return Step(replace(state, typed=typed, question=about_lines(typed.purpose, lines)))
