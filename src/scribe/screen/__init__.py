@@ -1,12 +1,17 @@
 """A book on the screen of a terminal.
 
 `state` is what the screen knows, `drawing` makes lines of it, and `keys` says what each key asks
-for: a state, and a command or an action that goes with it. `desk` sends those to the session with
-the book and gives the state after them: `finding` and `in_hand` put the cursor at what was found,
-and `lists` has the marks and the headings with their pages. `terminal` alone knows the terminal, and
-`encoding` what characters it has. `field` is a text that is being typed, `rows` parts a text into
-lines, and `draft` says what of it has to be kept.
+for: a state, and a command or one of the `actions` that goes with it. While a text is typed
+`typing_keys` says it, while something is asked `question_keys`, and for text that comes all at once
+`pasted_lines`; `field` is a text that is typed, and `moves` has the keys of the cursor.
 
-Of what is drawn, `body` has the print and the braille of a paragraph, `pager` what is looked at in
-place of the book, and `lines` what all of them are made of.
+`desk` sends commands and actions to the session with the book and gives the state after them.
+`drawn` asks for what is drawn of it, `finding` and `in_hand` put the cursor at what was found,
+`lists` and `by_pages` have the marks and the headings with their pages, `whole_book` changes words
+and volumes, and `background` has what is done with the session closed. `waiting` is about texts
+that aren't in the book, and `at_opening` about the first screen.
+
+`terminal` alone knows the terminal: `keyboard` reads keys from it, and `arrivals` which text no
+hands typed. Of what is drawn, `body` has the print and the braille of a paragraph, `pager` what is
+looked at in place of the book, and `lines` what all of them are made of.
 """

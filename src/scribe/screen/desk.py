@@ -18,21 +18,10 @@ from braildesk import (
 from braildesk.desk import aftermath
 from braildesk.desk.draft import Aim, Draft
 from braildesk.desk.drafts import Drafts, LeftAt, NotKept
-from braildesk.desk.earlier import PartIsThere, to_go_on
-from braildesk.desk.highlighting import (
-    Highlighted,
-    cells_of_marks,
-    highlighted_by_cell,
-    highlighted_by_character,
-)
-from braildesk.desk.readings import ParagraphReading, answers
+from braildesk.desk.highlighting import cells_of_marks
 from braildesk.desk.tables import table_request
-from braildesk.desk.unfinished import NotSeen, Unfinished
-from braildesk.protocol.requests import Command, Request
+from braildesk.protocol.requests import Command
 from braildesk.text.characters import visible
-from braildesk.text.excerpt import opening
-from braildesk.text.sequences import composed
-from braildesk.text.spans import Span
 
 from scribe.screen import (
     by_pages,
@@ -75,52 +64,36 @@ from scribe.screen.actions import (
     ToPage,
     TypeAll,
 )
-from scribe.screen.background import done_in_background, question_about
-from scribe.screen.field import Cut, Field, Purpose
+from scribe.screen.at_opening import SHOWS_KEYS, reminded, where_left, with_cut
+from scribe.screen.background import done_in_background
+from scribe.screen.drawn import refreshed
+from scribe.screen.field import Field, Purpose
 from scribe.screen.in_hand import asked_for_note, left_here, with_mark_in_hand
 from scribe.screen.state import (
-    Opening,
     Pages,
     Pane,
-    Question,
     Size,
     State,
     Step,
     at_paragraph,
     done_by_one_key,
     draft_of,
-    draft_of_pasted,
-    field_of,
     saying_first,
     so_far,
     with_imported,
 )
+from scribe.screen.waiting import asked_about, with_text, where_kept
 from scribe.words import deeds, pagelook
 from scribe.words.aftermath import found_again
 from scribe.words.changes import not_given
 from scribe.words.deeds import Deed, kept
-from scribe.words.drafts import (
-    Unsent,
-    changed_since,
-    not_kept,
-    what_for,
-    where_typed,
-)
-from scribe.words.import_text import came_to, not_seen
+from scribe.words.drafts import Unsent, not_kept, where_typed
 from scribe.words.paragraph import quoted
 from scribe.words.preview import Tables
 from scribe.words.status import Interrupted, Stop, in_sentences, of_system
 
-_SHOWS_KEYS = "? shows the keys."
-_OPENED_THERE = "The book is open where it was left."
-_PASTED = (
-    "Pasted text goes in after Enter or o. No key of it was obeyed. U brings it back, for a new"
-    " paragraph."
-)
 _OPEN_INSTEAD = "The file that is at the path now is open."
 _TYPE_ON = "What is typed is still here: type on."
-# the first words of a listed paragraph are kept as long as any line may be
-_WORDS = 300
 
 
 class _Interrupted(Exception):
@@ -196,9 +169,10 @@ class Desk:
             is_ascii=is_ascii,
             message=self._greeting(),
         )
-        state = self._with_cut(self._where_left(state))
-        state = self._reminded(self._offered(state, self._unsent.waiting))
-        return self.refreshed(state)
+        state = with_cut(self._unsent, where_left(self.drafts, state))
+        state = self._offered(state, self._unsent.waiting)
+        state = reminded(self.drafts, self._session, state)
+        return refreshed(self._session, state)
 
     def press(self, state: State, key: str) -> State:
         """The state after a key, once what it asks for was answered."""
@@ -316,7 +290,7 @@ class Desk:
         lines = (*_changed_between(before, state), *ending.lines)
         if lines:
             state = replace(state, pages=Pages(ending.title, lines))
-        return self.refreshed(state)
+        return refreshed(self._session, state)
 
     def keep_place(self, state: State) -> None:
         """Keeps where the book is left, so that it opens there again."""
@@ -333,30 +307,6 @@ class Desk:
             self._left = left
             self.drafts.leave_at(left)
 
-    def _where_left(self, state: State) -> State:
-        """The state at the place where the book was left, if that is there still."""
-        left = self.drafts.left_at()
-        if left is None:
-            return state
-        state = replace(state, is_quiet=left.is_quiet, has_dots=left.has_dots)
-        places = [n for n, each in enumerate(state.book) if each.id == left.paragraph]
-        if not places or (places[0], left.place) == (0, 0):
-            return state
-        pane = Pane.CELLS if left.is_in_cells else Pane.PRINT
-        state = replace(state.at(places[0], left.place), pane=pane)
-        return state.saying(f"{_OPENED_THERE} {state.message}".rstrip())
-
-    def _with_cut(self, state: State) -> State:
-        """The state with what was cut out of a text when scribe was ended, for Ctrl-Y."""
-        text = self._unsent.cut
-        if not text:
-            return state
-        state = replace(state, cut=Cut(Field(Purpose.EDIT), text, False))
-        if self._unsent.waiting:
-            return state
-        said = f"{quoted(text)} was cut out of what was typed. Ctrl-Y puts it in while you type."
-        return state.saying(f"{said} {state.message}".rstrip())
-
     def stop(self, number: signal.Signals) -> None:
         """Has the work with the session closed end before its next step."""
         self._stopped_by = number
@@ -364,37 +314,6 @@ class Desk:
     def _check(self) -> None:
         if self._stopped_by is not None:
             raise Interrupted(self._stopped_by)
-
-    def refreshed(self, state: State) -> State:
-        """The state with all that is drawn of the listed and the chosen paragraphs."""
-        unread = [each for each in state.listed if each.id not in state.openings]
-        if unread:
-            openings = {**state.openings, **self._openings([p.id for p in unread])}
-            state = replace(state, openings=openings)
-        paragraph = state.paragraph
-        if paragraph is None:
-            return replace(state, reading=None, highlighted=None)
-        if state.reading is None or state.reading.paragraph != paragraph:
-            text, cells, marks = answers(self._session, _of(paragraph.id))
-            reading = ParagraphReading(paragraph, text, cells, marks)
-            marked = cells_of_marks(self._session, reading)
-            state = replace(
-                state, reading=reading, marked_cells=marked, highlighted=None
-            )
-        assert state.reading is not None
-        if state.highlighted is None:
-            its = state.reading
-            whole = its.text if state.pane is Pane.PRINT else its.braille
-            place = max(0, min(state.place, len(whole) - 1))
-            light = self._highlighted(its, state.pane, place)
-            state = replace(state, place=place, highlighted=light)
-        return state
-
-    def _highlighted(
-        self, its: ParagraphReading, pane: Pane, place: int
-    ) -> Highlighted:
-        by = highlighted_by_cell if pane is Pane.CELLS else highlighted_by_character
-        return by(self._session, its, place)
 
     def _take_up(self) -> tuple[str, ...]:
         """Reads what waits from before, and says what of it can't be read."""
@@ -409,43 +328,9 @@ class Desk:
             notices.append(not_kept(fault))
         return tuple(notices)
 
-    def _reminded(self, state: State) -> State:
-        """Asks about an import that was cut short, or says so if something else is asked."""
-        for found in to_go_on(self.drafts, self._session, state.book):
-            if isinstance(found, Unfinished) and state.question is None:
-                action = ImportFrom(Path(found.note.text), found.after)
-                question = question_about(PartIsThere(found), action)
-                said = state.message.removesuffix(_SHOWS_KEYS).rstrip()
-                state = replace(state, message=said, question=question)
-                continue
-            sentences = [state.message]
-            match found:
-                case Unfinished():
-                    go_on = "i and the name of that file go on."
-                    sentences += [came_to(found), go_on]
-                case NotSeen():
-                    leave = "scribe import with --leave leaves the rest out."
-                    sentences += [not_seen(found), leave]
-                case NotKept():
-                    sentences.append(not_kept(found))
-            state = state.saying(" ".join(filter(None, sentences)))
-        return state
-
     def _greeting(self) -> str:
         found = " ".join(self._notices)
-        return found or ("" if self._unsent.waiting else _SHOWS_KEYS)
-
-    def _openings(self, numbers: list[int]) -> dict[int, Opening]:
-        asked: list[Request[Any]] = []
-        for number in numbers:
-            asked += [requests.Print(number), requests.Marks(number)]
-        found = iter(list(answers(self._session, asked)))
-        return {
-            number: Opening(
-                opening(text, _WORDS), sum(not mark.resolved for mark in marks)
-            )
-            for number, text, marks in zip(numbers, found, found)
-        }
+        return found or ("" if self._unsent.waiting else SHOWS_KEYS)
 
     def _open(self, wait: float) -> None:
         """Opens the session, and reads the tables that the book has."""
@@ -493,7 +378,7 @@ class Desk:
         """Asks whether a text that waits is taken up, unless the book has it by now."""
         if saved is None:
             return state
-        where = self._where_kept(state, saved)
+        where = where_kept(self._session, state, saved)
         if where:
             newest = max(each.id for each in state.book)
             rest = saved.after_first_line(newest)
@@ -503,71 +388,7 @@ class Desk:
                 return self.save_draft(state.saying(said))
             saved = rest
         moved = where_typed(self._unsent.typed_at)
-        return self._asked_about(state, saved, moved=moved)
-
-    def _asked_about(
-        self,
-        state: State,
-        saved: Draft,
-        became: str = "was typed and isn't in the book",
-        moved: str = "",
-    ) -> State:
-        """Asks whether a text that waits is taken up, at its paragraph."""
-        places = [n for n, each in enumerate(state.book) if each.id == saved.paragraph]
-        changed = ""
-        if places:
-            state = state.at(places[0])
-            now = self._session.print_of(state.book[places[0]].id)
-            changed = changed_since(saved, now)
-        amount = _amount(saved)
-        sentence = f"{what_for(saved)} {became}: {quoted(saved.joined)}.{amount}{moved}{changed}"
-        field = field_of(saved)
-        if saved.aim is Aim.NOTE and places:
-            state = self._on_cells(state, saved)
-        elif not places and not saved.aim.is_new:
-            field = Field(Purpose.AFTER, saved.text, len(saved.text))
-        table = saved.table if saved.table in state.tables else None
-        state = replace(state, table=table or state.table)
-        asked = f"{sentence} Shall it be typed further?"
-        question = Question(asked, draft=field, more="l leaves it for later.")
-        return replace(state, question=question)
-
-    def _where_kept(self, state: State, saved: Draft) -> str:
-        """Where a text that waits, or its first line, is in the book, in words; or nothing.
-
-        It may be there if the session ended after it was kept, and before that was reported.
-        """
-        numbers = [each.id for each in state.book]
-        if saved.version is None or state.version <= saved.version or not numbers:
-            return ""
-        text = composed(saved.first_line)
-        if saved.aim.is_new:
-            newest = max(numbers)
-            is_there = composed(self._session.print_of(newest)) == text
-            return f"as paragraph {newest}" if is_there else ""
-        number = saved.paragraph
-        if number is None or number not in numbers:
-            return ""
-        if saved.aim is Aim.EDIT:
-            is_there = composed(self._session.print_of(number)) == text
-            return f"in paragraph {number}" if is_there else ""
-        marks = self._session.marks_of(number)
-        is_there = bool(marks) and marks[-1].note == saved.text
-        return f"as mark {marks[-1].id}" if is_there else ""
-
-    def _on_cells(self, state: State, saved: Draft) -> State:
-        """The state with the cells chosen on which a note would stand."""
-        cells = saved.cells or Span(0, 1)
-        assert state.paragraph is not None
-        if cells.stop > len(self._session.braille_of(state.paragraph.id)):
-            cells = Span(0, 1)
-        return replace(
-            state,
-            pane=Pane.CELLS,
-            anchor=cells.start,
-            place=cells.stop - 1,
-            highlighted=None,
-        )
+        return asked_about(self._session, state, saved, moved=moved)
 
     def _taken(self, step: Step) -> State:
         """The state after a step: what it asks for is sent, and what is drawn is asked for."""
@@ -611,7 +432,7 @@ class Desk:
         if state.is_lost or state.typed is not None or state.question is not None:
             return state
         newest = max(each.id for each in state.book)
-        return self._begun(self.refreshed(at_paragraph(state, newest)))
+        return self._begun(refreshed(self._session, at_paragraph(state, newest)))
 
     def _gone_on(self, state: State, action: GoOn) -> State:
         """Keeps the first part of a text that is too long, and goes on with the rest."""
@@ -632,7 +453,7 @@ class Desk:
 
     def _drawn(self, state: State) -> State:
         try:
-            return self.refreshed(state)
+            return refreshed(self._session, state)
         except (Lost, Refused) as failed:
             return self._after_failure(state, failed)
 
@@ -684,10 +505,10 @@ class Desk:
                 # who types on meanwhile types into the same text, and gives no commands
                 if state.typed.text:
                     found = found.saying_too(_TYPE_ON)
-                return self.refreshed(found)
+                return refreshed(self._session, found)
             found = replace(found, typed=None, preview=None, question=None)
             found = self._opened_again(replace(found, version=lost.version))
-            return self.refreshed(self._offered(found, waits))
+            return refreshed(self._session, self._offered(found, waits))
         except DeskError as failed:
             return self._ended(state, lost.sentence, failed.sentence)
         except OSError as failure:
@@ -770,7 +591,7 @@ class Desk:
         if len(deed.back) > 1:
             return replace(state, away=action, message="Please wait.")
         if deed.paragraph is not None:
-            state = self.refreshed(at_paragraph(state, deed.paragraph))
+            state = refreshed(self._session, at_paragraph(state, deed.paragraph))
         state = self._sent(state, replace(deed.back[0], expect=state.version))
         left = deeds.without(deed, earlier, state.deeds[-1])
         return saying_first(deed.sentence, replace(state, deeds=left))
@@ -809,7 +630,7 @@ class Desk:
         chosen = places[0] if places else state.chosen
         was = before.reading
         place = state.place if was and was.paragraph.id == number else 0
-        state = self.refreshed(state.at(chosen, place))
+        state = refreshed(self._session, state.at(chosen, place))
         return with_mark_in_hand(state, before)
 
     def _run(self, state: State, action: Action) -> State:
@@ -845,7 +666,7 @@ class Desk:
             case TakeBack():
                 return self._taking_back(state, action)
             case GiveUp() | PutOff() | BringBack() | PutBy():
-                return self._with_text(state, action)
+                return with_text(self._session, self._unsent, state, action)
             case OpenAgain():
                 said = (
                     _OPEN_INSTEAD if state.is_displaced else "The book is open again."
@@ -857,38 +678,6 @@ class Desk:
         said = f"The rest of {action.note.name} is left out. What is in the book stays there."
         return state.saying(said)
 
-    def _with_text(
-        self, state: State, action: GiveUp | PutOff | BringBack | PutBy
-    ) -> State:
-        """What becomes of a text that isn't sent."""
-        match action:
-            case GiveUp():
-                return self._given_up(state)
-            case BringBack():
-                return self._brought_back(state, action.place)
-            case PutBy():
-                return self._put_by(state, action.text)
-        self._unsent.put_off()
-        said = "The text waits for the next opening. U asks about it before."
-        return replace(state, question=None, anchor=None).saying(said)
-
-    def _given_up(self, state: State) -> State:
-        """Gives up the lines that were pasted, what is typed, or the text that waits."""
-        asked = state.question
-        if asked is not None and asked.draft is not None:
-            state = replace(state, typed=asked.draft, question=None)
-        draft = draft_of(state)
-        fault = self._unsent.put_by(draft) if draft else ""
-        if asked is not None and asked.lines:
-            how = fault or "Once nothing is typed any more, U brings it back."
-            said = f"The pasted text isn't in the book. {how}"
-            return replace(state, question=None).saying(said)
-        said = "Given up. The book is as it was."
-        if draft is not None:
-            said = f"{said} {fault or 'U brings it back.'}"
-        given_up = replace(state, typed=None, preview=None, question=None, anchor=None)
-        return given_up.saying(said)
-
     def _taken_up(self, state: State, text: Field) -> State:
         """The state in which a text is typed further, which waits from now on."""
         draft = draft_of(state)
@@ -899,25 +688,6 @@ class Desk:
             return state.saying(not_kept(fault))
         return state
 
-    def _brought_back(self, state: State, place: int) -> State:
-        """Asks about a text that was given up, or left for later."""
-        texts = self._unsent.texts()
-        if not texts:
-            return state.saying("No text was given up in this book.")
-        place %= len(texts)
-        state = replace(state, question=None)
-        state = self._asked_about(state, texts[place], "was set aside")
-        assert state.question is not None
-        sentence = f"{place + 1} of {len(texts)}. {state.question.sentence}"
-        more = "U asks about the one before." if len(texts) > 1 else ""
-        asked = replace(state.question, sentence=sentence, older=place + 1, more=more)
-        return replace(state, question=asked)
-
-    def _put_by(self, state: State, text: str) -> State:
-        """Keeps a text that was pasted where nothing is typed, so that it can be typed."""
-        fault = self._unsent.put_by(draft_of_pasted(state, text))
-        return state.saying(f"{_PASTED} {fault}".rstrip())
-
     def _with_page_said(self, before: State, found: State) -> State:
         """What was gone to, with its page and line where these are said."""
         here = (before.chosen, before.place, before.pane)
@@ -925,7 +695,7 @@ class Desk:
         is_held = found.in_hand is not None and found.in_hand != before.in_hand
         if not found.says_pages or is_there and not is_held:
             return found
-        return self._by_pages(self.refreshed(found), SayPage(found.message))
+        return self._by_pages(refreshed(self._session, found), SayPage(found.message))
 
     def _by_pages(self, state: State, action: ByPages) -> State:
         """What needs the pages of volumes, and is done aside if these are long."""
@@ -1066,19 +836,6 @@ def _is_gone_on_from(asked: Command[Any] | Action | None) -> bool:
     """Whether another new paragraph is typed after what a key asked for."""
     is_of_new = isinstance(asked, TypeAll) and asked.purpose.is_new
     return is_of_new or isinstance(asked, requests.Type)
-
-
-def _amount(saved: Draft) -> str:
-    """How much text it is, if that isn't seen from its first words."""
-    lines = saved.text.count("\n") + 1
-    if lines == 1 and quoted(saved.text) == f"“{visible(saved.text)}”":
-        return ""
-    of_lines = f", {lines:,} lines" if lines > 1 else ""
-    return f" It has {len(saved.text):,} characters{of_lines}."
-
-
-def _of(number: int) -> list[Request[Any]]:
-    return [requests.Print(number), requests.Braille(number), requests.Marks(number)]
 
 
 def _changed_between(before: State, after: State) -> tuple[str, ...]:

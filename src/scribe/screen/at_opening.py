@@ -1,0 +1,69 @@
+"""The screen at the opening of a book: where it was left, and what was begun and isn't in the book."""
+
+from dataclasses import replace
+from pathlib import Path
+
+from braildesk import Session
+from braildesk.desk.drafts import Drafts, NotKept
+from braildesk.desk.earlier import PartIsThere, to_go_on
+from braildesk.desk.unfinished import NotSeen, Unfinished
+
+from scribe.screen.actions import ImportFrom
+from scribe.screen.background import question_about
+from scribe.screen.field import Cut, Field, Purpose
+from scribe.screen.state import Pane, State
+from scribe.words.drafts import Unsent, not_kept
+from scribe.words.import_text import came_to, not_seen
+from scribe.words.paragraph import quoted
+
+SHOWS_KEYS = "? shows the keys."
+_OPENED_THERE = "The book is open where it was left."
+
+
+def where_left(drafts: Drafts, state: State) -> State:
+    """The state at the place where the book was left, if that is there still."""
+    left = drafts.left_at()
+    if left is None:
+        return state
+    state = replace(state, is_quiet=left.is_quiet, has_dots=left.has_dots)
+    places = [n for n, each in enumerate(state.book) if each.id == left.paragraph]
+    if not places or (places[0], left.place) == (0, 0):
+        return state
+    pane = Pane.CELLS if left.is_in_cells else Pane.PRINT
+    state = replace(state.at(places[0], left.place), pane=pane)
+    return state.saying(f"{_OPENED_THERE} {state.message}".rstrip())
+
+
+def with_cut(unsent: Unsent, state: State) -> State:
+    """The state with what was cut out of a text when scribe was ended, for Ctrl-Y."""
+    text = unsent.cut
+    if not text:
+        return state
+    state = replace(state, cut=Cut(Field(Purpose.EDIT), text, False))
+    if unsent.waiting:
+        return state
+    said = f"{quoted(text)} was cut out of what was typed. Ctrl-Y puts it in while you type."
+    return state.saying(f"{said} {state.message}".rstrip())
+
+
+def reminded(drafts: Drafts, session: Session, state: State) -> State:
+    """Asks about an import that was cut short, or says so if something else is asked."""
+    for found in to_go_on(drafts, session, state.book):
+        if isinstance(found, Unfinished) and state.question is None:
+            action = ImportFrom(Path(found.note.text), found.after)
+            question = question_about(PartIsThere(found), action)
+            said = state.message.removesuffix(SHOWS_KEYS).rstrip()
+            state = replace(state, message=said, question=question)
+            continue
+        sentences = [state.message]
+        match found:
+            case Unfinished():
+                go_on = "i and the name of that file go on."
+                sentences += [came_to(found), go_on]
+            case NotSeen():
+                leave = "scribe import with --leave leaves the rest out."
+                sentences += [not_seen(found), leave]
+            case NotKept():
+                sentences.append(not_kept(found))
+        state = state.saying(" ".join(filter(None, sentences)))
+    return state

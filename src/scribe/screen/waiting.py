@@ -1,0 +1,163 @@
+"""Texts that were typed and aren't in the book: they are set aside, and asked about again."""
+
+from dataclasses import replace
+
+from braildesk import Session
+from braildesk.desk.draft import Aim, Draft
+from braildesk.text.characters import visible
+from braildesk.text.sequences import composed
+from braildesk.text.spans import Span
+
+from scribe.screen.actions import BringBack, GiveUp, PutBy, PutOff
+from scribe.screen.field import Field, Purpose
+from scribe.screen.state import (
+    Pane,
+    Question,
+    State,
+    draft_of,
+    draft_of_pasted,
+    field_of,
+)
+from scribe.words.drafts import Unsent, changed_since, what_for
+from scribe.words.paragraph import quoted
+
+_PASTED = (
+    "Pasted text goes in after Enter or o. No key of it was obeyed. U brings it back, for a new"
+    " paragraph."
+)
+
+
+def with_text(
+    session: Session,
+    unsent: Unsent,
+    state: State,
+    action: GiveUp | PutOff | BringBack | PutBy,
+) -> State:
+    """What becomes of a text that isn't sent."""
+    match action:
+        case GiveUp():
+            return _given_up(unsent, state)
+        case BringBack():
+            return _brought_back(session, unsent, state, action.place)
+        case PutBy():
+            return _put_by(unsent, state, action.text)
+    unsent.put_off()
+    said = "The text waits for the next opening. U asks about it before."
+    return replace(state, question=None, anchor=None).saying(said)
+
+
+def _given_up(unsent: Unsent, state: State) -> State:
+    """Gives up the lines that were pasted, what is typed, or the text that waits."""
+    asked = state.question
+    if asked is not None and asked.draft is not None:
+        state = replace(state, typed=asked.draft, question=None)
+    draft = draft_of(state)
+    fault = unsent.put_by(draft) if draft else ""
+    if asked is not None and asked.lines:
+        how = fault or "Once nothing is typed any more, U brings it back."
+        said = f"The pasted text isn't in the book. {how}"
+        return replace(state, question=None).saying(said)
+    said = "Given up. The book is as it was."
+    if draft is not None:
+        said = f"{said} {fault or 'U brings it back.'}"
+    given_up = replace(state, typed=None, preview=None, question=None, anchor=None)
+    return given_up.saying(said)
+
+
+def _brought_back(session: Session, unsent: Unsent, state: State, place: int) -> State:
+    """Asks about a text that was given up, or left for later."""
+    texts = unsent.texts()
+    if not texts:
+        return state.saying("No text was given up in this book.")
+    place %= len(texts)
+    state = replace(state, question=None)
+    state = asked_about(session, state, texts[place], "was set aside")
+    assert state.question is not None
+    sentence = f"{place + 1} of {len(texts)}. {state.question.sentence}"
+    more = "U asks about the one before." if len(texts) > 1 else ""
+    asked = replace(state.question, sentence=sentence, older=place + 1, more=more)
+    return replace(state, question=asked)
+
+
+def _put_by(unsent: Unsent, state: State, text: str) -> State:
+    """Keeps a text that was pasted where nothing is typed, so that it can be typed."""
+    fault = unsent.put_by(draft_of_pasted(state, text))
+    return state.saying(f"{_PASTED} {fault}".rstrip())
+
+
+def asked_about(
+    session: Session,
+    state: State,
+    saved: Draft,
+    became: str = "was typed and isn't in the book",
+    moved: str = "",
+) -> State:
+    """Asks whether a text that waits is taken up, at its paragraph."""
+    places = [n for n, each in enumerate(state.book) if each.id == saved.paragraph]
+    changed = ""
+    if places:
+        state = state.at(places[0])
+        now = session.print_of(state.book[places[0]].id)
+        changed = changed_since(saved, now)
+    amount = _amount(saved)
+    sentence = (
+        f"{what_for(saved)} {became}: {quoted(saved.joined)}.{amount}{moved}{changed}"
+    )
+    field = field_of(saved)
+    if saved.aim is Aim.NOTE and places:
+        state = _on_cells(session, state, saved)
+    elif not places and not saved.aim.is_new:
+        field = Field(Purpose.AFTER, saved.text, len(saved.text))
+    table = saved.table if saved.table in state.tables else None
+    state = replace(state, table=table or state.table)
+    asked = f"{sentence} Shall it be typed further?"
+    question = Question(asked, draft=field, more="l leaves it for later.")
+    return replace(state, question=question)
+
+
+def where_kept(session: Session, state: State, saved: Draft) -> str:
+    """Where a text that waits, or its first line, is in the book, in words; or nothing.
+
+    It may be there if the session ended after it was kept, and before that was reported.
+    """
+    numbers = [each.id for each in state.book]
+    if saved.version is None or state.version <= saved.version or not numbers:
+        return ""
+    text = composed(saved.first_line)
+    if saved.aim.is_new:
+        newest = max(numbers)
+        is_there = composed(session.print_of(newest)) == text
+        return f"as paragraph {newest}" if is_there else ""
+    number = saved.paragraph
+    if number is None or number not in numbers:
+        return ""
+    if saved.aim is Aim.EDIT:
+        is_there = composed(session.print_of(number)) == text
+        return f"in paragraph {number}" if is_there else ""
+    marks = session.marks_of(number)
+    is_there = bool(marks) and marks[-1].note == saved.text
+    return f"as mark {marks[-1].id}" if is_there else ""
+
+
+def _on_cells(session: Session, state: State, saved: Draft) -> State:
+    """The state with the cells chosen on which a note would stand."""
+    cells = saved.cells or Span(0, 1)
+    assert state.paragraph is not None
+    if cells.stop > len(session.braille_of(state.paragraph.id)):
+        cells = Span(0, 1)
+    return replace(
+        state,
+        pane=Pane.CELLS,
+        anchor=cells.start,
+        place=cells.stop - 1,
+        highlighted=None,
+    )
+
+
+def _amount(saved: Draft) -> str:
+    """How much text it is, if that isn't seen from its first words."""
+    lines = saved.text.count("\n") + 1
+    if lines == 1 and quoted(saved.text) == f"“{visible(saved.text)}”":
+        return ""
+    of_lines = f", {lines:,} lines" if lines > 1 else ""
+    return f" It has {len(saved.text):,} characters{of_lines}."
