@@ -20,7 +20,7 @@ from braildesk.desk.own_folder import OwnFolder
 from braildesk.tables import read
 from braildesk.tables.convert import making
 from braildesk.tables.convert.causes import Difference, Judge
-from braildesk.tables.convert.chooser import Chooser
+from braildesk.tables.convert.chooser import Choice, Chooser, Print
 from braildesk.tables.convert.draft import Origin, TableDraft
 from braildesk.tables.convert.examples import Example, examples
 from braildesk.tables.convert.learning import Learned, Learner
@@ -174,7 +174,7 @@ def test_several_rules_begin_with_the_blank_where_one_goes_on_from_it() -> None:
     long = Example(seen, wanted, starts, 1, len(seen.text) - 1, 1)
     long.choose(chooser)
     learned = Learner(chooser, [long], 100).learn_chains([long])
-    assert [*learned] == [("midword", " .ababababa"), ("endword", "b")]
+    assert [*learned] == [("midword", " .abababab"), ("endword", "ab")]
     assert long.is_right
 
 
@@ -313,6 +313,31 @@ def test_several_rules_for_a_token_are_taken_back_where_they_spoil_more() -> Non
     assert not learner.learn_chains([long])
     assert len(chooser) == 0
     assert others[0].is_right
+
+
+class Counting(Chooser):
+    """A chooser that counts the prints it chooses for."""
+
+    prints = 0
+
+    def choices(self, seen: Print, start: int = 0) -> list[Choice]:
+        self.prints += 1
+        return super().choices(seen, start)
+
+
+def test_several_rules_are_tried_no_further_than_the_words_that_show_they_spoil() -> (
+    None
+):
+    chooser = Counting(read(SMALL_LETTERS).table)
+    long = spelt(chooser, "abababababab", 1, doubled=True)
+    others = [
+        spelt(chooser, "ababababab" + "a" * n, 1, doubled=False) for n in range(9)
+    ]
+    learner = Learner(chooser, [*others, long], 100)
+    chooser.prints = 0
+    assert not learner.learn_chains([long])
+    # of each of two trials the token and one word, by the rules and then without them
+    assert chooser.prints == 8
 
 
 def test_rules_of_a_word_list_are_for_as_many_words_as_the_manuscript_has(

@@ -95,7 +95,7 @@ class Chooser:
             if each in table.lower or self._sides[each] is DIGIT
         }
         self._rules: dict[str, dict[str, Cells]] = {}
-        self._longest: dict[str, int] = {}
+        self._sizes: dict[str, list[int]] = {}
         for rule in table.rules:
             known = self._rules.get(rule.characters, {})
             # of the same characters the earlier line counts, and one for all places ends the matter
@@ -109,9 +109,10 @@ class Chooser:
         """Adds a rule, in place of one of its kind and characters."""
         kind, characters, cells = rule
         self._rules.setdefault(characters, {})[kind] = cells
-        front = characters[:2]
-        if self._longest.get(front, 0) < len(characters):
-            self._longest[front] = len(characters)
+        sizes = self._sizes.setdefault(characters[:2], [])
+        if len(characters) not in sizes:
+            sizes.append(len(characters))
+            sizes.sort(reverse=True)
 
     def remove(self, kind: str, characters: str) -> None:
         """Takes a rule away."""
@@ -177,18 +178,17 @@ class Chooser:
     def _chosen(self, seen: Print, start: int) -> tuple[int, Cells, str | None]:
         """The longest rule that fits, one for its place before one for all, else the definition."""
         text, sides = seen.folded, seen.sides
-        longest = max(
-            self._longest.get(text[start : start + 2], 0),
-            self._longest.get(text[start], 0),
-        )
-        for end in range(start + min(longest, seen.room(start)), start, -1):
-            known = self._rules.get(text[start:end])
-            if known is not None:
-                kind = KIND_BETWEEN.get(sides[start] + sides[end + 1])
-                if kind in known:
-                    return end, known[kind], kind
-                if ALWAYS in known:
-                    return end, known[ALWAYS], ALWAYS
+        room = seen.room(start)
+        for front in (text[start : start + 2], text[start]):
+            for size in self._sizes.get(front, ()):
+                end = start + size
+                known = self._rules.get(text[start:end]) if size <= room else None
+                if known is not None:
+                    kind = KIND_BETWEEN.get(sides[start] + sides[end + 1])
+                    if kind in known:
+                        return end, known[kind], kind
+                    if ALWAYS in known:
+                        return end, known[ALWAYS], ALWAYS
         return start + 1, self._cells[seen.text[start]], None
 
 

@@ -11,10 +11,10 @@ from __future__ import annotations
 
 import heapq
 from collections import defaultdict
-from collections.abc import Iterable, Mapping, Sequence
+from collections.abc import Iterable, Iterator, Mapping, Sequence
 from typing import Final
 
-from braildesk.tables.convert.chooser import ALWAYS, WORD, Choice, Chooser, Rule
+from braildesk.tables.convert.chooser import ALWAYS, WORD, Chooser, Rule
 from braildesk.tables.convert.examples import NOWHERE, Example, Progress
 from braildesk.tables.convert.proposals import chains, proposals
 from braildesk.tables.operands import Cells
@@ -29,9 +29,6 @@ LIST_ROUNDS: Final = (100, 50, 20, 10, 5, 3, 2, 1, 1)
 JOINED_ROUNDS: Final = (20, 5, 2, 1)
 BOOK_ROUNDS: Final = (20, 5, 2, 1, 1, 0.6, 0.6)
 """The least gain of a rule in each round: with a list of words, with tokens made of them, and with a book."""
-
-SAMPLE: Final = 2_000
-"""How many examples show at first what a rule would set wrong."""
 
 _WORDS_LAST: Final = 30
 """The length that a rule for a whole word counts as, so that of equal ones a piece comes first."""
@@ -77,35 +74,38 @@ class Learner:
         return learned
 
     def _set_more_right(self, rules: Learned) -> bool:
-        """Adds rules, unless they set more wrong than right, all of them counted together."""
+        """Adds rules, unless they set more wrong than right, all of them counted together.
+
+        What is wrong is tried first. After that nothing is gained any more, so the trial ends where all
+        of the gain is lost.
+        """
         older = {key: self._chooser.cells_of(*key) for key in rules}
-        strings = dict.fromkeys(characters for _, characters in rules)
-        touched = _touched(self._occurrences.of(strings), strings)
-        before = [example.is_right for example in touched]
+        touched = sorted(self._touched(rules), key=lambda one: one.is_right)
+        tried = []
+        gain = 0.0
         for key, cells in rules.items():
             self._chooser.add((*key, cells))
-        self._choose(touched)
-        gain = sum(
-            example.weight if example.is_right else -PENALTY * example.weight
-            for example, was_right in zip(touched, before, strict=True)
-            if example.is_right != was_right
-        )
+        for example in touched:
+            was_right = example.is_right
+            if was_right and gain <= 0:
+                break
+            example.choose(self._chooser)
+            tried.append(example)
+            if example.is_right != was_right:
+                gain += example.weight if not was_right else -PENALTY * example.weight
         if gain > 0:
             return True
         for key, cells_before in older.items():
             self._chooser.put_back(*key, cells_before)
-        self._choose(touched)
+        self._choose(tried)
         return False
 
     def _round(self, least: float) -> Learned:
         gains, helped = self._gains()
-        # what a few examples show, or an earlier round did, is enough to leave most rules out
-        sample = self._examples[:: max(1, len(self._examples) // SAMPLE)]
+        # what an earlier round found to be lost is enough to leave most rules out
         worth = self._worth(gains, least)
-        self._lose(worth, sample)
-        worth = self._worth(worth, least)
-        strings = dict.fromkeys(rule[1] for rule in worth)
-        self._lose(worth, self._occurrences.of(strings))
+        for rule, gain in worth.items():
+            self._lost[rule] = self._loss(rule, (gain - least) / PENALTY)
         worth = self._worth(worth, least)
         order = _Order(worth, self._lost, helped, least)
         chosen = order.best(self._most - len(self._chooser))
@@ -140,23 +140,20 @@ class Learner:
         kind, characters, cells = rule
         return self._chooser.cells_of(kind, characters) == cells
 
-    def _lose(self, rules: Iterable[Rule], examples: Iterable[Example]) -> None:
-        """Finds what the examples that are right would lose by each rule."""
-        by_characters: dict[str, list[Rule]] = defaultdict(list)
-        for rule in rules:
-            by_characters[rule[1]].append(rule)
-            self._lost[rule] = 0
-        longest = _longest(by_characters)
-        for example in examples:
-            if example.is_right:
-                for rule in _spoiling(example, by_characters, longest):
-                    self._lost[rule] += example.weight
+    def _loss(self, rule: Rule, most: float) -> float:
+        """What the examples that are right would lose by a rule, as far as it isn't more than so much."""
+        lost = 0.0
+        for example in self._occurrences.of(rule[1]):
+            if example.is_right and _spoils(rule, example):
+                lost += example.weight
+                if lost > most + _NEARLY:
+                    break
+        return lost
 
     def _tried(self, chosen: Learned) -> Learned:
         """Adds rules, and takes back those that set no more right than wrong."""
         older = {key: self._chooser.cells_of(*key) for key in chosen}
-        strings = dict.fromkeys(characters for _, characters in chosen)
-        touched = _touched(self._occurrences.of(strings), strings)
+        touched = self._touched(chosen)
         before = [example.is_right for example in touched]
         for key, cells in chosen.items():
             self._chooser.add((*key, cells))
@@ -169,6 +166,16 @@ class Learner:
         if len(kept) < len(chosen):
             self._choose(touched)
         return kept
+
+    def _touched(self, rules: Learned) -> list[Example]:
+        """The examples in which one of some rules would be chosen. By these no other can change."""
+        found: dict[Example, None] = {}
+        for (kind, characters), cells in rules.items():
+            rule = kind, characters, cells
+            for example in self._occurrences.of(characters):
+                if example not in found and any(_choosing(rule, example)):
+                    found[example] = None
+        return [*found]
 
     def _choose(self, examples: Iterable[Example]) -> None:
         for example in examples:
@@ -219,66 +226,31 @@ def _rank(rule: Rule) -> tuple[int, bool, Rule]:
     return length, kind == ALWAYS, rule
 
 
-def _longest(strings: Iterable[str]) -> Mapping[str, int]:
-    """The longest of some strings, by their first two characters."""
-    longest: dict[str, int] = {}
-    for one in strings:
-        if longest.get(one[:2], 0) < len(one):
-            longest[one[:2]] = len(one)
-    return longest
-
-
-def _ends(example: Example, start: int, longest: Mapping[str, int]) -> range:
-    """Where strings that begin at a place may end."""
-    text = example.seen.folded
-    most = max(longest.get(text[start : start + 2], 0), longest.get(text[start], 0))
-    return range(start + 1, start + min(most, example.seen.room(start)) + 1)
-
-
-def _touched(examples: Iterable[Example], strings: Mapping[str, None]) -> list[Example]:
-    """The examples in which one of some strings begins where a choice does.
-
-    By rules of these strings no other example can change.
-    """
-    longest = _longest(strings)
-
-    def is_touched(example: Example) -> bool:
-        text = example.seen.folded
-        return any(
-            text[start:end] in strings
-            for start, *_ in example.choices
-            for end in _ends(example, start, longest)
-        )
-
-    return list(filter(is_touched, examples))
-
-
-def _spoiling(
-    example: Example,
-    by_characters: Mapping[str, Sequence[Rule]],
-    longest: Mapping[str, int],
-) -> Iterable[Rule]:
-    """The rules that would be chosen in an example and give other cells."""
+def _choosing(rule: Rule, example: Example) -> Iterator[tuple[int, int, int]]:
+    """Where a rule would be chosen in place of what is now: its place, its end, and how many cells are before it."""
+    kind, characters, _ = rule
+    seen = example.seen
+    place = seen.folded.find(characters)
     at = 0
-    for choice in example.choices:
-        start, now, cells, _ = choice
-        for end in _ends(example, start, longest):
-            if end >= now:
-                characters = example.seen.folded[start:end]
-                for rule in by_characters.get(characters, ()):
-                    if _is_chosen(example, rule, choice, end) and not _is_right(
-                        example, rule, start, end, at
-                    ):
-                        yield rule
+    for start, now, cells, its in example.choices:
+        if 0 <= place < start:
+            place = seen.folded.find(characters, start)
+        if start == place:
+            end = start + len(characters)
+            if kind == ALWAYS:
+                is_chosen = end > now or end == now and its in (None, ALWAYS)
+            else:
+                is_chosen = end >= now and kind == seen.kind(start, end)
+            if is_chosen and end - start <= seen.room(start):
+                yield start, end, at
         at += len(cells)
 
 
-def _is_chosen(example: Example, rule: Rule, choice: Choice, end: int) -> bool:
-    """Whether a rule would be chosen in place of what is chosen now."""
-    start, now, _, kind = choice
-    if rule[0] == ALWAYS:
-        return end > now or kind in (None, ALWAYS)
-    return rule[0] == example.seen.kind(start, end)
+def _spoils(rule: Rule, example: Example) -> bool:
+    """Whether a rule would be chosen in an example and give other cells."""
+    return any(
+        not _is_right(example, rule, *place) for place in _choosing(rule, example)
+    )
 
 
 def _is_right(example: Example, rule: Rule, start: int, end: int, at: int) -> bool:
@@ -309,9 +281,6 @@ def _net(
 
 _SIZES: Final = (2, 3, 4)
 
-_MANY: Final = 8
-"""How often on average an example may be found until all are taken at once."""
-
 
 class Occurrences:
     """The examples by the short runs of characters that they have, so that a rule is tried on few."""
@@ -323,22 +292,11 @@ class Occurrences:
             for run in _runs(example.seen.folded):
                 self._having[run].append(example)
 
-    def of(self, strings: Iterable[str]) -> Sequence[Example]:
-        """The examples that may have one of some strings: all of them if the strings are many."""
-        found: dict[Example, None] = {}
-        left = _MANY * len(self._all)
-        for string in strings:
-            having = self._fewest(string)
-            left -= len(having)
-            if left < 0:
-                return self._all
-            found.update(dict.fromkeys(having))
-        return [*found]
-
-    def _fewest(self, string: str) -> Sequence[Example]:
-        """The examples that have the rarest run of a string."""
-        having = (self._having.get(run, ()) for run in _runs(string))
-        return min(having, key=len, default=self._all)
+    def of(self, characters: str) -> Iterator[Example]:
+        """The examples that have some characters one after another."""
+        having = (self._having.get(run, ()) for run in _runs(characters))
+        fewest = min(having, key=len, default=self._all)
+        return (example for example in fewest if characters in example.seen.folded)
 
 
 def _runs(text: str) -> set[str]:

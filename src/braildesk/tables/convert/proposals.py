@@ -23,6 +23,9 @@ LONGEST: Final = 20
 BEGINNINGS: Final = 5
 """At how many of the last choices up to the wrong one a rule may begin."""
 
+SHORTEST_LINK: Final = 2
+"""The characters of the shortest rule of a chain; one for a single letter would spoil other tokens."""
+
 Proposal = tuple[Rule, bool]
 """A rule, and whether nothing of the example is wrong with it."""
 
@@ -188,7 +191,9 @@ def _chain(example: Example, first: int, evenness: int) -> Chain:
 def _link(example: Example, start: int, end: int) -> tuple[str, int, Cells] | None:
     """The rule of a chain from one place to another, with its end."""
     kind = example.seen.kind(start, end)
-    if kind is None or NOWHERE in (example.starts[start], example.starts[end]):
+    if kind is None or end - start < SHORTEST_LINK:
+        return None
+    if NOWHERE in (example.starts[start], example.starts[end]):
         return None
     characters = example.seen.folded[start:end]
     if " " in characters and not _is_sure(characters, kind):

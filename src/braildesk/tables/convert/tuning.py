@@ -159,7 +159,7 @@ class _Effects:
         others: Counter[str] = Counter()
         chosen_in = [
             example
-            for example in self._occurrences.of([characters])
+            for example in self._occurrences.of(characters)
             if _is_chosen_in(rule, example)
         ]
         self._chooser.put_back(kind, characters, self._older.cells_of(kind, characters))
