@@ -28,6 +28,7 @@ from braildesk.tables.convert.oracle import Liblouis
 from braildesk.tables.convert.proposals import chains
 from braildesk.tables.convert.running_text import Word, agreement, spoilers
 from braildesk.tables.convert.tailoring import (
+    APOSTROPHES,
     Manuscript,
     Means,
     Tailored,
@@ -349,6 +350,24 @@ def test_rules_of_a_word_list_are_for_as_many_words_as_the_manuscript_has(
         "midword th 1456 for 0 words of the manuscript",
     ]
     assert (found.from_list, found.from_manuscript) == (2, 0)
+
+
+def test_an_elided_word_is_learned_with_both_forms_of_the_apostrophe(
+    tmp_path: Path,
+) -> None:
+    lines = "".join(
+        f"punctuation {one} 3\nmatch - ht{one} %a 6-3\n" for one in APOSTROPHES
+    )
+    (tmp_path / "apostrophes.utb").write_text(SMALL + lines)
+    paragraphs = ["ht\u2019hab ht\u2019eth"]
+    means = Means(None, None, lambda what: lambda done, total: None)
+    found = tailor(
+        tmp_path / "apostrophes.utb", Manuscript("text.txt", paragraphs), means
+    )
+    assert [line.split(" for ")[0] for line in rules(found)] == [
+        "begword ht\u2019 6-3",
+        "begword ht' 6-3",
+    ]
 
 
 def test_a_tenth_of_many_paragraphs_shows_what_the_table_is_worth(

@@ -6,6 +6,7 @@ it wasn't made for. After that the tenth is learned from too.
 
 from __future__ import annotations
 
+import re
 from collections import Counter
 from collections.abc import Callable, Iterable, Mapping, Sequence
 from dataclasses import dataclass, replace
@@ -55,6 +56,9 @@ FEWEST_PARAGRAPHS: Final = 20
 
 EACH_TIME: Final = 1
 """What a token of the manuscript counts more than one of the list, each time that it comes."""
+
+APOSTROPHES: Final = ("'", "\u2019")
+"""Both forms that an apostrophe has within a word. Those who type one may import the other."""
 
 FROM_LIST: Final = "Learned from the word list"
 FROM_MANUSCRIPT: Final = "Learned from the manuscript"
@@ -219,7 +223,7 @@ class _Tailoring:
 
         Some rules are known already.
         """
-        weights = weights_of(tokens(self._liblouis, paragraphs))
+        weights = _with_twins(weights_of(tokens(self._liblouis, paragraphs)))
         own = examples(
             self._liblouis,
             self._chooser,
@@ -274,6 +278,15 @@ class _Tailoring:
 def weights_of(counted: Mapping[str, int]) -> dict[str, float]:
     """What each token of a manuscript counts: one, and more the more often it comes."""
     return {token: 1 + EACH_TIME * count for token, count in counted.items()}
+
+
+def _with_twins(weights: Mapping[str, float]) -> dict[str, float]:
+    """Tokens with those that differ by the form of an apostrophe alone, each of which counts once."""
+    twins: dict[str, float] = {}
+    for one, other in (APOSTROPHES, APOSTROPHES[::-1]):
+        within = re.compile(rf"(?<=[^\W\d_]){one}(?=[^\W\d_])")
+        twins |= {within.sub(other, token): 1 for token in weights if one in token}
+    return twins | dict(weights)
 
 
 def _mark(uses: int) -> str:
