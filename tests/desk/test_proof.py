@@ -92,12 +92,18 @@ def test_a_mark_on_a_blank_or_after_all_words_stands_at_a_line_too(moon: Path) -
         blanks = [
             n for n, cell in enumerate(session.braille_of(1)) if cell == EMPTY_CELL
         ]
+        # the last one is where the line ends
         session.add_mark(1, blanks[0], 1, "a word?")
-        session.add_mark(1, blanks[-1], 6, "gone?")
+        session.add_mark(1, blanks[-1], 1, "and here?")
+        session.add_mark(1, blanks[-1] + 1, 5, "gone?")
+    (page,) = pages_of(moon)
+    marks = [[mark.note for mark in line.marks] for line in page.lines]
+    assert marks[:2] == [["spelled so?", "a word?", "and here?"], ["gone?"]]
+    with Session(moon) as session:
         session.correct(1, 15, 6, "")
     (page,) = pages_of(moon)
-    marks = {line.number: [mark.note for mark in line.marks] for line in page.lines}
-    assert marks == {1: ["spelled so?", "a word?", "gone?"], 2: [], 3: [], 4: []}
+    marks = [[mark.note for mark in line.marks] for line in page.lines]
+    assert marks[:2] == [["spelled so?", "a word?", "and here?", "gone?"], []]
     assert page.has_open_mark
 
 

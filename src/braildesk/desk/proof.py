@@ -161,10 +161,11 @@ class _Lines:
             shown = text[word.first : word.last].strip() if is_begun else ""
             is_marked = self._marked.is_on(word.first, word.last)
             words.append(ProofWord(column, braille[start:stop], shown, is_marked))
-            # a blank goes with the word after it, and what is after the last word with that
-            is_last = word is self._words[row.paragraph][-1]
-            self._shown = len(text) + 1 if is_last else word.last
             column += stop - start + 1
+        # a blank stands where the word before it does, and so does what is after the last word
+        words_left = self._words[row.paragraph][self._next : self._next + 2]
+        firsts = [word.first for word in words_left if word.start >= row.stop]
+        self._shown = firsts[0] if firsts else len(text) + 1
         return ProofLine(
             row.line,
             row.paragraph if is_new else None,
