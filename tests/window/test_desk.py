@@ -1,5 +1,6 @@
 """What comes into a window otherwise than by keys: lines that are pasted, and files that are dropped."""
 
+import sys
 import time
 from collections.abc import Callable, Sequence
 from pathlib import Path
@@ -172,6 +173,27 @@ def test_what_is_typed_stays_what_it_is_where_cells_are_shown_otherwise(
     assert desk.window.message.text == "Copied in Braille ASCII: 2 cells."
     clipboard = QApplication.clipboard()
     assert clipboard is not None and clipboard.text() == "SO"
+
+
+def test_no_page_is_shown_of_a_book_that_was_changed_meanwhile(
+    desk: Desk, monkeypatch: pytest.MonkeyPatch
+) -> None:
+    failed: list[object] = []
+    monkeypatch.setattr(sys, "excepthook", lambda kind, fault, _: failed.append(fault))
+    desk.window.show()
+    desk.act("page")
+    desk.choose(1, 19)
+    desk.asked(lambda: None)
+    QApplication.processEvents()
+    # the page waits for something else, and a correction by which a line becomes two comes before it
+    desk.work.post(lambda: time.sleep(0.2), lambda _: None)
+    desk.update_page(True)
+    desk.do(requests.Correct(2, 0, 20, "A " + "b" * 38))
+    end = time.monotonic() + 10
+    while "⠃" * 38 not in desk.window.page.text and time.monotonic() < end:
+        QApplication.processEvents()
+    desk.window.hide()
+    assert (failed, "⠃" * 38 in desk.window.page.text) == ([], True)
 
 
 def test_what_was_read_before_a_change_is_not_listed_after_it(desk: Desk) -> None:

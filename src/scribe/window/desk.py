@@ -522,14 +522,20 @@ class Desk:
         sought = pagelook.Sought(its, light.cells.start, says)
         contents, page_size = self.contents, self.page_size
 
-        def take(found: "Future[pagelook.Page]") -> None:
+        def look() -> pagelook.Page | None:
+            # another book by then has its page asked for by itself
+            if self.book.session.last_version != contents.version:
+                return None
+            return self.book.page(contents, page_size, sought, is_asked)
+
+        def take(found: "Future[pagelook.Page | None]") -> None:
             with suppress(DeskError, RuntimeError):
                 page = found.result()
+                if page is None:
+                    return
                 lines = [self.shown_page(line) for line in page.lines]
                 title = wrap(page.title, max(20, page_size.width * 5 // 6))
                 self.window.show_page(title, lines, page.line)
-
-        look = partial(self.book.page, contents, page_size, sought, is_asked)
 
         self.work.latest("page", look, take)
 
