@@ -198,6 +198,22 @@ def test_while_a_note_is_typed_the_end_of_the_session_is_not_looked_at_again_and
     assert desk.window.message.text.startswith("The session was ended by signal 9.")
 
 
+def test_what_others_changed_is_not_taken_back_by_what_was_typed_before(
+    desk: Desk, moon: Path
+) -> None:
+    desk.window.print.textCursor().insertText("So: ")
+    os.kill(desk.book.pid, signal.SIGKILL)
+    with Session(moon, timeout=10) as session:
+        session.correct(1, 4, 4, "Mond")
+    desk.act("keep")
+    assert desk.window.message.text.endswith(
+        "A text of paragraph 1 isn't in the book. The print there has been changed since."
+        " Ctrl+B brings it back."
+    )
+    assert (desk.window.print.text, desk.is_typed()) == ("The Mond", False)
+    assert (_given_up(moon), _waiting(desk)) == (["So: The Moon"], None)
+
+
 def test_the_session_may_end_while_another_paragraph_is_gone_to(desk: Desk) -> None:
     os.kill(desk.book.pid, signal.SIGKILL)
     desk.acting(lambda: desk.choose(2))

@@ -40,7 +40,7 @@ from scribe.window.menus import MENUS
 from scribe.window.window import Window
 from scribe.window.worker import Worker
 from scribe.words import pagelook
-from scribe.words.drafts import Unsent, not_kept, what_for
+from scribe.words.drafts import Unsent, changed_since, not_kept, what_for
 from scribe.words.paragraph import mark_line, title
 from scribe.words.preview import Preview
 from scribe.words.status import Stop, in_sentences
@@ -81,8 +81,7 @@ class Desk:
         self.new: New | None = None
         #: What is typed and isn't in the print: a note, or lines that are to be paragraphs.
         self.beside: Draft | None = None
-        #: The window is ended by a signal or a fault, and what is typed waits.
-        self.is_ending = False
+        self.is_ending = False  #: By a signal or a fault, so that what is typed waits.
         self.in_hand: int | None = None
         self.is_ascii = False
         #: The page and line are said of marks and words that are gone to.
@@ -782,7 +781,8 @@ class Desk:
     def taken_again(self, contents: Contents) -> str:
         """Shows a book that was opened again; what is typed and isn't in it stays typed.
 
-        If it was typed elsewhere than in the print, it is given up, which is said.
+        If it was typed elsewhere than in the print, or others changed that, it is given up, which is
+        said.
         """
         self.is_closed, self.loss = False, ""
         self.watch()
@@ -793,11 +793,12 @@ class Desk:
         self.beside = None
         self.window.model.all_unread()
         self.show(contents, number)
-        if draft is not None and beside is not None:
-            return f"{what_for(draft)} isn't in the book. {self.put_by(draft)}"
         if draft is None:
             self.keep_draft(None)
             return ""
+        changed = "" if self.number != number else changed_since(draft, self.before())
+        if beside is not None or changed:
+            return f"{what_for(draft)} isn't in the book.{changed} {self.put_by(draft)}"
         if new is not None:
             self.begin_new(new, draft.text)
         elif self.number == number:
