@@ -526,6 +526,21 @@ def test_a_lost_session_says_what_was_kept_and_what_was_not_and_talks_on(
     assert braildesk.check(moon) == 9
 
 
+def test_a_line_that_was_not_begun_is_not_taken_for_what_was_changed_last(
+    talk: Talk, moon: Path
+) -> None:
+    talk.type("strike 1")
+    os.kill(talk.program(), signal.SIGKILL)
+    said = " ".join(" ".join(talk.type("change 2 Tides Moon")).split())
+    assert "may not be in the book: change 2 Tides Moon The session was ended" in said
+    assert said.endswith("opened again: it is at version 8, as before.")
+    talk.type("strike 2")
+    Path(f"{moon}-wal").unlink()
+    said = " ".join(" ".join(talk.type("change 3 sea moon")).split())
+    assert said.endswith("opened again: it is at version 9, as before.")
+    assert talk.type("change 3 sea moon")[-1] == "The book is at version 10."
+
+
 @pytest.mark.parametrize("kept", [True, False])
 def test_a_talk_whose_book_is_gone_says_no_version_of_it(
     talk: Talk, moon: Path, kept: bool

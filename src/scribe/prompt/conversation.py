@@ -42,6 +42,8 @@ class Conversation:
     is_short: bool = False
     #: The mark that the person deals with.
     hand: MarkOfBook | None = None
+    #: The version of the book before the last line: what was kept up to it is shown.
+    shown: int | None = None
     #: The lines that were typed since the last prompt for a command.
     typed: list[str] = field(default_factory=list)
 

@@ -20,8 +20,13 @@ def after_loss(path: Path, lost: Lost) -> list[str]:
     return said
 
 
-def opened_again(path: Path, lost: Lost) -> tuple[Session | None, list[str]]:
-    """The book in another session, if it can be opened again, and what is said of the loss."""
+def opened_again(
+    path: Path, lost: Lost, shown: int | None = None
+) -> tuple[Session | None, list[str]]:
+    """The book in another session, if it can be opened again, and what is said of the loss.
+
+    What was kept up to a version may have been shown.
+    """
     if isinstance(lost, Displaced):
         return None, [lost.sentence]
     try:
@@ -31,7 +36,8 @@ def opened_again(path: Path, lost: Lost) -> tuple[Session | None, list[str]]:
     except OSError as failure:
         why = f"The book could not be opened again: {failure.strerror}."
         return None, [lost.sentence, why]
-    return session, [lost.cause, _found_unshown(found)]
+    words = found_again if shown == lost.version else _found_unshown
+    return session, [lost.cause, words(found)]
 
 
 def tell_end(console: Console, name: str, version: int, strayed: str) -> None:

@@ -85,7 +85,7 @@ def run(arguments: Namespace, console: Console) -> Status:
             f" {'paragraph' if count == 1 else 'paragraphs'}. Type help, or quit to end."
         )
         while (lost := _talk(conversation, arguments.file)) is not None:
-            again, said = opened_again(arguments.file, lost)
+            again, said = opened_again(arguments.file, lost, conversation.shown)
             console.say(*said)
             if again is None:
                 return Status.FAILED
@@ -113,10 +113,10 @@ def _talk(conversation: Conversation, file: Path) -> Lost | None:
             line = conversation.next_line(PROMPT, is_kept=True)
             if line.decode(errors="replace").strip() in _ENDS:
                 return None
-            version = conversation.session.last_version
+            conversation.shown = conversation.session.last_version
             with in_sentences():
                 _answer(conversation, file, line)
-            if conversation.session.last_version != version:
+            if conversation.session.last_version != conversation.shown:
                 conversation.remind()
         except GivenUp:
             console.show("Given up. Nothing was changed.")
