@@ -86,11 +86,11 @@ def _database(book: BookFile, file: BinaryIO) -> Iterator[sqlite3.Connection]:
     """What a file holds, with what stands in the log beside it, while nobody writes either."""
     log = log_path(book.path)
     if not has_work(log):
-        with closing(reader(real_path(book.path), True)) as database:
+        with closing(_reader(real_path(book.path), True)) as database:
             yield database
         return
     with _copied(book, file, log) as copied:
-        with closing(reader(copied, False)) as database:
+        with closing(_reader(copied, False)) as database:
             yield database
 
 

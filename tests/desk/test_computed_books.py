@@ -10,7 +10,7 @@ from pathlib import Path
 import pytest
 
 import braildesk
-from braildesk import CannotOpen, Session, Why
+from braildesk import CannotOpen, Refused, Session, Why, limits
 from braildesk.opening import reader
 from strangers import in_time
 from tool import scribe
@@ -166,3 +166,24 @@ def test_what_reads_a_file_makes_none_where_it_was_removed(
         with closing(reader(tmp_path / "gone", is_alone)) as database:
             database.execute("SELECT count(*) FROM sqlite_schema")
     assert not list(tmp_path.iterdir())
+
+
+@pytest.mark.parametrize("is_logged", [False, True])
+def test_a_table_that_is_longer_than_any_is_not_read(
+    book: Path, is_logged: bool
+) -> None:
+    altered(book, f"UPDATE tab SET body = zeroblob({limits.TABLE_BYTES + 70_000})")
+    if is_logged:
+        with closing(sqlite3.connect(book)) as database:
+            database.execute("PRAGMA journal_mode = WAL")
+            database.execute("PRAGMA user_version = 1")
+            database.commit()
+            files = [
+                (Path(f"{book}{end}"), f"{book}-kept{end}") for end in ("", "-wal")
+            ]
+            for path, to in files:
+                shutil.copyfile(path, to)
+        for path, to in files:
+            os.replace(to, path)
+    with pytest.raises(Refused):
+        braildesk.read_tables(book)
