@@ -4,7 +4,8 @@ import os
 import signal
 import sys
 import time
-from collections.abc import Callable
+from collections.abc import Callable, Iterator
+from contextlib import contextmanager
 from fcntl import ioctl
 from pathlib import Path
 from termios import FIONREAD
@@ -214,6 +215,16 @@ class Terminal:
     def send_signal(self, number: signal.Signals) -> None:
         """Sends scribe a signal."""
         os.kill(self._child.pid, number)
+
+    @contextmanager
+    def stopped(self) -> Iterator[int]:
+        """Stops scribe as a shell does, and gives the end of the terminal that it has."""
+        end = os.open(f"/proc/{self._child.pid}/fd/0", os.O_RDWR | os.O_NOCTTY)
+        try:
+            self.send_signal(signal.SIGSTOP)
+            yield end
+        finally:
+            os.close(end)
 
     def left(self) -> int:
         """The status with which scribe ends where its terminal is closed."""

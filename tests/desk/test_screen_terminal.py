@@ -4,6 +4,7 @@ import os
 import re
 import signal
 import sys
+import termios
 from pathlib import Path
 
 import pexpect  # type: ignore[import]
@@ -90,6 +91,29 @@ def test_a_terminal_that_is_closed_leaves_the_text_which_is_offered_again(
     again.keys("enter")
     lines = again.wait("kept: correction 2 of paragraph 1")
     assert lines[9] == ",OH1 ,THE MOON IS FAR AWAY4"
+
+
+def test_the_screen_is_drawn_anew_after_a_shell_had_the_terminal(
+    moon: Path, at: Open
+) -> None:
+    terminal = at(moon)
+    terminal.wait("? shows the keys.")
+    terminal.keys("o", *"Soon")
+    before = terminal.wait("⠠⠎⠕⠕⠝")
+    of_shell = termios.ICANON | termios.ECHO
+    with terminal.stopped() as end:
+        mode = termios.tcgetattr(end)
+        mode[3] |= of_shell
+        termios.tcsetattr(end, termios.TCSANOW, mode)
+        os.write(end, b"\x1b[2;1H[1]+  Stopped\r\n$ fg\r\n")
+        terminal.wait("$ fg")
+        terminal.send_signal(signal.SIGCONT)
+        terminal.wait_for(before, (8, 4), "as before")
+        assert not termios.tcgetattr(end)[3] & of_shell
+    terminal.keys("!", "enter")
+    terminal.wait("kept: paragraph 4")
+    terminal.keys("escape", "q")
+    assert terminal.ended() == 0
 
 
 def test_a_dumb_terminal_is_refused_and_talk_is_named(moon: Path) -> None:

@@ -247,9 +247,24 @@ class Screen:
 
         for number in (signal.SIGHUP, signal.SIGTERM, signal.SIGINT, signal.SIGXCPU):
             signal.signal(number, ended)
+        signal.signal(
+            signal.SIGCONT, lambda *_: loop.call_soon_threadsafe(self._show_again)
+        )
         self._watch()
         self._app.create_background_task(self._keep())
         self._look_ahead()
+
+    def _show_again(self) -> None:
+        """Takes the terminal again that a shell had while scribe was stopped, and draws all anew."""
+        if not self._app.is_running or self.state.is_over:
+            return
+        self._input.raw_mode().__enter__()
+        output = self._app.output
+        self._app.renderer.reset(leave_alternate_screen=False)
+        output.enter_alternate_screen()
+        output.erase_screen()
+        output.cursor_goto(0, 0)
+        self._app.invalidate()
 
     def _drawing(self) -> Drawing:
         if self._drawn[0] is not self.state:
