@@ -81,9 +81,7 @@ HasSome defined = defined.cells ≢ []
 definition-cells : (entry : Entry) → MakesCells entry → AllByRecursion (λ d. HasSome d.1) (definitions_in entry)
 definition-cells (Defines character defined) h = (h, tt)
 definition-cells (Pairs upper upper_cells lower lower_cells) h = (h.0, (h.1, tt))
-definition-cells (Replaces kind text cells) h = tt
-definition-cells (Announces sign cells) h = tt
-definition-cells (Collects set text) h = tt
+definition-cells entry h = tt
 
 definitions-cells : (entries : List (ℕ × Entry)) → AllByRecursion (λ e. MakesCells e.1) entries
     → AllByRecursion (λ d. HasSome d.1) (flat_map (λ e. definitions_in e.1) entries)
@@ -122,12 +120,9 @@ module _ (meaning : Meaning) (known : (c : ℕ) (defined : Definition) → defin
       joined_cells _ _ (defined-cells (fold_of meaning c) (all c (0, omega arith, refl)))
 
   rule-cells : (n : ℕ) (entry : Entry) → MakesCells entry → (IsLacking meaning entry → ⊥) → AllByRecursion (λ r. r.cells ≢ []) (rules_in meaning (n, entry))
-  rule-cells n (Defines character defined) h complete = tt
-  rule-cells n (Pairs upper upper_cells lower lower_cells) h complete = tt
   rule-cells n (Replaces kind text None) h complete = (spelled-cells text h.0 (λ c there none. complete (c, there, none)), tt)
   rule-cells n (Replaces kind text (Some cells)) h complete = (h.1 cells refl, tt)
-  rule-cells n (Announces sign cells) h complete = tt
-  rule-cells n (Collects set text) h complete = tt
+  rule-cells n entry h complete = tt
 
   rules-cells : (entries : List (ℕ × Entry)) → AllByRecursion (λ e. MakesCells e.1) entries → AllByRecursion (λ e. IsLacking meaning e.1 → ⊥) entries
       → AllByRecursion (λ r. r.cells ≢ []) (flat_map (rules_in meaning) entries)

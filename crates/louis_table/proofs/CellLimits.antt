@@ -13,11 +13,12 @@ use Rattle.louis_table.specs.declared.definition.Class.TheVariants.{Letter}
 use Rattle.louis_table.specs.declared.definition.Definition.{Definition}
 use Rattle.louis_table.specs.declared.rule.Rule.{Rule}
 use Rattle.louis_table.specs.declared.sign.Sign.{Sign}
-use Rattle.louis_table.specs.Characters.{Spells, Writes, itself, escape, number}
+use Rattle.louis_table.specs.Characters.{Spells}
 use Rattle.louis_table.specs.Fields.{Begins, HasFields}
 use Rattle.louis_table.specs.Meaning.{Meaning, definition_of, fold_of, sign_cells}
 use Rattle.louis_table.specs.Profile.{Profile}
 use Rattle.louis_table.specs.Table.{Entry, Defines, Pairs, Replaces, Announces, Collects, PairDots, RuleDots, Gives, definition_line, pair_line, rule_line, sign_line, set_line, GiveFrom, IsFault, long_line, line_too_many, HasCause, on_line, definitions_in, cells_in_definition, cells_for, rule_cells, rules_in, is_same_sign, MeansIn, text_lines, most_lines, most_line_characters}
+use Rattle.louis_table.proofs.CharacterLaws.{Writes-some}
 use Rattle.louis_table.proofs.MeaningLaws.{sign_cells-map}
 
 split_at : {X : Type 0} (n : ℕ) (xs : List X) → n < length xs → (before : List X) × (x : X) × (after : List X) × (xs ≡ before ++ x ∷ after) × (length before ≡ n)
@@ -35,22 +36,12 @@ cells-short text (cell ∷ []) (blank e mask) = let size = ap length e in omega 
 cells-short [] (cell ∷ []) (dotted some lists) = absurd (some refl)
 cells-short (c ∷ text) (cell ∷ []) (dotted some lists) = omega arith
 cells-short text (cell ∷ next ∷ cells) (first, rest, e, here, dots) =
-    let others = cells-short rest (next ∷ cells) dots in
-    let size = ap length e ∙ length-append first (45 ∷ rest) in
-    omega (arith, others, size)
-
-writes-some : (text : List ℕ) (character : ℕ) → Writes text character → 0 < length text
-writes-some text character (itself other e) = let size = ap length e in omega (arith, size)
-writes-some text character (escape letter is e) = let size = ap length e in omega (arith, size)
-writes-some text character (number letter digits behind hex is scalar e) = let size = ap length e in omega (arith, size)
+    omega (arith, cells-short rest (next ∷ cells) dots, ap length e ∙ length-append first (45 ∷ rest))
 
 characters-short : (text characters : List ℕ) → Spells text characters → length characters ≤ length text
 characters-short text [] e = omega arith
 characters-short text (character ∷ characters) (front, rest, e, here, spells) =
-    let one = writes-some front character here in
-    let others = characters-short rest characters spells in
-    let size = ap length e ∙ length-append front rest in
-    omega (arith, one, others, size)
+    omega (arith, Writes-some front character here, characters-short rest characters spells, ap length e ∙ length-append front rest)
 
 begins-short : (text field rest : List ℕ) → Begins text field rest → (length field ≤ length text) × (length rest ≤ length text)
 begins-short text field rest b =
@@ -60,16 +51,10 @@ begins-short text field rest b =
     (omega (arith, size, behind, both), omega (arith, size, behind, both))
 
 second-short : (line name field : List ℕ) (fields : List (List ℕ)) → HasFields line (name ∷ field ∷ fields) → length field ≤ length line
-second-short line name field fields h =
-    let first = (begins-short line name h.0 h.1).1 in
-    let second = (begins-short h.0 field h.2.0 h.2.1).0 in
-    omega (arith, first, second)
+second-short line name field fields h = omega (arith, (begins-short line name h.0 h.1).1, (begins-short h.0 field h.2.0 h.2.1).0)
 
 third-short : (line name other field : List ℕ) (fields : List (List ℕ)) → HasFields line (name ∷ other ∷ field ∷ fields) → length field ≤ length line
-third-short line name other field fields h =
-    let first = (begins-short line name h.0 h.1).1 in
-    let second = second-short h.0 other field fields h.2 in
-    omega (arith, first, second)
+third-short line name other field fields h = omega (arith, (begins-short line name h.0 h.1).1, second-short h.0 other field fields h.2)
 
 -- ---- what a line gives
 
@@ -95,9 +80,7 @@ rule-dots-few : (dots : List ℕ) (cells : Option (List ℕ)) → length dots �
 rule-dots-few dots None short d written e = cc
 rule-dots-few dots (Some cells) short d written e =
     let same : cells ≡ written = cc in
-    let few = cells-short dots cells d in
-    let size = ap length same in
-    omega (arith, few, size, short)
+    omega (arith, cells-short dots cells d, ap length same, short)
 
 gives-few : (profile : Profile) (line : List ℕ) (entry : Entry) → length line ≤ 1000 → Gives profile line entry → FewCells entry
 gives-few profile line entry short (definition_line class characters dots c cells has h s d e) =
@@ -153,9 +136,7 @@ entries-count : (profile : Profile) (n : ℕ) (lines : List (List ℕ)) (entries
 entries-count profile n [] entries h = let e = ap length h in omega (arith, e)
 entries-count profile n (line ∷ lines) entries (inl (says, h)) = let few = entries-count profile (n + 1) lines entries h in omega (arith, few)
 entries-count profile n (line ∷ lines) entries (inr (entry, rest, gives, e, h)) =
-    let few = entries-count profile (n + 1) lines rest h in
-    let k = ap length e in
-    omega (arith, few, k)
+    omega (arith, entries-count profile (n + 1) lines rest h, ap length e)
 
 -- ---- the table that entries make
 
@@ -176,20 +157,15 @@ definition-few (Pairs upper upper_cells lower lower_cells) h =
     let first : ℕ × Definition = (upper, record { class = Letter; cells = upper_cells }) in
     let second : ℕ × Definition = (lower, record { class = Letter; cells = lower_cells }) in
     All-cons FewDefined first (second ∷ []) h.0 (All-cons FewDefined second [] h.1 (All-nil FewDefined))
-definition-few (Replaces kind text cells) h = All-nil FewDefined
-definition-few (Announces sign cells) h = All-nil FewDefined
-definition-few (Collects set text) h = All-nil FewDefined
+definition-few entry h = All-nil FewDefined
 
 sign-few : (sign : Sign) (entry : Entry) → FewCells entry → length (cells_for sign entry) ≤ 1000
-sign-few sign (Defines character defined) h = omega arith
-sign-few sign (Pairs upper upper_cells lower lower_cells) h = omega arith
-sign-few sign (Replaces kind text cells) h = omega arith
 sign-few sign (Announces other cells) h = by (is_same_sign sign other)
   where
     by : (b : Bool) → length (cond b cells []) ≤ 1000
     by true = h
     by false = omega arith
-sign-few sign (Collects set text) h = omega arith
+sign-few sign entry h = omega arith
 
 abbrev FewOfRule : Rule → Type 0
 FewOfRule rule = length rule.cells ≤ 1000000
@@ -203,20 +179,15 @@ module _ (meaning : Meaning) (known : All FewDefined meaning.definitions) where
       by (Some d) h = h
 
   rule-few : (n : ℕ) (entry : Entry) → FewCells entry → All FewOfRule (rules_in meaning (n, entry))
-  rule-few n (Defines character defined) h = All-nil FewOfRule
-  rule-few n (Pairs upper upper_cells lower lower_cells) h = All-nil FewOfRule
   rule-few n (Replaces kind text None) h =
       All-cons FewOfRule _ [] (few) (All-nil FewOfRule)
     where
       few : length (rule_cells meaning (map (fold_of meaning) text) None) ≤ 1000000
       few =
           let each = joined-few (λ (c : ℕ). cells_in_definition (definition_of meaning c)) 1000 (map (fold_of meaning) text) (λ k d lt. defined-few _) in
-          let size = length-map text (fold_of meaning) in
-          let short = h.0 in
-          omega (arith, each, size, short)
+          omega (arith, each, length-map text (fold_of meaning), h.0)
   rule-few n (Replaces kind text (Some cells)) h = All-cons FewOfRule _ [] (let few = h.1 cells refl in omega (arith, few)) (All-nil FewOfRule)
-  rule-few n (Announces sign cells) h = All-nil FewOfRule
-  rule-few n (Collects set text) h = All-nil FewOfRule
+  rule-few n entry h = All-nil FewOfRule
 
 -- how many cells stand in each definition, each rule and each sign at most
 pub record HasFewCells (meaning : Meaning) : Type 0 where

@@ -120,7 +120,7 @@ character_at-Writes front rest c (number letter digits counted are v s e) =
 
 -- ---- all characters of an operand
 
-Writes-some : (front : List ℕ) (c : ℕ) → Writes front c → 0 < length front
+pub Writes-some : (front : List ℕ) (c : ℕ) → Writes front c → 0 < length front
 Writes-some front c (itself ne e) = rw e (omega arith)
 Writes-some front c (escape letter s e) = rw e (omega arith)
 Writes-some front c (number letter digits counted are v s e) = rw e (omega arith)

@@ -42,21 +42,10 @@ has_opcode opcode = includes (profile_of opcode)
 pub opcode_named-name_of : (opcode : Opcode) → opcode_named (name_of opcode) ≡ Some opcode
 unfolding opcode_named
 opcode_named-name_of (Define classes.Space) = refl
-opcode_named-name_of (Define classes.Punctuation) = refl
-opcode_named-name_of (Define classes.Digit) = refl
-opcode_named-name_of (Define classes.Letter) = refl
-opcode_named-name_of UpLow = refl
 opcode_named-name_of (Replace kinds.Always) = refl
-opcode_named-name_of (Replace kinds.Word) = refl
-opcode_named-name_of (Replace kinds.BegWord) = refl
-opcode_named-name_of (Replace kinds.MidWord) = refl
-opcode_named-name_of (Replace kinds.EndWord) = refl
 opcode_named-name_of (Announce signs.Number) = refl
-opcode_named-name_of (Announce signs.Capital) = refl
-opcode_named-name_of (Announce signs.CapitalWord) = refl
-opcode_named-name_of (Announce signs.NoContraction) = refl
 opcode_named-name_of (Collect sets.NumericMode) = refl
-opcode_named-name_of (Collect sets.NoContraction) = refl
+opcode_named-name_of opcode = refl
 
 -- the opcodes of the list stand beside their names
 abbrev AreNamed : List (List ℕ × Opcode) → Type 0
@@ -88,25 +77,19 @@ TakesBoth (Announce sign) = ⊥
 TakesBoth (Collect set) = ⊥
 
 HasDots-both : (line characters dots : List ℕ) (opcode : Opcode) → TakesBoth opcode → HasFields line (name_of opcode ∷ characters ∷ dots ∷ []) → HasDots line opcode dots
-HasDots-both line characters dots (Define class) b h = (characters, h)
-HasDots-both line characters dots UpLow b h = (characters, h)
-HasDots-both line characters dots (Replace kind) b h = (characters, h)
 HasDots-both line characters dots (Announce sign) b h = absurd b
 HasDots-both line characters dots (Collect set) b h = absurd b
+HasDots-both line characters dots opcode b h = (characters, h)
 
 both-HasDots : (line dots : List ℕ) (opcode : Opcode) → TakesBoth opcode → HasDots line opcode dots → (characters : List ℕ) × HasFields line (name_of opcode ∷ characters ∷ dots ∷ [])
-both-HasDots line dots (Define class) b h = h
-both-HasDots line dots UpLow b h = h
-both-HasDots line dots (Replace kind) b h = h
 both-HasDots line dots (Announce sign) b h = absurd b
 both-HasDots line dots (Collect set) b h = absurd b
+both-HasDots line dots opcode b h = h
 
 HasCharacters-both : (line characters : List ℕ) (opcode : Opcode) → TakesBoth opcode → HasFields line (name_of opcode ∷ characters ∷ []) → HasCharacters line opcode characters
-HasCharacters-both line characters (Define class) b h = h
-HasCharacters-both line characters UpLow b h = h
-HasCharacters-both line characters (Replace kind) b h = h
 HasCharacters-both line characters (Announce sign) b h = absurd b
 HasCharacters-both line characters (Collect set) b h = absurd b
+HasCharacters-both line characters opcode b h = h
 
 front_field : (line name characters dots : List ℕ) → HasFields line (name ∷ characters ∷ dots ∷ []) → HasFields line (name ∷ characters ∷ [])
 front_field line name characters dots h = (h.0, h.1, (h.2.0, h.2.1, tt))
@@ -146,21 +129,16 @@ module _ (line characters dots : List ℕ) where
 
   text_says : (opcode : Opcode) (text : List ℕ) → TakesBoth opcode → HasFields line (name_of opcode ∷ characters ∷ dots ∷ []) → characters_in characters ≡ Some text
       → Says line (as_some (entry_from opcode text dots))
-  text_says (Define class) [] b h e = wrong_says (Define class) [] tt h e (λ n. omega arith)
   text_says (Define class) (c ∷ []) b h e =
       or_cause_says line 4 _
       (λ entry s. let m = map_some (λ (cells : List ℕ). Defines c (record { class = class; cells = cells })) (cells_in dots) entry s in
       definition_line class characters dots c m.0 (has_opcode (Define class)) h (characters_in-Spells characters (c ∷ []) e) (Dots-from_cells_in dots m.0 m.1) (sym m.2))
       (λ n before. bad_dots (Define class) dots (has_opcode (Define class)) (characters, h) (λ d. unread (cells_in dots) d.0 (map_none _ _ n) (cells_in-from_Dots dots d.0 d.1)) refl)
-  text_says (Define class) (c ∷ d ∷ text) b h e = wrong_says (Define class) (c ∷ d ∷ text) tt h e (λ n. omega arith)
-  text_says UpLow [] b h e = wrong_says UpLow [] tt h e (λ n. omega arith)
-  text_says UpLow (u ∷ []) b h e = wrong_says UpLow (u ∷ []) tt h e (λ n. omega arith)
   text_says UpLow (u ∷ l ∷ []) b h e =
       or_cause_says line 4 _
       (λ entry s. let m = map_some (λ (cells : List ℕ × List ℕ). Pairs u cells.0 l cells.1) (pair_in dots) entry s in
       pair_line characters dots u l m.0.0 m.0.1 (has_opcode UpLow) h (characters_in-Spells characters (u ∷ l ∷ []) e) (pair_in-PairDots dots m.0.0 m.0.1 m.1) (sym m.2))
       (λ n before. bad_dots UpLow dots (has_opcode UpLow) (characters, h) (λ d. unread (pair_in dots) (d.0, d.1) (map_none _ _ n) (PairDots-pair_in dots d.0 d.1 d.2)) refl)
-  text_says UpLow (u ∷ l ∷ d ∷ text) b h e = wrong_says UpLow (u ∷ l ∷ d ∷ text) tt h e (λ n. omega arith)
   text_says (Replace kind) text b h e =
       or_cause_says line 4 _
       (λ entry s. let m = map_some (λ (cells : Option (List ℕ)). Replaces kind text cells) (rule_in dots) entry s in
@@ -168,6 +146,7 @@ module _ (line characters dots : List ℕ) where
       (λ n before. bad_dots (Replace kind) dots (has_opcode (Replace kind)) (characters, h) (λ d. unread (rule_in dots) d.0 (map_none _ _ n) (RuleDots-rule_in dots d.0 d.1)) refl)
   text_says (Announce sign) text b h e = absurd b
   text_says (Collect set) text b h e = absurd b
+  text_says opcode text b h e = wrong_says opcode text tt h e (λ n. omega arith)
 
   both_says : (opcode : Opcode) (o : Option (List ℕ)) → characters_in characters ≡ o → TakesBoth opcode → HasFields line (name_of opcode ∷ characters ∷ dots ∷ [])
       → Says line (as_some (entry_of_both opcode (with_dots o dots)))
@@ -199,18 +178,12 @@ same_rest_of : (text field rest others other : List ℕ) → Begins text field r
 same_rest_of text field rest others other b d = sym (Begins-field_at text others other d).1 ∙ (Begins-field_at text field rest b).1
 
 operands-both : (line : List ℕ) (opcode : Opcode) → TakesBoth opcode → HasOperands line opcode → (dots : List ℕ) × HasDots line opcode dots
-operands-both line (Define class) two h = h
-operands-both line UpLow two h = h
-operands-both line (Replace kind) two h = h
-operands-both line (Announce sign) two h = h
 operands-both line (Collect set) two h = absurd two
+operands-both line opcode two h = h
 
 both-operands : (line dots : List ℕ) (opcode : Opcode) → HasDots line opcode dots → HasOperands line opcode
-both-operands line dots (Define class) h = (dots, h)
-both-operands line dots UpLow h = (dots, h)
-both-operands line dots (Replace kind) h = (dots, h)
-both-operands line dots (Announce sign) h = (dots, h)
 both-operands line dots (Collect set) h = absurd h
+both-operands line dots opcode h = (dots, h)
 
 missing_both : (line rest : List ℕ) (opcode : Opcode) → TakesBoth opcode → Begins line (name_of opcode) rest
     → ((characters dots : List ℕ) → ¬ HasFields rest (characters ∷ dots ∷ [])) → ¬ HasOperands line opcode
@@ -256,11 +229,9 @@ entry_says line rest opcode b = by opcode b
         (field_at-Begins rest) (IsGap-field_at rest) (field_at-Begins (field_at rest).1) (IsGap-field_at (field_at rest).1)
 
     by : (opcode : Opcode) → Begins line (name_of opcode) rest → Says line (as_some (entry_at opcode rest))
-    by (Define class) b = two (Define class) tt b
-    by UpLow b = two UpLow tt b
-    by (Replace kind) b = two (Replace kind) tt b
     by (Announce sign) b = one_say line rest (field_at rest).0 (field_at rest).1 sign b (field_at-Begins rest) (IsGap-field_at rest)
     by (Collect set) b = set_say line rest (field_at rest).0 (field_at rest).1 set b (field_at-Begins rest) (IsGap-field_at rest)
+    by opcode b = two opcode tt b
 
 opcode_says : (line field rest : List ℕ) (opcode : Option Opcode) → opcode_named field ≡ opcode → Begins line field rest → ¬ IsComment field → Says line (opcode_gives opcode rest)
 opcode_says line field rest None e b n = λ before. unknown_opcode field rest b n (opcode_named-None field e) refl
@@ -291,29 +262,16 @@ first_gives line field rest b =
 opcode_field : (opcode : Opcode) (rest : List ℕ) → fields_give (name_of opcode) rest ≡ as_some (entry_at opcode rest)
 unfolding opcode_named
 opcode_field (Define classes.Space) rest = refl
-opcode_field (Define classes.Punctuation) rest = refl
-opcode_field (Define classes.Digit) rest = refl
-opcode_field (Define classes.Letter) rest = refl
-opcode_field UpLow rest = refl
 opcode_field (Replace kinds.Always) rest = refl
-opcode_field (Replace kinds.Word) rest = refl
-opcode_field (Replace kinds.BegWord) rest = refl
-opcode_field (Replace kinds.MidWord) rest = refl
-opcode_field (Replace kinds.EndWord) rest = refl
 opcode_field (Announce signs.Number) rest = refl
-opcode_field (Announce signs.Capital) rest = refl
-opcode_field (Announce signs.CapitalWord) rest = refl
-opcode_field (Announce signs.NoContraction) rest = refl
 opcode_field (Collect sets.NumericMode) rest = refl
-opcode_field (Collect sets.NoContraction) rest = refl
+opcode_field opcode rest = refl
 
 pub entry_at-both : (opcode : Opcode) (rest : List ℕ) → TakesBoth opcode → entry_at opcode rest ≡ entry_of_both opcode (both_at rest)
 unfolding entry_at
-entry_at-both (Define class) rest b = refl
-entry_at-both UpLow rest b = refl
-entry_at-both (Replace kind) rest b = refl
 entry_at-both (Announce sign) rest b = absurd b
 entry_at-both (Collect set) rest b = absurd b
+entry_at-both opcode rest b = refl
 
 pub entry_at-sign : (sign : Sign) (rest : List ℕ) → entry_at (Announce sign) rest ≡ entry_of_one (Announce sign) (field_at rest).0
 unfolding entry_at
@@ -452,11 +410,9 @@ module _ (line rest : List ℕ) where
       entry_at-both opcode rest two ∙ two_missing opcode (field_at rest).0 (field_at (field_at rest).1).0 two b n (field_at-Begins rest) (field_at-Begins (field_at rest).1)
 
   missing_at : (opcode : Opcode) → Begins line (name_of opcode) rest → ¬ HasOperands line opcode → entry_at opcode rest ≡ Err 2
-  missing_at (Define class) b n = both_missing (Define class) tt b n
-  missing_at UpLow b n = both_missing UpLow tt b n
-  missing_at (Replace kind) b n = both_missing (Replace kind) tt b n
   missing_at (Announce sign) b n = entry_at-sign sign rest ∙ one_missing sign (field_at rest).0 b n (field_at-Begins rest)
   missing_at (Collect set) b n = entry_at-set set rest ∙ set_missing set (field_at rest).0 b n (field_at-Begins rest)
+  missing_at opcode b n = both_missing opcode tt b n
 
 pub missing_fails : (line rest : List ℕ) (opcode : Opcode) → Begins line (name_of opcode) rest → ¬ HasOperands line opcode → FailsBy line 2
 missing_fails line rest opcode b n = (2, opcode_line line rest opcode b ∙ ap as_some (missing_at line rest opcode b n), lit≤ tt)
@@ -466,16 +422,12 @@ abbrev Fails : Result Entry ℕ → ℕ → Type 0
 Fails read cause = (least : ℕ) × (read ≡ Err least) × (least ≤ cause)
 
 pub wrong_entry : (opcode : Opcode) (text dots : List ℕ) → TakesBoth opcode → ¬ AreCharactersFor opcode text → entry_from opcode text dots ≡ Err 3
-wrong_entry (Define class) [] dots b n = refl
 wrong_entry (Define class) (c ∷ []) dots b n = absurd (n refl)
-wrong_entry (Define class) (c ∷ d ∷ text) dots b n = refl
-wrong_entry UpLow [] dots b n = refl
-wrong_entry UpLow (u ∷ []) dots b n = refl
 wrong_entry UpLow (u ∷ l ∷ []) dots b n = absurd (n refl)
-wrong_entry UpLow (u ∷ l ∷ d ∷ text) dots b n = refl
 wrong_entry (Replace kind) text dots b n = absurd (n tt)
 wrong_entry (Announce sign) text dots b n = absurd b
 wrong_entry (Collect set) text dots b n = absurd b
+wrong_entry opcode text dots b n = refl
 
 -- a line with the characters operand alone, or with both
 with_characters : (line characters : List ℕ) (opcode : Opcode) → TakesBoth opcode → HasFields line (name_of opcode ∷ characters ∷ [])
@@ -513,25 +465,19 @@ unwritten f cause (Some x) n = absurd (n x refl)
 
 pub characters_fail : (line characters : List ℕ) (opcode : Opcode) → HasCharacters line opcode characters
     → ((text : List ℕ) → AreCharactersFor opcode text → ¬ Spells characters text) → FailsBy line 3
-characters_fail line characters (Define class) h n = two_characters_fail line characters (Define class) tt h n
-characters_fail line characters UpLow h n = two_characters_fail line characters UpLow tt h n
-characters_fail line characters (Replace kind) h n = two_characters_fail line characters (Replace kind) tt h n
 characters_fail line characters (Announce sign) h n = absurd h
 characters_fail line characters (Collect set) h n =
     let u = unwritten (λ (text : List ℕ). Collects set text) 3 (characters_in characters) (λ text e. n text tt (characters_in-Spells characters text e)) in
     (u.0, set_gives line characters set h ∙ ap as_some u.1, u.2)
+characters_fail line characters opcode h n = two_characters_fail line characters opcode tt h n
 
 dots_entry : (opcode : Opcode) (text dots : List ℕ) → ¬ IsDotsFor opcode dots → Fails (entry_from opcode text dots) 4
-dots_entry (Define class) [] dots n = (3, refl, lit≤ tt)
 dots_entry (Define class) (c ∷ []) dots n = unwritten _ 4 (cells_in dots) (λ cells e. n (cells, Dots-from_cells_in dots cells e))
-dots_entry (Define class) (c ∷ d ∷ text) dots n = (3, refl, lit≤ tt)
-dots_entry UpLow [] dots n = (3, refl, lit≤ tt)
-dots_entry UpLow (u ∷ []) dots n = (3, refl, lit≤ tt)
 dots_entry UpLow (u ∷ l ∷ []) dots n = unwritten _ 4 (pair_in dots) (λ cells e. n (cells.0, cells.1, pair_in-PairDots dots cells.0 cells.1 e))
-dots_entry UpLow (u ∷ l ∷ d ∷ text) dots n = (3, refl, lit≤ tt)
 dots_entry (Replace kind) text dots n = unwritten _ 4 (rule_in dots) (λ cells e. n (cells, rule_in-RuleDots dots cells e))
 dots_entry (Announce sign) text dots n = unwritten _ 4 (cells_in dots) (λ cells e. n (cells, Dots-from_cells_in dots cells e))
 dots_entry (Collect set) text dots n = (4, refl, lit≤ tt)
+dots_entry opcode text dots n = (3, refl, lit≤ tt)
 
 two_dots_fail : (line dots : List ℕ) (opcode : Opcode) → TakesBoth opcode → HasDots line opcode dots → ¬ IsDotsFor opcode dots → FailsBy line 4
 two_dots_fail line dots opcode two h n =
@@ -544,13 +490,11 @@ two_dots_fail line dots opcode two h n =
     by (Some text) = dots_entry opcode text dots n
 
 pub dots_fail : (line dots : List ℕ) (opcode : Opcode) → HasDots line opcode dots → ¬ IsDotsFor opcode dots → FailsBy line 4
-dots_fail line dots (Define class) h n = two_dots_fail line dots (Define class) tt h n
-dots_fail line dots UpLow h n = two_dots_fail line dots UpLow tt h n
-dots_fail line dots (Replace kind) h n = two_dots_fail line dots (Replace kind) tt h n
 dots_fail line dots (Announce sign) h n =
     let o = dots_entry (Announce sign) [] dots n in
     (o.0, one_gives line dots sign h ∙ ap as_some o.1, o.2)
 dots_fail line dots (Collect set) h n = absurd h
+dots_fail line dots opcode h n = two_dots_fail line dots opcode tt h n
 
 -- ---- limits of operands
 
@@ -595,32 +539,26 @@ some_large : {A : Type 0} (f : A → Entry) (o : Option A) (x : A) → o ≡ Som
 some_large f o x e h = inr (f x, ap (λ p. or_cause 4 (option_map f p)) e, h)
 
 pub many_characters_large : (line characters text : List ℕ) (opcode : Opcode) → HasCharacters line opcode characters → Spells characters text → AreTooManyFor opcode text → IsLargeBy line
-many_characters_large line characters text (Define class) h s many = absurd many
-many_characters_large line characters text UpLow h s many = absurd many
 many_characters_large line characters text (Replace kind) h s many = long_rule_large line characters text kind h s many
-many_characters_large line characters text (Announce sign) h s many = absurd many
 many_characters_large line characters text (Collect set) h s many =
     large_line line _ (set_gives line characters set h)
     (inr (Collects set text, ap (λ p. or_cause 3 (option_map (λ text. Collects set text) p)) (Spells-characters_in characters text s), lt-ltb _ _ many))
+many_characters_large line characters text opcode h s many = absurd many
 
 cells_large : (opcode : Opcode) (text dots cells : List ℕ) → WritesCells opcode dots cells → most_cells < length cells → IsLargeEntry (entry_from opcode text dots)
-cells_large (Define class) [] dots cells w lt = inl (3, refl, lit≤ tt)
 cells_large (Define class) (c ∷ []) dots cells w lt = some_large _ (cells_in dots) cells (cells_in-from_Dots dots cells w) (lt-ltb _ _ lt)
-cells_large (Define class) (c ∷ d ∷ text) dots cells w lt = inl (3, refl, lit≤ tt)
-cells_large UpLow [] dots cells w lt = inl (3, refl, lit≤ tt)
-cells_large UpLow (u ∷ []) dots cells w lt = inl (3, refl, lit≤ tt)
 cells_large UpLow (u ∷ l ∷ []) dots cells (upper, lower, d, which) lt =
     some_large (λ (p : List ℕ × List ℕ). Pairs u p.0 l p.1) (pair_in dots) (upper, lower) (PairDots-pair_in dots upper lower d)
     (elim which [
       | inl e ↦ or_left _ _ (lt-ltb _ _ (subst (λ (x : List ℕ). most_cells < length x) e lt))
       | inr e ↦ or_right (are_many upper) _ (lt-ltb _ _ (subst (λ (x : List ℕ). most_cells < length x) e lt))
     ])
-cells_large UpLow (u ∷ l ∷ d ∷ text) dots cells w lt = inl (3, refl, lit≤ tt)
 cells_large (Replace kind) text dots cells w lt =
     some_large (λ (x : Option (List ℕ)). Replaces kind text x) (rule_in dots) (Some cells) (RuleDots-rule_in dots (Some cells) w)
     (or_right (ltb most_rule_characters (length text)) _ (lt-ltb _ _ lt))
 cells_large (Announce sign) text dots cells w lt = some_large _ (cells_in dots) cells (cells_in-from_Dots dots cells w) (lt-ltb _ _ lt)
 cells_large (Collect set) text dots cells w lt = absurd w
+cells_large opcode text dots cells w lt = inl (3, refl, lit≤ tt)
 
 two_cells_large : (line dots cells : List ℕ) (opcode : Opcode) → TakesBoth opcode → HasDots line opcode dots → WritesCells opcode dots cells → most_cells < length cells → IsLargeBy line
 two_cells_large line dots cells opcode two h w lt =
@@ -632,12 +570,10 @@ two_cells_large line dots cells opcode two h w lt =
     by (Some text) = cells_large opcode text dots cells w lt
 
 pub many_cells_large : (line dots cells : List ℕ) (opcode : Opcode) → HasDots line opcode dots → WritesCells opcode dots cells → most_cells < length cells → IsLargeBy line
-many_cells_large line dots cells (Define class) h w lt = two_cells_large line dots cells (Define class) tt h w lt
-many_cells_large line dots cells UpLow h w lt = two_cells_large line dots cells UpLow tt h w lt
-many_cells_large line dots cells (Replace kind) h w lt = two_cells_large line dots cells (Replace kind) tt h w lt
 many_cells_large line dots cells (Announce sign) h w lt =
     large_line line (entry_from (Announce sign) [] dots) (one_gives line dots sign h) (cells_large (Announce sign) [] dots cells w lt)
 many_cells_large line dots cells (Collect set) h w lt = absurd h
+many_cells_large line dots cells opcode h w lt = two_cells_large line dots cells opcode tt h w lt
 
 -- an entry with an operand beyond its limit is a fault
 pub large_fault : (before : List (List ℕ)) (line : List ℕ) (entry : Entry) → Gives WithNumericMode line entry → is_large entry ≡ true → IsFault WithNumericMode before line 8

@@ -1,14 +1,14 @@
 pub mod LineLaws
 mod ReturnLaws
 mod FieldLaws
-mod CharacterLaws
+pub mod CharacterLaws
 mod OperandLaws
 mod EntryLaws
 mod VerdictLaws
 pub mod ReadingLaws
 mod RuleLaws
 pub mod OneMeaning
-mod StepLaws
+pub mod StepLaws
 mod MeaningLaws
 mod PlaceLaws
 pub mod ProfileLaws

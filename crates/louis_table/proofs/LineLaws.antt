@@ -11,10 +11,6 @@ abbrev pub IsOneLine : List ℕ → Type 0
 IsOneLine [] = Unit {0}
 IsOneLine (b ∷ bytes) = (eqb b 10 ≡ false) × IsOneLine bytes
 
-pub IsOneLine-push : (front : List ℕ) (b : ℕ) → IsOneLine front → eqb b 10 ≡ false → IsOneLine (front ++ b ∷ [])
-IsOneLine-push [] b h e = (e, tt)
-IsOneLine-push (x ∷ front) b h e = (h.0, IsOneLine-push front b h.1 e)
-
 pub pieces_of-line : (front rest : List ℕ) → IsOneLine front → pieces_of (front ++ 10 ∷ rest) ≡ front ∷ pieces_of rest
 pieces_of-line [] rest h = refl
 pieces_of-line (x ∷ front) rest h = rw h.0 (ap (onto_first x) (pieces_of-line front rest h.1))

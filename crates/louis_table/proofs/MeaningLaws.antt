@@ -11,7 +11,7 @@ use Rattle.louis_table.specs.declared.character_set.CharacterSet.TheVariants as 
 use Rattle.louis_table.specs.declared.sign.Sign.{Sign}
 use Rattle.louis_table.specs.declared.sign.Sign.TheVariants as signs
 use Rattle.louis_table.specs.Meaning.{Meaning, every_sign, sign_place, every_set, set_place, definition_of, sign_cells, set_characters}
-use Rattle.louis_table.specs.Table.{Entry, Defines, Pairs, Replaces, Announces, Collects, is_same_sign, is_same_set, cells_for, characters_for}
+use Rattle.louis_table.specs.Table.{Entry, Announces, Collects, is_same_sign, is_same_set, cells_for, characters_for}
 use Rattle.louis_table.specs.Steps.Table.{with_definition, with_more, signs_with, sets_with}
 
 lookup-absent : {X : Type 0} (p : ℕ → Bool) (xs ys : List (ℕ × X)) → lookup p xs ≡ None → lookup p (xs ++ ys) ≡ lookup p ys
@@ -64,20 +64,14 @@ nothing_more {K} f keys = ap (λ (g : K → List ℕ). map g keys) (fun_ext (λ 
 
 -- an entry adds to each sign and each set what it gives to it
 pub signs_with-each : (f : Sign → List ℕ) (entry : Entry) → signs_with (map f every_sign) entry ≡ map (λ sign. f sign ++ cells_for sign entry) every_sign
-signs_with-each f (Defines character definition) = nothing_more f every_sign
-signs_with-each f (Pairs upper upper_cells lower lower_cells) = nothing_more f every_sign
-signs_with-each f (Replaces kind text cells) = nothing_more f every_sign
 signs_with-each f (Announces sign cells) =
     more_at_sign f sign cells ∙ ap (λ (g : Sign → List ℕ). map g every_sign) (fun_ext (λ other. more_if (is_same_sign other sign) (f other) cells))
-signs_with-each f (Collects set text) = nothing_more f every_sign
+signs_with-each f entry = nothing_more f every_sign
 
 pub sets_with-each : (f : CharacterSet → List ℕ) (entry : Entry) → sets_with (map f every_set) entry ≡ map (λ set. f set ++ characters_for set entry) every_set
-sets_with-each f (Defines character definition) = nothing_more f every_set
-sets_with-each f (Pairs upper upper_cells lower lower_cells) = nothing_more f every_set
-sets_with-each f (Replaces kind text cells) = nothing_more f every_set
-sets_with-each f (Announces sign cells) = nothing_more f every_set
 sets_with-each f (Collects set text) =
     more_at_set f set text ∙ ap (λ (g : CharacterSet → List ℕ). map g every_set) (fun_ext (λ other. more_if (is_same_set other set) (f other) text))
+sets_with-each f entry = nothing_more f every_set
 
 -- a meaning with these cells for each sign has them for this one
 pub sign_cells-map : (meaning : Meaning) (f : Sign → List ℕ) → meaning.signs ≡ map f every_sign → (sign : Sign) → sign_cells meaning sign ≡ f sign

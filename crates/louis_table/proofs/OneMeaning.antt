@@ -157,16 +157,14 @@ made_of lines meaning rules g e =
 
 -- what a rule lacks doesn't depend on rules
 lacking_by : (t w : Meaning) (rule : Entry) → t.definitions ≡ w.definitions → t.partners ≡ w.partners → IsLacking t rule → IsLacking w rule
-lacking_by t w (Defines k definition) d p h = h
-lacking_by t w (Pairs u uc l lc) d p h = h
 lacking_by t w (Replaces kind text cells) d p h = (h.0, h.1, subst (λ (o : Option Definition). o ≡ None) (found h.0) h.2)
   where
     found : (c : ℕ) → definition_of t (fold_of t c) ≡ definition_of w (fold_of w c)
     found c =
         ap (λ (ps : List (ℕ × ℕ)). lookup (nat_eq (unwrap_or (lookup (nat_eq c) ps) c)) t.definitions) p
         ∙ ap (λ (ds : List (ℕ × Definition)). lookup (nat_eq (fold_of w c)) ds) d
-lacking_by t w (Announces sign cells) d p h = h
 lacking_by t w (Collects set text) d p h = (h.0, h.1, ap (lookup (nat_eq h.0)) (sym d) ∙ h.2)
+lacking_by t w rule d p h = h
 
 module _ (bytes rest : List ℕ) (u : IsUtf8 bytes) (e : rest ≡ without_byte_order_mark bytes) where
   lines_same : map chars (lines_of rest) ≡ text_lines bytes

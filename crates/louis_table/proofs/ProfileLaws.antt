@@ -60,11 +60,8 @@ starts_early line (inr (entry, gives)) opcode rest b =
     subst (HasOpcode WithoutNumericMode) (same_opcode first.0 opcode names) first.2
 
 characters_begin : (line characters : List ℕ) (opcode : Opcode) → HasCharacters line opcode characters → (rest : List ℕ) × Begins line (name_of opcode) rest
-characters_begin line characters (Define class) h = (h.0, h.1)
-characters_begin line characters UpLow h = (h.0, h.1)
-characters_begin line characters (Replace kind) h = (h.0, h.1)
 characters_begin line characters (Announce sign) h = absurd h
-characters_begin line characters (Collect set) h = (h.0, h.1)
+characters_begin line characters opcode h = (h.0, h.1)
 
 dots_begin : (line dots : List ℕ) (opcode : Opcode) → HasDots line opcode dots → (rest : List ℕ) × Begins line (name_of opcode) rest
 dots_begin line dots (Define class) (characters, h) = (h.0, h.1)

@@ -5,7 +5,7 @@ use Rattle.std.specs.Map.{lookup}
 use Rattle.std.specs.Prelude.{map, nat_eq}
 use Rattle.std.specs.Str.{chars}
 use Rattle.std.proofs.lemmas.List.{append-nil, length_push, length-append}
-use Rattle.std.proofs.lemmas.Bool.{cases_lt}
+use Rattle.std.proofs.lemmas.Bool.{cases_lt, or_parts}
 use Rattle.std.proofs.lemmas.Grind.{flat_map-append}
 use Rattle.std.proofs.Math.Path.{fun_ext}
 use Rattle.louis_table.specs.declared.definition.Class.TheVariants.{Letter}
@@ -19,10 +19,10 @@ use Rattle.louis_table.specs.Steps.Table.{no_meaning, HasDefinedPartners, signs_
 use Rattle.louis_table.specs.Steps.Draft.{written_in, written_by}
 use Rattle.louis_table.specs.Steps.Read.{Gathers, LinesGive, IsTold, judge}
 use Rattle.louis_table.specs.Profile.{WithNumericMode}
-use Rattle.louis_table.specs.Table.{most_lines, Entry, Defines, Pairs, Replaces, Announces, Collects, SaysNothing, Gives, GiveFrom, definitions_in, partners_in, cells_for, characters_for, IsFault, HasCause, on_line, IsToldNoLater}
+use Rattle.louis_table.specs.Table.{most_lines, Entry, Pairs, SaysNothing, Gives, GiveFrom, definitions_in, partners_in, cells_for, characters_for, IsFault, HasCause, on_line, IsToldNoLater}
 use Rattle.louis_table.proofs.EntryLaws.{Says}
 use Rattle.louis_table.proofs.MeaningLaws.{signs_with-each, sets_with-each}
-use Rattle.louis_table.proofs.VerdictLaws.{any_gives, lookup-flat_map, judge-Fault, IsFault-judge, judge-few, judge-given}
+use Rattle.louis_table.proofs.VerdictLaws.{any_gives, lookup-flat_map, judge-Fault, IsFault-judge, judge-few, judge-given, none_from}
 
 -- ---- one more line
 
@@ -78,24 +78,13 @@ Gathers-more before line old new rules all (Some entry) g s e w =
 
 -- an entry that makes a capital defines it
 partners_defined : (c : ℕ) (entry : Entry) → is_some (lookup (nat_eq c) (definitions_in entry)) ≡ false → is_some (lookup (nat_eq c) (partners_in entry)) ≡ false
-partners_defined c (Defines k definition) h = refl
 partners_defined c (Pairs u uc l lc) h = by (nat_eq c u) h
   where
     by : (b : Bool) → is_some {T = Definition} (cond b (Some (record { class = Letter; cells = uc })) (cond (nat_eq c l) (Some (record { class = Letter; cells = lc })) None)) ≡ false
         → is_some (let found : Option ℕ = cond b (Some l) None in found) ≡ false
     by true h = absurd cc
     by false h = refl
-partners_defined c (Replaces kind text cells) h = refl
-partners_defined c (Announces sign cells) h = refl
-partners_defined c (Collects set text) h = refl
-
-none_from : {X : Type 0} (o : Option X) → is_some o ≡ false → o ≡ None
-none_from None e = refl
-none_from (Some x) e = absurd cc
-
-or_parts : (b c : Bool) → b || c ≡ false → (b ≡ false) × (c ≡ false)
-or_parts true c e = absurd cc
-or_parts false c e = (refl, e)
+partners_defined c entry h = refl
 
 undefined_partner : (c : ℕ) (entries : List (ℕ × Entry)) → any_gives (λ entry. is_some (lookup (nat_eq c) (definitions_in entry))) entries ≡ false
     → any_gives (λ entry. is_some (lookup (nat_eq c) (partners_in entry))) entries ≡ false

@@ -14,16 +14,13 @@ use Rattle.louis_table.specs.Steps.Draft.{written_by}
 use Rattle.louis_table.specs.Steps.Pending.{are_defined, is_complete, line_of, complete_rules, first_lacking, Finishes, FinishesAll}
 use Rattle.louis_table.specs.Profile.{WithNumericMode}
 use Rattle.louis_table.specs.Table.{Entry, Defines, Pairs, Replaces, Announces, Collects, GiveFrom, rules_in, IsLacking}
-use Rattle.louis_table.proofs.VerdictLaws.{only_one}
+use Rattle.louis_table.proofs.VerdictLaws.{none_from, only_one}
 
 -- ---- what is finished
 
 finished_entry : (meaning : Meaning) (n : ℕ) (entry : Entry) → flat_map (complete_rules meaning) (written_by n entry) ≡ rules_in meaning (n, entry)
 finished_entry meaning n (Defines k definition) = refl
-finished_entry meaning n (Pairs u uc l lc) = refl
-finished_entry meaning n (Replaces kind text cells) = refl
-finished_entry meaning n (Announces sign cells) = refl
-finished_entry meaning n (Collects set text) = refl
+finished_entry meaning n entry = refl
 
 pub finished_entries : (meaning : Meaning) (entries : List (ℕ × Entry))
     → flat_map (complete_rules meaning) (flat_map (λ e. written_by e.0 e.1) entries) ≡ flat_map (rules_in meaning) entries
@@ -34,10 +31,6 @@ finished_entries meaning (e ∷ entries) =
     ∙ ap (λ (rs : List Rule). rules_in meaning e ++ rs) (finished_entries meaning entries))
 
 -- ---- what is lacking
-
-none_from : {X : Type 0} (o : Option X) → is_some o ≡ false → o ≡ None
-none_from None e = refl
-none_from (Some x) e = absurd cc
 
 lacking_character : (meaning : Meaning) (text : List ℕ) → are_defined meaning (map (fold_of meaning) text) ≡ false
     → (character : ℕ) × Contains text character × (definition_of meaning (fold_of meaning character) ≡ None)
@@ -97,18 +90,14 @@ is_whole meaning (Announces sign cells) = true
 is_whole meaning (Collects set text) = are_defined meaning text
 
 is_whole-IsLacking : (meaning : Meaning) (entry : Entry) → is_whole meaning entry ≡ false → IsLacking meaning entry
-is_whole-IsLacking meaning (Defines k definition) e = absurd cc
-is_whole-IsLacking meaning (Pairs u uc l lc) e = absurd cc
 is_whole-IsLacking meaning (Replaces kind text cells) e = lacking_character meaning text e
-is_whole-IsLacking meaning (Announces sign cells) e = absurd cc
 is_whole-IsLacking meaning (Collects set text) e = lacking_of_set meaning text e
+is_whole-IsLacking meaning entry e = absurd cc
 
 IsLacking-is_whole : (meaning : Meaning) (entry : Entry) → IsLacking meaning entry → is_whole meaning entry ≡ false
-IsLacking-is_whole meaning (Defines k definition) h = absurd h
-IsLacking-is_whole meaning (Pairs u uc l lc) h = absurd h
 IsLacking-is_whole meaning (Replaces kind text cells) h = character_lacking meaning text h.0 h.1 h.2
-IsLacking-is_whole meaning (Announces sign cells) h = absurd h
 IsLacking-is_whole meaning (Collects set text) h = set_lacking meaning text h.0 h.1 h.2
+IsLacking-is_whole meaning entry h = absurd h
 
 -- the line of the first entry whose rule lacks a definition
 abbrev pub first_in : Meaning → List (ℕ × Entry) → Option ℕ
@@ -118,10 +107,7 @@ first_in meaning (e ∷ entries) = cond (is_whole meaning e.1) (first_in meaning
 first_of : (meaning : Meaning) (n : ℕ) (entry : Entry) (rules : List PendingEntry)
     → first_lacking meaning (written_by n entry ++ rules) ≡ cond (is_whole meaning entry) (first_lacking meaning rules) (Some n)
 first_of meaning n (Defines k definition) rules = refl
-first_of meaning n (Pairs u uc l lc) rules = refl
-first_of meaning n (Replaces kind text cells) rules = refl
-first_of meaning n (Announces sign cells) rules = refl
-first_of meaning n (Collects set text) rules = refl
+first_of meaning n entry rules = refl
 
 pub first_lacking-first_in : (meaning : Meaning) (entries : List (ℕ × Entry)) → first_lacking meaning (flat_map (λ e. written_by e.0 e.1) entries) ≡ first_in meaning entries
 first_lacking-first_in meaning [] = refl

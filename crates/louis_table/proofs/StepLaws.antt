@@ -272,13 +272,9 @@ only_character-None (d ∷ []) e = absurd cc
 only_character-None (d ∷ x ∷ text) e = λ n. omega arith
 
 pub only_pair-Some : (text : List ℕ) (p : ℕ × ℕ) → Some p ≡ only_pair text → text ≡ p.0 ∷ p.1 ∷ []
-only_pair-Some [] p e = absurd cc
-only_pair-Some (c ∷ []) p e = absurd cc
 only_pair-Some (c ∷ d ∷ []) p e = let same : p ≡ (c, d) = cc in sym (ap (λ (q : ℕ × ℕ). q.0 ∷ q.1 ∷ []) same)
-only_pair-Some (c ∷ d ∷ x ∷ text) p e = absurd cc
+only_pair-Some text p e = absurd cc
 
 pub only_pair-None : (text : List ℕ) → None ≡ only_pair text → length text ≢ 2
-only_pair-None [] e = λ n. omega arith
-only_pair-None (c ∷ []) e = λ n. omega arith
 only_pair-None (c ∷ d ∷ []) e = absurd cc
-only_pair-None (c ∷ d ∷ x ∷ text) e = λ n. omega arith
+only_pair-None text e = λ n. omega arith

@@ -3,7 +3,7 @@ use Rattle.std.proofs.Common.{◌≡◌, ℕ, ◌+◌, ◌<◌, ◌≤◌, Bool,
 use Rattle.std.specs.Prelude.{nat_eq, map}
 use Rattle.std.specs.Map.{lookup}
 use Rattle.std.specs.List.{flat_map, list_any}
-use Rattle.std.proofs.lemmas.Bool.{cases_lt, eqb-true, eqb-false, eq-eqb, ne_eqb, ltb-true, leb-true, lt-ltb, le-leb, not-false}
+use Rattle.std.proofs.lemmas.Bool.{cases_lt, eqb-true, eqb-false, eq-eqb, ne_eqb, ltb-true, leb-true, lt-ltb, le-leb, not-false, or_parts}
 use Rattle.std.proofs.lemmas.List.{nil_from_length}
 use Rattle.std.proofs.lemmas.List.Elements.{Contains-append_left, Contains-append_right, Contains-push_cases, Contains-append_cases}
 use Rattle.cell_core.specs.Dots.{Dots}
@@ -156,20 +156,14 @@ are_some-cond true xs e = refl
 are_some-cond false xs e = absurd cc
 
 cells_for-Announces : (sign : Sign) (entry : Entry) → are_some (cells_for sign entry) ≡ true → (cells : List ℕ) × (entry ≡ Announces sign cells)
-cells_for-Announces sign (Defines character definition) h = absurd cc
-cells_for-Announces sign (Pairs upper upper_cells lower lower_cells) h = absurd cc
-cells_for-Announces sign (Replaces kind text cells) h = absurd cc
 cells_for-Announces sign (Announces other cells) h =
     (cells, ap (λ (x : Sign). Announces x cells) (sym (same_sign sign other (are_some-cond _ cells h))))
-cells_for-Announces sign (Collects set text) h = absurd cc
+cells_for-Announces sign entry h = absurd cc
 
 characters_for-Collects : (set : CharacterSet) (entry : Entry) → are_some (characters_for set entry) ≡ true → (text : List ℕ) × (entry ≡ Collects set text)
-characters_for-Collects set (Defines character definition) h = absurd cc
-characters_for-Collects set (Pairs upper upper_cells lower lower_cells) h = absurd cc
-characters_for-Collects set (Replaces kind text cells) h = absurd cc
-characters_for-Collects set (Announces sign cells) h = absurd cc
 characters_for-Collects set (Collects other text) h =
     (text, ap (λ (x : CharacterSet). Collects x text) (sym (same_set set other (are_some-cond _ text h))))
+characters_for-Collects set entry h = absurd cc
 
 cells_for-own : (sign : Sign) (cells : List ℕ) → cells_for sign (Announces sign cells) ≡ cells
 cells_for-own sign cells = ap (λ (b : Bool). cond b cells []) (own_sign sign)
@@ -213,9 +207,6 @@ module _ (lines : List (List ℕ)) (meaning : Meaning) (written : List PendingEn
 
   -- an earlier line gives the sign or the set of the entry
   pub announces-SomeGives : (entry : Entry) → announces meaning entry ≡ true → SomeGives WithNumericMode lines (GivesAgain entry)
-  announces-SomeGives (Defines k definition) t = absurd cc
-  announces-SomeGives (Pairs u uc l lc) t = absurd cc
-  announces-SomeGives (Replaces kind text cells) t = absurd cc
   announces-SomeGives (Announces sign cells) t =
       map_SomeGives lines (λ entry. are_some (cells_for sign entry) ≡ true) (GivesAgain (Announces sign cells))
       (any_gives-SomeGives (λ entry. are_some (cells_for sign entry)) 1 lines g.entries g.given (sym (sign_cells-any sign) ∙ t))
@@ -224,14 +215,12 @@ module _ (lines : List (List ℕ)) (meaning : Meaning) (written : List PendingEn
       map_SomeGives lines (λ entry. are_some (characters_for set entry) ≡ true) (GivesAgain (Collects set text))
       (any_gives-SomeGives (λ entry. are_some (characters_for set entry)) 1 lines g.entries g.given (sym (set_characters-any set) ∙ t))
       (λ line entry gives h. characters_for-Collects set entry h)
+  announces-SomeGives entry t = absurd cc
 
   nobody_again : SomeGives WithNumericMode lines (λ entry. ⊥) → ⊥
   nobody_again (line, entry, m, gives, h) = h
 
   pub SomeGives-announces : (entry : Entry) → SomeGives WithNumericMode lines (GivesAgain entry) → announces meaning entry ≡ true
-  SomeGives-announces (Defines k definition) s = absurd (nobody_again s)
-  SomeGives-announces (Pairs u uc l lc) s = absurd (nobody_again s)
-  SomeGives-announces (Replaces kind text cells) s = absurd (nobody_again s)
   SomeGives-announces (Announces sign cells) s =
       sign_cells-any sign
       ∙ SomeGives-any_gives (λ entry. are_some (cells_for sign entry)) 1 lines g.entries g.given
@@ -242,6 +231,7 @@ module _ (lines : List (List ℕ)) (meaning : Meaning) (written : List PendingEn
       ∙ SomeGives-any_gives (λ entry. are_some (characters_for set entry)) 1 lines g.entries g.given
       (map_SomeGives lines (GivesAgain (Collects set text)) (λ entry. are_some (characters_for set entry) ≡ true) s
       (λ line entry gives h. ap (λ (x : Entry). are_some (characters_for set x)) h.1 ∙ (ap are_some (characters_for-own set h.0) ∙ Gives-some_text line entry set h.0 gives h.1)))
+  SomeGives-announces entry s = absurd (nobody_again s)
 
 -- ---- a verdict against a line is a fault
 
@@ -285,9 +275,7 @@ module _ (before : List (List ℕ)) (line : List ℕ) (meaning : Meaning) (writt
         ]
         | inr p ↦ defined_before (Pairs u uc l lc) l g (1, omega arith, refl) (is_known-SomeGives before meaning written gathered l p) refl
       ]
-  repeats_fault (Replaces kind text cells) g t = absurd cc
-  repeats_fault (Announces sign cells) g t = absurd cc
-  repeats_fault (Collects set text) g t = absurd cc
+  repeats_fault entry g t = absurd cc
 
   announces_fault : (entry : Entry) → Gives WithNumericMode line entry → announces meaning entry ≡ true → IsFault WithNumericMode before line 6
   announces_fault entry g t = given_before entry g (announces-SomeGives before meaning written gathered entry t) refl
@@ -463,19 +451,15 @@ judge-within meaning before line given e short few =
     by true t = elim (is_long-IsLong before line t) [ inl h ↦ absurd (omega arith) | inr h ↦ absurd (omega arith) ]
     by false f = refl
 
-none_from : {X : Type 0} (o : Option X) → is_some o ≡ false → o ≡ None
+pub none_from : {X : Type 0} (o : Option X) → is_some o ≡ false → o ≡ None
 none_from None e = refl
-none_from (Some d) e = absurd cc
-
-or_false : (b c : Bool) → b || c ≡ false → (b ≡ false) × (c ≡ false)
-or_false true c e = absurd cc
-or_false false c e = (refl, e)
+none_from (Some x) e = absurd cc
 
 IsNewFor-tests : (meaning : Meaning) (entry : Entry) → HasDefinedPartners meaning → repeats meaning entry ≡ false → announces meaning entry ≡ false → IsNewFor meaning entry
 IsNewFor-tests meaning (Defines k definition) p r a = none_from _ r
 IsNewFor-tests meaning (Pairs u uc l lc) p r a =
-    let both = or_false (eqb u l || is_known meaning u) (is_known meaning l) r in
-    let upper = or_false (eqb u l) (is_known meaning u) both.0 in
+    let both = or_parts (eqb u l || is_known meaning u) (is_known meaning l) r in
+    let upper = or_parts (eqb u l) (is_known meaning u) both.0 in
     let absent : definition_of meaning u ≡ None = none_from _ upper.1 in
     (absent, none_from _ both.1, eqb-false u l upper.0, p u absent)
 IsNewFor-tests meaning (Replaces kind text cells) p r a = tt
