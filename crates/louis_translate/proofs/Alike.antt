@@ -1,10 +1,11 @@
 -- A table that says nothing of numeric mode has the same signs with it and without.
-use Rattle.std.proofs.Common.{◌≡◌, ℕ, zero, suc, ◌-◌, Bool, true, false, cond, List, [], Option, Some, None, refl, sym, ap, subst, ◌∙◌, arith}
+use Rattle.std.proofs.Common.{◌≡◌, ℕ, zero, suc, ◌-◌, Bool, false, cond, List, [], Option, Some, None, refl, sym, ap, subst, ◌∙◌, arith}
 use Rattle.std.specs.Prelude.{◌&&◌, ◌||◌, ◌==◌, nat_eq, not, slice_get}
 use Rattle.std.proofs.lemmas.Bool.Decides.{nat_tests}
 use Rattle.std.specs.List.{list_any}
 use Rattle.std.specs.Option.{option_map_or}
 use Rattle.std.proofs.Math.Path.{fun_ext}
+use Rattle.std.proofs.Math.Bool.{and-false, or-false}
 use Rattle.louis_table.specs.declared.character_set.CharacterSet.{CharacterSet}
 use Rattle.louis_table.specs.declared.character_set.CharacterSet.TheVariants as sets
 use Rattle.louis_table.specs.declared.sign.Sign.TheVariants as signs
@@ -23,14 +24,6 @@ nowhere p print i h = at (slice_get print i)
     at None = refl
     at (Some c) = h c
 
-and_false : (b : Bool) → (b && false) ≡ false
-and_false true = refl
-and_false false = refl
-
-or_false : (b : Bool) → (b || false) ≡ b
-or_false true = refl
-or_false false = refl
-
 never : {A : Type 0} (i : ℕ) (x y : A) → cond (suc i == 0) x y ≡ y
 never i x y = grind (arith, nat_tests)
 
@@ -45,7 +38,7 @@ module _ (meaning : Meaning) (print : List ℕ) (none : (set : CharacterSet) →
   digits_alone i =
       is_in_numeric_mode-is meaning print i
       ∙ (ap (λ (b : Bool). is_digit_at meaning print i || (follows_number meaning print i && b)) (no_mode_char i)
-      ∙ (ap (λ (b : Bool). is_digit_at meaning print i || b) (and_false (follows_number meaning print i)) ∙ or_false (is_digit_at meaning print i)))
+      ∙ (ap (λ (b : Bool). is_digit_at meaning print i || b) (and-false (follows_number meaning print i)) ∙ or-false (is_digit_at meaning print i)))
 
   after_digit : (i : ℕ) → follows_number meaning print i ≡ is_digit (class_before meaning print i)
   after_digit zero = refl
@@ -57,7 +50,7 @@ module _ (meaning : Meaning) (print : List ℕ) (none : (set : CharacterSet) →
       later i = ap is_digit (never i None (class_at meaning print (suc i - 1)))
 
   no_end : (i : ℕ) → ends_number meaning print i ≡ false
-  no_end i = ap (λ (b : Bool). follows_number meaning print i && not (is_in_numeric_mode meaning print i) && b) (no_nocontract_char i) ∙ and_false _
+  no_end i = ap (λ (b : Bool). follows_number meaning print i && not (is_in_numeric_mode meaning print i) && b) (no_nocontract_char i) ∙ and-false _
 
   pub same_sign : (i : ℕ) → plain_sign_at meaning print i ≡ sign_at meaning print i
   same_sign i =

@@ -36,8 +36,7 @@ module _ (meaning : Meaning) (print : List ℕ) where
         (parts-next meaning print left l piece after next ∙ sym (append_assoc l.before (piece.choice ∷ []) next.others))
         ∙ (ap length (flat_map-append (cells_of meaning print) (l.before ++ piece.choice ∷ []) next.others)
         ∙ length-append (braille meaning print (l.before ++ piece.choice ∷ [])) (braille meaning print next.others)) in
-        let first = count-before in
-        omega arith
+        omega (arith, count-before)
 
   -- ---- the cells before a place
 
@@ -62,9 +61,8 @@ module _ (meaning : Meaning) (print : List ℕ) where
     pub OutputLeft-fits : ((choices : List Choice) × Tiles meaning print choices × (length (braille meaning print choices) < 2 ^ 64))
         → before + (length piece.sign.now + length piece.own.now) < 2 ^ 64
     OutputLeft-fits (choices, tiles, fits) =
-        let all = count-all left o.so_far piece after output_next in
         let same = ap (λ (t : List Choice). length (braille meaning print t)) (Left-one meaning print left o.so_far choices tiles) in
-        omega (arith, o.count)
+        omega (arith, count-all left o.so_far piece after output_next, o.count)
 
     pub OutputLeft-step : piece.choice.end ≤ place → OutputLeft place after (before + (length piece.sign.now + length piece.own.now))
     OutputLeft-step past =

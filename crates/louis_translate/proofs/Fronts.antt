@@ -17,18 +17,15 @@ longer_has_more : (f : Choice → List ℕ) (t more less rest : List Choice) (c 
 longer_has_more f [] [] less rest c e lt = absurd (omega arith)
 longer_has_more f [] (x ∷ more) less rest c e lt =
     let same : c ≡ x = cc in
-    let both = length-append (f x) (flat_map f more) in
     let here = ap (λ (y : Choice). length (f y)) same in
-    omega arith
+    omega (arith, length-append (f x) (flat_map f more))
 longer_has_more f (y ∷ t) [] less rest c e lt = absurd (omega arith)
 longer_has_more f (y ∷ t) (x ∷ more) less rest c e lt =
     let same : y ≡ x = cc in
     let tail : t ++ c ∷ rest ≡ more ++ less = cc in
     let after = longer_has_more f t more less rest c tail (omega arith) in
-    let first = length-append (f y) (flat_map f t) in
-    let second = length-append (f x) (flat_map f more) in
     let here = ap (λ (z : Choice). length (f z)) same in
-    omega arith
+    omega (arith, length-append (f y) (flat_map f t), length-append (f x) (flat_map f more))
 
 -- all choices fit
 pub IsPart-whole : (meaning : Meaning) (print : List ℕ) (room i used : ℕ) (t : List Choice) (cells : List ℕ) → AreDefined meaning print → Covers meaning print 0 t i → i ≡ length print → used ≡ i → cells ≡ braille meaning print t → length cells ≤ room → IsPart meaning print room cells used

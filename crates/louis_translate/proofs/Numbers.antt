@@ -7,6 +7,7 @@ use Rattle.std.proofs.lemmas.Bool.{cases_Bool, cases_order, both_ways}
 use Rattle.std.proofs.lemmas.Bool.Decides.{nat_tests}
 use Rattle.std.proofs.lemmas.List.{get_or_read}
 use Rattle.std.proofs.Math.Numerals.{add-one}
+use Rattle.std.proofs.Math.Bool.{and-false}
 use Rattle.louis_table.specs.Meaning.{Meaning}
 use Rattle.louis_translate.specs.Sign.{is_digit_at, is_mode_char, is_mode_char_at, is_nocontract_char, is_nocontract_char_at, goes_on_at, is_number_from, is_in_numeric_mode, IsInNumericMode, follows_number, ends_number}
 use Rattle.louis_translate.proofs.Runs.{passes-get_or}
@@ -180,11 +181,7 @@ module _ (meaning : Meaning) (print : List ℕ) where
   pub follows_number-end : (i c : ℕ) → 0 < i → i ≤ length print → is_digit_at meaning print (i - 1) ≡ false
       → c ≡ get_or print (i - 1) c → is_mode_char meaning c ≡ false → follows_number meaning print i ≡ false
   follows_number-end i c some le none there off =
-      before i some le ∙ rw (none, here (i - 1) c (omega arith) there ∙ off) (never (follows_number meaning print (i - 1)))
-    where
-      never : (b : Bool) → (b && false) ≡ false
-      never true = refl
-      never false = refl
+      before i some le ∙ rw (none, here (i - 1) c (omega arith) there ∙ off) (and-false (follows_number meaning print (i - 1)))
 
   pub follows_number-back : (i c : ℕ) → 0 < i → i ≤ length print → is_digit_at meaning print (i - 1) ≡ false
       → c ≡ get_or print (i - 1) c → is_mode_char meaning c ≡ true → follows_number meaning print i ≡ follows_number meaning print (i - 1)
@@ -208,11 +205,7 @@ module _ (meaning : Meaning) (print : List ℕ) where
   follows_number-off i c there none off =
       ap (follows_number meaning print) (add-one i)
       ∙ (follows_number-next i ∙ (is_in_numeric_mode-is i
-      ∙ rw (none, ap (λ (o : Option ℕ). option_map_or (is_mode_char meaning) o false) there ∙ off) (never (follows_number meaning print i))))
-    where
-      never : (b : Bool) → (b && false) ≡ false
-      never true = refl
-      never false = refl
+      ∙ rw (none, ap (λ (o : Option ℕ). option_map_or (is_mode_char meaning) o false) there ∙ off) (and-false (follows_number meaning print i))))
 
   pub follows_number-on : (i c : ℕ) → i < length print → is_digit_at meaning print i ≡ false → follows_number meaning print i ≡ true
       → c ≡ get_or print i c → follows_number meaning print (i + 1) ≡ is_mode_char meaning c

@@ -31,9 +31,7 @@ module _ (meaning : Meaning) (print : List ℕ) where
     pub PlacesSoFar-order : piece.choice.start ≤ piece.choice.end
     PlacesSoFar-order =
         let next = Left-next meaning print left done.so_far piece after e in
-        let start = next.choice.start in
-        let end = next.choice.end in
-        omega arith
+        omega (arith, next.choice.start, next.choice.end)
 
     pub PlacesSoFar-next : (more more_outputs more_inputs : List ℕ) (from to : ℕ)
         → more ≡ (cells ++ piece.sign.now) ++ piece.own.now → from ≡ length cells → to ≡ length more

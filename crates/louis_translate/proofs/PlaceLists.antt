@@ -1,9 +1,9 @@
 -- The places as lists that grow choice by choice: those of one more choice, and what the lists have at a place. `Braille`
 -- says what the places mean.
-use Rattle.std.proofs.Common.{◌≡◌, ℕ, ◌+◌, ◌-◌, ◌<◌, ◌≤◌, ◌⊎◌, List, [], ◌∷◌, ◌++◌, length, replicate, get_or, refl, sym, ap, subst, ◌∙◌, append_assoc, add_assoc, zero-add, arith, inl, inr}
+use Rattle.std.proofs.Common.{◌≡◌, ℕ, ◌+◌, ◌-◌, ◌<◌, ◌≤◌, List, [], ◌∷◌, ◌++◌, length, replicate, get_or, refl, sym, ap, subst, ◌∙◌, append_assoc, add_assoc, zero-add, arith, inl, inr}
 use Rattle.std.specs.List.{flat_map}
 use Rattle.std.proofs.Math.ListN.{get_or-append}
-use Rattle.std.proofs.lemmas.Bool.{cases_order}
+use Rattle.std.proofs.lemmas.Bool.{cases_lt}
 use Rattle.std.proofs.lemmas.List.{append-nil, length-append, length-replicate, get_or-append_right, get_or-replicate}
 use Rattle.std.proofs.lemmas.List.Concat.{flat_map-append}
 use Rattle.louis_table.specs.Meaning.{Meaning}
@@ -21,12 +21,6 @@ outputs_from meaning print n (choice ∷ choices) =
 -- for each cell, the start of the choice that made it
 abbrev pub inputs_of : Meaning → List ℕ → List Choice → List ℕ
 inputs_of meaning print choices = flat_map (λ choice. replicate (length (cells_of meaning print choice)) choice.start) choices
-
-cases_below : (a b : ℕ) → (a < b) ⊎ (b ≤ a)
-cases_below a b = elim (cases_order a b) [
-  | inl e ↦ inr (omega arith)
-  | inr ne ↦ elim ne [ inl lt ↦ inl lt | inr gt ↦ inr (omega arith) ]
-]
 
 -- ---- one more choice
 
@@ -52,13 +46,9 @@ Covers-le meaning print i j (c ∷ t) h = let e = h.1.end in let rest = Covers-l
 outputs-count : (meaning : Meaning) (print : List ℕ) (n i j : ℕ) (t : List Choice) → Covers meaning print i t j → i + length (outputs_from meaning print n t) ≡ j
 outputs-count meaning print n i j [] h = (omega arith)
 outputs-count meaning print n i j (c ∷ t) h =
-    let start = h.1.start in
-    let end = h.1.end in
     let made = length (cells_of meaning print c) in
     let rest = outputs-count meaning print (n + made) c.end j t h.2 in
-    let many = length-append (replicate (c.end - c.start) n) (outputs_from meaning print (n + made) t) in
-    let front = length-replicate (c.end - c.start) n in
-    omega arith
+    omega (arith, h.1.start, h.1.end, length-append (replicate (c.end - c.start) n) (outputs_from meaning print (n + made) t), length-replicate (c.end - c.start) n)
 
 -- at a place that the choices cover it has how many cells come before its choice
 outputs-at : (meaning : Meaning) (print : List ℕ) (n i j k : ℕ) (t : List Choice) → Covers meaning print i t j → i ≤ k → k < j
@@ -70,7 +60,7 @@ outputs-at meaning print n i j k (c ∷ t) h le lt =
     let end = h.1.end in
     let made = length (cells_of meaning print c) in
     let count = length-replicate (c.end - c.start) n in
-    elim (cases_below k c.end) [
+    elim (cases_lt k c.end) [
       | inl here ↦ (
         [],
         c,
@@ -110,7 +100,7 @@ inputs-at meaning print (c ∷ t) cell lt =
     let made = length (cells_of meaning print c) in
     let count = length-replicate made c.start in
     let all = length-append (cells_of meaning print c) (braille meaning print t) in
-    elim (cases_below cell made) [
+    elim (cases_lt cell made) [
       | inl here ↦ (
         c,
         record { before = []; among = record { after = t; parts = refl }; from = omega arith; to = omega arith },

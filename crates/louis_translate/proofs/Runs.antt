@@ -7,6 +7,7 @@ use Rattle.std.proofs.Math.Seq.{drop-cons}
 use Rattle.std.proofs.lemmas.Bool.{both_ways, cases_Bool, cases_order, lt-ltb}
 use Rattle.std.proofs.lemmas.Bool.Decides.{nat_tests}
 use Rattle.std.proofs.lemmas.List.{drop-drop}
+use Rattle.std.proofs.Math.Bool.{and-false}
 use Rattle.louis_table.specs.declared.sign.Sign.TheVariants.{Capital, CapitalWord}
 use Rattle.louis_table.specs.Meaning.{Meaning, sign_cells}
 use Rattle.louis_translate.specs.Sign.{capital_sign, is_capital, is_capital_at, run_end, run_start, sign_at, takes_one_sign}
@@ -95,9 +96,5 @@ capital_sign-alone meaning print i first off =
     let end = run_end-alone meaning print i off in
     let short : nat_le (run_start meaning print i + 2) (run_end meaning print i) ≡ false = grind (arith, nat_tests) in
     let some = nat_lt 0 (length (sign_cells meaning CapitalWord)) in
-    let none : (some && takes_one_sign meaning print i) ≡ false = rw short (never some) in
+    let none : (some && takes_one_sign meaning print i) ≡ false = rw short (and-false some) in
     rw none refl
-  where
-    never : (b : Bool) → (b && false) ≡ false
-    never true = refl
-    never false = refl

@@ -73,10 +73,7 @@ module _ (meaning : Meaning) (tree : RuleTree) (print : List ℕ) (i : ℕ) (t :
   candidate_fits : (j : ℕ) → IsCandidate meaning print i (Some j) → span meaning (Some j) ≤ length (folded_from meaning print i)
   candidate_fits j h =
       let parts = candidate_rule meaning print i j h in
-      let s = rule_span meaning j parts.0 parts.1 in
-      let e = ap (length {A = ℕ}) (rule_text parts.0 parts.2) in
-      let l = length-take (length parts.0.chars) (folded_from meaning print i) in
-      omega arith
+      omega (arith, rule_span meaning j parts.0 parts.1, ap (length {A = ℕ}) (rule_text parts.0 parts.2), length-take (length parts.0.chars) (folded_from meaning print i))
 
   -- a candidate with characters stands where the print's lead
   stands : (j : ℕ) → IsCandidate meaning print i (Some j) → 0 < span meaning (Some j) → StandsIn tree (take (span meaning (Some j)) (folded_from meaning print i)) j
@@ -124,14 +121,7 @@ module _ (meaning : Meaning) (print : List ℕ) (i d : ℕ) (here : List ℕ) (s
   length_here : (k : ℕ) (rule : Rule) → IsAt here k → slice_get meaning.rules k ≡ Some rule → length rule.chars ≡ d
   length_here k rule at is =
       let e = ap (length {A = ℕ}) (chars_here k rule at is) in
-      let l = length-take d (folded_from meaning print i) in
-      let t = text_length meaning print i in
-      omega arith
-
-  span_here : (k : ℕ) → IsAt here k → span meaning (Some k) ≡ d
-  span_here k at =
-      let p = has_rule meaning.rules k (take d (folded_from meaning print i)) (those.right k at) in
-      rule_span meaning k p.0 p.1 ∙ length_here k p.0 at p.1
+      omega (arith, length-take d (folded_from meaning print i), text_length meaning print i)
 
   module _ (k : ℕ) (rule : Rule) (at : IsAt here k) (is : slice_get meaning.rules k ≡ Some rule) where
     -- a rule of the list that may cover its places may be used

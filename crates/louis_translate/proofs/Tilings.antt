@@ -9,6 +9,7 @@ use Rattle.std.proofs.lemmas.Bool.{cases_order, cases_Bool, both_ways, eqb-true,
 use Rattle.std.proofs.lemmas.Bool.Decides.{nat_tests}
 use Rattle.std.proofs.lemmas.Slice.Eq.{bytes_eq-Decides}
 use Rattle.std.proofs.Math.Numerals.{add-one}
+use Rattle.std.proofs.lemmas.List.{nil_from_length}
 use Rattle.louis_table.specs.Meaning.{Meaning, fold_of}
 use Rattle.louis_table.specs.declared.rule.Rule.{Rule}
 use Rattle.louis_translate.specs.declared.choices.Choice.{Choice}
@@ -80,13 +81,9 @@ Covers-append meaning print i j k (x ∷ t) u h l = (h.0, h.1, Covers-append mea
 no_signs_decide : (meaning : Meaning) (print : List ℕ) (i n : ℕ)
     → Decides (list_all (has_no_sign meaning print) (range_with_len (i + 1) (n - 1))) ((k : ℕ) → i < k → k < i + n → sign_at meaning print k ≡ [])
 no_signs_decide meaning print i n = (
-  (λ all k more less. none (sign_at meaning print k) (eqb-true _ _ (in_range_of_all (has_no_sign meaning print) (i + 1) (n - 1) all k (omega arith) (omega arith)))),
+  (λ all k more less. nil_from_length (sign_at meaning print k) (eqb-true _ _ (in_range_of_all (has_no_sign meaning print) (i + 1) (n - 1) all k (omega arith) (omega arith)))),
   (λ each. all_in_range (has_no_sign meaning print) (i + 1) (n - 1) (λ k more less. eq-eqb _ _ (ap length (each k (omega arith) (omega arith))))),
 )
-  where
-    none : (xs : List ℕ) → length xs ≡ 0 → xs ≡ []
-    none [] e = refl
-    none (x ∷ xs) e = absurd (omega arith)
 
 matches_tells : (meaning : Meaning) (print : List ℕ) (i : ℕ) (rule : Rule)
     → ((matches meaning print i rule ≡ true) × Matches meaning print i rule) ⊎ ((matches meaning print i rule ≡ false) × (Matches meaning print i rule → ⊥))
@@ -193,9 +190,6 @@ module _ (meaning : Meaning) (print : List ℕ) where
   -- from each place on the print is covered
   pub choices_from-covers : (i : ℕ) → i ≤ length print → Covers meaning print i (choices_from meaning print i) (length print)
   choices_from-covers i h = some_from-covers (length print) i h (omega arith)
-
-  pub choices_from-end : choices_from meaning print (length print) ≡ []
-  choices_from-end = one_cover meaning print (length print) (choices_from meaning print (length print)) [] (choices_from-covers (length print) (omega arith)) refl
 
   -- the chosen one is the first of what is left
   pub choices_from-next : (i : ℕ) (c : Choice) → i < length print → IsChoiceAt meaning print i c

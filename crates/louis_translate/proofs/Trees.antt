@@ -443,9 +443,3 @@ pub later_there : (text : List ℕ) (x c : ℕ) → x + 1 < length text → c �
 later_there text x c lt e =
     slice_get_read text (length text) (x + 1) c refl lt
     (e ∙ (ap (λ (xs : List ℕ). get_or xs x c) (take_rest text 1) ∙ (get_or_after_one text x c ∙ ap (λ (k : ℕ). get_or text k c) (omega arith))))
-
-pub take_all : (n : ℕ) (xs : List ℕ) → length xs ≤ n → take n xs ≡ xs
-take_all zero [] h = refl
-take_all (suc n) [] h = refl
-take_all zero (x ∷ xs) h = absurd (omega arith)
-take_all (suc n) (x ∷ xs) h = ap (λ (ys : List ℕ). x ∷ ys) (take_all n xs (omega arith))

@@ -23,5 +23,4 @@ loop-piece-preserved g c =
 pub unreachable-requires : goal.unreachable-requires
 unreachable-requires g c =
     let past = OutputLeft-past (g.B.RuleBook.meaning c.args.book.now) c.args.print.now c.args.place _ c.loop-piece.before c.loop-piece.invariant c.in-None.ensures.steps.0 in
-    let within = c.requires.within in
-    omega arith
+    omega (arith, c.requires.within)

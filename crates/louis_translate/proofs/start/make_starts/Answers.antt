@@ -6,5 +6,4 @@ use Rattle.louis_translate.proofs.start.make_starts.Goals as goal
 pub returns-then-is_empty-clause-all : goal.returns-then-is_empty-clause-all
 returns-then-is_empty-clause-all c = λ some.
     let none : length c.rules.result.now ≡ 0 = eqb-true (length c.rules.result.now) 0 (sym c.if-is_empty.ensures) in
-    let same = ap (length {A = Rule}) c.rules.ensures in
-    absurd (omega arith)
+    absurd (omega (arith, ap (length {A = Rule}) c.rules.ensures))

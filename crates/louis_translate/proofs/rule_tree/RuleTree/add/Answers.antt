@@ -1,9 +1,10 @@
 use Rattle.std.proofs.Common.{◌≡◌, ℕ, ◌+◌, List, length, take, Some, None, refl, sym, ap, subst, ◌∙◌, arith}
 use Rattle.std.proofs.lemmas.Option.{slice_get_read}
+use Rattle.std.proofs.lemmas.List.{take_all}
 use Rattle.std.specs.Prelude.{slice_get}
 use Rattle.louis_table.specs.declared.rule.Rule.{Rule}
 use Rattle.louis_translate.specs.Tree.{LeadTo}
-use Rattle.louis_translate.proofs.Trees.{IsTree-empty, IsTree-rule, IsTree-step, first_there, later_there, take_all, way_step}
+use Rattle.louis_translate.proofs.Trees.{IsTree-empty, IsTree-rule, IsTree-step, first_there, later_there, way_step}
 use Rattle.louis_translate.proofs.rule_tree.RuleTree.add.Goals as goal
 
 pub loop-character-init : goal.loop-character-init
