@@ -4,7 +4,7 @@ use Rattle.std.specs.Prelude.{nat_eq, not, option_map, slice_get, ◌==◌}
 use Rattle.std.specs.List.{All, enumerate_from, filter, flat_map, fold, last_or, list_any}
 use Rattle.std.proofs.Math.Seq.{take-append_seam}
 use Rattle.std.proofs.lemmas.Bool.{cases_Bool, eq-eqb, ne_eqb}
-use Rattle.std.proofs.lemmas.List.{length-append, length-take, map-append, take-append-le, take-take}
+use Rattle.std.proofs.lemmas.List.{length-append, length-take, map-append, take-append-le, take-take, same_from_push, append-nil}
 use Rattle.std.proofs.lemmas.List.Concat.{flat_map-append}
 use Rattle.std.proofs.lemmas.List.Elements.{All-cons, All-head, All-nil, All-tail, filter-append}
 use Rattle.std.proofs.lemmas.List.Folds.{list_any-append}
@@ -30,21 +30,6 @@ module _ {X : Type 0} where
   pub last_or-push : (o : Option X) (s : List X) (x : X) → last_or o (s ++ x ∷ []) ≡ Some x
   last_or-push o [] x = refl
   last_or-push o (y ∷ s) x = last_or-push (Some y) s x
-
-  pub last_or-none : (xs : List X) (d : X) → last_or (Some d) xs ≡ None → ⊥
-  last_or-none [] d e = cc
-  last_or-none (x ∷ xs) d e = last_or-none xs x e
-
-  -- two lists with a last item each
-  pub same_push : (s t : List X) (x y : X) → s ++ x ∷ [] ≡ t ++ y ∷ [] → (s ≡ t) × (x ≡ y)
-  same_push [] [] x y e = (refl, (cc))
-  same_push [] (b ∷ t) x y e = absurd (let short = ap length e in let long = length-append t (y ∷ []) in omega arith)
-  same_push (a ∷ s) [] x y e = absurd (let short = ap length e in let long = length-append s (x ∷ []) in omega arith)
-  same_push (a ∷ s) (b ∷ t) x y e =
-      let rest : s ++ x ∷ [] ≡ t ++ y ∷ [] = cc in
-      let first : a ≡ b = cc in
-      let more = same_push s t x y rest in
-      ((λ i. first i ∷ more.0 i), more.1)
 
   -- a list is empty, or has a last item
   pub push_or_none : (xs : List X) → (xs ≡ []) ⊎ ((s : List X) × (x : X) × (xs ≡ s ++ x ∷ []))
@@ -139,14 +124,6 @@ newest-parts h n r e =
 pub newest-push : (h : List Entry) (s : List (ℕ × Replacement)) (c : ℕ × Replacement) → stack h ≡ s ++ c ∷ [] → newest h ≡ Some c
 newest-push h s c e = ap (last_or None) e ∙ last_or-push None s c
 
--- where nothing is in force, the stack is empty, and else it has a newest
-pub newest-none : (h : List Entry) → newest h ≡ None → stack h ≡ []
-newest-none h e = by (stack h) e
-  where
-    by : (xs : List (ℕ × Replacement)) → last_or None xs ≡ None → xs ≡ []
-    by [] f = refl
-    by (x ∷ xs) f = absurd (last_or-none xs x f)
-
 -- ---- one entry more
 
 -- an undo takes the correction that it names out of the stack
@@ -181,15 +158,11 @@ stack-undone h n r s e =
     let here : nat_eq n n ≡ true = eq-eqb n n refl in
     ap (flat_map (in_force (h ++ Undoes n ∷ []))) (enumerate_from-append 1 h (Undoes n ∷ []))
     ∙ (flat_map-append (in_force (h ++ Undoes n ∷ [])) (enumerate_from 1 h) (enumerate_from (1 + length h) (Undoes n ∷ []))
-    ∙ (append-none (flat_map (in_force (h ++ Undoes n ∷ [])) (enumerate_from 1 h))
+    ∙ (append-nil (flat_map (in_force (h ++ Undoes n ∷ [])) (enumerate_from 1 h))
     ∙ (flat_map-filter (λ c. not (n == c.0)) (in_force (h ++ Undoes n ∷ [])) (in_force h) (enumerate_from 1 h) (in_force-undone h n)
     ∙ (ap (filter (λ c. not (n == c.0))) e
     ∙ (filter-append (λ c. not (n == c.0)) s ((n, r) ∷ [])
-    ∙ rw (filter-below n s is.below, here) (append-none s))))))
-  where
-    append-none : (xs : List (ℕ × Replacement)) → xs ++ [] ≡ xs
-    append-none [] = refl
-    append-none (x ∷ xs) = ap (λ (t : List (ℕ × Replacement)). x ∷ t) (append-none xs)
+    ∙ rw (filter-below n s is.below, here) (append-nil s))))))
 
 -- ---- sound entries
 
@@ -263,7 +236,7 @@ module _ (original : List ℕ) where
           let long = length-append front (Corrects q who ∷ []) in
           let count : length h ≡ length front + 1 = ap length is ∙ long in
           let its : AreSoundEntries original front = subst (AreSoundEntries original) (ap (take (length front)) is ∙ take-append_seam front (Corrects q who ∷ [])) (AreSoundEntries-take h (length front) sound) in
-          let both = same_push (stack front) s (length front + 1, q) (n, r) (sym (stack-corrected front q who its) ∙ (ap stack (sym is) ∙ e)) in
+          let both = same_from_push (stack front) s (length front + 1, q) (n, r) (sym (stack-corrected front q who its) ∙ (ap stack (sym is) ∙ e)) in
           let number : length front + 1 ≡ n = ap (λ (c : ℕ × Replacement). c.0) both.1 in
           let less : n - 1 ≡ length front = omega arith in
           ap (λ (k : ℕ). stack (take k h)) less ∙ (ap (λ (t : List Entry). stack (take (length front) t)) is ∙ (ap stack (take-append_seam front (Corrects q who ∷ [])) ∙ both.0))

@@ -203,18 +203,6 @@ IsPermutation-without_paragraph id p (q ∷ ps) apart e =
           (IsPermutation-middle (q ∷ []) p (without_paragraph id ps)))
     ]
 
--- a paragraph more among the others, which have other ids
-module _ (anchor : Anchor) (new : Paragraph) (ps : List Paragraph) (apart : AreApart (new ∷ ps)) (there : (id : ℕ) → Contains (paragraph_before anchor) id → Contains (ids_of ps) id) where
-  found-with_paragraph : (id : ℕ) → found id (with_paragraph anchor new ps) ≡ found id (new ∷ ps)
-  found-with_paragraph id =
-      found-permutation id (new ∷ ps) (with_paragraph anchor new ps) (IsPermutation-with_paragraph anchor new ps (AreApart-rest new ps apart) there) apart
-
-  pub found-new : found new.id (with_paragraph anchor new ps) ≡ Some new
-  found-new = found-with_paragraph new.id ∙ cond-true (nat_eq new.id new.id) (Some new) (found new.id ps) (eq-eqb new.id new.id refl)
-
-  pub found-old : (id : ℕ) → id ≢ new.id → found id (with_paragraph anchor new ps) ≡ found id ps
-  found-old id other = found-with_paragraph id ∙ cond-false (nat_eq new.id id) (Some new) (found id ps) (ne_eqb new.id id (λ same. other (sym same)))
-
 -- ---- a paragraph moved
 
 -- what a paragraph is to stand after is among the others

@@ -1,5 +1,5 @@
 -- What is found in a sound book.
-use Rattle.std.proofs.Common.{◌≡◌, ℕ, ◌≤◌, List, length, Option, Some, None, Contains, refl, subst, ◌∙◌, arith}
+use Rattle.std.proofs.Common.{◌≡◌, ℕ, ◌≤◌, List, length, Some, Contains, subst, ◌∙◌, arith}
 use Rattle.std.proofs.lemmas.List.Elements.{All-contains}
 use Rattle.std.proofs.Math.Seq.{take-length}
 use Rattle.desk_model.specs.Book.{Book, Entry, Paragraph, paragraph_of, text_of}
@@ -25,13 +25,6 @@ module _ (book : Book) (sound : IsSound book) where
       within-numbers (length book.paragraphs) (ids_of book.paragraphs) sound.ids id
       (subst (Contains (ids_of book.paragraphs)) (id-found id book.paragraphs paragraph e)
       (Contains-map (λ p. p.id) book.paragraphs paragraph (Contains-found id book.paragraphs paragraph e)))
-
-  pub paragraph_of-none : (id : ℕ) → ((1 ≤ id) → ¬ (id ≤ length book.paragraphs)) → paragraph_of book id ≡ None
-  paragraph_of-none id outside = by (paragraph_of book id) refl
-    where
-      by : (x : Option Paragraph) → paragraph_of book id ≡ x → paragraph_of book id ≡ None
-      by None e = e
-      by (Some p) e = let within = paragraph_of-within id p e in absurd (outside within.0 within.1)
 
   -- each paragraph is found by its id
   pub paragraph_of-own : (paragraph : Paragraph) → Contains book.paragraphs paragraph → paragraph_of book paragraph.id ≡ Some paragraph

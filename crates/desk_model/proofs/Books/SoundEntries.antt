@@ -201,7 +201,4 @@ IsSound-resolved book id sound room =
 pub length-replaced : (print : List ℕ) (r : Replacement) → r.start + r.count ≤ length print → length (with_replacement print r) + r.count ≡ length print + length r.text
 length-replaced print r le =
     let one = length-append (take r.start print ++ r.text) (drop (r.start + r.count) print) in
-    let two = length-append (take r.start print) r.text in
-    let three = length-take r.start print in
-    let four = length-drop (r.start + r.count) print in
-    omega arith
+    omega (arith, length-append (take r.start print) r.text, length-take r.start print, length-drop (r.start + r.count) print)

@@ -3,9 +3,9 @@ use Rattle.std.proofs.Common.{◌≡◌, ℕ, zero, suc, ◌+◌, ◌-◌, ◌<�
 use Rattle.std.specs.Cmp.Lexicographic.{pointwise, slice_cmp}
 use Rattle.std.specs.Ordering.{nat_cmp}
 use Rattle.std.specs.Prelude.{nat_eq, not, option_map}
-use Rattle.std.proofs.lemmas.Bool.{cases_Bool, both_ways, not-true}
-use Rattle.std.specs.List.{All}
-use Rattle.std.proofs.lemmas.List.Elements.{All-head, All-nil, All-tail, All-weaker, filter_passes}
+use Rattle.std.proofs.lemmas.Bool.{cases_Bool, both_ways, not-true, cases_lt}
+use Rattle.std.specs.List.{All, range_with_len}
+use Rattle.std.proofs.lemmas.List.Elements.{All-head, All-nil, All-tail, All-weaker, filter_passes, All-push}
 use Rattle.std.specs.List.Sorted.{IsPermutation}
 use Rattle.std.proofs.lemmas.List.Sorted.{IsPermutation-refl}
 use Rattle.louis_table.specs.Meaning.{Meaning}
@@ -15,10 +15,7 @@ use Rattle.desk_model.specs.declared.command.Anchor.{Anchor}
 use Rattle.desk_model.specs.declared.command.Command.{Command}
 use Rattle.desk_model.specs.declared.command.Command.TheVariants.{Table, TypeIn, Correct, Undo, Mark, Resolve, Strike, Restore, Style, Volume, Retable, Move}
 use Rattle.desk_model.specs.After.{After}
-use Rattle.std.specs.List.{range_with_len}
-use Rattle.std.proofs.lemmas.Bool.{cases_lt}
 use Rattle.std.proofs.lemmas.List.{length-append, map-append}
-use Rattle.std.proofs.lemmas.List.Elements.{All-push}
 use Rattle.louis_translate.specs.Braille.{braille}
 use Rattle.louis_translate.specs.Position.{AreDefined}
 use Rattle.desk_model.specs.declared.refusal.Refusal.TheVariants.{BadSpan}
@@ -71,8 +68,7 @@ sound_table book expect name text sound accepted =
   where
     few : (old : Option (List ℕ)) → text_of book name ≡ old → length (with_text name text book.tables) ≤ most_tables
     few None e =
-        let room = room_for_table book expect (Table name text) accepted name text refl e in
-        omega (arith, room, count-put_new name text book.tables sound.names e)
+        omega (arith, room_for_table book expect (Table name text) accepted name text refl e, count-put_new name text book.tables sound.names e)
     few (Some old) e = subst (λ (n : ℕ). n ≤ most_tables) (sym (count-put_old name text old book.tables sound.names e)) sound.few_tables
 
     shown : (meaning : Meaning) → Means text meaning → (p : Paragraph) → IsSoundParagraph book p → DefinesUser meaning name p → IsSoundParagraph (next_with_table book name text) p

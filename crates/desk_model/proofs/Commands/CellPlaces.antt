@@ -29,14 +29,12 @@ module _ (meaning : Meaning) (print : List ℕ) where
       → length (braille meaning print xs) < length (braille meaning print ys) + length (cells_of meaning print b)
       → a.start ≤ b.end
   starts-before i j [] a u ys b v covers e lt =
-      let start = covers.1.start in
       let past = (within i j ys b v (subst (λ (t : List Choice). Covers meaning print i t j) e covers)).1 in
-      omega arith
+      omega (arith, covers.1.start)
   starts-before i j (x ∷ xs) a u [] b v covers e lt =
       let same : x ≡ b = cc in
       let its = ap (λ (c : Choice). length (cells_of meaning print c)) same in
-      let many = length-append (cells_of meaning print x) (braille meaning print xs) in
-      absurd (omega arith)
+      absurd (omega (arith, length-append (cells_of meaning print x) (braille meaning print xs)))
   starts-before i j (x ∷ xs) a u (y ∷ ys) b v covers e lt =
       let same : x ≡ y = cc in
       let its = ap (λ (c : Choice). length (cells_of meaning print c)) same in

@@ -29,10 +29,7 @@ use Rattle.desk_model.specs.Turns.{bad_table_turn, bad_text_turn, turn, undefine
 
 pub limit_turn : (limit : Limit) → (turn TooLong < turn (Full limit)) × (turn (Full limit) < bad_table_turn)
 limit_turn Tables = (omega arith, omega arith)
-limit_turn Paragraphs = (omega arith, omega arith)
-limit_turn Entries = (omega arith, omega arith)
-limit_turn Marks = (omega arith, omega arith)
-limit_turn Version = (omega arith, omega arith)
+limit_turn limit = (omega arith, omega arith)
 
 pub same_limit : (limit other : Limit) → turn (Full limit) ≡ turn (Full other) → limit ≡ other
 same_limit Tables Tables e = refl
@@ -47,18 +44,11 @@ same_limit limit other e = absurd (omega arith)
 module _ (book : Book) (expect : Option ℕ) (command : Command) where
   turn-below : (other : Refusal) → Holds book expect command other → turn other < turn NoMemory
   turn-below (Full Tables) h = omega arith
-  turn-below (Full Paragraphs) h = omega arith
-  turn-below (Full Entries) h = omega arith
-  turn-below (Full Marks) h = omega arith
-  turn-below (Full Version) h = omega arith
   turn-below NoMemory h = absurd h
   turn-below other h = omega arith
 
   pub Passes-start : Passes book expect command 0
   Passes-start other h = omega arith
-
-  pub Passes-less : (n m : ℕ) → n ≤ m → Passes book expect command m → Passes book expect command n
-  Passes-less n m le p other h = let after = p other h in omega arith
 
   pub Passes-more : (n : ℕ) → Passes book expect command n → ((other : Refusal) → turn other ≡ n → ¬ Holds book expect command other) → Passes book expect command (n + 1)
   Passes-more n p none other h =

@@ -27,13 +27,11 @@ module _ (meaning : Meaning) (print : List ℕ) where
   one_maker n cell [] c us (y ∷ ys) d vs e f g h k =
       let same : c ≡ y = cc e in
       let its = ap (λ (x : Choice). length (cells_of meaning print x)) same in
-      let many = length-append (cells_of meaning print y) (braille meaning print ys) in
-      absurd (omega arith)
+      absurd (omega (arith, length-append (cells_of meaning print y) (braille meaning print ys)))
   one_maker n cell (x ∷ xs) c us [] d vs e f g h k =
       let same : x ≡ d = cc e in
       let its = ap (λ (z : Choice). length (cells_of meaning print z)) same in
-      let many = length-append (cells_of meaning print x) (braille meaning print xs) in
-      absurd (omega arith)
+      absurd (omega (arith, length-append (cells_of meaning print x) (braille meaning print xs)))
   one_maker n cell (x ∷ xs) c us (y ∷ ys) d vs e f g h k =
       let same : x ≡ y = cc e in
       let its = ap (λ (z : Choice). length (cells_of meaning print z)) same in
@@ -82,9 +80,6 @@ module _ (book : Book) (id : ℕ) where
       λ i. record { paragraph = sym paragraphs i; meaning = sym meanings i; choices = choices i }
 
   module _ (cell count : ℕ) where
-    view_of : (start end : ℕ) → AreMarked book id cell count start end → View
-    view_of start end m = record { paragraph = m.paragraph; meaning = m.meaning; choices = m.choices }
-
     -- the cells stand for one part of the print
     pub one_span : (start end first last : ℕ) → AreMarked book id cell count start end → AreMarked book id cell count first last → (start ≡ first) × (end ≡ last)
     one_span start end first last a b =

@@ -28,12 +28,7 @@ in_turn entries n = cond (n == 1) Book (cond (n == 2) Tab (cond (n == 3) Para (c
 -- there are six turns
 turns : (table : FileTable) → (1 ≤ table_turn table) × (table_turn table ≤ 6)
 turns Book = (lit≤ tt, lit≤ tt)
-turns Tab = (lit≤ tt, lit≤ tt)
-turns Para = (lit≤ tt, lit≤ tt)
-turns Corr = (lit≤ tt, lit≤ tt)
-turns Mark = (lit≤ tt, lit≤ tt)
-turns Cache = (lit≤ tt, lit≤ tt)
-turns NamedCorr = (lit≤ tt, lit≤ tt)
+turns table = (lit≤ tt, lit≤ tt)
 
 entries-turn : (entries : EntryRows) → table_turn (table_of entries) ≡ 4
 entries-turn (Unnamed corrs) = refl
@@ -44,13 +39,9 @@ module _ (rows : FileRows) where
   turned = in_turn (table_of rows.entries)
 
   turned-back : (table : FileTable) (id : ℤ) → IsDamaged rows table id → turned (table_turn table) ≡ table
-  turned-back Book id damaged = refl
-  turned-back Tab id damaged = refl
-  turned-back Para id damaged = refl
   turned-back Corr id damaged = damaged.0
   turned-back NamedCorr id damaged = damaged.0
-  turned-back Mark id damaged = refl
-  turned-back Cache id damaged = refl
+  turned-back table id damaged = refl
 
   pub one_damage : (table other : FileTable) (id n : ℤ) → IsFirstDamage rows table id → IsFirstDamage rows other n → (table ≡ other) × (id ≡ n)
   one_damage table other id n first second =
@@ -93,10 +84,7 @@ module _ (rows : FileRows) where
 
   -- before either table of entries
   pub before-entries : IsWholeBefore Para → IsUndamaged Para → IsWholeBefore (table_of rows.entries)
-  before-entries before none other id damaged =
-      let late = after Para refl before none other id damaged in
-      let turn = entries-turn rows.entries in
-      omega (arith, late, turn)
+  before-entries before none other id damaged = omega (arith, after Para refl before none other id damaged, entries-turn rows.entries)
 
   -- the damage of the table of entries is that of its rows
   pub from_table : (entries : EntryRows) (id : ℤ) → IsDamaged rows (table_of entries) id → IsDamagedEntries rows.paras (entries_in rows.entries) id
@@ -115,7 +103,4 @@ module _ (rows : FileRows) where
 
   -- and nothing is damaged at last
   pub no-damage : IsWholeBefore Cache → IsUndamaged Cache → (table : FileTable) (id : ℤ) → ¬ IsDamaged rows table id
-  no-damage before none table id damaged =
-      let late = after Cache refl before none table id damaged in
-      let last = (turns table).1 in
-      omega (arith, late, last)
+  no-damage before none table id damaged = omega (arith, after Cache refl before none table id damaged, (turns table).1)

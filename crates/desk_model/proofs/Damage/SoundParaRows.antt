@@ -3,7 +3,6 @@ use Rattle.std.proofs.Common.{◌≡◌, ℕ, ◌+◌, ◌<◌, ◌≤◌, ℤ, 
 use Rattle.std.specs.List.{enumerate_from, range_with_len}
 use Rattle.std.specs.List.Sorted.{IsPermutation}
 use Rattle.std.specs.Str.{chars}
-use Rattle.std.proofs.Math.Seq.{take-length}
 use Rattle.std.proofs.lemmas.List.{length-map}
 use Rattle.std.proofs.lemmas.List.Elements.{All-contains}
 use Rattle.std.proofs.lemmas.List.Sorted.{Contains-permutation, IsPermutation-map, IsPermutation-sym, IsPermutation-trans, length_permutation}
@@ -17,7 +16,7 @@ use Rattle.desk_model.specs.Damage.{IsDamagedMark, IsDamagedPara, IsItsTable, Is
 use Rattle.desk_parts.specs.declared.file_table.FileTable.TheVariants as file
 use Rattle.desk_parts.specs.FileRows.{FileRows, HasUtf8Texts, spelled}
 use Rattle.desk_model.specs.Limits.{most_marks, most_note, most_paragraphs, most_print}
-use Rattle.desk_model.specs.Print.{corrected_print, print_of}
+use Rattle.desk_model.specs.Print.{print_of}
 use Rattle.desk_parts.specs.Rows.{Para, Mark as MarkRow}
 use Rattle.desk_model.specs.Shows.{Shows, mark_row_of, para_of}
 use Rattle.desk_model.proofs.Rows.ParaRows.{paras_of}
@@ -29,6 +28,7 @@ use Rattle.desk_model.proofs.Books.PrintCharacters.{HasText, print-all}
 use Rattle.desk_model.proofs.Lists.RowNumbers.{Contains-enumerate, Contains-from_map, IsNumber-key, enumerate-same, from_enumerate, pos_le}
 use Rattle.desk_model.proofs.Damage.SoundRows.{IsFlag-flag, IsFlag-number, IsFlag-style, same_bytes, tab_row}
 use Rattle.desk_model.proofs.Lists.TableEntries.{Contains-text}
+use Rattle.desk_model.proofs.Books.SoundBooks.{short-sound}
 
 -- ---- prints
 
@@ -44,9 +44,6 @@ module _ (book : Book) (p : Paragraph) (sound : IsSoundParagraph book p) where
 
   pub short-original : length p.original ≤ most_print
   short-original = sound.history.short 0 (omega arith)
-
-  pub short-print : length (print_of p) ≤ most_print
-  short-print = subst (λ h. length (corrected_print p.original h) ≤ most_print) (take-length p.history) (sound.history.short (length p.history) (omega arith))
 
 -- ---- keys
 
@@ -74,10 +71,8 @@ module _ (rows : FileRows) (book : Book) (shown : Shows rows book) where
   count-paras =
       let keys = length_permutation (map (λ row. row.id) rows.paras) (map pos (range_with_len 1 (length ps))) para-keys in
       let one = length-map rows.paras (λ (row : Para). row.id) in
-      let two = length_permutation (map pos (ids_of ps)) (map pos (range_with_len 1 (length ps))) numbers-ids in
-      let three = length-map (ids_of ps) pos in
       let four = length-map ps (λ (p : Paragraph). p.id) in
-      omega (arith, keys, one, two, three, four)
+      omega (arith, keys, one, length_permutation (map pos (ids_of ps)) (map pos (range_with_len 1 (length ps))) numbers-ids, length-map (ids_of ps) pos, four)
 
   -- ---- the parts of rows, and the rows of parts
 
@@ -137,7 +132,7 @@ module _ (rows : FileRows) (book : Book) (shown : Shows rows book) where
             let self : pos p.id ≤ℤ pos p.id = pos_le p.id p.id (omega arith) in
             subst (λ z. row.id ≤ℤ z) id (subst (λ z. z ≤ℤ z) (ap (λ (r : Para). r.id) is) self);
         original = subst IsPrintText (ap (λ (r : Para). r.original) is) (short-original book p s, s.clean.unbarred);
-        print = subst IsPrintText print (short-print book p s, unbarred-print book p s);
+        print = subst IsPrintText print (short-sound book p s, unbarred-print book p s);
         meaning = s.meaning;
         table = its_table row p s.text s.meaning c (sym (ap (λ (r : Para). r.tab) is)) s.found s.means;
         defined = subst (AreDefined s.meaning) print s.defined;

@@ -36,8 +36,7 @@ use Rattle.desk_model.proofs.Lists.RowNumbers.{Contains-from_map, pos_le}
 
 is_eq-reverse : (o : Ordering) → is_eq (ordering_reverse o) ≡ is_eq o
 is_eq-reverse Less = refl
-is_eq-reverse Equal = refl
-is_eq-reverse Greater = refl
+is_eq-reverse o = refl
 
 is_eq-self : (o : Ordering) → o ≡ ordering_reverse o → is_eq o ≡ true
 is_eq-self Less e = absurd (cc)
@@ -107,11 +106,8 @@ module _ (rows : FileRows) (book : Book) (shown : Shows rows book) where
 
     count-sorted : length sorted ≡ length book.tables
     count-sorted =
-        let one = length_permutation rows.tabs sorted moved in
         let two = length_permutation (map (spelled file.Tab) rows.tabs) (map tab_of book.tables) shown.tables in
-        let three = length-map rows.tabs (spelled file.Tab) in
-        let four = length-map book.tables tab_of in
-        omega (arith, one, two, three, four)
+        omega (arith, length_permutation rows.tabs sorted moved, two, length-map rows.tabs (spelled file.Tab), length-map book.tables tab_of)
 
     names-moved : IsPermutation (map (λ e. e.0) book.tables) (names sorted)
     names-moved =

@@ -1,5 +1,5 @@
 -- Rows without damage show a book.
-use Rattle.std.proofs.Common.{◌≡◌, ℕ, ◌+◌, ◌<◌, ◌≤◌, ℤ, pos, ◌≤ℤ◌, Bool, true, List, [], ◌∷◌, map, filter, length, take, get_or, Some, Contains, refl, sym, ap, subst, ◌∙◌, arith, inl, inr}
+use Rattle.std.proofs.Common.{◌≡◌, ℕ, ◌+◌, ◌<◌, ◌≤◌, ℤ, pos, ◌≤ℤ◌, true, List, [], ◌∷◌, map, filter, length, take, get_or, Some, Contains, refl, sym, ap, subst, ◌∙◌, arith, inl, inr}
 use Rattle.std.specs.Cmp.Lexicographic.{pointwise, slice_cmp}
 use Rattle.std.specs.List.{All, enumerate_from, flat_map, range_with_len}
 use Rattle.std.specs.List.Sorted.{IsPermutation, IsStrictlySortedBy}
@@ -9,10 +9,9 @@ use Rattle.std.specs.Ordering.{int_eq, nat_cmp}
 use Rattle.std.specs.Prelude.{IsUtf8, nat_eq, slice_get}
 use Rattle.std.specs.Str.{chars}
 use Rattle.std.proofs.lemmas.List.{length-map, map-append, map-id}
-use Rattle.std.proofs.lemmas.List.Elements.{All-contains, All-contains_itself, All-cons, All-filter, All-head, All-map, All-nil, All-tail, All-weaker}
+use Rattle.std.proofs.lemmas.List.Elements.{All-contains, All-contains_itself, All-cons, All-filter, All-head, All-map, All-nil, All-tail, All-weaker, filter_passes}
 use Rattle.std.proofs.lemmas.List.FromFn.{length-range_with_len}
 use Rattle.std.proofs.lemmas.List.Sorted.{All-permutation, Contains-permutation, IsPermutation-append, IsPermutation-map, IsPermutation-refl, IsPermutation-sym, IsPermutation-trans, length_permutation}
-use Rattle.std.proofs.lemmas.Bool.{cases_Bool, cond-false, cond-true}
 use Rattle.std.proofs.lemmas.Option.{slice_get-get_or}
 use Rattle.std.proofs.lemmas.Simd.{map-map}
 use Rattle.std.proofs.lemmas.Str.{encodes-chars}
@@ -56,17 +55,6 @@ use Rattle.desk_model.proofs.Damage.UndamagedRows.{each-cached, few-tabs, names-
 map-same : {X Y : Type 0} (f g : X → Y) (xs : List X) → ((x : X) → Contains xs x → f x ≡ g x) → map f xs ≡ map g xs
 map-same f g [] same = refl
 map-same f g (x ∷ xs) same = λ i. same x (Contains-here x xs) i ∷ map-same f g xs (λ y c. same y (Contains-behind x y xs c)) i
-
-passes-filter : {X : Type 0} (test : X → Bool) (xs : List X) (x : X) → Contains (filter test xs) x → test x ≡ true
-passes-filter test [] x c = absurd (Contains-none x c)
-passes-filter test (y ∷ xs) x c =
-    elim (cases_Bool (test y)) [
-      | inl is ↦ elim (Contains-cases y x (filter test xs) (subst (λ ys. Contains ys x) (cond-true (test y) (y ∷ filter test xs) (filter test xs) is) c)) [
-        | inl same ↦ ap test (sym same) ∙ is
-        | inr later ↦ passes-filter test xs x later
-      ]
-      | inr other ↦ passes-filter test xs x (subst (λ ys. Contains ys x) (cond-false (test y) (y ∷ filter test xs) (filter test xs) other) c)
-    ]
 
 -- a name of a table is its own UTF-8
 plain-name : (bytes : List ℕ) → IsUtf8 bytes → IsTableName (chars bytes) → bytes ≡ chars bytes
@@ -277,10 +265,8 @@ module _ (rows : FileRows) (texts : AreTexts rows) (its : HasItsTables rows) (no
 
     count-made : length paragraphs ≡ count
     count-made =
-        let one = length_permutation (ids_of paragraphs) (range_with_len 1 count) ids-numbers in
-        let two = length-range_with_len 1 count in
         let three = length-map paragraphs (λ (p : Paragraph). p.id) in
-        omega (arith, one, two, three)
+        omega (arith, length_permutation (ids_of paragraphs) (range_with_len 1 count) ids-numbers, length-range_with_len 1 count, three)
 
     ids : IsPermutation (range_with_len 1 (length paragraphs)) (ids_of paragraphs)
     ids =
@@ -328,7 +314,7 @@ module _ (rows : FileRows) (texts : AreTexts rows) (its : HasItsTables rows) (no
         let own = group of_para id_of entries para in
         let test = λ (e : NamedCorr). int_eq e.entry.para para.id in
         let among = Contains-permutation h.sorted own row (IsPermutation-sym own h.sorted h.its_own) (Contains-there h.sorted i row at) in
-        (signed_Decides row.entry.para para.id).0 (passes-filter test entries row among)
+        (signed_Decides row.entry.para para.id).0 (All-contains (λ e. test e ≡ true) (filter test entries) row (filter_passes test entries) among)
 
     entry-rows-made : (para : Para) (c : Contains rows.paras para) → entry_rows_of (paragraph_for para c) ≡ map (spelled file.NamedCorr) (history_for para c).sorted
     entry-rows-made para c =
@@ -404,10 +390,7 @@ module _ (rows : FileRows) (texts : AreTexts rows) (its : HasItsTables rows) (no
         (IsPermutation-map (spelled file.Mark) rows.marks by_id.0 by_id.1)
 
     count-marks : length marks ≡ length rows.marks
-    count-marks =
-        let one = length_permutation rows.marks by_id.0 by_id.1 in
-        let two = length-map by_id.0 mark_of_row in
-        omega (arith, one, two)
+    count-marks = omega (arith, length_permutation rows.marks by_id.0 by_id.1, length-map by_id.0 mark_of_row)
 
     pub mark-numbers : map (λ mark. mark.id) marks ≡ range_with_len 1 (length marks)
     mark-numbers =

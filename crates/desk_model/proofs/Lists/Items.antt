@@ -1,17 +1,17 @@
 -- Lists by the places of their items.
--- two functions that agree at each element give one list
-use Rattle.std.proofs.Common.{◌≡◌, ◌≢◌, ℕ, zero, suc, ◌+◌, ◌<◌, Bool, List, [], ◌∷◌, ◌++◌, map, length, set, slice_get, Option, Some, None, Bor, option_map, All, flat_map, refl, sym, ap, ◌∙◌, subst, inl, inr, arith, map-id, drop, take, Contains, ◌⊎◌}
+use Rattle.std.proofs.Common.{◌≡◌, ◌≢◌, ℕ, zero, suc, ◌+◌, ◌<◌, Bool, List, [], ◌∷◌, ◌++◌, map, length, set, slice_get, Option, Some, None, Bor, option_map, All, flat_map, refl, sym, ap, ◌∙◌, subst, inl, inr, arith, map-id, drop, take, Contains, ◌⊎◌, get_or}
 use Rattle.std.specs.Map.{lookup}
 use Rattle.std.specs.List.{range_with_len}
 use Rattle.std.specs.Option.{option_copied}
 use Rattle.std.specs.Slice.{IsItemAt}
-use Rattle.std.proofs.lemmas.Bool.{cases_Bool, cond-true, cond-false}
 use Rattle.std.proofs.Math.Seq.{take-append_seam}
 use Rattle.std.proofs.lemmas.List.{map-append, take-append-le}
 use Rattle.std.proofs.lemmas.List.Elements.{All-head, All-tail, All-nil, All-cons}
 use Rattle.std.proofs.lemmas.List.FromFn.{map-range_with_len_more}
-use Rattle.std.proofs.lemmas.Option.{slice_get_past, slice_get_within, slice_get_read, get_or_from_slice_get}
+use Rattle.std.proofs.lemmas.Option.{slice_get_past, slice_get_within, slice_get_read, get_or_from_slice_get, slice_get-get_or}
+use Rattle.std.proofs.lemmas.Map.Made.{lookup-map_values}
 
+-- two functions that agree at each element give one list
 pub flat_map-agree : {X A : Type 0} (f g : X → List A) (xs : List X) → All (λ x. f x ≡ g x) xs → flat_map f xs ≡ flat_map g xs
 flat_map-agree f g [] same = refl
 flat_map-agree f g (x ∷ xs) same =
@@ -44,8 +44,7 @@ slice_get-set_other (x ∷ xs) (suc i) (suc j) y apart = slice_get-set_other xs 
 -- the item at a place of a list is there
 pub slice_get-there : {X : Type 0} (xs : List X) (i : ℕ) → i < length xs → (x : X) × (slice_get xs i ≡ Some x)
 slice_get-there [] i within = absurd (omega arith)
-slice_get-there (x ∷ xs) zero within = (x, refl)
-slice_get-there (x ∷ xs) (suc i) within = slice_get-there xs i (omega arith)
+slice_get-there (x ∷ xs) i within = (get_or (x ∷ xs) i x, slice_get-get_or (x ∷ xs) i x within)
 
 -- what a list lends at a place
 pub option_copied-item : {X : Type 0} (xs : List X) (i : ℕ) (r : Option (Bor X)) → IsItemAt xs i r → option_copied r ≡ slice_get xs i
@@ -65,12 +64,7 @@ range_with_len-push first count =
 
 -- what is found among entries with other values
 pub lookup-map : {K X Y : Type 0} (test : K → Bool) (f : X → Y) (es : List (K × X)) → lookup test (map (λ e. (e.0, f e.1)) es) ≡ option_map f (lookup test es)
-lookup-map test f [] = refl
-lookup-map test f (e ∷ es) =
-    elim (cases_Bool (test e.0)) [
-      | inl h ↦ cond-true (test e.0) (Some (f e.1)) (lookup test (map (λ e. (e.0, f e.1)) es)) h ∙ ap (option_map f) (sym (cond-true (test e.0) (Some e.1) (lookup test es) h))
-      | inr h ↦ cond-false (test e.0) (Some (f e.1)) (lookup test (map (λ e. (e.0, f e.1)) es)) h ∙ (lookup-map test f es ∙ ap (option_map f) (sym (cond-false (test e.0) (Some e.1) (lookup test es) h)))
-    ]
+lookup-map test f = lookup-map_values f test
 
 -- what holds of each image holds, of its image, of each element
 pub All-from_map : {X Y : Type 0} (P : Y → Type 0) (f : X → Y) (xs : List X) → All P (map f xs) → All (λ x. P (f x)) xs
@@ -91,9 +85,7 @@ drop-past (y ∷ xs) zero e = absurd (cc)
 drop-past (y ∷ xs) (suc i) e = drop-past xs i e
 
 pub Contains-there : {X : Type 0} (xs : List X) (i : ℕ) (x : X) → slice_get xs i ≡ Some x → Contains xs x
-Contains-there [] i x e = absurd (cc)
-Contains-there (y ∷ xs) zero x e = (0, omega arith, (let same : y ≡ x = cc in same))
-Contains-there (y ∷ xs) (suc i) x e = let rest = Contains-there xs i x e in (suc rest.0, (let lt = rest.1 in omega arith), rest.2)
+Contains-there xs i x e = (i, slice_get_within xs i x e, get_or_from_slice_get xs i x x e)
 
 -- what stands at a place of a list with one item more, or with another item at one place
 pub push-cases : {X : Type 0} (xs : List X) (x : X) (i : ℕ) (y : X) → slice_get (xs ++ x ∷ []) i ≡ Some y

@@ -39,18 +39,6 @@ module _ {X : Type 0} where
           | inr h ↦ Contains-behind y x xs (Contains-find xs x (sym (cond-false (test y) (Some y) (find test xs) h) ∙ e))
         ]
 
-    -- where an element passes, one is found
-    pub find-some : (xs : List X) (x : X) → Contains xs x → test x ≡ true → (first : X) × (find test xs ≡ Some first)
-    find-some [] x c h = absurd (Contains-none x c)
-    find-some (y ∷ xs) x c h =
-        elim (cases_Bool (test y)) [
-          | inl e ↦ (y, cond-true (test y) (Some y) (find test xs) e)
-          | inr e ↦ elim (Contains-cases y x xs c) [
-            | inl same ↦ absurd (let passes = ap test same ∙ h in cc)
-            | inr rest ↦ let found = find-some xs x rest h in (found.0, cond-false (test y) (Some y) (find test xs) e ∙ found.1)
-          ]
-        ]
-
     pub find-map : (f : X → X) → ((x : X) → test (f x) ≡ test x) → (xs : List X) → find test (map f xs) ≡ option_map f (find test xs)
     find-map f same [] = refl
     find-map f same (x ∷ xs) =

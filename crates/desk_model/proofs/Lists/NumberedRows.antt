@@ -10,10 +10,11 @@ use Rattle.std.proofs.lemmas.List.Sorted.{Contains-permutation, IsPermutation-co
 use Rattle.desk_model.specs.Damage.{IsNumber, IsWithin, rows_with}
 use Rattle.desk_model.proofs.Lists.Decisions.{Decided}
 use Rattle.desk_model.proofs.Lists.Members.{Contains-behind, Contains-cases, Contains-here, Contains-map, Contains-none}
-use Rattle.desk_model.proofs.Lists.Numbering.{Contains-range, range-push}
+use Rattle.desk_model.proofs.Lists.Numbering.{Contains-range}
 use Rattle.desk_model.proofs.Lists.Permutations.{IsPermutation-filter, IsPermutation-turn, pull_back}
 use Rattle.desk_model.proofs.Lists.RowNumbers.{Contains-from_map, numbers, same_number}
 use Rattle.desk_model.proofs.Lists.Stable.{at_least, le_from, same_int}
+use Rattle.desk_model.proofs.Lists.Items.{range_with_len-push}
 
 -- ---- an element, and the others
 
@@ -62,7 +63,7 @@ numbers-push n =
     let next : 1 + n ≡ suc n = omega arith in
     let more : n + 1 ≡ suc n = omega arith in
     let whole : numbers 1 (suc n) ≡ numbers 1 n ++ pos (suc n) ∷ [] =
-    ap (numbers 1) (sym more) ∙ (ap (map pos) (range-push 1 n) ∙ (map-append pos (range_with_len 1 n) ((1 + n) ∷ []) ∙ ap (λ (k : ℕ). numbers 1 n ++ pos k ∷ []) next)) in
+    ap (numbers 1) (sym more) ∙ (ap (map pos) (range_with_len-push 1 n) ∙ (map-append pos (range_with_len 1 n) ((1 + n) ∷ []) ∙ ap (λ (k : ℕ). numbers 1 n ++ pos k ∷ []) next)) in
     IsPermutation-sym (numbers 1 (suc n)) (pos (suc n) ∷ numbers 1 n)
     (subst (λ (zs : List ℤ). IsPermutation zs (pos (suc n) ∷ numbers 1 n)) (sym whole) (IsPermutation-to_front (numbers 1 n) (pos (suc n))))
 
@@ -132,11 +133,10 @@ module _ {X : Type 0} (key : X → ℤ) where
       let more = taken_out others other c in
       let all = IsPermutation-trans xs (x ∷ others) (x ∷ other ∷ more.0) moved (IsPermutation-cons x others (other ∷ more.0) more.1) in
       let test = λ (row : X). int_eq (key row) (key x) in
-      let long = length_permutation (filter test xs) (filter test (x ∷ other ∷ more.0)) (IsPermutation-filter test xs (x ∷ other ∷ more.0) all) in
       let first = cond-true (test x) (x ∷ filter test (other ∷ more.0)) (filter test (other ∷ more.0)) ((signed_Decides (key x) (key x)).1 refl) in
       let second = cond-true (test other) (other ∷ filter test more.0) (filter test more.0) ((signed_Decides (key other) (key x)).1 same) in
       let two : length (filter test (x ∷ other ∷ more.0)) ≡ suc (suc (length (filter test more.0))) = ap length (first ∙ ap (λ (rows : List X). x ∷ rows) second) in
-      omega (arith, one, long, two)
+      omega (arith, one, length_permutation (filter test xs) (filter test (x ∷ other ∷ more.0)) (IsPermutation-filter test xs (x ∷ other ∷ more.0) all), two)
 
   -- values of rows, none of them that of two rows
   pub once-map : (xs : List X) → ((x other : X) (others : List X) → IsPermutation xs (x ∷ others) → Contains others other → key other ≡ key x → ⊥) → AreOnce (map key xs)
@@ -205,9 +205,7 @@ module _ {X : Type 0} (key : X → ℤ) where
         under : (x : X) → Contains xs x → key x ≡ pos (length xs) → length xs ≤ last
         under x c is =
             let k = number-of x c in
-            let same = same_number (length xs) k.0 (sym is ∙ k.1) in
-            let high = k.3 in
-            omega (arith, same, high)
+            omega (arith, same_number (length xs) k.0 (sym is ∙ k.1), k.3)
 
         by : (ys : List X) → xs ≡ ys → length xs ≤ last
         by [] is = let none = ap length is in omega (arith, none)

@@ -1,20 +1,14 @@
 -- The numbers from one on, in some order.
-use Rattle.std.proofs.Common.{◌≡◌, ℕ, ◌+◌, ◌-◌, ◌<◌, ◌≤◌, List, [], ◌∷◌, ◌++◌, get_or, Contains, refl, sym, ap, subst, ◌∙◌, arith}
+use Rattle.std.proofs.Common.{◌≡◌, ℕ, ◌+◌, ◌-◌, ◌<◌, ◌≤◌, List, [], ◌∷◌, ◌++◌, get_or, Contains, sym, ap, subst, ◌∙◌, arith}
 use Rattle.std.specs.List.{IsDistinct, range_with_len}
 use Rattle.std.specs.List.Sorted.{IsPermutation}
 use Rattle.std.specs.Prelude.{nat_eq}
 use Rattle.std.proofs.lemmas.Bool.{ne_eqb}
-use Rattle.std.proofs.lemmas.List.{map-id}
-use Rattle.std.proofs.lemmas.List.FromFn.{length-range_with_len, get_or-range_with_len, map-range_with_len_more}
+use Rattle.std.proofs.lemmas.List.FromFn.{length-range_with_len, get_or-range_with_len}
 use Rattle.std.proofs.lemmas.List.Sorted.{Contains-permutation, IsPermutation-cons, IsPermutation-sym, IsPermutation-trans, IsPermutation-to_front}
 use Rattle.std.proofs.lemmas.Map.Keys.{IsDistinct-from_apart, IsDistinct-IsPermutation}
 use Rattle.std.proofs.lemmas.Cmp.{nat_eq_equiv}
-
-pub range-push : (a n : ℕ) → range_with_len a (n + 1) ≡ range_with_len a n ++ (a + n) ∷ []
-range-push a n =
-    sym (map-id (range_with_len a (n + 1)))
-    ∙ (map-range_with_len_more (λ x. x) a n (a + n) refl
-    ∙ ap (λ (xs : List ℕ). xs ++ (a + n) ∷ []) (map-id (range_with_len a n)))
+use Rattle.desk_model.proofs.Lists.Items.{range_with_len-push}
 
 pub Contains-range : (a n x : ℕ) → a ≤ x → x < a + n → Contains (range_with_len a n) x
 Contains-range a n x from to =
@@ -51,7 +45,7 @@ module _ (n : ℕ) (ids : List ℕ) (moved : IsPermutation (range_with_len 1 n) 
   -- with the next number before them, they are again
   pub next-number : IsPermutation (range_with_len 1 (n + 1)) ((n + 1) ∷ ids)
   next-number =
-      let next : range_with_len 1 (n + 1) ≡ range_with_len 1 n ++ (n + 1) ∷ [] = range-push 1 n ∙ ap (λ (k : ℕ). range_with_len 1 n ++ k ∷ []) (omega arith) in
+      let next : range_with_len 1 (n + 1) ≡ range_with_len 1 n ++ (n + 1) ∷ [] = range_with_len-push 1 n ∙ ap (λ (k : ℕ). range_with_len 1 n ++ k ∷ []) (omega arith) in
       subst (λ (xs : List ℕ). IsPermutation xs ((n + 1) ∷ ids)) (sym next)
       (IsPermutation-trans (range_with_len 1 n ++ (n + 1) ∷ []) ((n + 1) ∷ range_with_len 1 n) ((n + 1) ∷ ids)
       (IsPermutation-to_front (range_with_len 1 n) (n + 1))

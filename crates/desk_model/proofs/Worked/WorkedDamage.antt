@@ -96,9 +96,8 @@ sound-books id (at, unsound) = unsound (
 
 no-tabs : (id : ℤ) → ¬ IsDamagedTab [] id
 no-tabs id (sorted, moved, ordered, (index, row, at, told, unsound)) =
-    let long = length_permutation [] sorted moved in
     let within = slice_get_within sorted index row at in
-    omega (arith, long, within)
+    omega (arith, length_permutation [] sorted moved, within)
 
 no-paras : (tabs : List Tab) (id : ℤ) → ¬ IsDamagedPara tabs [] id
 no-paras tabs id (row, c, named, unsound) = Contains-none row c
@@ -141,8 +140,7 @@ alone-unsound sound =
       | inl first ↦ let same = same_number 2 1 first in omega (arith, same)
       | inr (row, c, next) ↦
           let up : pos 3 ≡ pos 2 = ap (λ (p : Para). p.id +ℤ pos 1) (only second_alone row c) ∙ next in
-          let same = same_number 3 2 up in
-          omega (arith, same)
+          omega (arith, same_number 3 2 up)
     ]
 
 -- then the paragraph after the gap
