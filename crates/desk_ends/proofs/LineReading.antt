@@ -1,5 +1,5 @@
 -- A line that is read in parts.
-use Rattle.std.proofs.Common.{◌≡◌, ℕ, Bool, true, false, List, [], ◌++◌, Option, Some, Result, Ok, Err, ap, subst, ◌∙◌}
+use Rattle.std.proofs.Common.{◌≡◌, ℕ, true, false, List, [], ◌++◌, Option, Some, Ok, Err, ap, ◌∙◌}
 use Rattle.desk_ends.specs.declared.ends.Failure.{Failure}
 use Rattle.desk_ends.specs.Input.{FillsInput, Input, PassesLine, ReadsLine, UsesInput}
 use Rattle.desk_ends.specs.Lines.{HasNoFeed, kept_line, with_bytes}
@@ -54,6 +54,3 @@ module _ (F : Type 0) (a b c : Option (List ℕ)) (old mid new : Input) (line : 
     held = part.held;
     ends = (part.none, empty, going, why);
   }
-
-  pub FillsInput-was : (result this : Result Bool Failure) → FillsInput F b c mid new result → result ≡ this → FillsInput F b c mid new this
-  FillsInput-was result this fills is = subst (FillsInput F b c mid new) is fills

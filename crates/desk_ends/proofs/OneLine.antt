@@ -130,8 +130,4 @@ strip-few byte xs =
 
 -- a line that isn't kept is too long
 pub long-line : (bytes : List ℕ) → None ≡ kept_line bytes → most_line_bytes < length (without_ending bytes)
-long-line bytes is =
-    let many = kept_line-none bytes is in
-    let one = strip-few 10 bytes in
-    let two = strip-few 13 (strip_last 10 bytes) in
-    omega arith
+long-line bytes is = omega (arith, kept_line-none bytes is, strip-few 10 bytes, strip-few 13 (strip_last 10 bytes))

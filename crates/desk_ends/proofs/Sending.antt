@@ -1,8 +1,8 @@
 -- What several sends do, one after another.
 use Rattle.std.proofs.Common.{◌≡◌, ℕ, Bool, true, false, List, [], ◌++◌, Option, refl, sym, ap, subst, ◌∙◌, append_assoc}
 use Rattle.std.specs.Prelude.{IsErrAnd, Result, Ok, Err, is_ok, OnOk, OnErr}
-use Rattle.std.specs.Io.KnownBytes.{Appends, Keeps}
-use Rattle.std.proofs.KnownBytes.{Appends-nil, Appends-kept, Appends-trans}
+use Rattle.std.specs.Io.KnownBytes.{Appends}
+use Rattle.std.proofs.KnownBytes.{Appends-nil, Appends-trans}
 use Rattle.std.proofs.lemmas.Bool.{both_ways}
 use Rattle.std.proofs.lemmas.List.{append-nil}
 use Rattle.desk_ends.specs.Sending.{Transmits}
@@ -16,40 +16,15 @@ pub at_err : {T E : Type 0} (r : Result T E) (P : Type 0) → OnErr r P → is_o
 at_err (Ok x) P h e = absurd cc
 at_err (Err x) P h e = h
 
--- what holds is said of an Ok too
-pub on_ok : {T E : Type 0} (r : Result T E) (P : Type 0) → P → OnOk r P
-on_ok (Ok x) P h = h
-on_ok (Err x) P h = tt
-
 -- the exit of a `?`
 pub fails-at : {T E : Type 0} (r : Result T E) (Q : E → Type 0) → IsErrAnd r Q → is_ok r ≡ false
 fails-at (Ok x) Q h = absurd h
 fails-at (Err y) Q h = refl
 
-pub Keeps-Appends : (a b : Option (List ℕ)) → Keeps a b → Appends a b []
-Keeps-Appends a b h = Appends-kept a a b [] (Appends-nil a) h
-
 -- what went out is whole
 pub Transmits-whole : (F : Type 0) (a b : Option (List ℕ)) (text : List ℕ) (ok : Bool) → Appends a b text → ok ≡ true → Transmits F a b text [] ok
 Transmits-whole F a b text ok h t =
     record { out = text; rest = []; appends = h; begins = append-nil text; holds = λ _. refl; fails = λ f. absurd (both_ways ok f t) }
-
--- a flush
-pub Transmits-flushed : {E : Type 0} (F : Type 0) (a b : Option (List ℕ)) (r : Result (Unit {0}) E) → Keeps a b → OnErr r F → Transmits F a b [] [] (is_ok r)
-Transmits-flushed F a b r h e =
-    record { out = []; rest = []; appends = Keeps-Appends a b h; begins = refl; holds = λ _. refl; fails = at_err r F e }
-
--- the text and what is held back grow by a piece
-pub Transmits-push : (F : Type 0) (a b : Option (List ℕ)) (text held piece : List ℕ) (ok : Bool) → Transmits F a b text held ok → Transmits F a b (text ++ piece) (held ++ piece) ok
-Transmits-push F a b text held piece ok s =
-    record {
-      out = s.out;
-      rest = s.rest ++ piece;
-      appends = s.appends;
-      begins = sym (append_assoc s.out s.rest piece) ∙ ap (λ (t : List ℕ). t ++ piece) s.begins;
-      holds = λ t. ap (λ (r : List ℕ). r ++ piece) (s.holds t);
-      fails = s.fails;
-    }
 
 -- what went out, the block and what is still to come are the whole
 pub record Sending (old now : Option (List ℕ)) (block rest whole : List ℕ) : Type 0 where

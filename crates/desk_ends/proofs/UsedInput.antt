@@ -1,8 +1,8 @@
 -- What was used of an input, part after part.
-use Rattle.std.proofs.Common.{◌≡◌, ◌≢◌, ℕ, ◌+◌, ◌-◌, ◌<◌, ◌≤◌, length, Bool, true, false, List, [], ◌∷◌, ◌++◌, Option, refl, sym, ap, subst, ◌∙◌, append_assoc, arith}
+use Rattle.std.proofs.Common.{◌≡◌, ◌≢◌, ℕ, ◌+◌, ◌-◌, ◌<◌, ◌≤◌, length, List, [], ◌∷◌, ◌++◌, Option, refl, sym, ap, subst, ◌∙◌, append_assoc, arith}
 use Rattle.std.proofs.KnownBytes.{Consumes-nil, Consumes-trans}
 use Rattle.std.proofs.lemmas.List.{append-nil, length-append}
-use Rattle.desk_ends.specs.Input.{Input, KnowsEnd, Passes, PassesLine, UsesInput, UsesWaiting, most_total, unread}
+use Rattle.desk_ends.specs.Input.{Input, KnowsEnd, UsesInput, UsesWaiting, most_total, unread}
 
 pub no-parts : (these those : List ℕ) → these ++ those ≡ [] → (these ≡ []) × (those ≡ [])
 no-parts [] those e = (refl, e)
@@ -60,24 +60,10 @@ left_to_use input = most_total + length input.waiting - input.total
 pub left_to_use-fewer : (a b : Option (List ℕ)) (old new : Input) (bytes : List ℕ) → UsesInput a b old new bytes → old.total ≤ most_total → length bytes ≢ 0
     → left_to_use new < left_to_use old
 left_to_use-fewer a b old new bytes used few some =
-    let total = used.total in
-    let fewer = used.bound few in
-    let parts = sym (length-append old.waiting used.read) ∙ (ap length used.parts ∙ length-append bytes new.waiting) in
-    omega arith
+    omega (arith, used.total, used.bound few, sym (length-append old.waiting used.read) ∙ (ap length used.parts ∙ length-append bytes new.waiting))
 
 -- nothing is known of the end of an input of which nothing was read
 pub unread-knows : (a : Option (List ℕ)) → KnowsEnd a unread
 unread-knows a over = absurd (cc over)
 
 -- ---- a line that is passed on
-
-pub PassesLine-by : (whole : Bool) (old new : Input) (was line : Option (List ℕ)) → Passes whole old.waiting new.waiting was line
-    → new.total ≡ old.total → new.is_over ≡ old.is_over → PassesLine whole old new was line
-PassesLine-by true old new was line (bytes, parts, held, fed) total over =
-    (bytes, record { parts = parts; total = total; over = over }, held, fed)
-PassesLine-by false old new was line (empty, held, none) total over = (
-  record { parts = sym (ap (λ (t : List ℕ). old.waiting ++ t) empty ∙ append-nil old.waiting); total = total; over = over },
-  empty,
-  held,
-  none,
-)
