@@ -40,18 +40,12 @@ clash : (o : Option Text) (text : Text) → o ≡ None → o ≡ Some text → �
 clash o text none some = let e = sym none ∙ some in cc
 
 file_without : (rows : List Row) (action : Action) → letter_of action ≢ 116 → (text : Text) → Names rows (operand_of action) text → Names rows (codes "file") text
-file_without rows (New file) other text h = h
-file_without rows (Session file) other text h = h
-file_without rows (Export file volume width lines) other text h = h
 file_without rows (Translate table) other text h = absurd (other refl)
-file_without rows (Check file) other text h = h
+file_without rows action other text h = h
 
 table_without : (rows : List Row) (action : Action) → letter_of action ≡ 116 → (text : Text) → Names rows (operand_of action) text → Names rows (codes "table") text
-table_without rows (New file) e text h = absurd (omega (arith, e))
-table_without rows (Session file) e text h = absurd (omega (arith, e))
-table_without rows (Export file volume width lines) e text h = absurd (omega (arith, e))
 table_without rows (Translate table) e text h = h
-table_without rows (Check file) e text h = absurd (omega (arith, e))
+table_without rows action e text h = absurd (omega (arith, e))
 
 -- without its file no action is asked for but `translate`
 pub asks_no_file : (name word : Text) (rows : List Row) → name ≡ word → slice_index word 0 ≢ 116 → first_of (codes "file") rows ≡ None → (action : Action) → ¬ Asks name rows action
@@ -70,8 +64,5 @@ asks_no_table name rows is none action h =
 -- an export is asked for with each of its numbers
 pub asks_no_export : (rows : List Row) → ((volume width lines : ℕ) → Counts rows (codes "volume") volume → Counts rows (codes "width") width → Counts rows (codes "lines") lines → ⊥)
     → (action : Action) → ¬ Asks (codes "export") rows action
-asks_no_export rows without (New file) h = let e = letter_asked _ rows (New file) h in absurd (omega (arith, e))
-asks_no_export rows without (Session file) h = let e = letter_asked _ rows (Session file) h in absurd (omega (arith, e))
 asks_no_export rows without (Export file volume width lines) h = without volume width lines h.2 h.3 h.4
-asks_no_export rows without (Translate table) h = let e = letter_asked _ rows (Translate table) h in absurd (omega (arith, e))
-asks_no_export rows without (Check file) h = let e = letter_asked _ rows (Check file) h in absurd (omega (arith, e))
+asks_no_export rows without action h = let e = letter_asked _ rows action h in absurd (omega (arith, e))

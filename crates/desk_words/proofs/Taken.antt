@@ -2,14 +2,13 @@
 use Rattle.std.proofs.Common.{◌≡◌, ◌∙◌, inl, inr, ℕ, Bool, Bor, cond, true, false, not, refl, sym, ap, subst, List, [], ◌∷◌, ◌&&◌, ◌||◌, Option, Some, None, codes, true≢false, arith}
 use Rattle.std.specs.Prelude.{◌≢◌, MatchOption, ◌≤◌, IfSome, IsSomeAnd, find, is_some, option_map, unwrap_or}
 use Rattle.std.specs.Option.{option_map_or}
-use Rattle.std.specs.List.{fold, list_any}
-use Rattle.std.specs.List.{AllByRecursion as Each}
+use Rattle.std.specs.List.{fold, list_any, AllByRecursion as Each}
 use Rattle.std.specs.Str.{bytes_eq}
 use Rattle.std.specs.Str.Parse.{digits_value, without_leading_plus}
 use Rattle.clap.specs.Kinds.{check_kinds, or_else}
 use Rattle.clap.specs.Facts.{explicit_source, parser_of_value}
 use Rattle.clap.specs.Faults.{built_fault, check_fault, entered_fault, fault_of, level_fault}
-use Rattle.clap.specs.Simple.{App, Shape, argument_words, built, built_leaf, entered, label_of, names_of, rows_at, inherited, filled, help_rule, marked_built, with_index, with_leaf_noted}
+use Rattle.clap.specs.Simple.{App, Shape, argument_words, built, built_leaf, entered, label_of, names_of, rows_at, inherited, filled, help_rule, marked_built, with_index, with_leaf_noted, subcommand_of}
 use Rattle.clap.specs.Takes.{is_given}
 use Rattle.clap.specs.Values.{IsUnsignedIn, read_as, reading_of}
 use Rattle.clap.specs.ValueTests.{accepts}
@@ -24,7 +23,6 @@ use Rattle.desk_words.specs.Reading.{IsNamedByWords, NameAnAction}
 use Rattle.desk_words.specs.declared.action.Action.{Action}
 use Rattle.desk_words.specs.declared.action.Action.TheVariants.{Check, Export, New, Session, Translate}
 use Rattle.clap.specs.declared.parser.matches.ArgMatches.{ArgMatches}
-use Rattle.clap.specs.Simple.{subcommand_of}
 use Rattle.desk_words.proofs.Asking.{letter_asked, letter_of}
 use Rattle.desk_words.proofs.OneWord.{Finds, IsPlainOf, default_row, found_word, given_row, ones_found, rows_stay}
 use Rattle.desk_words.proofs.Walked.{no_fault}
@@ -251,10 +249,6 @@ other_name name rows a b x y differ = differ (sym (letter_asked name rows a x) �
 
 -- what asks for one action within the limits asks for no other past them
 limits_same : (name : Text) (rows : List Row) (a b : Action) → Asks name rows a → Asks name rows b → IsWithinLimits rows a → IsWithinLimits rows b
-limits_same name rows a (New file) x y limits = tt
-limits_same name rows a (Session file) x y limits = tt
-limits_same name rows a (Translate table) x y limits = tt
-limits_same name rows a (Check file) x y limits = tt
 limits_same name rows (New f) (Export file volume width lines) x y limits = absurd (other_name name rows (New f) (Export file volume width lines) x y (omega arith))
 limits_same name rows (Session f) (Export file volume width lines) x y limits = absurd (other_name name rows (Session f) (Export file volume width lines) x y (omega arith))
 limits_same name rows (Translate t) (Export file volume width lines) x y limits = absurd (other_name name rows (Translate t) (Export file volume width lines) x y (omega arith))
@@ -267,6 +261,7 @@ limits_same name rows (Export f v w l) (Export file volume width lines) x y limi
       λ free. sym same_width ∙ limits.1 free,
       λ free. sym same_lines ∙ limits.2 free,
     )
+limits_same name rows a b x y limits = tt
 
 abbrev IsAskedOf : Option (Text × List Row) → Action → Type 0
 IsAskedOf entered action = IsSomeAnd entered (λ found. Asks found.0 found.1 action)
