@@ -69,6 +69,4 @@ returns g c = λ choices tiles.
 pub loop-piece-smaller : goal.loop-piece-smaller
 loop-piece-smaller g c =
     let run = c.put_run-in-Some.ensures in
-    let before = ap length c.in-Some.ensures in
-    let parts = ap length run.parts in
-    omega (arith, length-append run.taken c.put_run-in-Some.new.pieces)
+    omega (arith, ap length c.in-Some.ensures, ap length run.parts, length-append run.taken c.put_run-in-Some.new.pieces)

@@ -26,11 +26,8 @@ returns-clause-copied c =
     ∙ (c.loop-place.invariant.front ∙ (take_all n c.args.bytes.now c.loop-place-test.false ∙ sym (chars-IsAscii c.args.bytes.now c.requires)))
 
 pub returns-clause-few : goal.returns-clause-few
-returns-clause-few c =
-    let same = ap length (chars-IsAscii c.args.bytes.now c.requires) in
-    omega (arith, c.if-bytes-gt-MOST_CHARACTERS.false)
+returns-clause-few c = omega (arith, ap length (chars-IsAscii c.args.bytes.now c.requires), c.if-bytes-gt-MOST_CHARACTERS.false)
 
 pub returns-then-bytes-gt-MOST_CHARACTERS-clause-many : goal.returns-then-bytes-gt-MOST_CHARACTERS-clause-many
 returns-then-bytes-gt-MOST_CHARACTERS-clause-many c =
-    let same = ap length (chars-IsAscii c.args.bytes.now c.requires) in
-    omega (arith, c.if-bytes-gt-MOST_CHARACTERS.true)
+    omega (arith, ap length (chars-IsAscii c.args.bytes.now c.requires), c.if-bytes-gt-MOST_CHARACTERS.true)
