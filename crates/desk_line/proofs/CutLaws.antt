@@ -131,9 +131,8 @@ none-whole bytes line block count split takes few request later e w =
     let lines = sym split ∙ (ap lines_of e ∙ whole-then request later w) in
     let first = heads-same line w.line block (w.block ++ lines_of later) lines in
     let same = takes-one w.line count (length w.block) (subst (λ (l : List ℕ). Takes l count) first takes) w.takes in
-    let more = whole-feeds request w in
     let all = ap feeds e ∙ (feeds-append request later ∙ ap (λ (t : List ℕ). feeds t + feeds later) w.ends) in
-    omega arith
+    omega (arith, whole-feeds request w)
 
 short-none : (bytes : List ℕ) → bytes ≢ [] → (count : ℕ) → Takes (head_line bytes) count → feeds bytes ≤ count
     → (request later : List ℕ) → bytes ≡ request ++ later → ¬ IsWhole request
@@ -143,10 +142,7 @@ short-none bytes some count takes few =
 -- what follows a request is shorter
 shorter : (bound : ℕ) (bytes request later : List ℕ) → length bytes ≤ suc bound → bytes ≡ request ++ later → request ≢ [] → length later ≤ bound
 shorter bound bytes [] later most e some = absurd (some refl)
-shorter bound bytes (b ∷ request) later most e some =
-    let sizes = ap length e in
-    let h = length-append request later in
-    omega arith
+shorter bound bytes (b ∷ request) later most e some = omega (arith, ap length e, length-append request later)
 
 -- ---- the requests of an input
 

@@ -6,8 +6,9 @@ use Rattle.desk_line.specs.Grammar.{Fit, FitsField, Flag, Gives, Grammar, Kind, 
 use Rattle.desk_line.specs.Reading.{first_of, found, read}
 use Rattle.desk_line.specs.Reply.{shown_text}
 use Rattle.desk_line.proofs.HeadLines.{some-is}
-use Rattle.desk_line.proofs.OperandLaws.{anchor-found, anchor-read, count-found, count-read, flag-found, flag-read, followed, mapped, name-found, name-read, number-found, number-read, style-found, style-read}
+use Rattle.desk_line.proofs.OperandLaws.{anchor-found, anchor-read, count-found, count-read, flag-found, flag-read, name-found, name-read, number-found, number-read, style-found, style-read}
 use Rattle.desk_line.proofs.WrittenFields.{IsClosed, IsLine, anchor-closed, anchor-written, flag-closed, flag-written, line-closed, line-with-text, name-closed, name-some, name-spelled, number-closed, number-written, rest-spelled, style-closed, style-written, text-plain}
+use Rattle.louis_table.proofs.CharacterLaws.{map_some, and_then_some}
 
 -- ---- one field
 
@@ -37,8 +38,8 @@ read-says (Gives value) (f ∷ fields) said e = absurd cc
 read-says (Rest make) fields said e = sym (some-is _ said e)
 read-says (Then kind more) [] said e = absurd cc
 read-says (Then kind more) (f ∷ fields) said e =
-    let h = followed (λ (first : Value kind × List (List ℕ)). read (more first.0) first.1) (option_map (λ (v : Value kind). (let p : Value kind × List (List ℕ) = (v, fields) in p)) (found kind f)) said e in
-    let m = mapped (λ (v : Value kind). (let p : Value kind × List (List ℕ) = (v, fields) in p)) (found kind f) h.0 h.1 in
+    let h = and_then_some (λ (first : Value kind × List (List ℕ)). read (more first.0) first.1) (option_map (λ (v : Value kind). (let p : Value kind × List (List ℕ) = (v, fields) in p)) (found kind f)) said e in
+    let m = map_some (λ (v : Value kind). (let p : Value kind × List (List ℕ) = (v, fields) in p)) (found kind f) h.0 h.1 in
     let others : read (more m.0) fields ≡ Some said = subst (λ (p : Value kind × List (List ℕ)). read (more p.0) p.1 ≡ Some said) (sym m.2) h.2 in
     (f, fields, m.0, refl, value-read kind f m.0 m.1, read-says (more m.0) fields said others)
 

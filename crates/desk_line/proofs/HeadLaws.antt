@@ -13,8 +13,9 @@ use Rattle.desk_ends.specs.Limits.{most_line_bytes}
 use Rattle.desk_line.specs.Lines.{CanBeHead}
 use Rattle.desk_line.specs.Reading.{number_in, directive_by, directive_in, query_in, or_else, command_in, head_in, head_of}
 use Rattle.desk_line.proofs.HeadLines.{head-of-text, some-none, unfound}
-use Rattle.desk_line.proofs.OperandLaws.{chosen, made-of-both, taken, mapped, number-read, number-found}
+use Rattle.desk_line.proofs.OperandLaws.{made-of-both, taken, number-read, number-found}
 use Rattle.desk_line.proofs.CommandLaws.{asked-unsaid, directive-read, directive-read-by, directive-found, query-read, query-found}
+use Rattle.louis_table.proofs.CharacterLaws.{chosen, map_some}
 
 else-read : {A : Type 0} (p q : Option A) (z : A) → or_else p q ≡ Some z → (p ≡ Some z) ⊎ ((p ≡ None) × (q ≡ Some z))
 else-read None q z e = inr (refl, e)
@@ -24,7 +25,7 @@ else-read (Some x) q z e = inl e
 plain-read : (word : List ℕ) (fields : List (List ℕ)) (head : Head) → option_map (λ directive. Do directive None) (directive_by word fields) ≡ Some head
     → (directive : Directive) × SaysDirective (word ∷ fields) directive × (head ≡ Do directive None)
 plain-read word fields head e =
-    let m = mapped (λ (directive : Directive). Do directive None) (directive_by word fields) head e in
+    let m = map_some (λ (directive : Directive). Do directive None) (directive_by word fields) head e in
     (m.0, directive-read-by word fields m.0 m.1, sym m.2)
 
 -- a command and what is expected
@@ -54,7 +55,7 @@ head-read line head e =
     let tests = and_parts (leb (length line) most_line_bytes) (is_utf8 line) h.0 in
     let text : CanBeHead line = record { short = leb-true (length line) most_line_bytes tests.0; utf8 = IsUtf8-from_is_utf8 line tests.1 } in
     elim (else-read (option_map Ask (query_in (fields_of line))) (command_in (fields_of line)) head h.1) [
-      | inl p ↦ let m = mapped Ask (query_in (fields_of line)) head p in asks m.0 text (query-read (fields_of line) m.0 m.1) (sym m.2)
+      | inl p ↦ let m = map_some Ask (query_in (fields_of line)) head p in asks m.0 text (query-read (fields_of line) m.0 m.1) (sym m.2)
       | inr p ↦ let c = command-read (fields_of line) head p.1 in does c.0 c.1 c.2 text c.3 c.4 c.5
     ]
 

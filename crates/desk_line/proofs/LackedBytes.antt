@@ -1,10 +1,10 @@
 -- Texts in which a byte doesn't stand.
-use Rattle.std.proofs.Common.{◌≡◌, ◌≢◌, ℕ, zero, suc, ◌+◌, ◌/◌, ◌%◌, ◌<◌, Bool, true, false, not, cond, eqb, ltb, List, [], ◌∷◌, get_or, refl, sym, ◌∙◌, inl, inr, arith}
+use Rattle.std.proofs.Common.{◌≡◌, ◌≢◌, ℕ, zero, suc, ◌+◌, ◌/◌, ◌%◌, ◌<◌, Bool, true, false, not, cond, eqb, ltb, List, [], ◌∷◌, get_or, sym, ◌∙◌, inl, inr, arith}
 use Rattle.std.specs.Prelude.{decimal}
 use Rattle.std.specs.Char.{encode_utf8}
 use Rattle.std.specs.Fmt.{digits, digits_onto, digit_glyph}
 use Rattle.std.specs.List.{All, AllByRecursion, list_all}
-use Rattle.std.proofs.lemmas.Bool.{and_parts, cases_Bool, eq-eqb, eqb-true}
+use Rattle.std.proofs.lemmas.Bool.{and_parts, cases_Bool, eq-eqb, eqb-true, not-true}
 use Rattle.std.proofs.lemmas.List.Elements.{All-append, All-cons, All-from_get_or, All-head, All-nil, All-tail}
 use Rattle.std.proofs.lemmas.List.{append-nil}
 use Rattle.std.proofs.lemmas.Str.{inside_one}
@@ -29,11 +29,7 @@ pub lacks : (byte : ℕ) (text : List ℕ) → list_all (λ b. not (eqb b byte))
 lacks byte [] e = All-nil (λ b. eqb b byte ≡ false)
 lacks byte (b ∷ text) e =
     let parts = and_parts (not (eqb b byte)) (list_all (λ x. not (eqb x byte)) text) e in
-    All-cons (λ x. eqb x byte ≡ false) b text (turned (eqb b byte) parts.0) (lacks byte text parts.1)
-  where
-    turned : (t : Bool) → not t ≡ true → t ≡ false
-    turned true f = absurd cc
-    turned false f = refl
+    All-cons (λ x. eqb x byte ≡ false) b text (not-true (eqb b byte) parts.0) (lacks byte text parts.1)
 
 module _ (byte : ℕ) where
   abbrev Other : ℕ → Type 0

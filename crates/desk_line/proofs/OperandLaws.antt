@@ -10,6 +10,7 @@ use Rattle.std.proofs.lemmas.Slice.Eq.{bytes_eq-Decides}
 use Rattle.std.proofs.lemmas.Str.{digit_value_digit}
 use Rattle.std.proofs.lemmas.Str.Parse.{digit_from_value}
 use Rattle.louis_table.specs.Table.{most_lines}
+use Rattle.louis_table.proofs.CharacterLaws.{chosen, map_some, and_then_some}
 use Rattle.desk_model.specs.declared.command.Anchor.{Anchor}
 use Rattle.desk_model.specs.declared.command.Anchor.TheVariants.{Front, End, Para}
 use Rattle.desk_model.specs.declared.style.Style.{Style}
@@ -21,11 +22,6 @@ use Rattle.desk_line.proofs.DigitValues.{digit-in-range}
 use Rattle.desk_line.proofs.HeadLines.{some-is, some-none}
 
 -- ---- tests
-
--- which way a test went
-pub chosen : {A : Type 0} (b : Bool) (x y z : A) → cond b x y ≡ z → ((b ≡ true) × (x ≡ z)) ⊎ ((b ≡ false) × (y ≡ z))
-chosen true x y z e = inl (refl, e)
-chosen false x y z e = inr (refl, e)
 
 -- a test without an else
 pub taken : {A : Type 0} (b : Bool) (x : Option A) (z : A) → cond b x None ≡ Some z → (b ≡ true) × (x ≡ Some z)
@@ -44,15 +40,6 @@ one-of-two field this that x y z e =
       | inl p ↦ inl (word-is field this p.0, sym (some-is x z p.1))
       | inr p ↦ let q = taken (bytes_eq field that) (Some y) z p.1 in inr (word-is field that q.0, sym (some-is y z q.1))
     ]
-
--- what something that is there gives
-pub mapped : {A B : Type 0} (make : A → B) (o : Option A) (z : B) → option_map make o ≡ Some z → (x : A) × (o ≡ Some x) × (make x ≡ z)
-mapped make None z e = absurd cc
-mapped make (Some x) z e = (x, refl, some-is (make x) z e)
-
-pub followed : {A B : Type 0} (f : A → Option B) (o : Option A) (z : B) → option_and_then f o ≡ Some z → (x : A) × (o ≡ Some x) × (f x ≡ Some z)
-followed f None z e = absurd cc
-followed f (Some x) z e = (x, refl, e)
 
 -- both of what two give
 pub made-of-both : {A B C : Type 0} (make : A → B → C) (p : Option A) (q : Option B) (z : C) → of_both make p q ≡ Some z
@@ -125,7 +112,7 @@ number-found field number h =
 pub count-read : (field : List ℕ) (count : ℕ) → count_in field ≡ Some count → IsNumber field count × (count ≤ most_lines)
 unfolding count_in
 count-read field count e =
-    let h = followed few_lines (number_in field) count e in
+    let h = and_then_some few_lines (number_in field) count e in
     let few = taken (leb h.0 most_lines) (Some h.0) count h.2 in
     let same = some-is h.0 count few.1 in
     (subst (IsNumber field) same (number-read field h.0 h.1), subst (λ (n : ℕ). n ≤ most_lines) same (leb-true h.0 most_lines few.0))
@@ -144,7 +131,7 @@ anchor-read field anchor e =
       | inl p ↦ front (word-is field (codes "front") p.0) (sym (some-is Front anchor p.1))
       | inr p ↦ elim (chosen (bytes_eq field (codes "end")) _ _ _ p.1) [
         | inl q ↦ end (word-is field (codes "end") q.0) (sym (some-is End anchor q.1))
-        | inr q ↦ let m = mapped Para (number_in field) anchor q.1 in after m.0 (number-read field m.0 m.1) (sym m.2)
+        | inr q ↦ let m = map_some Para (number_in field) anchor q.1 in after m.0 (number-read field m.0 m.1) (sym m.2)
       ]
     ]
 

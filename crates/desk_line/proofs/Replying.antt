@@ -1,9 +1,8 @@
 -- What is put for a reply is its text.
-use Rattle.std.proofs.Common.{◌≡◌, ◌≢◌, ◌⊎◌, inl, inr, ℕ, Bor, Bool, true, false, eqb, arith, Some, None, List, [], ◌∷◌, ◌++◌, length, Option, refl, sym, ap, ◌∙◌}
+use Rattle.std.proofs.Common.{◌≡◌, ◌≢◌, ◌⊎◌, inl, inr, ℕ, Bor, Bool, Some, None, List, [], ◌∷◌, ◌++◌, length, Option, refl, sym, ap, ◌∙◌}
 use Rattle.std.specs.Prelude.{codes, decimal}
 use Rattle.std.specs.List.{flat_map}
 use Rattle.std.specs.Str.{chars}
-use Rattle.std.proofs.lemmas.Bool.{both_ways, eqb-true}
 use Rattle.std.proofs.lemmas.List.{append-nil}
 use Rattle.std.proofs.lemmas.Str.{chars-nil}
 use Rattle.desk_ends.specs.Sending.{Transmits}
@@ -102,14 +101,6 @@ no-details refusal (inr (inr (inr (inr (inr (inr (inr (inr (inl e))))))))) = sym
 no-details refusal (inr (inr (inr (inr (inr (inr (inr (inr (inr (inl e)))))))))) = sym (ap details e)
 no-details refusal (inr (inr (inr (inr (inr (inr (inr (inr (inr (inr (inl e))))))))))) = sym (ap details e)
 no-details refusal (inr (inr (inr (inr (inr (inr (inr (inr (inr (inr (inr e))))))))))) = sym (ap details e)
-
--- whether bytes are there
-pub none-there : (xs : List ℕ) (r : Bool) → r ≡ eqb (length xs) 0 → r ≡ true → xs ≡ []
-none-there [] r e t = refl
-none-there (x ∷ xs) r e t = let z = eqb-true (length (x ∷ xs)) 0 (sym e ∙ t) in absurd (omega arith)
-
-pub some-there : (xs : List ℕ) (r : Bool) → r ≡ eqb (length xs) 0 → r ≡ false → xs ≢ []
-some-there xs r e f n = absurd (both_ways r f (e ∙ ap (λ (l : List ℕ). eqb (length l) 0) n))
 
 -- the refusals of a place, and of a cell
 pub place-refused : (book : Book) (id place : ℕ) (query : Query) (refusal : Refusal) → query ≡ queries.WhereIs id place

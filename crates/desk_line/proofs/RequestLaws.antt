@@ -7,6 +7,7 @@ use Rattle.std.proofs.lemmas.Bool.{lt-ltb, ltb-true, le-leb, leb-true, and_parts
 use Rattle.std.proofs.lemmas.Str.{IsUtf8-nil}
 use Rattle.louis_table.specs.Lines.{lines_of}
 use Rattle.louis_table.proofs.LineLaws.{lines_of-split}
+use Rattle.louis_table.proofs.CharacterLaws.{and_then_some}
 use Rattle.desk_line.specs.declared.head.Head.{Head}
 use Rattle.desk_line.specs.declared.head.Head.TheVariants as heads
 use Rattle.desk_line.specs.declared.request.Request.{Request}
@@ -17,7 +18,7 @@ use Rattle.desk_line.specs.Reading.{are_lines, head_line, head_in, head_of, quer
 use Rattle.desk_line.specs.Request.{AsksForMemory, HasHead, IsNoRequest, Reads, Takes, said, unsaid, block_lines, request_of}
 use Rattle.desk_line.proofs.HeadLines.{some-is, some-none, head-of-text}
 use Rattle.desk_line.proofs.HeadLaws.{head-read, head-found}
-use Rattle.desk_line.proofs.OperandLaws.{taken, followed}
+use Rattle.desk_line.proofs.OperandLaws.{taken}
 
 -- ---- lines
 
@@ -47,10 +48,10 @@ nothing-said = head-of-text [] (lit≤ tt) IsUtf8-nil
 
 pub request-read : (bytes : List ℕ) (request : Request) → request_in bytes ≡ Some request → Reads bytes request
 unfolding request_in
-request-read [] request e = let n = nothing-said in absurd (let h = followed (with_text (after_first_line [])) (head_of (head_line [])) request e in cc)
+request-read [] request e = let n = nothing-said in absurd (let h = and_then_some (with_text (after_first_line [])) (head_of (head_line [])) request e in cc)
 request-read (b ∷ bytes) request e =
     let all = b ∷ bytes in
-    let h = followed (with_text (after_first_line (b ∷ bytes))) (head_of (head_line (b ∷ bytes))) request e in
+    let h = and_then_some (with_text (after_first_line (b ∷ bytes))) (head_of (head_line (b ∷ bytes))) request e in
     let t = taken (are_lines (lines_of (after_first_line (b ∷ bytes))) (block_lines h.0)) (Some (request_of h.0 (after_first_line (b ∷ bytes)))) request h.2 in
     let counted = lines-counted (lines_of (after_first_line (b ∷ bytes))) (block_lines h.0) t.0 in
     record {

@@ -304,8 +304,7 @@ none-within-a-line request later e w =
     let feeds-of = feeds-append request later in
     let h : 0 ≡ feeds (request ++ later) = ap feeds e in
     let some : feeds request ≡ feeds (w.front ++ 10 ∷ []) = ap feeds w.ends in
-    let one = feeds-append w.front (10 ∷ []) in
-    omega arith
+    omega (arith, feeds-append w.front (10 ∷ []))
 
 whole-of-a-cut-input : WholeRequests (codes "version\nstrike") (codes "version\n" ∷ [])
 whole-of-a-cut-input = (codes "strike", refl, asked-version, none-within-a-line)

@@ -4,14 +4,15 @@ use Rattle.std.proofs.lemmas.Str.{encodes-chars}
 use Rattle.desk_model.specs.HistoryItems.{TellsOf}
 use Rattle.desk_ends.proofs.Sending.{Transmits-same}
 use Rattle.desk_line.specs.Reply.{shown_text}
-use Rattle.desk_line.proofs.Replying.{unnamed-fields, named-fields, undo-fields, none-there, some-there}
+use Rattle.desk_line.proofs.Replying.{unnamed-fields, named-fields, undo-fields}
 use Rattle.desk_line.proofs.shown.put_entry.Goals as goal
+use Rattle.louis_table.proofs.StepLaws.{nil_from_test, not_nil_from_test}
 
 pub returns-then-is_empty : goal.returns-then-is_empty
 returns-then-is_empty g c = λ entry tells.
     let at = c.in-Corrected in
     Transmits-same c.args.block.now
-    (unnamed-fields entry c.args.item.now.number at.start at.count at.text at.who (subst (TellsOf entry) at.is tells) (none-there at.who.now c.is_empty.result c.is_empty.ensures c.if-is_empty.true)
+    (unnamed-fields entry c.args.item.now.number at.start at.count at.text at.who (subst (TellsOf entry) at.is tells) (nil_from_test at.who.now c.is_empty.result c.is_empty.ensures c.if-is_empty.true)
     c.as_bytes-number.result.now c.as_bytes-first.result.now c.as_bytes-size.result.now c.as_bytes-text.result.now
     (c.as_bytes-number.ensures.value ∙ c.format.ensures.text) (c.as_bytes-first.ensures.value ∙ c.format-in-Corrected.ensures.text)
     (c.as_bytes-size.ensures.value ∙ c.format-in-Corrected-2.ensures.text)
@@ -22,7 +23,7 @@ pub returns-else-is_empty : goal.returns-else-is_empty
 returns-else-is_empty g c = λ entry tells.
     let at = c.in-Corrected in
     Transmits-same c.args.block.now
-    (named-fields entry c.args.item.now.number at.start at.count at.text at.who (subst (TellsOf entry) at.is tells) (some-there at.who.now c.is_empty.result c.is_empty.ensures c.if-is_empty.false)
+    (named-fields entry c.args.item.now.number at.start at.count at.text at.who (subst (TellsOf entry) at.is tells) (not_nil_from_test at.who.now c.is_empty.result c.is_empty.ensures c.if-is_empty.false)
     c.as_bytes-number.result.now c.as_bytes-who.result.now c.as_bytes-first.result.now c.as_bytes-size.result.now c.as_bytes-text.result.now
     (c.as_bytes-number.ensures.value ∙ c.format.ensures.text)
     (sym (encodes-chars c.as_bytes-who.result.now c.as_bytes-who.ensures.utf8) ∙ ap shown_text (ap chars c.as_bytes-who.ensures.value)) c.as_bytes-who.ensures.value
