@@ -1,10 +1,9 @@
 -- Cells and their bytes.
-use Rattle.std.proofs.Common.{◌≡◌, ℕ, zero, suc, ◌-◌, ◌<◌, ◌≤◌, ◌⊎◌, Bool, true, false, ◌&&◌, inl, inr, List, [], ◌∷◌, ◌++◌, length, take, Option, Some, None, refl, sym, ap, ◌∙◌, arith}
+use Rattle.std.proofs.Common.{◌≡◌, ℕ, zero, suc, ◌-◌, ◌<◌, Bool, true, ◌&&◌, inl, inr, List, [], ◌∷◌, ◌++◌, length, Option, Some, None, refl, sym, ap, ◌∙◌, arith}
 use Rattle.std.specs.Prelude.{map, replicate, All, IfSome, is_some, nat_lt, slice_get, slice_index}
-use Rattle.std.proofs.lemmas.Bool.{both_ways, cases_lt, cond-false, le-ltb, lt-ltb}
+use Rattle.std.proofs.lemmas.Bool.{both_ways, cases_lt, cond-false, le-ltb, lt-ltb, and_parts}
 use Rattle.std.proofs.lemmas.List.{map-append}
 use Rattle.cell_core.specs.Ascii.{ascii_cell, ascii_masks}
-use Rattle.cell_core.specs.Cell.{HasDot}
 use Rattle.cell_core.proofs.AsciiLaws.{ascii_bytes, ascii_cell-bytes, same_byte}
 use Rattle.desk_brf.specs.Placing.{IsAscii}
 use Rattle.desk_brf.specs.Volume.{IsSixDot}
@@ -63,18 +62,9 @@ ascii-text (cell ∷ cells) all =
     ap (λ (o : Option ℕ). o ∷ map ascii_cell (text_of cells)) (ascii_cell-bytes cell (all 0 0 (omega arith)))
     ∙ ap (λ (xs : List (Option ℕ)). Some cell ∷ xs) (ascii-text cells (λ k d lt. all (suc k) d (omega arith)))
 
--- a cell of six dots has no dot above
-pub six_dots-none : (cell : ℕ) → IsSixDot cell → HasDot cell 7 ⊎ HasDot cell 8 → ⊥
-six_dots-none cell small (inl h) = omega (arith, small, h)
-six_dots-none cell small (inr h) = omega (arith, small, h)
-
 below : List ℕ → Bool
 below [] = true
 below (x ∷ xs) = nat_lt x 64 && below xs
-
-both : (a b : Bool) → (a && b) ≡ true → (a ≡ true) × (b ≡ true)
-both true b e = (refl, e)
-both false b e = absurd cc
 
 below-at : (xs : List ℕ) → below xs ≡ true → (k x : ℕ) → slice_get xs k ≡ Some x → x < 64
 unfolding below
@@ -83,9 +73,9 @@ below-at (y ∷ xs) all zero x e =
     let same : y ≡ x = cc in
     elim (cases_lt x 64) [
       | inl lt ↦ lt
-      | inr le ↦ absurd (both_ways (nat_lt x 64) (le-ltb x 64 le) (ap (λ n. nat_lt n 64) (sym same) ∙ (both _ _ all).0))
+      | inr le ↦ absurd (both_ways (nat_lt x 64) (le-ltb x 64 le) (ap (λ n. nat_lt n 64) (sym same) ∙ (and_parts _ _ all).0))
     ]
-below-at (y ∷ xs) all (suc k) x e = below-at xs (both _ _ all).1 k x e
+below-at (y ∷ xs) all (suc k) x e = below-at xs (and_parts _ _ all).1 k x e
 
 masks-below : below ascii_masks ≡ true
 unfolding below
@@ -102,8 +92,3 @@ six_dots-byte byte cell e =
 pub six_dots-some : (cell : ℕ) (byte : Option ℕ) → is_some byte ≡ true → IfSome byte (λ b. ascii_cell b ≡ Some cell) → IsSixDot cell
 six_dots-some cell None there h = cc
 six_dots-some cell (Some byte) there h = six_dots-byte byte cell h
-
-pub length_take : (n : ℕ) (cells : List ℕ) → n ≤ length cells → length (take n cells) ≡ n
-length_take zero cells le = refl
-length_take (suc n) [] le = absurd (omega arith)
-length_take (suc n) (cell ∷ cells) le = ap suc (length_take n cells (omega arith))

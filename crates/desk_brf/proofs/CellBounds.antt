@@ -61,25 +61,17 @@ module _ (meaning : Meaning) (few : HasFewCells meaning) (print : List ℕ) wher
 
   choice_cells-few : (choice : Choice) → length (cells_of meaning print choice) ≤ 21000000
   choice_cells-few choice =
-      let sign = sign_at-few choice.start in
       let own = own-few (slice_get print choice.start) choice.rule in
-      let both = length-append (sign_at meaning print choice.start) (chosen_cells meaning print choice.start choice.rule) in
-      omega (arith, sign, own, both)
+      omega (arith, sign_at-few choice.start, own, length-append (sign_at meaning print choice.start) (chosen_cells meaning print choice.start choice.rule))
 
   covers-few : (i j : ℕ) (t : List Choice) → Covers meaning print i t j → length (braille meaning print t) + i * 21000000 ≤ j * 21000000
   covers-few i j [] e = omega (arith, e)
   covers-few i j (choice ∷ t) h =
-      let here = choice_cells-few choice in
-      let rest = covers-few choice.end j t h.2 in
       let both = length-append (cells_of meaning print choice) (braille meaning print t) in
-      let end = h.1.end in
-      let some = span-positive meaning print i choice.rule h.1.chosen in
-      omega (arith, here, rest, both, end, some)
+      omega (arith, choice_cells-few choice, covers-few choice.end j t h.2, both, h.1.end, span-positive meaning print i choice.rule h.1.chosen)
 
 -- a paragraph of a sound book has few cells
 pub braille-few : (book : Book) (paragraph : Paragraph) (cells : List ℕ) → IsSound book → Contains book.paragraphs paragraph → IsBraille book paragraph cells → length cells ≤ 84000000000
 braille-few book paragraph cells sound there (meaning, choices, by, is) =
-    let short = short-sound book paragraph (All-contains (IsSoundParagraph book) book.paragraphs paragraph sound.paragraphs there) in
     let few = covers-few meaning (few_cells WithNumericMode by.text meaning by.means) (print_of paragraph) 0 (length (print_of paragraph)) choices by.tiles in
-    let e = ap length is in
-    omega (arith, short, few, e)
+    omega (arith, short-sound book paragraph (All-contains (IsSoundParagraph book) book.paragraphs paragraph sound.paragraphs there), few, ap length is)

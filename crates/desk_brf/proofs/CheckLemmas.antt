@@ -37,11 +37,7 @@ module _ (book : Book) (sound : IsSound book) (count : ℕ) (left : List Paragra
       record { passed = walking.passed ++ paragraph ∷ []; all = parts ∙ sym (append_assoc walking.passed (paragraph ∷ []) others); few = omega (arith, le, few, longer) }
 
   pub Walking-room : count + 1 < 2 ^ 64
-  Walking-room =
-      let few = walking.few in
-      let size = ap length parts ∙ length-append walking.passed (paragraph ∷ others) in
-      let most = sound.few_paragraphs in
-      omega (arith, few, size, most)
+  Walking-room = omega (arith, walking.few, ap length parts ∙ length-append walking.passed (paragraph ∷ others), sound.few_paragraphs)
 
   module _ (id : ℕ) (same : id ≡ paragraph.id) where
     found : paragraph_of book id ≡ Some paragraph

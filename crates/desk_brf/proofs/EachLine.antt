@@ -100,11 +100,7 @@ cells_of_pieces-ends (p ∷ ps) some all (front, e) = with_blanks-ends p ps all.
 
 cells_of_pieces-some : (ps : List (List ℕ)) → 0 < length ps → AreWords HasDots ps → 0 < length (cells_of_pieces ps)
 cells_of_pieces-some [] some all = absurd (omega (arith, some))
-cells_of_pieces-some (p ∷ ps) some all =
-    let e = ap length (cells_of_pieces-led p ps) in
-    let both = length-append p (with_blanks ps) in
-    let cells = all.0.0 in
-    omega (arith, e, both, cells)
+cells_of_pieces-some (p ∷ ps) some all = omega (arith, ap length (cells_of_pieces-led p ps), length-append p (with_blanks ps), all.0.0)
 
 -- ---- bytes
 

@@ -3,7 +3,7 @@ use Rattle.std.proofs.Common.{◌≡◌, ℕ, zero, suc, ◌+◌, ◌-◌, ◌<�
 use Rattle.std.specs.Prelude.{replicate, All, filter}
 use Rattle.std.specs.List.{AllByRecursion, slice_split, onto_first}
 use Rattle.std.proofs.lemmas.Bool.{cases_lt, cases_Bool}
-use Rattle.std.proofs.lemmas.List.Elements.{All-take, All-drop}
+use Rattle.std.proofs.lemmas.List.Elements.{All-take, All-drop, All-cons, All-nil}
 use Rattle.desk_brf.specs.Placing.{IsAscii, IsText, IsLine, IsPlacing, cells_of_pieces}
 use Rattle.desk_brf.specs.Laying.{with_blanks, AreLaid}
 use Rattle.desk_brf.specs.Volume.{IsSixDot}
@@ -25,23 +25,16 @@ size [] = 0
 size (w ∷ ws) = length w + size ws
 
 module _ (P : ℕ → Type 0) where
-  all_cons : (cell : ℕ) (cells : List ℕ) → P cell → All P cells → All P (cell ∷ cells)
-  all_cons cell cells h all zero d lt = h
-  all_cons cell cells h all (suc k) d lt = all k d (omega arith)
-
-  all_nil : All P []
-  all_nil k d lt = absurd (omega (arith, lt))
-
   pub onto : (cell : ℕ) (parts : List (List ℕ)) → P cell → AllByRecursion (All P) parts → AllByRecursion (All P) (onto_first cell parts)
-  onto cell [] h all = (all_cons cell [] h all_nil, tt)
-  onto cell (part ∷ parts) h all = (all_cons cell part h all.0, all.1)
+  onto cell [] h all = (All-cons P cell [] h (All-nil P), tt)
+  onto cell (part ∷ parts) h all = (All-cons P cell part h all.0, all.1)
 
   parts_six : (cells : List ℕ) → All P cells → AllByRecursion (All P) (slice_split is_blank cells)
-  parts_six [] all = (all_nil, tt)
+  parts_six [] all = ((All-nil P), tt)
   parts_six (cell ∷ cells) all =
       let rest : AllByRecursion (All P) (slice_split is_blank cells) = parts_six cells (λ k d lt. all (suc k) d (omega arith)) in
       elim (cases_Bool (is_blank cell)) [
-        | inl e ↦ rw e (all_nil, rest)
+        | inl e ↦ rw e ((All-nil P), rest)
         | inr e ↦ rw e (onto cell (slice_split is_blank cells) (all 0 0 (omega arith)) rest)
       ]
 

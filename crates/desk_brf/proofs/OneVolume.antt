@@ -82,11 +82,7 @@ module _ (layout : Layout) (lines : List Line) (bytes texts : List ℕ) (n m : �
   filled : (blank : ℕ) (pages : List (List Line)) → flat_map (λ page. page) pages ≡ lines ++ replicate blank [] → All (λ page. length page ≡ text_lines layout) pages
       → length lines + blank ≡ length pages * text_lines layout
   filled blank pages e all =
-      let both = length-append lines (replicate blank []) in
-      let empty = length-replicate {A = Line} blank [] in
-      let size = ap length e in
-      let joined = joined-length (text_lines layout) pages all in
-      omega (arith, both, empty, size, joined)
+      omega (arith, length-append lines (replicate blank []), length-replicate {A = Line} blank [], ap length e, joined-length (text_lines layout) pages all)
 
   counts : length q.pages ≡ length p.pages
   counts =
@@ -95,9 +91,8 @@ module _ (layout : Layout) (lines : List Line) (bytes texts : List ℕ) (n m : �
 
   blanks : q.blank ≡ p.blank
   blanks =
-      let e = filled p.blank p.pages p.holds p.full in
       let f = filled q.blank q.pages q.holds q.full ∙ ap (λ k. k * text_lines layout) counts in
-      omega (arith, e, f)
+      omega (arith, filled p.blank p.pages p.holds p.full, f)
 
   pages-one : (texts ≡ bytes) × (m ≡ n)
   pages-one =

@@ -12,9 +12,8 @@ use Rattle.desk_brf.specs.Layout.{Layout}
 use Rattle.desk_brf.specs.Laying.{PutsLines, PutsParagraph, page_end, bytes_of_lines, AreLaid}
 use Rattle.desk_brf.specs.Pages.{with_ending}
 use Rattle.desk_brf.specs.Placing.{first_indent, other_indent}
-use Rattle.desk_brf.specs.Volume.{gap_before}
+use Rattle.desk_brf.specs.Volume.{gap_before, IsSixDot}
 use Rattle.desk_brf.specs.Words.{is_blank, has_cells, words, IsAtWord}
-use Rattle.desk_brf.specs.Volume.{IsSixDot}
 use Rattle.desk_brf.proofs.ExistLemmas.{AreWords, placed-some}
 use Rattle.desk_brf.proofs.SendLemmas.{Transmits-then, Transmits-stop, Transmits-same}
 

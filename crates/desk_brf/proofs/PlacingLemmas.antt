@@ -11,10 +11,7 @@ head-same x y xs ys e = (let h : x ≡ y = cc in h, let t : xs ≡ ys = cc in t)
 
 -- the first piece is no longer than all
 cells_of_pieces-first : (first : List ℕ) (pieces : List (List ℕ)) → length first ≤ length (cells_of_pieces (first ∷ pieces))
-cells_of_pieces-first first pieces =
-    let e = ap length (cells_of_pieces-led first pieces) in
-    let k = length-append first (with_blanks pieces) in
-    omega (arith, e, k)
+cells_of_pieces-first first pieces = omega (arith, ap length (cells_of_pieces-led first pieces), length-append first (with_blanks pieces))
 
 -- parts of one list of which the first are as long
 same_parts : (x y a b : List ℕ) → x ++ a ≡ y ++ b → length x ≡ length y → (x ≡ y) × (a ≡ b)
@@ -46,25 +43,16 @@ fronts (x ∷ p) (y ∷ q) l m e =
     by (Fronts.shorter next more f g) h = Fronts.shorter next more (ap (λ (z : List ℕ). z ∷ p) h ∙ ap (λ (zs : List (List ℕ)). y ∷ zs) f) g
 
 with_blanks-more : (p : List (List ℕ)) (next : List ℕ) (more : List (List ℕ)) → length (with_blanks (p ++ next ∷ [])) ≤ length (with_blanks (p ++ next ∷ more))
-with_blanks-more [] next more =
-    let a = length-append next [] in
-    let b = length-append next (with_blanks more) in
-    omega (arith, a, b)
+with_blanks-more [] next more = omega (arith, length-append next [], length-append next (with_blanks more))
 with_blanks-more (x ∷ p) next more =
-    let a = length-append x (with_blanks (p ++ next ∷ [])) in
-    let b = length-append x (with_blanks (p ++ next ∷ more)) in
-    let r = with_blanks-more p next more in
-    omega (arith, a, b, r)
+    omega (arith, length-append x (with_blanks (p ++ next ∷ [])), length-append x (with_blanks (p ++ next ∷ more)), with_blanks-more p next more)
 
 cells_of_pieces-more : (p : List (List ℕ)) (next : List ℕ) (more : List (List ℕ)) → 0 < length p → length (cells_of_pieces (p ++ next ∷ [])) ≤ length (cells_of_pieces (p ++ next ∷ more))
 cells_of_pieces-more [] next more some = absurd (omega (arith, some))
 cells_of_pieces-more (x ∷ p) next more some =
     let e = ap length (cells_of_pieces-led x (p ++ next ∷ [])) in
     let f = ap length (cells_of_pieces-led x (p ++ next ∷ more)) in
-    let a = length-append x (with_blanks (p ++ next ∷ [])) in
-    let b = length-append x (with_blanks (p ++ next ∷ more)) in
-    let r = with_blanks-more p next more in
-    omega (arith, e, f, a, b, r)
+    omega (arith, e, f, length-append x (with_blanks (p ++ next ∷ [])), length-append x (with_blanks (p ++ next ∷ more)), with_blanks-more p next more)
 
 module _ (room : ℕ) (words p l q m : List (List ℕ)) where
   not_both : (front back : List ℕ) (others : List (List ℕ)) → words ≡ (front ++ back) ∷ others → length front ≡ room → 0 < length back
@@ -75,10 +63,7 @@ module _ (room : ℕ) (words p l q m : List (List ℕ)) where
       by [] f none fits = absurd (omega (arith, none))
       by (first ∷ pieces) f _ fits =
           let h = head-same (front ++ back) first others (pieces ++ l) (sym e ∙ f) in
-          let size = length-append front back in
-          let whole = ap length h.0 in
-          let long = cells_of_pieces-first first pieces in
-          omega (arith, size, whole, long, at, some, fits)
+          omega (arith, length-append front back, ap length h.0, cells_of_pieces-first first pieces, at, some, fits)
 
 -- a line takes the same pieces always
 pub line-one : (room : ℕ) (words p l q m : List (List ℕ)) → IsLine room words p l → IsLine room words q m → (p ≡ q) × (l ≡ m)
@@ -118,18 +103,6 @@ placed-first width first other words pieces left (l ∷ lines) line is text (p, 
       ap (λ (x : List ℕ). x ∷ lines) (text-one first p pieces l line (sym same.0) text' text),
       subst (λ (ws : List (List ℕ)). AreLaid width other other ws lines) (sym same.1) placed,
     )
-
--- words are placed in one way
-pub placed-one : (width first other : ℕ) (words lines others : List (List ℕ)) → AreLaid width first other words lines → AreLaid width first other words others → lines ≡ others
-placed-one width first other words [] [] h k = refl
-placed-one width first other words [] (y ∷ others) none (p, l, is, text, placed) =
-    absurd (line-none (width - first) p l (subst (λ (ws : List (List ℕ)). IsLine (width - first) ws p l) none is))
-placed-one width first other words (x ∷ lines) [] (p, l, is, text, placed) none =
-    absurd (line-none (width - first) p l (subst (λ (ws : List (List ℕ)). IsLine (width - first) ws p l) none is))
-placed-one width first other words (x ∷ lines) (y ∷ others) (p, l, is, text, placed) (q, m, is', text', placed') =
-    let same = line-one (width - first) words p l q m is is' in
-    ap (λ (z : List ℕ). z ∷ lines) (text-one first p q x y same.0 text text')
-    ∙ ap (λ (zs : List (List ℕ)). y ∷ zs) (placed-one width other other m lines others (subst (λ (ws : List (List ℕ)). AreLaid width other other ws lines) same.1 placed) placed')
 
 -- there is one placing
 pub placing-one : (first other : ℕ) (words : List (List ℕ)) (lines others : List (List (List ℕ))) → IsPlacing first other words lines → IsPlacing first other words others → lines ≡ others

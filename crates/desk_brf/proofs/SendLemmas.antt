@@ -50,9 +50,6 @@ page_end-full layout n t w e f full =
     rw (e, f, at)
 
 module _ (n t : ℕ) (some : 0 < t) where
-  missing : ℕ
-  missing = (t - n % t) % t
-
   cases : (n % t ≡ 0) ⊎ (0 < n % t)
   cases = by (n % t)
     where
@@ -86,8 +83,7 @@ number_line-short width number narrow fits =
     let letters : length (map digit_letter (decimal number)) ≡ length (decimal number) = length-map (decimal number) digit_letter in
     let text : length (number_text number) ≡ suc (length (decimal number)) = ap suc letters in
     let all = length-append (replicate (width - length (number_text number)) 32) (number_text number) in
-    let blanks = length-replicate {A = ℕ} (width - length (number_text number)) 32 in
-    omega (arith, digits, text, all, blanks, narrow)
+    omega (arith, digits, text, all, length-replicate {A = ℕ} (width - length (number_text number)) 32, narrow)
 
 -- the same, said otherwise
 pub Transmits-told : (F : Type 0) (a b : Option (List ℕ)) (x held : List ℕ) (ok told : Bool) → ok ≡ told → Transmits F a b x held ok → Transmits F a b x held told

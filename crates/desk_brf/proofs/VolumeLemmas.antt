@@ -39,8 +39,7 @@ counted : (front : List Entry) (k c : ℕ) (p : Paragraph) → c ≡ count_by op
 counted front k c p count first =
     let all = sum_by-append (λ (x : Entry). cond (opens_volume x) 1 0) front ((k, p) ∷ []) in
     let same = ap (λ b. let n : ℕ = cond (b || p.begins_volume) 1 0 in n) (sym first) in
-    let one = add_one (eqb c 0 || p.begins_volume) c in
-    omega (arith, all, same, one, count)
+    omega (arith, all, same, add_one (eqb c 0 || p.begins_volume) c, count)
 
 live-struck : (p : Paragraph) (ps : List Paragraph) (b : Bool) → p.struck ≡ b → live (p ∷ ps) ≡ cond b (live ps) (p ∷ live ps)
 live-struck p ps true s = ap (λ b. cond (not b) (p ∷ live ps) (live ps)) s

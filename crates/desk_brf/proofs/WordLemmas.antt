@@ -1,7 +1,6 @@
 -- The words at the front of cells.
-use Rattle.std.proofs.Common.{◌≡◌, ℕ, zero, suc, ◌+◌, ◌-◌, ◌<◌, ◌≤◌, true, false, List, [], ◌∷◌, ◌++◌, length, get_or, take, drop, length-drop, length-take, refl, sym, ap, subst, ◌∙◌, arith}
+use Rattle.std.proofs.Common.{◌≡◌, ℕ, zero, suc, ◌+◌, ◌-◌, ◌<◌, ◌≤◌, true, false, List, [], ◌∷◌, ◌++◌, length, get_or, take, drop, length-drop, length-take, refl, sym, ap, subst, ◌∙◌, arith, take-add, drop-drop, get_or-drop}
 use Rattle.std.specs.Prelude.{filter}
-use Rattle.std.proofs.Common.{take-add, drop-drop, get_or-drop}
 use Rattle.std.specs.List.{slice_split, onto_first}
 use Rattle.desk_brf.specs.Words.{is_blank, has_cells, words, IsAtWord, EndsWord, BeginsWithWord}
 
@@ -35,11 +34,6 @@ words-front zero cells some le all ends = absurd (omega arith)
 words-front (suc n) [] some le all ends = absurd (omega arith)
 words-front (suc n) (cell ∷ cells) some le all ends =
     ap (filter has_cells) (split_word (suc n) (cell ∷ cells) le all ends) ∙ ap (λ (ws : List (List ℕ)). (cell ∷ take n cells) ∷ ws) (words_after (drop n cells) ends)
-
--- cells that begin with a word
-pub at_word-some : (cells : List ℕ) → IsAtWord cells → 0 < length cells → is_blank (get_or cells 0 0) ≡ false
-at_word-some [] at some = absurd (omega arith)
-at_word-some (cell ∷ cells) at some = at
 
 -- where a word ends
 pub ends-at : (n : ℕ) (cells : List ℕ) → n < length cells → is_blank (get_or cells n 0) ≡ true → EndsWord (drop n cells)

@@ -1,7 +1,7 @@
 use Rattle.std.proofs.Common.{◌≡◌, ℕ, ◌+◌, ◌≤◌, List, ◌∷◌, [], length, take, drop, sym, ap, ◌∙◌, length-append, length-drop, arith, rules}
-use Rattle.std.proofs.lemmas.List.{take_rest}
+use Rattle.std.proofs.lemmas.List.{take_rest, length-take-le}
 use Rattle.std.proofs.lemmas.List.Elements.{All-drop}
-use Rattle.desk_brf.proofs.AsciiLemmas.{ascii-length, length_take}
+use Rattle.desk_brf.proofs.AsciiLemmas.{ascii-length}
 use Rattle.desk_brf.proofs.WordLemmas.{words-word}
 use Rattle.desk_brf.specs.Volume.{IsSixDot}
 use Rattle.desk_brf.specs.Words.{words}
@@ -37,12 +37,12 @@ loop-len-preserved c =
     let p = c.push_cells.ensures in
     let pushed : length c.push_cells.new.self ≡ length c.loop-len.line + (1 + len) =
     ap length p.1 ∙ (length-append c.push.new.self p.0 ∙ (rw c.push.ensures
-    (let one = length-append c.loop-len.line (32 ∷ []) in let more : length p.0 ≡ len = ascii-length (take len rest) p.0 p.2 ∙ length_take len rest within in omega arith))) in
+    (let one = length-append c.loop-len.line (32 ∷ []) in let more : length p.0 ≡ len = ascii-length (take len rest) p.0 p.2 ∙ length-take-le len rest within in omega arith))) in
     record {
       added = AddsWords-more c.args.used (words c.args.cells.now) (words rest) (words left) (take len rest) c.args.line.now c.loop-len.line c.push_cells.new.self
           c.loop-len.used (c.loop-len.used + (len + 1)) was.added
           (words-word len rest c.word_len-len.ensures ∙ ap (λ (ws : List (List ℕ)). take len rest ∷ ws) (sym same))
-          (rw c.push.ensures at p) (ap (λ k. c.loop-len.used + (k + 1)) (sym (length_take len rest within)));
+          (rw c.push.ensures at p) (ap (λ k. c.loop-len.used + (k + 1)) (sym (length-take-le len rest within)));
       at_word = k.at_word;
       dots = (rw (take_rest rest len) at k.dots) (All-drop IsSixDot len rest was.dots);
       fewer = omega (arith, fewer, dropped, was_fewer);
@@ -64,6 +64,6 @@ returns-then-len-room-clause-line c =
       full = λ next others e.
           let front : take len rest ∷ words (drop len rest) ≡ next ∷ others = sym (words-word len rest c.word_len-len.ensures) ∙ e in
           let same : take len rest ≡ next = cc in
-          let size : length next ≡ len = ap length (sym same) ∙ length_take len rest c.word_len-len.ensures.within in
+          let size : length next ≡ len = ap length (sym same) ∙ length-take-le len rest c.word_len-len.ensures.within in
           omega (arith, size, fits, long);
     }

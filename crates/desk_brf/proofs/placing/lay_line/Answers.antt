@@ -1,7 +1,6 @@
 use Rattle.std.proofs.Common.{◌-◌, take, drop, arith}
-use Rattle.std.proofs.lemmas.List.{take_rest}
+use Rattle.std.proofs.lemmas.List.{take_rest, length-take-le}
 use Rattle.desk_brf.specs.Words.{words}
-use Rattle.desk_brf.proofs.AsciiLemmas.{length_take}
 use Rattle.desk_brf.proofs.LineLemmas.{LaysLine-cut, LaysLine-whole}
 use Rattle.desk_brf.proofs.WordLemmas.{words-word, cut-words, cut-rest, cut-at_word, cut-some}
 use Rattle.desk_brf.proofs.placing.lay_line.Goals as goal
@@ -17,7 +16,7 @@ returns-then-len-room-clause-line c =
     let p = c.push_cells.ensures in
     rw (take_rest cells room)
     (LaysLine-cut room (words cells) (words (drop room cells)) (words (drop len cells)) (take room cells) (take (len - room) (drop room cells)) c.args.line.now
-    c.push_cells.new.self p.0 (cut-words len room cells word long) (length_take room cells (omega (arith, within, long)))
+    c.push_cells.new.self p.0 (cut-words len room cells word long) (length-take-le room cells (omega (arith, within, long)))
     (cut-some len room cells word long) (cut-rest len room cells word long) p.1 p.2)
 
 pub returns-then-len-room-clause-at_word : goal.returns-then-len-room-clause-at_word
@@ -32,4 +31,4 @@ returns-clause-line c =
     let fill = c.add_words.ensures.line in
     LaysLine-whole c.args.room (words cells) (words (drop len cells)) (words c.add_words.result.now) (take len cells) c.args.line.now c.push_cells-2.new.self
     c.add_words.new.line p.0 (words-word len cells c.word_len-len.ensures) p.1 p.2
-    (rw (length_take len cells c.word_len-len.ensures.within) (rw (take_rest cells len) at fill))
+    (rw (length-take-le len cells c.word_len-len.ensures.within) (rw (take_rest cells len) at fill))

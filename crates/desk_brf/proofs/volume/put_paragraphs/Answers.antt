@@ -98,10 +98,7 @@ put_paragraph-requires-clause-count g c =
     let cells = c.cells_of-cells.result.now in
     let braille = Walking-braille book sound count iter inv.walking step.0 left step.1 item.id step.2.id cells c.cells_of-cells.ensures in
     let few = braille-few book step.0 cells sound (Walking-there book sound count iter inv.walking step.0 left step.1) braille in
-    let size = ap length step.1 in
-    let fewer = inv.fewer in
-    let most = sound.few_paragraphs in
-    omega (arith, few, size, fewer, most)
+    omega (arith, few, ap length step.1, inv.fewer, sound.few_paragraphs)
 
 pub returns-in_err-put_paragraph-clause-lines : goal.returns-in_err-put_paragraph-clause-lines
 returns-in_err-put_paragraph-clause-lines g c =
@@ -166,7 +163,4 @@ returns-clause-lines g c =
     (ap (in_volume number count) c.in-None.ensures.steps.0)
 
 pub returns-clause-few : goal.returns-clause-few
-returns-clause-few g c =
-    let fewer = c.loop-paragraph.invariant.fewer in
-    let most = c.version.ensures.sound.few_paragraphs in
-    omega (arith, fewer, most)
+returns-clause-few g c = omega (arith, c.loop-paragraph.invariant.fewer, c.version.ensures.sound.few_paragraphs)
