@@ -15,9 +15,9 @@ use Rattle.louis_translate.specs.Tiling.{Tiles}
 use Rattle.louis_translate.proofs.Tilings.{one_tiling}
 use Rattle.desk_ends.specs.Cells.{text_of}
 use Rattle.desk_ends.specs.Limits.{most_line_bytes}
-use Rattle.desk_translate.specs.declared.answer.Refusal.{Refusal}
-use Rattle.desk_translate.specs.declared.answer.Refusal.TheVariants.{NoText, TooLong, Undefined}
-use Rattle.desk_translate.specs.Refusal.{IsPrint, IsRefused, refusal_text}
+use Rattle.desk_translate.specs.declared.answer.NoBraille.{NoBraille}
+use Rattle.desk_translate.specs.declared.answer.NoBraille.TheVariants.{NoText, TooLong, Undefined}
+use Rattle.desk_translate.specs.NoBraille.{IsPrint, IsRefused, refusal_text}
 use Rattle.desk_translate.proofs.Undefined.{IsFirstUndefined-one}
 use Rattle.desk_translate.specs.Reply.{AnswersPrint, AreAnswers, IsAnswer, IsOutput, IsText, refusal, refusal_at, undefined, shown, no_text, too_long, a_print}
 
@@ -102,7 +102,7 @@ shown_answer meaning line answer print (a_print text few (undefined place first 
 shown_answer meaning line answer print (a_print text few (shown all choices tiles e)) = (choices, tiles, e)
 
 -- the answer to a line that is refused
-pub refused_answer : (meaning : Meaning) (line answer : List ℕ) (why : Refusal) → IsRefused meaning line why → IsAnswer meaning line answer → answer ≡ refusal_text why
+pub refused_answer : (meaning : Meaning) (line answer : List ℕ) (why : NoBraille) → IsRefused meaning line why → IsAnswer meaning line answer → answer ≡ refusal_text why
 refused_answer meaning line answer NoText not (no_text also e) = e
 refused_answer meaning line answer NoText not (too_long text many e) = absurd (not text)
 refused_answer meaning line answer NoText not (a_print text few p) = absurd (not text)

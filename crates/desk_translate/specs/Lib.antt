@@ -1,5 +1,5 @@
 pub mod Reply
-pub mod Refusal
+pub mod NoBraille
 pub mod Run
 pub mod NextLine
 pub mod Sends

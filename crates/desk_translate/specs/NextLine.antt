@@ -8,8 +8,8 @@ use Rattle.desk_ends.specs.Lines.{HasNoFeed, IsFed, kept_line}
 use Rattle.desk_translate.specs.declared.translate.Ended.{Ended}
 use Rattle.desk_translate.specs.declared.translate.Ended.TheVariants as ended
 
--- how a line ends that was taken: with a line feed, at the end of the input, or where a read or a
--- flush failed; where a read failed, all is flushed
+-- how a line ends that was taken: with a line feed, at the end of the input, or because a read or a
+-- flush failed; if a read failed, all is flushed
 abbrev pub LineTaken : (ReadsFail WritesFail Flushed : Type 0) → Input → List ℕ → Result Bool Ended → Type 0
 LineTaken ReadsFail WritesFail Flushed new bytes (Ok true) = IsFed bytes
 LineTaken ReadsFail WritesFail Flushed new bytes (Ok false) =

@@ -12,7 +12,7 @@ use Rattle.desk_translate.specs.Reply.{IsOutput}
 
 -- ---- what went out
 
--- b and the bytes after it, or none where no line feed is among them
+-- b and the bytes after it, or none if no line feed is among them
 abbrev pub whole_from : ℕ → List ℕ → List ℕ
 whole_from b [] = if b == 10 then b ∷ [] else []
 whole_from b (c ∷ rest) = b ∷ c ∷ rest
@@ -50,7 +50,7 @@ pub record Run
   pub answers : Answers meaning ended taken out
   pub ends : ReadsAll ended read_new
 
--- where the input is known, what went out is a beginning of what is answered to it
+-- if the input is known, what went out is a beginning of what is answered to it
 abbrev pub AnswersBeginning : Meaning → Option (List ℕ) → Option (List ℕ) → Option (List ℕ) → Type 0
 AnswersBeginning meaning read_old write_old write_new =
     IfSome read_old (λ input. (output : List ℕ) × (out : List ℕ) × IsOutput meaning input output
@@ -58,13 +58,13 @@ AnswersBeginning meaning read_old write_old write_new =
 
 -- ---- how it ended
 
--- a run ends early only where so many bytes were taken, or an end can fail
+-- a run ends early only if so many bytes were taken, or an end can fail
 abbrev pub IsHonest : Ended → ℕ → Type 0 → Type 0 → Type 0
 IsHonest Done taken ReadsFail WritesFail = Unit {0}
 IsHonest Input taken ReadsFail WritesFail = (most_input ≤ taken) ⊎ ReadsFail
 IsHonest Output taken ReadsFail WritesFail = WritesFail
 
--- all that was written is flushed, but where a write or a flush failed
+-- all that was written is flushed, unless a write or a flush failed
 abbrev pub EndsFlushed : Ended → Option (List ℕ) → Option (List ℕ) → Type 0
 EndsFlushed Done written flushed = IsFlushed written flushed
 EndsFlushed Input written flushed = IsFlushed written flushed

@@ -11,8 +11,8 @@ abbrev pub SendsLine : {K : Type 0} → Ghosts K → K → K → Meaning → Lis
 SendsLine sink old new meaning line whole =
     (answer : List ℕ) → IsAnswer meaning line answer → Sends sink old new (answer ++ 10 ∷ []) whole
 
--- what is answered to what is left at the end of the input, with a line feed: nothing where no byte
--- is left
+-- what is answered to what is left at the end of the input, with a line feed: nothing if no byte is
+-- left
 abbrev pub IsLastAnswer : Meaning → List ℕ → List ℕ → Type 0
 IsLastAnswer meaning [] text = text ≡ []
 IsLastAnswer meaning (b ∷ bytes) text =

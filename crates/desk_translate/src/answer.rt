@@ -1,5 +1,5 @@
 //! What is answered to one line.
-ghost use Rattle.desk_translate.specs.Refusal.{IsPrint, IsRefused, refusal_text};
+ghost use Rattle.desk_translate.specs.NoBraille.{IsPrint, IsRefused, refusal_text};
 ghost use Rattle.desk_translate.specs.Sends.{SendsLast, SendsLine};
 ghost use Rattle.desk_ends.specs.Lines.{kept_line, without_ending};
 ghost use Rattle.desk_ends.specs.Sending.{HasFlushed, Sends};
@@ -14,8 +14,8 @@ use louis_translate::RuleBook;
 
 /// Why a line has no braille.
 #[derive(Clone, Copy, Debug, PartialEq, Eq)]
-pub enum Refusal {
-    /// The line is longer than `MOST_LINE_BYTES`, or no UTF-8: `no 1`.
+pub enum NoBraille {
+    /// The line is longer than `MOST_LINE_BYTES`, or isn't UTF-8: `no 1`.
     NoText,
     /// The line has more than `MOST_CHARACTERS` characters: `no 14`.
     TooLong,
@@ -53,7 +53,7 @@ impl Workspace {
     {
         match line.bytes() {
             Some(bytes) => self.answer(sink, book, without_ending(bytes)),
-            None => refuse(sink, Refusal::NoText),
+            None => refuse(sink, NoBraille::NoText),
         }
     }
 
@@ -106,39 +106,39 @@ impl Workspace {
 
 /// Reads a line as print whose characters are all defined, or says why it is refused. Nothing goes
 /// out before.
-fn read_print<B: RuleBook>(print: &mut Print, book: &B, line: &[u8]) -> Result<(), Refusal>
+fn read_print<B: RuleBook>(print: &mut Print, book: &B, line: &[u8]) -> Result<(), NoBraille>
     ensures { MatchResult result
         (λ _. IsPrint (B.meaning book.now) line.now × (print.new ≡ chars line.now))
         (IsRefused (B.meaning book.now) line.now) }
 {
     if line.len() > MOST_LINE_BYTES {
-        return Err(Refusal::NoText);
+        return Err(NoBraille::NoText);
     }
     let Ok(text) = str::from_utf8(line) else {
-        return Err(Refusal::NoText);
+        return Err(NoBraille::NoText);
     };
     match print.read(book, text) {
         Ok(None) => Ok(()),
-        Ok(Some(place)) => Err(Refusal::Undefined(place)),
-        Err(TooManyCharacters) => Err(Refusal::TooLong),
+        Ok(Some(place)) => Err(NoBraille::Undefined(place)),
+        Err(TooManyCharacters) => Err(NoBraille::TooLong),
     }
 }
 
 /// Sends a refusal and a line feed.
-pub fn refuse<K: Sink>(sink: &mut K, refusal: Refusal) -> Result<(), Failure>
+pub fn refuse<K: Sink>(sink: &mut K, refusal: NoBraille) -> Result<(), Failure>
     ensures { Sends K.Sink sink.old sink.new (refusal_text refusal ++ 10 ∷ []) (is_ok result) }
 {
     match refusal {
-        Refusal::NoText => send(sink, b"no 1\n"),
-        Refusal::TooLong => send(sink, b"no 14\n"),
-        Refusal::Undefined(place) => refuse_place(sink, place),
+        NoBraille::NoText => send(sink, b"no 1\n"),
+        NoBraille::TooLong => send(sink, b"no 14\n"),
+        NoBraille::Undefined(place) => refuse_place(sink, place),
     }
 }
 
 /// Sends the refusal of an undefined character and a line feed.
 fn refuse_place<K: Sink>(sink: &mut K, place: usize) -> Result<(), Failure>
     ensures { Sends K.Sink sink.old sink.new
-        (refusal_text (Refusal.Undefined place) ++ 10 ∷ []) (is_ok result) }
+        (refusal_text (NoBraille.Undefined place) ++ 10 ∷ []) (is_ok result) }
 {
     let mut digits = Buffer::new();
     send_parts(sink, &[b"no 7 ", digits.format(place).as_bytes(), b"\n"])

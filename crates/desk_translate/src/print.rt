@@ -1,5 +1,5 @@
 //! The print of the line that is being answered.
-ghost use Rattle.desk_translate.specs.Refusal.{FindsUndefined};
+ghost use Rattle.desk_translate.specs.NoBraille.{FindsUndefined};
 ghost use Rattle.desk_translate.specs.Reply.{most_characters};
 ghost use Rattle.louis_translate.specs.Position.{AreDefined};
 ghost use Rattle.std.specs.Bool.{OnTrue};

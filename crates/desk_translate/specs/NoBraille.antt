@@ -3,17 +3,17 @@ use Rattle.std.specs.Prelude.{ℕ, ◌<◌, ◌≤◌, List, length, Option, Som
 use Rattle.std.specs.Str.{chars}
 use Rattle.louis_table.specs.Meaning.{Meaning}
 use Rattle.louis_translate.specs.Position.{AreDefined, IsFirstUndefined}
-use Rattle.desk_translate.specs.declared.answer.Refusal.{Refusal}
-use Rattle.desk_translate.specs.declared.answer.Refusal.TheVariants.{NoText, TooLong, Undefined}
+use Rattle.desk_translate.specs.declared.answer.NoBraille.{NoBraille}
+use Rattle.desk_translate.specs.declared.answer.NoBraille.TheVariants.{NoText, TooLong, Undefined}
 use Rattle.desk_translate.specs.Reply.{IsText, most_characters, refusal, refusal_at}
 
 -- what is answered, by the reason
-abbrev pub refusal_text : Refusal → List ℕ
+abbrev pub refusal_text : NoBraille → List ℕ
 refusal_text NoText = refusal 1
 refusal_text TooLong = refusal 14
 refusal_text (Undefined place) = refusal_at 7 place
 
--- the first place of the print whose character isn't defined, or none where all are
+-- the first place of the print whose character isn't defined, or none if all are
 abbrev pub FindsUndefined : Meaning → List ℕ → Option ℕ → Type 0
 FindsUndefined meaning print None = AreDefined meaning print
 FindsUndefined meaning print (Some place) = IsFirstUndefined meaning print place
@@ -24,7 +24,7 @@ IsPrint meaning line =
     IsText line × (length (chars line) ≤ most_characters) × AreDefined meaning (chars line)
 
 -- the line is refused for this reason
-abbrev pub IsRefused : Meaning → List ℕ → Refusal → Type 0
+abbrev pub IsRefused : Meaning → List ℕ → NoBraille → Type 0
 IsRefused meaning line NoText = ¬ IsText line
 IsRefused meaning line TooLong = IsText line × (most_characters < length (chars line))
 IsRefused meaning line (Undefined place) =
