@@ -2,7 +2,7 @@
 use Rattle.std.proofs.Common.{◌≡◌, ℕ, List, [], ◌∷◌, ◌++◌, Some, option_map, refl, sym, ap, subst, ◌∙◌, append_assoc, arith}
 use Rattle.std.specs.List.{AllByRecursion}
 use Rattle.desk_line.specs.Fields.{fields_of}
-use Rattle.desk_line.specs.Grammar.{Fit, FitsField, Flag, Gives, Grammar, Kind, Lines, Look, Name, Nothing, Number, Place, Rest, Say, StandsFor, Then, Value, Values, field_of, given, written}
+use Rattle.desk_line.specs.Grammar.{Fit, FitsField, Flag, Grammar, Kind, Last, Lines, Look, Name, Nothing, Number, Place, Rest, Say, StandsFor, Then, Value, Values, field_of, given, written}
 use Rattle.desk_line.specs.Reading.{first_of, found, read}
 use Rattle.desk_line.specs.Reply.{shown_text}
 use Rattle.desk_line.proofs.HeadLines.{some-is}
@@ -33,8 +33,8 @@ value-found Flag field value h = flag-found field value h
 pub read-says : {A : Type 0} (grammar : Grammar A) (fields : List (List ℕ)) (said : A) → read grammar fields ≡ Some said → Say grammar fields said
 unfolding first_of
 read-says Nothing fields said e = absurd cc
-read-says (Gives value) [] said e = (refl, sym (some-is value said e))
-read-says (Gives value) (f ∷ fields) said e = absurd cc
+read-says (Last value) [] said e = (refl, sym (some-is value said e))
+read-says (Last value) (f ∷ fields) said e = absurd cc
 read-says (Rest make) fields said e = sym (some-is _ said e)
 read-says (Then kind more) [] said e = absurd cc
 read-says (Then kind more) (f ∷ fields) said e =
@@ -46,7 +46,7 @@ read-says (Then kind more) (f ∷ fields) said e =
 pub says-read : {A : Type 0} (grammar : Grammar A) (fields : List (List ℕ)) (said : A) → Say grammar fields said → read grammar fields ≡ Some said
 unfolding first_of
 says-read Nothing fields said h = absurd h
-says-read (Gives value) fields said (none, is) = ap (read (Gives value)) none ∙ ap Some (sym is)
+says-read (Last value) fields said (none, is) = ap (read (Last value)) none ∙ ap Some (sym is)
 says-read (Rest make) fields said is = ap Some (sym is)
 says-read (Then kind more) fields said (first, others, value, are, stands, says) =
     ap (read (Then kind more)) are ∙ (rw (value-found kind first value stands) (says-read (more value) others said says))
@@ -72,13 +72,13 @@ field-written Flag set h = flag-written set
 -- the fields that are written, with those of the text
 abbrev pub spread : {A : Type 0} (grammar : Grammar A) → Values grammar → List (List ℕ)
 spread Nothing values = []
-spread (Gives value) values = []
+spread (Last value) values = []
 spread (Rest make) text = fields_of (shown_text text)
 spread (Then kind more) values = field_of kind values.0 ∷ spread (more values.0) values.1
 
 pub spread-says : {A : Type 0} (grammar : Grammar A) (values : Values grammar) → Fit grammar values → Say grammar (spread grammar values) (given grammar values)
 spread-says Nothing values fit = absurd fit
-spread-says (Gives value) values fit = (refl, refl)
+spread-says (Last value) values fit = (refl, refl)
 spread-says (Rest make) text fit = ap make (sym (rest-spelled text fit))
 spread-says (Then kind more) values fit =
     (field_of kind values.0, spread (more values.0) values.1, values.0, refl, field-written kind values.0 fit.0, spread-says (more values.0) values.1 fit.1)
@@ -91,7 +91,7 @@ all-closed (f ∷ fields) last h l = (h.0, all-closed fields last h.1 l)
 pub line-written : {A : Type 0} (grammar : Grammar A) (values : Values grammar) → Fit grammar values → (fields : List (List ℕ)) (last : List ℕ)
     → AllByRecursion IsClosed fields → IsClosed last → IsLine (fields ++ last ∷ written grammar values) (fields ++ last ∷ spread grammar values)
 line-written Nothing values fit fields last h l = absurd fit
-line-written (Gives value) values fit fields last h l = line-closed fields last h l
+line-written (Last value) values fit fields last h l = line-closed fields last h l
 line-written (Rest make) text fit fields last h l =
     subst (λ (all : List (List ℕ)). IsLine (fields ++ last ∷ shown_text text ∷ []) all) (append_assoc fields (last ∷ []) (fields_of (shown_text text)))
     (subst (λ (line : List (List ℕ)). IsLine line ((fields ++ last ∷ []) ++ fields_of (shown_text text))) (append_assoc fields (last ∷ []) (shown_text text ∷ []))

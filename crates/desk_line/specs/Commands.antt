@@ -8,7 +8,7 @@ use Rattle.desk_model.specs.declared.command.Command.{Command}
 use Rattle.desk_model.specs.declared.command.Command.TheVariants as commands
 use Rattle.desk_line.specs.declared.directive.Directive.{Directive}
 use Rattle.desk_line.specs.declared.directive.Directive.TheVariants.{Whole, Table}
-use Rattle.desk_line.specs.Grammar.{Fit, Flag, Gives, Grammar, Lines, Look, Name, Nothing, Number}
+use Rattle.desk_line.specs.Grammar.{Fit, Flag, Grammar, Last, Lines, Look, Name, Nothing, Number}
 use Rattle.desk_line.specs.Grammar.{Place, Rest, Then, Values, Say, given, written}
 use Rattle.desk_line.specs.Lines.{IsShort}
 
@@ -22,27 +22,27 @@ span make = Then Number (λ id. Then Number (λ start. Then Number (λ count. Re
 -- so many lines
 abbrev pub grammar_of : List ℕ → Grammar Directive
 grammar_of word =
-    if bytes_eq word (codes "table") then Then Name (λ name. Then Lines (λ count. Gives (Table name count)))
-    else if bytes_eq word (codes "supply") then Then Name (λ name. Gives (Whole (commands.Table name EN.now)))
+    if bytes_eq word (codes "table") then Then Name (λ name. Then Lines (λ count. Last (Table name count)))
+    else if bytes_eq word (codes "supply") then Then Name (λ name. Last (Whole (commands.Table name EN.now)))
     else if bytes_eq word (codes "type")
     then Then Place (λ after. Then Name (λ table. Rest (λ text. Whole (commands.TypeIn after table text))))
     else if bytes_eq word (codes "correct")
     then span (λ id start count text. Whole (commands.Correct id start count text []))
     else if bytes_eq word (codes "correct-by")
     then Then Name (λ who. span (λ id start count text. Whole (commands.Correct id start count text who)))
-    else if bytes_eq word (codes "undo") then Then Number (λ id. Gives (Whole (commands.Undo id)))
+    else if bytes_eq word (codes "undo") then Then Number (λ id. Last (Whole (commands.Undo id)))
     else if bytes_eq word (codes "mark") then span (λ id cell count note. Whole (commands.Mark id cell count note))
-    else if bytes_eq word (codes "resolve") then Then Number (λ id. Gives (Whole (commands.Resolve id)))
-    else if bytes_eq word (codes "strike") then Then Number (λ id. Gives (Whole (commands.Strike id)))
-    else if bytes_eq word (codes "restore") then Then Number (λ id. Gives (Whole (commands.Restore id)))
+    else if bytes_eq word (codes "resolve") then Then Number (λ id. Last (Whole (commands.Resolve id)))
+    else if bytes_eq word (codes "strike") then Then Number (λ id. Last (Whole (commands.Strike id)))
+    else if bytes_eq word (codes "restore") then Then Number (λ id. Last (Whole (commands.Restore id)))
     else if bytes_eq word (codes "style")
-    then Then Number (λ id. Then Look (λ look. Gives (Whole (commands.Style id look))))
+    then Then Number (λ id. Then Look (λ look. Last (Whole (commands.Style id look))))
     else if bytes_eq word (codes "volume")
-    then Then Number (λ id. Then Flag (λ begins. Gives (Whole (commands.Volume id begins))))
+    then Then Number (λ id. Then Flag (λ begins. Last (Whole (commands.Volume id begins))))
     else if bytes_eq word (codes "retable")
-    then Then Number (λ id. Then Name (λ table. Gives (Whole (commands.Retable id table))))
+    then Then Number (λ id. Then Name (λ table. Last (Whole (commands.Retable id table))))
     else if bytes_eq word (codes "move")
-    then Then Number (λ id. Then Place (λ after. Gives (Whole (commands.Move id after))))
+    then Then Number (λ id. Then Place (λ after. Last (Whole (commands.Move id after))))
     else Nothing
 
 -- the fields are a word and what stands after it, and say this

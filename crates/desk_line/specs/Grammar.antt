@@ -48,14 +48,14 @@ StandsFor Flag field set = IsFlag field set
 -- others after it
 pub data Grammar (A : Type 0) : Type 0 where
   Nothing : Grammar A
-  Gives : A → Grammar A
+  Last : A → Grammar A
   Rest : (List ℕ → A) → Grammar A
   Then : (kind : Kind) → (Value kind → Grammar A) → Grammar A
 
 -- the fields say this
 abbrev pub Say : {A : Type 0} → Grammar A → List (List ℕ) → A → Type 0
 Say Nothing fields said = ⊥
-Say (Gives value) fields said = (fields ≡ []) × (said ≡ value)
+Say (Last value) fields said = (fields ≡ []) × (said ≡ value)
 Say (Rest make) fields said = said ≡ make (chars (line_of_fields fields))
 Say (Then kind more) fields said =
     (first : List ℕ) × (others : List (List ℕ)) × (value : Value kind)
@@ -66,14 +66,14 @@ Say (Then kind more) fields said =
 -- a value for each field, and the text
 abbrev pub Values : {A : Type 0} → Grammar A → Type 0
 Values Nothing = ⊥
-Values (Gives value) = Unit {0}
+Values (Last value) = Unit {0}
 Values (Rest make) = List ℕ
 Values (Then kind more) = (value : Value kind) × Values (more value)
 
 -- what they give
 abbrev pub given : {A : Type 0} → (grammar : Grammar A) → Values grammar → A
 given Nothing values = absurd values
-given (Gives value) values = value
+given (Last value) values = value
 given (Rest make) text = make text
 given (Then kind more) values = given (more values.0) values.1
 
@@ -95,7 +95,7 @@ field_of Flag set = word_if set (codes "on") (codes "off")
 -- the fields, and the text
 abbrev pub written : {A : Type 0} → (grammar : Grammar A) → Values grammar → List (List ℕ)
 written Nothing values = []
-written (Gives value) values = []
+written (Last value) values = []
 written (Rest make) text = shown_text text ∷ []
 written (Then kind more) values = field_of kind values.0 ∷ written (more values.0) values.1
 
@@ -134,6 +134,6 @@ FitsField Flag set = Unit {0}
 -- each value fits its field, and the text stands on one line
 abbrev pub Fit : {A : Type 0} → (grammar : Grammar A) → Values grammar → Type 0
 Fit Nothing values = ⊥
-Fit (Gives value) values = Unit {0}
+Fit (Last value) values = Unit {0}
 Fit (Rest make) text = IsOneLineText text
 Fit (Then kind more) values = FitsField kind values.0 × Fit (more values.0) values.1

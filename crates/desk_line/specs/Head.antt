@@ -8,21 +8,21 @@ use Rattle.desk_line.specs.declared.request.Query.{Query}
 use Rattle.desk_line.specs.declared.request.Query.TheVariants as queries
 use Rattle.desk_line.specs.Commands.{SaysDirective}
 use Rattle.desk_line.specs.Fields.{fields_of, IsNumber}
-use Rattle.desk_line.specs.Grammar.{Gives, Grammar, Nothing, Number, Say, Then}
+use Rattle.desk_line.specs.Grammar.{Grammar, Last, Nothing, Number, Say, Then}
 use Rattle.desk_line.specs.Lines.{CanBeHead}
 
 -- what stands after a word, and what it asks
 abbrev pub query_grammar : List ℕ → Grammar Query
 query_grammar word =
-    if bytes_eq word (codes "print") then Then Number (λ id. Gives (queries.Print id))
-    else if bytes_eq word (codes "braille") then Then Number (λ id. Gives (queries.Braille id))
-    else if bytes_eq word (codes "history") then Then Number (λ id. Gives (queries.History id))
-    else if bytes_eq word (codes "marks") then Then Number (λ id. Gives (queries.Marks id))
+    if bytes_eq word (codes "print") then Then Number (λ id. Last (queries.Print id))
+    else if bytes_eq word (codes "braille") then Then Number (λ id. Last (queries.Braille id))
+    else if bytes_eq word (codes "history") then Then Number (λ id. Last (queries.History id))
+    else if bytes_eq word (codes "marks") then Then Number (λ id. Last (queries.Marks id))
     else if bytes_eq word (codes "where")
-    then Then Number (λ id. Then Number (λ place. Gives (queries.WhereIs id place)))
-    else if bytes_eq word (codes "whence") then Then Number (λ id. Then Number (λ cell. Gives (queries.Whence id cell)))
-    else if bytes_eq word (codes "list") then Gives queries.List
-    else if bytes_eq word (codes "version") then Gives queries.Version
+    then Then Number (λ id. Then Number (λ place. Last (queries.WhereIs id place)))
+    else if bytes_eq word (codes "whence") then Then Number (λ id. Then Number (λ cell. Last (queries.Whence id cell)))
+    else if bytes_eq word (codes "list") then Last queries.List
+    else if bytes_eq word (codes "version") then Last queries.Version
     else Nothing
 
 -- the fields ask this

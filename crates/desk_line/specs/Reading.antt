@@ -23,7 +23,7 @@ use Rattle.louis_table.specs.Lines.{lines_of}
 use Rattle.desk_line.specs.declared.request.Request.{Request}
 use Rattle.desk_line.specs.Lines.{after_first_line}
 use Rattle.desk_line.specs.Commands.{grammar_of}
-use Rattle.desk_line.specs.Grammar.{Flag, Gives, Grammar, Kind, Lines, Look, Name}
+use Rattle.desk_line.specs.Grammar.{Flag, Grammar, Kind, Last, Lines, Look, Name}
 use Rattle.desk_line.specs.Grammar.{Nothing, Number, Place, Rest, Then, Value}
 use Rattle.desk_line.specs.Head.{query_grammar}
 use Rattle.desk_line.specs.Request.{block_lines, request_of}
@@ -113,7 +113,7 @@ is_end (field ∷ fields) = false
 -- what the fields say
 abbrev pub read : {A : Type 0} → Grammar A → List (List ℕ) → Option A
 read Nothing fields = None
-read (Gives value) fields = if is_end fields then Some value else None
+read (Last value) fields = if is_end fields then Some value else None
 read (Rest make) fields = Some (make (chars (line_of_fields fields)))
 read (Then kind more) fields = option_and_then (λ first. read (more first.0) first.1) (first_of kind fields)
 

@@ -1,6 +1,6 @@
 //! What the head line of a command says, and the command that it makes with the lines after it.
 ghost use Rattle.desk_line.specs.Commands.{announced, span};
-ghost use Rattle.desk_line.specs.Grammar.{Flag, Gives, Lines, Look, Name, Number, Place, Rest, Then};
+ghost use Rattle.desk_line.specs.Grammar.{Flag, Last, Lines, Look, Name, Number, Place, Rest, Then};
 ghost use Rattle.desk_line.specs.Reading.{directive_by, read};
 ghost use Rattle.louis_table.specs.declared.en.TheConstants.{EN};
 ghost use Rattle.std.specs.Prelude.{◌≡◌, []};
@@ -61,7 +61,7 @@ pub(crate) fn read_directive<'a>(word: &Field<'_>, fields: Fields<'a>) -> Option
 }
 
 fn read_table(fields: Fields<'_>) -> Option<Directive<'_>>
-    ensures { result ≡ read (Then Name (λ name. Then Lines (λ count. Gives (Directive.Table name count))))
+    ensures { result ≡ read (Then Name (λ name. Then Lines (λ count. Last (Directive.Table name count))))
         fields.entry }
 {
     let (name, fields) = fields.name()?;
@@ -70,7 +70,7 @@ fn read_table(fields: Fields<'_>) -> Option<Directive<'_>>
 }
 
 fn read_supply(fields: Fields<'_>) -> Option<Directive<'_>>
-    ensures { result ≡ read (Then Name (λ name. Gives (Directive.Whole (Command.Table name EN.now))))
+    ensures { result ≡ read (Then Name (λ name. Last (Directive.Whole (Command.Table name EN.now))))
         fields.entry }
 {
     let (name, fields) = fields.name()?;
@@ -133,7 +133,7 @@ fn read_correct_by(fields: Fields<'_>) -> Option<Directive<'_>>
 }
 
 fn read_undo(fields: Fields<'_>) -> Option<Directive<'_>>
-    ensures { result ≡ read (Then Number (λ id. Gives (Directive.Whole (Command.Undo id))))
+    ensures { result ≡ read (Then Number (λ id. Last (Directive.Whole (Command.Undo id))))
         fields.entry }
 {
     let (paragraph, fields) = fields.number()?;
@@ -157,7 +157,7 @@ fn read_mark(fields: Fields<'_>) -> Option<Directive<'_>>
 }
 
 fn read_resolve(fields: Fields<'_>) -> Option<Directive<'_>>
-    ensures { result ≡ read (Then Number (λ id. Gives (Directive.Whole (Command.Resolve id))))
+    ensures { result ≡ read (Then Number (λ id. Last (Directive.Whole (Command.Resolve id))))
         fields.entry }
 {
     let (mark, fields) = fields.number()?;
@@ -165,7 +165,7 @@ fn read_resolve(fields: Fields<'_>) -> Option<Directive<'_>>
 }
 
 fn read_strike(fields: Fields<'_>) -> Option<Directive<'_>>
-    ensures { result ≡ read (Then Number (λ id. Gives (Directive.Whole (Command.Strike id))))
+    ensures { result ≡ read (Then Number (λ id. Last (Directive.Whole (Command.Strike id))))
         fields.entry }
 {
     let (paragraph, fields) = fields.number()?;
@@ -173,7 +173,7 @@ fn read_strike(fields: Fields<'_>) -> Option<Directive<'_>>
 }
 
 fn read_restore(fields: Fields<'_>) -> Option<Directive<'_>>
-    ensures { result ≡ read (Then Number (λ id. Gives (Directive.Whole (Command.Restore id))))
+    ensures { result ≡ read (Then Number (λ id. Last (Directive.Whole (Command.Restore id))))
         fields.entry }
 {
     let (paragraph, fields) = fields.number()?;
@@ -181,7 +181,7 @@ fn read_restore(fields: Fields<'_>) -> Option<Directive<'_>>
 }
 
 fn read_style(fields: Fields<'_>) -> Option<Directive<'_>>
-    ensures { result ≡ read (Then Number (λ id. Then Look (λ look. Gives (Directive.Whole (Command.Style id look)))))
+    ensures { result ≡ read (Then Number (λ id. Then Look (λ look. Last (Directive.Whole (Command.Style id look)))))
         fields.entry }
 {
     let (paragraph, fields) = fields.number()?;
@@ -194,7 +194,7 @@ fn read_style(fields: Fields<'_>) -> Option<Directive<'_>>
 
 fn read_volume(fields: Fields<'_>) -> Option<Directive<'_>>
     ensures { result
-        ≡ read (Then Number (λ id. Then Flag (λ begins. Gives (Directive.Whole (Command.Volume id begins)))))
+        ≡ read (Then Number (λ id. Then Flag (λ begins. Last (Directive.Whole (Command.Volume id begins)))))
         fields.entry }
 {
     let (paragraph, fields) = fields.number()?;
@@ -207,7 +207,7 @@ fn read_volume(fields: Fields<'_>) -> Option<Directive<'_>>
 
 fn read_retable(fields: Fields<'_>) -> Option<Directive<'_>>
     ensures { result
-        ≡ read (Then Number (λ id. Then Name (λ table. Gives (Directive.Whole (Command.Retable id table)))))
+        ≡ read (Then Number (λ id. Then Name (λ table. Last (Directive.Whole (Command.Retable id table)))))
         fields.entry }
 {
     let (paragraph, fields) = fields.number()?;
@@ -219,7 +219,7 @@ fn read_retable(fields: Fields<'_>) -> Option<Directive<'_>>
 }
 
 fn read_move(fields: Fields<'_>) -> Option<Directive<'_>>
-    ensures { result ≡ read (Then Number (λ id. Then Place (λ after. Gives (Directive.Whole (Command.Move id after)))))
+    ensures { result ≡ read (Then Number (λ id. Then Place (λ after. Last (Directive.Whole (Command.Move id after)))))
         fields.entry }
 {
     let (paragraph, fields) = fields.number()?;
@@ -229,7 +229,7 @@ fn read_move(fields: Fields<'_>) -> Option<Directive<'_>>
 
 /// What a head line says if no field is left.
 fn read_alone<'a>(directive: Directive<'a>, fields: Fields<'_>) -> Option<Directive<'a>>
-    ensures { result ≡ read (Gives directive.entry) fields.entry }
+    ensures { result ≡ read (Last directive.entry) fields.entry }
 {
     if !fields.is_empty() {
         return None;

@@ -1,5 +1,5 @@
 //! What the head line of a query asks.
-ghost use Rattle.desk_line.specs.Grammar.{Gives, Number, Then};
+ghost use Rattle.desk_line.specs.Grammar.{Last, Number, Then};
 ghost use Rattle.desk_line.specs.Reading.{query_by, query_in, read};
 ghost use Rattle.std.specs.Prelude.{◌≡◌};
 
@@ -42,7 +42,7 @@ fn read_query_by(word: &Field<'_>, fields: Fields<'_>) -> Option<Query>
 
 /// A query that a word asks alone.
 fn read_alone(query: Query, fields: Fields<'_>) -> Option<Query>
-    ensures { result ≡ read (Gives query) fields.entry }
+    ensures { result ≡ read (Last query) fields.entry }
 {
     if !fields.is_empty() {
         return None;
@@ -51,35 +51,35 @@ fn read_alone(query: Query, fields: Fields<'_>) -> Option<Query>
 }
 
 fn read_print(fields: Fields<'_>) -> Option<Query>
-    ensures { result ≡ read (Then Number (λ id. Gives (Query.Print id))) fields.entry }
+    ensures { result ≡ read (Then Number (λ id. Last (Query.Print id))) fields.entry }
 {
     let (paragraph, fields) = fields.number()?;
     read_alone(Query::Print { paragraph }, fields)
 }
 
 fn read_braille(fields: Fields<'_>) -> Option<Query>
-    ensures { result ≡ read (Then Number (λ id. Gives (Query.Braille id))) fields.entry }
+    ensures { result ≡ read (Then Number (λ id. Last (Query.Braille id))) fields.entry }
 {
     let (paragraph, fields) = fields.number()?;
     read_alone(Query::Braille { paragraph }, fields)
 }
 
 fn read_history(fields: Fields<'_>) -> Option<Query>
-    ensures { result ≡ read (Then Number (λ id. Gives (Query.History id))) fields.entry }
+    ensures { result ≡ read (Then Number (λ id. Last (Query.History id))) fields.entry }
 {
     let (paragraph, fields) = fields.number()?;
     read_alone(Query::History { paragraph }, fields)
 }
 
 fn read_marks(fields: Fields<'_>) -> Option<Query>
-    ensures { result ≡ read (Then Number (λ id. Gives (Query.Marks id))) fields.entry }
+    ensures { result ≡ read (Then Number (λ id. Last (Query.Marks id))) fields.entry }
 {
     let (paragraph, fields) = fields.number()?;
     read_alone(Query::Marks { paragraph }, fields)
 }
 
 fn read_where(fields: Fields<'_>) -> Option<Query>
-    ensures { result ≡ read (Then Number (λ id. Then Number (λ place. Gives (Query.WhereIs id place)))) fields.entry }
+    ensures { result ≡ read (Then Number (λ id. Then Number (λ place. Last (Query.WhereIs id place)))) fields.entry }
 {
     let (paragraph, fields) = fields.number()?;
     let (place, fields) = fields.number()?;
@@ -88,7 +88,7 @@ fn read_where(fields: Fields<'_>) -> Option<Query>
 }
 
 fn read_whence(fields: Fields<'_>) -> Option<Query>
-    ensures { result ≡ read (Then Number (λ id. Then Number (λ cell. Gives (Query.Whence id cell)))) fields.entry }
+    ensures { result ≡ read (Then Number (λ id. Then Number (λ cell. Last (Query.Whence id cell)))) fields.entry }
 {
     let (paragraph, fields) = fields.number()?;
     let (cell, fields) = fields.number()?;
