@@ -5,7 +5,7 @@ use Rattle.sqlite_trees.specs.Tree.{Trees}
 use Rattle.sqlite_trees.specs.View.{IsRolledBack}
 use Rattle.sqlite_trees.specs.declared.store.Store.{Ghosts as Database}
 use Rattle.sqlite.specs.Held.{Held, state}
-use Rattle.sqlite.specs.State.{HasCleanDisk, Survives}
+use Rattle.sqlite.specs.State.{HasCleanDisk}
 use Rattle.desk_model.specs.Book.{Book}
 use Rattle.desk_brf.specs.Layout.{Layout}
 use Rattle.desk_brf.specs.Volume.{IsFirstEightDot, IsVolume}
@@ -18,8 +18,7 @@ use Rattle.desk_ends.specs.Sending.{HasFlushed, Sends}
 use Rattle.desk_session.specs.Service.{LosesCommand, Serves, ends_of}
 use Rattle.desk_session.specs.declared.session.Ended.{Ended}
 use Rattle.desk_session.specs.declared.session.Ended.TheVariants.{Done, Input, Output, Lost as LostChange}
-use Rattle.desk_store.specs.Found.{HasNone}
-use Rattle.desk_store.specs.Opened.{Completes, IsRefusedWith, MayBring, OpensBook}
+use Rattle.desk_store.specs.Opened.{OpensFile}
 use Rattle.desk_store.specs.declared.fault.OpenFault.{OpenFault}
 use Rattle.desk_store.specs.declared.fault.OpenFault.TheVariants as opening
 use Rattle.desk_program.specs.Fault.{IsOfDatabase}
@@ -80,17 +79,11 @@ abbrev pub place_at : {F File D : Type 0} → Shelf F File → Database D → (F
 place_at shelf store Connects Closes desk path =
     place store (Connects desk path) (Closes desk) shelf.can_fail (shelf.at desk path)
 
--- A connection was made, and this book was opened on it, or made; that is what it came to. If a
--- table of a book was there, in any file, a crash leaves nothing new but what the statements that
--- complete the file made of it.
+-- A connection was made, and this book was opened on it, or made; that is what it came to.
 pub record Opening {D : Type 0} (at : Place D) (make : Bool) (last : Held D) (book : Book) : Type 0 where
   pub first : Held D
   pub connected : at.Connects make first
-  pub opens : HasCleanDisk (state at.store last) → OpensBook at.store make first (state at.store last) (Ok book)
-  pub crash : Survives (state at.store first) (state at.store last) (MayBring make (state at.store first))
-  pub left : (¬ HasNone (state at.store first).now.schema)
-      → Survives (state at.store first) (state at.store last) (λ db. (found : Book) × (done : Held D)
-      × Completes at.store first found done × (db ≡ (state at.store done).now.trees))
+  pub opens : OpensFile at.store make first (state at.store last) (Ok book)
 
 -- The database of this connection was closed, without what wasn't committed, and whatever a crash
 -- leaves of it then it could have left before.
@@ -108,7 +101,7 @@ Finds {D} at make book = (last : Held D) × Opening at make last book × IsClose
 pub data FindsNone {D : Type 0} (at : Place D) (make : Bool) (stop : Stop) : Type 0 where
   unconnected : (fault : ProgramFault) → at.Refuses make fault → stop ≡ Refused fault → FindsNone at make stop
   unopened : (first last : Held D) (fault : OpenFault) → at.Connects make first
-      → IsRefusedWith at.store make first (state at.store last) fault → IsClosed at last → stop ≡ stop_of fault
+      → OpensFile at.store make first (state at.store last) (Err fault) → IsClosed at last → stop ≡ stop_of fault
       → FindsNone at make stop
 
 -- ---- what goes to the sink

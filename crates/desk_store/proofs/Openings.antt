@@ -9,7 +9,7 @@ use Rattle.sqlite.specs.declared.error.Error.{Error}
 use Rattle.sqlite.specs.Effect.{Database}
 use Rattle.sqlite.specs.Held.{Held, state}
 use Rattle.sqlite.specs.State.{HasCleanDisk, State, Survives}
-use Rattle.sqlite.proofs.StateLemmas.{survives_then}
+use Rattle.sqlite.proofs.StateLemmas.{survives_then, survives_weaker}
 use Rattle.sql_tables.specs.States.{IsSettled, Leaves, ShowsAsBefore}
 use Rattle.desk_model.specs.Book.{Book, empty_book}
 use Rattle.desk_parts.specs.declared.file_table.FileTable.{FileTable}
@@ -29,7 +29,7 @@ use Rattle.desk_rows.specs.Failing.{FailsToChange, of_first_row}
 use Rattle.desk_store.specs.Formats.{IsExact, IsOfEither}
 use Rattle.desk_store.specs.Found.{HasNone, RowsShowIn}
 use Rattle.desk_rows.specs.Layout.{Layout}
-use Rattle.desk_rows.specs.Making.{IsNew, new_layout, new_tables, with_tables}
+use Rattle.desk_rows.specs.Making.{IsMade, IsNew, new_layout, new_tables, with_tables}
 use Rattle.desk_store.specs.Filling.{FillsLacked, HoldsEitherWith, HoldsWith, which_lacked}
 use Rattle.desk_store.specs.Opened.{Completes, HasGained, HoldsEither, HoldsEmpty, HoldsNone, IsMadeNew, MayBring, OpensBook, Stands, TellsOf, TellsOfNone, lacking, missing_tables, which_new}
 use Rattle.desk_store.specs.Reading.{ReadsFile}
@@ -214,6 +214,14 @@ module _ {S : Type 0} (g : Ghosts S) (make : Bool) (old : Held S) (none : HasNon
     stands = record { is_open = tt; opened = λ l c of shows. tt; made = λ still. tt; refused = before };
     ran = λ some. tt;
   }
+
+  -- if it is made, a crash leaves nothing new but all of it
+  pub brings_new : (new : State) → make ≡ true → Survives bare new (IsMade bare) → Survives bare new (MayBring make bare)
+  brings_new new wanted = survives_weaker bare new _ _ (λ clean db made. record {
+    only = inl none;
+    new = λ still. (wanted, made);
+    old = λ l book stands. absurd (no_file l stands.1.0 stands.0 stands.1.1);
+  })
 
   pub makes : (new : State) (book : Book) → make ≡ true → book ≡ empty_book → IsNew bare.now.schema bare.now.trees (λ c. ShowsContents (new_layout bare.now.schema) c new) → IsSettled new
       → IsTrue new.is_open → OpensBook g make old new (Ok book)

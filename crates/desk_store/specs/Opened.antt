@@ -260,16 +260,17 @@ pub record OpensBook {S : Type 0} (g : Ghosts S) (make : Bool) (old : Held S) (n
   pub ran : (¬ HasNone (state g old).now.schema)
       → IfOk result (λ book. (last : Held S) × Completes g old book last × (new.now ≡ (state g last).now))
 
--- No book is opened, and this is reported. A crash leaves what it could have left before, or what
--- opening may bring: if a table of a book was there, what the statements that complete the file
--- made of it. After a refusal it leaves nothing new. If a table of a book was there and the file
--- isn't refused, the report has a cause.
-pub record IsRefusedWith {S : Type 0} (g : Ghosts S) (make : Bool) (old : Held S) (new : State)
-    (fault : OpenFault) : Type 0 where
-  pub opens : HasCleanDisk new → OpensBook g make old new (Err fault)
+-- All that is known once a file was opened, with a book or without. A crash leaves nothing new but
+-- what opening may bring, the book in a file with the tables of a new one; if a table of a book was
+-- there, in any file, but what the statements that complete the file made of it; and after a
+-- refusal nothing. If a table of a book was there and the file isn't refused, the report has a
+-- cause.
+pub record OpensFile {S : Type 0} (g : Ghosts S) (make : Bool) (old : Held S) (new : State)
+    (result : Result Book OpenFault) : Type 0 where
+  pub opens : HasCleanDisk new → OpensBook g make old new result
   pub crash : Survives (state g old) new (MayBring make (state g old))
   pub left : (¬ HasNone (state g old).now.schema) → Survives (state g old) new
       (λ db. (book : Book) × (last : Held S) × Completes g old book last × (db ≡ (state g last).now.trees))
-  pub refused : HasCleanDisk new → IsRefusal fault → Survives (state g old) new (λ _. ⊥)
-  pub stopped : HasCleanDisk new → (¬ HasNone (state g old).now.schema) → (¬ IsRefusal fault)
-      → StopsOpening g old new fault
+  pub refused : HasCleanDisk new → IfErr result (λ fault. IsRefusal fault → Survives (state g old) new (λ _. ⊥))
+  pub stopped : HasCleanDisk new → (¬ HasNone (state g old).now.schema)
+      → IfErr result (λ fault. (¬ IsRefusal fault) → StopsOpening g old new fault)

@@ -1,6 +1,6 @@
 //! A book's file opened: checked, read whole, and completed if it lacks tables; or made.
 
-ghost use Rattle.std.specs.Prelude.{◌≡◌, ◌⊎◌, Bool, None, Some, false, true, IfErr, IfOk, IsTrue, Ok, OnOk};
+ghost use Rattle.std.specs.Prelude.{◌≡◌, ◌⊎◌, Bool, Err, None, Some, false, true, IfErr, IfOk, IsTrue, Ok, OnOk};
 ghost use Rattle.desk_model.specs.declared.new_tables.NewTables.{NewTables};
 ghost use Rattle.desk_model.specs.Book.{Book as BookOf};
 ghost use Rattle.desk_store.specs.Books.{LeavesBook, shown_by};
@@ -8,8 +8,8 @@ ghost use Rattle.desk_store.specs.Found.{HasNone};
 ghost use Rattle.desk_rows.specs.Layout.{Layout};
 ghost use Rattle.desk_rows.specs.Making.{with_tables};
 ghost use Rattle.desk_store.specs.Filling.{FillsLacked, HoldsEitherWith, HoldsWith, which_lacked};
-ghost use Rattle.desk_store.specs.Opened.{Completes, HasGained, HoldsEither, HoldsEmpty, HoldsNone, IsRefusedWith};
-ghost use Rattle.desk_store.specs.Opened.{MayBring, OpensBook, Stands, StopsFilling, StopsOpening};
+ghost use Rattle.desk_store.specs.Opened.{HasGained, HoldsEither, HoldsEmpty, HoldsNone};
+ghost use Rattle.desk_store.specs.Opened.{OpensFile, Stands, StopsFilling};
 ghost use Rattle.desk_store.specs.Opening.{IsRefusal};
 ghost use Rattle.desk_rows.specs.States.{ShowsContents};
 ghost use Rattle.sql_tables.specs.States.{Leaves};
@@ -82,17 +82,8 @@ fn open_book<S: Alter>(alloc: Global, conn: &mut Connection<S>) -> Result<Book, 
     requires unlimited { conn.old.step_limit ≡ None }
     requires there { ¬ HasNone (state S.Store conn.old).now.schema }
     ensures idle { conn.new.in_transaction ≡ false }
-    ensures opens { HasCleanDisk (state S.Store conn.new) → (make : Bool)
-        → OpensBook S.Store make conn.old (state S.Store conn.new) result }
-    ensures crash { (make : Bool) → Survives (state S.Store conn.old) (state S.Store conn.new)
-        (MayBring make (state S.Store conn.old)) }
-    ensures left { Survives (state S.Store conn.old) (state S.Store conn.new) (λ db. (book : BookOf)
-        × (last : Held S) × Completes S.Store conn.old book last
-        × (db ≡ (state S.Store last).now.trees)) }
-    ensures refused { HasCleanDisk (state S.Store conn.new) → IfErr result (λ fault. IsRefusal fault
-        → Survives (state S.Store conn.old) (state S.Store conn.new) (λ _. ⊥)) }
-    ensures stopped { HasCleanDisk (state S.Store conn.new) → IfErr result (λ fault.
-        (¬ IsRefusal fault) → StopsOpening S.Store conn.old (state S.Store conn.new) fault) }
+    ensures opens { (make : Bool)
+        → OpensFile S.Store make conn.old (state S.Store conn.new) result }
 {
     let parts = read_parts(alloc, conn)?;
     let lacked = lacked_by(&parts);
@@ -106,12 +97,7 @@ fn open_new<S: Alter>(alloc: Global, conn: &mut Connection<S>) -> Result<Book, O
     requires idle { conn.old.in_transaction ≡ false }
     requires bare { HasNone (state S.Store conn.old).now.schema }
     ensures idle { conn.new.in_transaction ≡ false }
-    ensures opens { HasCleanDisk (state S.Store conn.new)
-        → OpensBook S.Store true conn.old (state S.Store conn.new) result }
-    ensures crash { Survives (state S.Store conn.old) (state S.Store conn.new)
-        (MayBring true (state S.Store conn.old)) }
-    ensures refused { HasCleanDisk (state S.Store conn.new) → IfErr result (λ fault. IsRefusal fault
-        → Survives (state S.Store conn.old) (state S.Store conn.new) (λ _. ⊥)) }
+    ensures opens { OpensFile S.Store true conn.old (state S.Store conn.new) result }
 {
     let Ok(book) = Book::new(alloc) else {
         unreachable!()
@@ -141,18 +127,7 @@ impl<S: Alter> Store<S> {
         requires idle { connection.old.in_transaction ≡ false }
         requires unlimited { connection.old.step_limit ≡ None }
         ensures idle { connection.new.in_transaction ≡ false }
-        ensures opens { HasCleanDisk (state S.Store connection.new)
-            → OpensBook S.Store make connection.old (state S.Store connection.new) result }
-        // Of a crash at any exit: nothing new is left but the book in a file with the tables of a
-        // new one.
-        ensures crash { Survives (state S.Store connection.old) (state S.Store connection.new)
-            (MayBring make (state S.Store connection.old)) }
-        // If a table of a book was there, in any file: a crash leaves nothing new but what the
-        // statements that complete the file made of it.
-        ensures left { (¬ HasNone (state S.Store connection.old).now.schema)
-            → Survives (state S.Store connection.old) (state S.Store connection.new)
-            (λ db. (book : BookOf) × (last : Held S) × Completes S.Store connection.old book last
-            × (db ≡ (state S.Store last).now.trees)) }
+        ensures opens { OpensFile S.Store make connection.old (state S.Store connection.new) result }
         ensures either { HasCleanDisk (state S.Store connection.new) → (l : Layout) (book : BookOf)
             → Stands l book (state S.Store connection.old)
             → Leaves (HoldsEither l book) (state S.Store connection.old)
@@ -161,15 +136,6 @@ impl<S: Alter> Store<S> {
             → HasNone (state S.Store connection.old).now.schema
             → Leaves HoldsNone (state S.Store connection.old)
             → Leaves (λ db. HoldsNone db ⊎ HoldsEmpty db) (state S.Store connection.new) }
-        // After a refusal a crash leaves nothing new.
-        ensures refused { HasCleanDisk (state S.Store connection.new)
-            → IfErr result (λ fault. IsRefusal fault
-            → Survives (state S.Store connection.old) (state S.Store connection.new) (λ _. ⊥)) }
-        // Where a table of a book was there, what isn't refused has a cause.
-        ensures stopped { HasCleanDisk (state S.Store connection.new)
-            → (¬ HasNone (state S.Store connection.old).now.schema)
-            → IfErr result (λ fault. (¬ IsRefusal fault)
-            → StopsOpening S.Store connection.old (state S.Store connection.new) fault) }
     {
         if has_any(connection, &KNOWN_TABLES) {
             open_book(alloc, connection)
@@ -194,18 +160,12 @@ impl<S: Alter + Drop> Store<S> {
     ) -> Result<(Self, Book), OpenFault>
         requires idle { connection.in_transaction ≡ false }
         requires unlimited { connection.step_limit ≡ None }
-        ensures opens { IfOk result (λ it. HasCleanDisk (shown_by S.Store it.0)
-            → OpensBook S.Store make connection (shown_by S.Store it.0) (Ok it.1)) }
-        ensures crash { IfOk result (λ it. Survives (state S.Store connection)
-            (shown_by S.Store it.0) (MayBring make (state S.Store connection))) }
-        ensures left { IfOk result (λ it. (¬ HasNone (state S.Store connection).now.schema)
-            → Survives (state S.Store connection) (shown_by S.Store it.0)
-            (λ db. (book : BookOf) × (last : Held S) × Completes S.Store connection book last
-            × (db ≡ (state S.Store last).now.trees))) }
+        ensures opens { IfOk result (λ it.
+            OpensFile S.Store make connection (shown_by S.Store it.0) (Ok it.1)) }
         ensures kept { IfOk result (λ it. it.0.lost ≡ false) }
         // This holds of some connection; that it is the one that was dropped, no contract can say.
         ensures told { IfErr result (λ fault. (last : Held S)
-            × IsRefusedWith S.Store make connection (state S.Store last) fault) }
+            × OpensFile S.Store make connection (state S.Store last) (Err fault)) }
     {
         let mut connection = connection;
         let book = Store::open_on(alloc, &mut connection, make)?;

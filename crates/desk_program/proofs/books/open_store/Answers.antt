@@ -11,15 +11,13 @@ returns-in_err-connection g c =
 
 pub returns-in-Ok : goal.returns-in-Ok
 returns-in-Ok g c =
-    let opened = c.in-Ok.ensures in
     rw c.over.ensures
-    (record { first = c.in_ok-connection.connection; connected = c.in_ok-connection.ensures.named; opens = opened.opens; crash = opened.crash; left = opened.left }, refl)
+    (record { first = c.in_ok-connection.connection; connected = c.in_ok-connection.ensures.named; opens = c.in-Ok.ensures.opens }, refl)
 
 pub returns-in-Err : goal.returns-in-Err
 returns-in-Err g c =
     let at = place_at g.F.Shelf g.F.Database.Store g.F.Databases.connects g.F.Databases.closes c.args.rt.now c.args.path.now in
-    let refused = c.in-Err.ensures in
     let last = c.open_on.new.connection in
     let closed = closed-as at last last c.into_store.result refl c.close.ensures c.into_store.ensures.undone c.into_store.ensures.quiet in
     FindsNone.unopened c.in_ok-connection.connection last c.in-Err.fault c.in_ok-connection.ensures.named
-    (record { opens = refused.opens; crash = refused.crash; left = refused.left; refused = refused.refused; stopped = refused.stopped }) closed c.from.ensures
+    c.in-Err.ensures.opens closed c.from.ensures

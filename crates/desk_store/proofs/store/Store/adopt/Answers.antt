@@ -3,12 +3,7 @@ use Rattle.desk_store.proofs.store.Store.adopt.Goals as goal
 
 pub returns-in_err-book-clause-told : goal.returns-in_err-book-clause-told
 returns-in_err-book-clause-told g c =
-    let left = c.in_err-book.ensures in
-    rw (told_is _ c.from_residual.ensures.1)
-    (c.open_on.new.connection, record { opens = left.opens; crash = left.crash; left = left.left; refused = left.refused; stopped = left.stopped })
+    rw (told_is _ c.from_residual.ensures.1) (c.open_on.new.connection, c.in_err-book.ensures.opens)
 
 pub returns-clause-opens : goal.returns-clause-opens
 returns-clause-opens g c = rw c.over.ensures c.in_ok-book.ensures.opens
-
-pub returns-clause-left : goal.returns-clause-left
-returns-clause-left g c = rw c.over.ensures c.open_on.ensures.left
