@@ -1,7 +1,18 @@
--- What is returned at the exit of a `?`.
-use Rattle.std.proofs.Common.{◌≡◌, Err, IsErrAnd, Ok, Result, ap}
+-- What holds at an exit.
+use Rattle.std.proofs.Common.{◌≡◌, true, false, Err, IsErrAnd, Ok, Result, ap, is_ok, sym, true≢false}
+use Rattle.std.specs.Prelude.{MatchResult}
 
--- the error that it is said to be
-pub told_is : {T E : Type 0} (r : Result T E) {e : E} → IsErrAnd r (λ told. told ≡ e) → r ≡ Err e
-told_is (Ok x) failed = absurd failed
-told_is (Err told) same = ap (λ y. Err y) same
+module _ {T E : Type 0} where
+  -- the error that is returned at a `?`
+  pub told_is : (r : Result T E) {e : E} → IsErrAnd r (λ told. told ≡ e) → r ≡ Err e
+  told_is (Ok x) failed = absurd failed
+  told_is (Err told) same = ap (λ y. Err y) same
+
+  -- what holds by the test for a value or an error
+  pub at_done : (r : Result T E) (P : Type 0) (Q : E → Type 0) → MatchResult r (λ _. P) Q → is_ok r ≡ true → P
+  at_done (Ok x) P Q p ok = p
+  at_done (Err e) P Q q ok = absurd (true≢false (sym ok))
+
+  pub at_given_up : (r : Result T E) (P : Type 0) (Q : E → Type 0) → MatchResult r (λ _. P) Q → is_ok r ≡ false → (e : E) × Q e
+  at_given_up (Ok x) P Q p failed = absurd (true≢false failed)
+  at_given_up (Err e) P Q q failed = (e, q)

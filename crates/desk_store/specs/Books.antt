@@ -1,14 +1,14 @@
 -- The book of a file: what a connection shows of it, what a crash leaves, and the book once a
 -- change is kept.
-use Rattle.std.specs.Prelude.{◌≡◌, ◌⊎◌, Bool, true, List, map, refl}
+use Rattle.std.specs.Prelude.{◌≡◌, ◌⊎◌, Bool, true, false, List, map, refl}
 use Rattle.std.specs.Coded.{Coded, code_by, coded×, coded_bool}
 use Rattle.std.specs.List.{AllByRecursion}
 use Rattle.sqlite_trees.specs.declared.store.Store.{Ghosts}
 use Rattle.sqlite_trees.specs.Tree.{Trees}
 use Rattle.sqlite.specs.declared.error.Error.{Error}
 use Rattle.sqlite.specs.Held.{Held, held_code, state}
-use Rattle.sqlite.specs.State.{State}
-use Rattle.sql_tables.specs.States.{Leaves}
+use Rattle.sqlite.specs.State.{HasCleanDisk, State, Survives}
+use Rattle.sql_tables.specs.States.{Leaves, ShowsAsBefore}
 use Rattle.desk_model.specs.Book.{Book}
 use Rattle.desk_book.specs.Changes.{Carries, Change, change_puts}
 use Rattle.desk_parts.specs.Puts.{LendsFirst}
@@ -22,7 +22,7 @@ use Rattle.desk_rows.specs.Layout.{Layout}
 use Rattle.desk_rows.specs.Making.{new_tables}
 use Rattle.desk_rows.specs.Puts.{statement}
 use Rattle.desk_rows.specs.States.{IsFile, ShowsContents}
-use Rattle.desk_rows.specs.Turns.{Statement, with_transaction}
+use Rattle.desk_rows.specs.Turns.{AreRun, IsLeftBy, Statement, with_transaction}
 
 -- ---- the book of a file
 
@@ -89,6 +89,24 @@ pub record FailsToKeep {S : Type 0} (g : Ghosts S) (book : Book) (change : Chang
     (new : State) (e : Error) : Type 0 where
   pub fails : FailsToPut g (of_items g LendsFirst (change_puts book change)) (with_transaction old) new e
   pub counts : CountsLoss (state g old) new e
+
+-- What is known once it was tried to keep a change, by whether it is kept. If it is, and the
+-- connection showed the book in a file with the tables of a new one, it then shows the next book,
+-- and so does whatever a crash leaves. At any exit a crash leaves the book or the next one, and
+-- nothing is committed but the change. In any file the statements of what this change puts ran in
+-- turn, as one transaction, and no others: if it is kept, the connection shows what they made of
+-- it, and at any exit a crash leaves nothing else new. If it isn't, a connection that is still open
+-- shows what it showed before.
+pub record KeepsChange {S : Type 0} (g : Ghosts S) (book : Book) (change : Change) (old : Held S) (new : State)
+    (is_kept : Bool) : Type 0 where
+  pub kept : HasCleanDisk new → is_kept ≡ true → (l : Layout) (next : Book) → MayKeep l book change next (state g old)
+      → MayServe l next new
+  pub either : HasCleanDisk new → (l : Layout) (next : Book) → MayKeep l book change next (state g old)
+      → LeavesBook l book (state g old) → LeavesEither l book next new
+  pub survives : Survives (state g old) new (HoldsKept book change (state g old))
+  pub ran : HasCleanDisk new → is_kept ≡ true → AreRun g (statements_of book change) old new
+  pub left : Survives (state g old) new (λ db. IsLeftBy g (statements_of book change) old db)
+  pub as_before : HasCleanDisk new → is_kept ≡ false → ShowsAsBefore (state g old) new
 
 -- ---- a store
 

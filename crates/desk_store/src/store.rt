@@ -1,14 +1,10 @@
 //! The store of a book: the connection of its file, on which changes are kept.
 
-ghost use Rattle.std.specs.Prelude.{◌≡◌, false, true, IfErr, IsErr, IsTrue, OnErr, OnOk};
+ghost use Rattle.std.specs.Prelude.{◌≡◌, false, true, IfErr, IsErr, IsTrue, OnErr, OnOk, is_ok};
 ghost use Rattle.desk_book.specs.Changes.{Carries};
-ghost use Rattle.desk_store.specs.Books.{FailsToKeep, HoldsKept, LeavesBook, LeavesEither};
-ghost use Rattle.desk_store.specs.Books.{MayKeep, MayServe, shown_by, statements_of};
-ghost use Rattle.desk_rows.specs.Layout.{Layout};
-ghost use Rattle.desk_rows.specs.Turns.{AreRun, IsLeftBy};
-ghost use Rattle.sql_tables.specs.States.{ShowsAsBefore};
+ghost use Rattle.desk_store.specs.Books.{FailsToKeep, KeepsChange, shown_by};
 ghost use Rattle.sqlite.specs.Held.{state};
-ghost use Rattle.sqlite.specs.State.{HasCleanDisk, Survives};
+ghost use Rattle.sqlite.specs.State.{HasCleanDisk};
 
 use desk_book::{Book, Change};
 use desk_rows::write;
@@ -54,19 +50,10 @@ fn put_change<'a, S: Alter>(
     requires idle { conn.old.in_transaction ≡ false }
     requires planned { (command : _) × (next : _) × Carries book.now command next change.now }
     ensures idle { conn.new.in_transaction ≡ false }
-    ensures kept { HasCleanDisk (state S.Store conn.new) → (l : Layout) (next : _)
-        → MayKeep l book.now change.now next (state S.Store conn.old)
-        → OnOk result (MayServe l next (state S.Store conn.new)) }
-    ensures survives { Survives (state S.Store conn.old) (state S.Store conn.new)
-        (HoldsKept book.now change.now (state S.Store conn.old)) }
-    ensures ran { HasCleanDisk (state S.Store conn.new)
-        → OnOk result (AreRun S.Store (statements_of book.now change.now) conn.old (state S.Store conn.new)) }
-    ensures left { Survives (state S.Store conn.old) (state S.Store conn.new)
-        (λ db. IsLeftBy S.Store (statements_of book.now change.now) conn.old db) }
+    ensures keeps { KeepsChange S.Store book.now change.now conn.old (state S.Store conn.new)
+        (is_ok result) }
     ensures told { HasCleanDisk (state S.Store conn.new)
         → IfErr result (FailsToKeep S.Store book.now change.now conn.old (state S.Store conn.new)) }
-    ensures as_before { HasCleanDisk (state S.Store conn.new)
-        → OnErr result (ShowsAsBefore (state S.Store conn.old) (state S.Store conn.new)) }
 {
     write(alloc, conn, change.puts(book))
 }
@@ -94,34 +81,14 @@ impl<S: Alter> Store<S> {
     /// [`Lost`].
     pub fn keep(&mut self, alloc: Global, book: &Book, change: &Change) -> Result<(), Lost>
         requires planned { (command : _) × (next : _) × Carries book.now command next change.now }
-        ensures kept { HasCleanDisk (shown_by S.Store self.new) → (l : Layout) (next : _)
-            → MayKeep l book.now change.now next (shown_by S.Store self.old)
-            → OnOk result (MayServe l next (shown_by S.Store self.new)) }
-        // At any exit a crash leaves the book or the next one.
-        ensures either { HasCleanDisk (shown_by S.Store self.new) → (l : Layout) (next : _)
-            → MayKeep l book.now change.now next (shown_by S.Store self.old)
-            → LeavesBook l book.now (shown_by S.Store self.old)
-            → LeavesEither l book.now next (shown_by S.Store self.new) }
-        // Nothing is committed but the change.
-        ensures survives { Survives (shown_by S.Store self.old) (shown_by S.Store self.new)
-            (HoldsKept book.now change.now (shown_by S.Store self.old)) }
-        // In any file the statements of what this change puts ran in turn, as one transaction, and
-        // no others: at `Ok` the connection shows what they made of it, and at any exit a crash
-        // leaves nothing else new.
-        ensures ran { HasCleanDisk (shown_by S.Store self.new)
-            → OnOk result (AreRun S.Store (statements_of book.now change.now)
-            self.old.connection (shown_by S.Store self.new)) }
-        ensures left { Survives (shown_by S.Store self.old) (shown_by S.Store self.new)
-            (λ db. IsLeftBy S.Store (statements_of book.now change.now) self.old.connection db) }
+        ensures keeps { KeepsChange S.Store book.now change.now self.old.connection
+            (shown_by S.Store self.new) (is_ok result) }
         // The first loss has a cause: the database answered an error to one of the statements of
         // what this change puts, or to the commit, or an allocation failed. That this isn't
         // reported without one is shown by tests.
         ensures told { HasCleanDisk (shown_by S.Store self.new) → self.old.lost ≡ false
             → OnErr result ((e : _) × FailsToKeep S.Store book.now change.now
             self.old.connection (shown_by S.Store self.new) e) }
-        // After a loss a connection that is still open shows what it showed before.
-        ensures as_before { HasCleanDisk (shown_by S.Store self.new)
-            → OnErr result (ShowsAsBefore (shown_by S.Store self.old) (shown_by S.Store self.new)) }
         ensures nothing { IsTrue self.old.lost → IsErr result × (self.new ≡ self.old) }
         ensures lost { OnErr result (self.new.lost ≡ true) }
         ensures not_lost { OnOk result (self.new.lost ≡ false) }

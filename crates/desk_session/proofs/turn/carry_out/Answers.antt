@@ -11,24 +11,24 @@ returns-then-is_err-clause-taken g c =
     let planned = c.in-Ok.ensures.accepted in
     let broken : is_ok c.keep.result ≡ false = c.is_err.ensures.negation ∙ ap not c.if-is_err.true in
     λ bytes reads.
-    lost-turn bytes c.args.book c.args.command.now c.args.expect planned.1.0 c.in-Ok.change _ _ reads planned.0 planned.1.1 _ c.keep.ensures.survives c.keep.ensures.either
-    (λ clean. at_err c.keep.result _ (c.keep.ensures.as_before clean) broken)
+    lost-turn bytes c.args.book c.args.command.now c.args.expect planned.1.0 c.in-Ok.change _ _ reads planned.0 planned.1.1 _ c.keep.ensures.keeps.survives c.keep.ensures.keeps.either
+    (λ clean. c.keep.ensures.keeps.as_before clean broken)
 
 pub returns-clause-taken : goal.returns-clause-taken
 returns-clause-taken g c =
     let planned = c.in-Ok.ensures.accepted in
     let ok : is_ok c.keep.result ≡ true = c.is_err.ensures.negation ∙ ap not c.if-is_err.false in
     λ bytes reads.
-    done-turn bytes c.args.book c.args.command.now c.args.expect planned.1.0 c.in-Ok.change _ _ reads planned.0 planned.1.1 _ c.keep.ensures.survives
+    done-turn bytes c.args.book c.args.command.now c.args.expect planned.1.0 c.in-Ok.change _ _ reads planned.0 planned.1.1 _ c.keep.ensures.keeps.survives
     c.number-number.result c.settle.result c.number-number.ensures (c.settle.ensures _ _ planned.1.1)
-    (λ clean l next may. at_ok c.keep.result _ (c.keep.ensures.kept clean l next may) ok)
+    (λ clean. c.keep.ensures.keeps.kept clean ok)
 
 pub returns-then-is_err-clause-cause : goal.returns-then-is_err-clause-cause
 returns-then-is_err-clause-cause g c clean none lost =
     let planned = c.in-Ok.ensures.accepted in
     let broken : is_ok c.keep.result ≡ false = c.is_err.ensures.negation ∙ ap not c.if-is_err.true in
     let why = at_err c.keep.result _ (c.keep.ensures.told clean none) broken in
-    record { change = c.in-Ok.change; next = planned.1.0; leads = (c.args.command.now, planned.1.1); error = why.0; fails = why.1; as_before = at_err c.keep.result _ (c.keep.ensures.as_before clean) broken }
+    record { change = c.in-Ok.change; next = planned.1.0; leads = (c.args.command.now, planned.1.1); error = why.0; fails = why.1; as_before = c.keep.ensures.keeps.as_before clean broken }
 
 pub returns-clause-held : goal.returns-clause-held
 returns-clause-held g c none held =
