@@ -1,17 +1,15 @@
 //! The tables that a book's file lacks of those of a new one, made and filled.
 
-ghost use Rattle.std.specs.Prelude.{◌≡◌, false, IfErr, OnOk, Some};
+ghost use Rattle.std.specs.Prelude.{◌≡◌, false, OnOk, Some};
 ghost use Rattle.desk_parts.specs.Parts.{rows_in};
 ghost use Rattle.desk_rows.specs.Fault.{IsToldAs};
-ghost use Rattle.desk_rows.specs.Layout.{Layout};
 ghost use Rattle.desk_rows.specs.declared.fault.DatabaseFault.{DatabaseFault};
-ghost use Rattle.desk_store.specs.Filling.{FillsLacked, HoldsWith};
-ghost use Rattle.desk_store.specs.Opened.{HasGained, Stands, StopsFilling, filled_as, lacking, which_new};
+ghost use Rattle.desk_store.specs.Filling.{FillsFile};
+ghost use Rattle.desk_store.specs.Opened.{filled_as, lacking, which_new};
 ghost use Rattle.desk_store.specs.Opening.{IsRefusal};
-ghost use Rattle.desk_rows.specs.States.{ShowsContents};
 ghost use Rattle.sql_tables.specs.States.{IsCommitted, IsSettled};
-ghost use Rattle.sqlite.specs.Held.{Held, state};
-ghost use Rattle.sqlite.specs.State.{HasCleanDisk, Survives};
+ghost use Rattle.sqlite.specs.Held.{state};
+ghost use Rattle.sqlite.specs.State.{HasCleanDisk};
 
 use crate::fault::OpenFault;
 use desk_book::{Book, NewTables};
@@ -69,29 +67,11 @@ pub(crate) fn fill<S: Alter>(
 ) -> Result<(), OpenFault>
     requires { conn.old.in_transaction ≡ false }
     ensures idle { conn.new.in_transaction ≡ false }
-    ensures filled { HasCleanDisk (state S.Store conn.new) → (l : Layout)
-        (stands : Stands l book.now (state S.Store conn.old))
-        → OnOk result (HasGained (which_new tables) l stands.1.0 book.now
-        (state S.Store conn.old).now.trees (λ after d. ShowsContents after d (state S.Store conn.new))) }
+    ensures fills { FillsFile S.Store (Some tables) book.now conn.old (state S.Store conn.new) result }
     ensures open { HasCleanDisk (state S.Store conn.new)
         → OnOk result (IsCommitted (state S.Store conn.new)) }
     ensures settled { HasCleanDisk (state S.Store conn.new)
         → OnOk result (IsSettled (state S.Store conn.new)) }
-    // Of a crash at any exit: nothing new is left but all of it.
-    ensures crash { Survives (state S.Store conn.old) (state S.Store conn.new)
-        (HoldsWith (which_new tables) book.now (state S.Store conn.old)) }
-    // In any file the statements that make these tables and fill them ran in turn, and no others:
-    // at `Ok` the connection shows what they made of it, and at any exit a crash leaves nothing
-    // else new.
-    ensures ran { HasCleanDisk (state S.Store conn.new) → OnOk result ((last : Held S)
-        × FillsLacked S.Store (Some tables) book.now conn.old last
-        × ((state S.Store conn.new).now ≡ (state S.Store last).now)) }
-    ensures left { Survives (state S.Store conn.old) (state S.Store conn.new) (λ db. (last : Held S)
-        × FillsLacked S.Store (Some tables) book.now conn.old last
-        × (db ≡ (state S.Store last).now.trees)) }
-    ensures told { IfErr result (λ fault. ¬ IsRefusal fault) }
-    ensures stops { HasCleanDisk (state S.Store conn.new) → IfErr result
-        (StopsFilling S.Store tables book.now conn.old (state S.Store conn.new)) }
 {
     match write_with_tables(alloc, conn, file_tables(tables), book.filling(tables)) {
         Ok(()) => Ok(()),

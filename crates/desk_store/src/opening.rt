@@ -1,17 +1,13 @@
 //! A book's file opened: checked, read whole, and completed if it lacks tables; or made.
 
 ghost use Rattle.std.specs.Prelude.{◌≡◌, ◌⊎◌, Bool, Err, None, Some, false, true, IfErr, IfOk, IsTrue, Ok, OnOk};
-ghost use Rattle.desk_model.specs.declared.new_tables.NewTables.{NewTables};
 ghost use Rattle.desk_model.specs.Book.{Book as BookOf};
 ghost use Rattle.desk_store.specs.Books.{LeavesBook, shown_by};
 ghost use Rattle.desk_store.specs.Found.{HasNone};
 ghost use Rattle.desk_rows.specs.Layout.{Layout};
 ghost use Rattle.desk_rows.specs.Making.{with_tables};
-ghost use Rattle.desk_store.specs.Filling.{FillsLacked, HoldsEitherWith, HoldsWith, which_lacked};
-ghost use Rattle.desk_store.specs.Opened.{HasGained, HoldsEither, HoldsEmpty, HoldsNone};
-ghost use Rattle.desk_store.specs.Opened.{OpensFile, Stands, StopsFilling};
-ghost use Rattle.desk_store.specs.Opening.{IsRefusal};
-ghost use Rattle.desk_rows.specs.States.{ShowsContents};
+ghost use Rattle.desk_store.specs.Filling.{FillsFile, HoldsEitherWith, which_lacked};
+ghost use Rattle.desk_store.specs.Opened.{HoldsEither, HoldsEmpty, HoldsNone, OpensFile, Stands};
 ghost use Rattle.sql_tables.specs.States.{Leaves};
 ghost use Rattle.sqlite.specs.Held.{Held, state};
 ghost use Rattle.sqlite.specs.State.{HasCleanDisk, Survives};
@@ -45,30 +41,13 @@ fn complete<S: Alter>(
 ) -> Result<(), OpenFault>
     requires { conn.old.in_transaction ≡ false }
     ensures idle { conn.new.in_transaction ≡ false }
-    ensures filled { HasCleanDisk (state S.Store conn.new) → (l : Layout)
-        (stands : Stands l book.now (state S.Store conn.old))
-        → OnOk result (HasGained (which_lacked lacked) l stands.1.0 book.now
-        (state S.Store conn.old).now.trees (λ after d. ShowsContents after d (state S.Store conn.new))) }
+    ensures fills { FillsFile S.Store lacked book.now conn.old (state S.Store conn.new) result }
     ensures open { HasCleanDisk (state S.Store conn.new) → IsTrue (state S.Store conn.old).is_open
         → OnOk result (IsTrue (state S.Store conn.new).is_open) }
     ensures leaves { HasCleanDisk (state S.Store conn.new) → (l : Layout)
         → Stands l book.now (state S.Store conn.old)
         → Leaves (HoldsEitherWith (which_lacked lacked) l book.now) (state S.Store conn.old) → OnOk result
         (LeavesBook (with_tables (which_lacked lacked) l) book.now (state S.Store conn.new)) }
-    // Of a crash at any exit: nothing new is left but all of it.
-    ensures crash { Survives (state S.Store conn.old) (state S.Store conn.new)
-        (HoldsWith (which_lacked lacked) book.now (state S.Store conn.old)) }
-    // In any file just the statements that make and fill what it lacks ran, in turn.
-    ensures ran { HasCleanDisk (state S.Store conn.new) → OnOk result ((last : Held S)
-        × FillsLacked S.Store lacked book.now conn.old last
-        × ((state S.Store conn.new).now ≡ (state S.Store last).now)) }
-    ensures left { Survives (state S.Store conn.old) (state S.Store conn.new) (λ db. (last : Held S)
-        × FillsLacked S.Store lacked book.now conn.old last
-        × (db ≡ (state S.Store last).now.trees)) }
-    ensures told { IfErr result (λ fault. ¬ IsRefusal fault) }
-    ensures stops { HasCleanDisk (state S.Store conn.new) → IfErr result (λ fault. (tables : NewTables)
-        × (lacked ≡ Some tables)
-        × StopsFilling S.Store tables book.now conn.old (state S.Store conn.new) fault) }
 {
     match lacked {
         Some(tables) => fill(alloc, conn, book, tables),

@@ -57,19 +57,19 @@ returns-in_err-book-clause-opens g c make =
 
 pub returns-in_err-complete-clause-opens : goal.returns-in_err-complete-clause-opens
 returns-in_err-complete-clause-opens g c make =
-    let none = c.in_err-complete.ensures.told in
+    let none = c.in_err-complete.ensures.fills.told in
     let reads = c.read_parts.ensures.survives in
     rw (told_is _ c.from_residual-in_err-complete.ensures.1) (record {
       opens = λ clean. refuses g.S.Store make c.args.conn.now c.requires.there (state g.S.Store c.complete.new.conn) _ (λ book shows. none)
           (λ l contents those shows. tells_no_refusal l contents _ none) (λ refusal. absurd (none refusal));
       crash = fills g.S.Store make c.args.conn.now c.requires.there c.lacked_by-lacked.ensures c.in_ok-book.ensures.shown
-          c.in_ok-parts.ensures.read reads c.complete.ensures.crash;
+          c.in_ok-parts.ensures.read reads c.complete.ensures.fills.crash;
       left = λ there. leaves_completed g.S.Store c.args.conn.now c.lacked_by-lacked.ensures c.in_ok-book.ensures.shown
-          c.in_ok-parts.ensures.read reads c.complete.ensures.left;
+          c.in_ok-parts.ensures.read reads c.complete.ensures.fills.left;
       refused = λ clean refusal. absurd (none refusal);
       stopped = λ clean there none.
-          let read = c.in_ok-parts.ensures.read (omega (arith, clean, c.complete.ensures.crash.clean)) in
-          let stops = c.in_err-complete.ensures.stops clean in
+          let read = c.in_ok-parts.ensures.read (omega (arith, clean, c.complete.ensures.fills.crash.clean)) in
+          let stops = c.in_err-complete.ensures.fills.stops clean in
           filling (rows_in c.in_ok-parts.parts) c.in_ok-book.book stops.0 c.read_parts.new.conn read.found
           c.in_ok-book.ensures.shown (sym c.lacked_by-lacked.ensures ∙ stops.1) read.stays stops.2;
     })
@@ -81,17 +81,17 @@ returns-clause-opens g c make =
     let reads = c.read_parts.ensures.survives in
     record {
       opens = λ clean.
-          let early : HasCleanDisk (state g.S.Store c.read_parts.new.conn) = omega (arith, clean, c.complete.ensures.crash.clean) in
+          let early : HasCleanDisk (state g.S.Store c.read_parts.new.conn) = omega (arith, clean, c.complete.ensures.fills.crash.clean) in
           let read = c.in_ok-parts.ensures.read early in
           let done = c.in_ok-complete.ensures in
           opens g.S.Store make c.args.conn.now c.requires.there read c.in_ok-book.ensures.shown c.lacked_by-lacked.ensures
-          (state g.S.Store c.complete.new.conn) (done.filled clean) (done.leaves clean)
+          (state g.S.Store c.complete.new.conn) (done.fills.filled clean) (done.leaves clean)
           (λ db here. elim (reads.crash early db here) [ inl before ↦ before | inr none ↦ absurd none ])
-          (done.open clean read.is_open) (let ran = done.ran clean in (ran.0, completes g.S.Store c.args.conn.now read c.in_ok-book.ensures.shown c.lacked_by-lacked.ensures ran.0 ran.1, ran.2));
+          (done.open clean read.is_open) (let ran = done.fills.ran clean in (ran.0, completes g.S.Store c.args.conn.now read c.in_ok-book.ensures.shown c.lacked_by-lacked.ensures ran.0 ran.1, ran.2));
       crash = fills g.S.Store make c.args.conn.now c.requires.there c.lacked_by-lacked.ensures c.in_ok-book.ensures.shown
-          c.in_ok-parts.ensures.read reads c.complete.ensures.crash;
+          c.in_ok-parts.ensures.read reads c.complete.ensures.fills.crash;
       left = λ there. leaves_completed g.S.Store c.args.conn.now c.lacked_by-lacked.ensures c.in_ok-book.ensures.shown
-          c.in_ok-parts.ensures.read reads c.complete.ensures.left;
+          c.in_ok-parts.ensures.read reads c.complete.ensures.fills.left;
       refused = λ clean. tt;
       stopped = λ clean there. tt;
     }
