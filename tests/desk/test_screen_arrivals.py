@@ -140,7 +140,7 @@ def test_a_question_is_read_once_it_stood_for_a_third_of_a_second_without_keys()
 ):
     question = ToBeRead()
     question.came("Lines?", 10.0, 5.0)
-    assert not question.is_read  # it isn't drawn yet
+    assert not question.is_read_of("Lines?")  # it isn't drawn yet
     question.drawn("Lines?", 10.1)
     question.drawn("Lines?", 10.3)
     for pressed_at, before, is_read in (
@@ -151,9 +151,11 @@ def test_a_question_is_read_once_it_stood_for_a_third_of_a_second_without_keys()
         (10.51, 10.2, True),
     ):
         question.came("Lines?", pressed_at, before)
-        assert question.is_read is is_read, pressed_at
+        assert question.is_read_of("Lines?") is is_read, pressed_at
+    # what a key before it in the same moment has asked wasn't there to be read
+    assert not question.is_read_of("Other lines?")
     question.came("Other lines?", 20.0, 10.6)
-    assert not question.is_read
+    assert not question.is_read_of("Other lines?")
 
 
 @pytest.mark.parametrize(

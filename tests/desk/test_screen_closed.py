@@ -244,6 +244,27 @@ def test_a_text_that_can_not_be_kept_is_said_beside_where_the_book_was_saved(
     assert said.count("Oh,TheTides") == 1
 
 
+def test_who_types_on_where_the_session_ends_does_not_end_scribe(
+    moon: Path, at: Open
+) -> None:
+    terminal = at(moon, 160)
+    terminal.wait("? shows the keys.")
+    terminal.keys("o", "It rose.")
+    terminal.wait("It rose.")
+    moon.unlink()
+    terminal.send("\rq")
+    terminal.wait("Enter opens the book again  q ends")
+    terminal.wait(
+        "That key came before the question could be read, and was no answer to it."
+    )
+    for key in "quiet":
+        terminal.send(key)
+    terminal.wait("U brings it back, for a new paragraph.")
+    terminal.answer("q")
+    assert terminal.ended() == 3
+    assert f"is in the new file “{moon}-saved-1”." in "".join(terminal.said.split("\n"))
+
+
 def written(file: TextIO) -> None:
     """Writes to a terminal, and then has what is left written where nothing is refused."""
     output = Output.from_pty(file, term="xterm")

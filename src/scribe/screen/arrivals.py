@@ -62,7 +62,7 @@ class Arrivals:
         least = _TYPED_SECONDS * len(list(_presses(strokes)))
         is_typed = busy_since is not None and now - busy_since >= least
         for stroke in strokes:
-            if isinstance(stroke, Pasted) or not _is_text(stroke):
+            if isinstance(stroke, Pasted) or not is_text(stroke):
                 done += [*self._judged(), stroke]
             elif is_typed and not self.is_unread:
                 done += [*self._judged(), stroke]
@@ -122,7 +122,7 @@ class ToBeRead:
     Hands that don't read it type on, and are faster.
     """
 
-    is_read: bool = True
+    _read: object = None
     _asked: object = None
     _since: float = 0.0
 
@@ -134,7 +134,12 @@ class ToBeRead:
     def came(self, asked: object, pressed_at: float, before: float) -> None:
         """Keys came, which may have been pressed at a time, and others came before that."""
         pause = pressed_at - max(before, self._since)
-        self.is_read = asked == self._asked and pause >= _READING_SECONDS
+        is_read = asked == self._asked and pause >= _READING_SECONDS
+        self._read = asked if is_read else None
+
+    def is_read_of(self, asked: object) -> bool:
+        """Whether there was time for it, if it was asked before the keys came."""
+        return asked == self._read
 
 
 def _is_pasted(held: Sequence[str]) -> bool:
@@ -147,5 +152,6 @@ def _presses(strokes: Sequence[Stroke]) -> Iterator[Stroke]:
     return (key for key, _ in groupby(strokes))
 
 
-def _is_text(key: str) -> bool:
+def is_text(key: str) -> bool:
+    """Whether a key stands for text that is typed."""
     return key in _TEXT or len(key) == 1

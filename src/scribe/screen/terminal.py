@@ -28,7 +28,7 @@ from braildesk.text.characters import visible
 from braildesk.text.sequences import JOINING_JAMO
 
 from scribe.screen.actions import ExportTo, ImportFrom
-from scribe.screen.arrivals import UNREAD, Arrivals, Lull, ToBeRead
+from scribe.screen.arrivals import UNREAD, Arrivals, Lull, ToBeRead, is_text
 from scribe.screen.desk import Desk, preview_of
 from scribe.screen.drawing import Drawing, draw
 from scribe.screen.keyboard import Keyboard, Pasted, Stroke
@@ -306,7 +306,7 @@ class Screen:
             self._is_idle, self._busy_from = False, self._clock()
 
     def _end_drawing(self) -> None:
-        self._question.drawn(self.state.question, self._clock())
+        self._question.drawn(self._asked, self._clock())
         self._end_work()
 
     def _end_work(self) -> None:
@@ -324,12 +324,12 @@ class Screen:
         self._read_at = now
         since = None if self._is_idle else max(self._busy_from, read_at)
         pressed_at = now if since is None else since
-        self._question.came(self.state.question, pressed_at, read_at)
-        held = self._arrivals.let_go(pressed_at)
+        self._do(self._arrivals.let_go(pressed_at))
+        self._question.came(self._asked, pressed_at, read_at)
         self._arrivals.is_unread = self._is_unread_offer
         strokes = self._keyboard.strokes(text)
         self._lull.came(len(text), self._keyboard.is_pasting, now)
-        self._do([*held, *self._arrivals.came(strokes, now, since)])
+        self._do(self._arrivals.came(strokes, now, since))
 
     def _paused(self) -> None:
         """Nothing comes after Escape, so it is that key."""
@@ -365,7 +365,7 @@ class Screen:
         elif isinstance(stroke, Pasted):
             state = self._desk.paste(self.state, stroke.text, stroke.is_keys)
             self._become(state if stroke.has_end else state.saying_too(_NO_END))
-        elif stroke == UNREAD:
+        elif stroke == UNREAD or self._is_unread_offer and is_text(stroke):
             self._become(self.state.saying(_TOO_SOON).after(self.state))
         elif self._is_typed_on(stroke):
             self._become(self._desk.paste(self.state, stroke))
@@ -373,16 +373,25 @@ class Screen:
             self._become(self._desk.press(self.state, stroke))
 
     @property
+    def _asked(self) -> object:
+        """What waits for an answer: a question, or what to do once the book is closed."""
+        return self.state.is_lost or self.state.question
+
+    @property
     def _is_unread_offer(self) -> bool:
         """Whether something is offered that was not there to be read before the last key."""
         question = self.state.question
-        is_offer = question is not None and question.is_offer
-        return is_offer and not (self._question.is_read or self.state.is_lost)
+        is_offer = question is not None and question.is_offer or self.state.is_lost
+        return is_offer and not self._question.is_read_of(self._asked)
 
     def _is_typed_on(self, key: str) -> bool:
         """Whether a key that answers a question about what is typed came too soon, and is a letter."""
         question = self.state.question
-        if question is None or self._question.is_read or key not in ("y", "n"):
+        if (
+            question is None
+            or self._question.is_read_of(question)
+            or key not in ("y", "n")
+        ):
             return False
         return bool(question.lines) or question.parts is not None
 
