@@ -208,6 +208,20 @@ def test_a_fault_of_scribe_ends_the_screen_in_words_and_keeps_what_is_typed(
     again.wait("further? y is yes, n is no.")
 
 
+def test_a_text_that_can_not_be_kept_is_said_also_where_scribe_has_a_fault(
+    moon: Path, at: Open
+) -> None:
+    settings = failing(moon.parent, "KeyError('moon')")
+    terminal = at(moon, XDG_STATE_HOME="/proc/nowhere", **settings)
+    terminal.wait("? shows the keys.")
+    terminal.keys("enter", *"Oh, ")
+    terminal.wait("Oh, The moon is far away.")
+    terminal.paste("The sun")
+    assert terminal.ended() == 3
+    said = terminal.said.replace("\n", " ")
+    assert "This was typed: Oh, The moon is far away. scribe has a fault" in said
+
+
 def test_a_text_that_can_not_be_kept_at_the_end_is_said(moon: Path, at: Open) -> None:
     terminal = at(moon, XDG_STATE_HOME="/proc/nowhere")
     terminal.wait("? shows the keys.")

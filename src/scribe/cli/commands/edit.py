@@ -77,9 +77,17 @@ def run(arguments: Namespace, console: Console) -> Status:
     _take_encoding(of_terminal)
     state = desk.first_state(Size(columns, lines), arguments.by, is_ascii)
     state = replace(state, page_size=page_size_of(arguments), encoding=of_terminal)
-    screen = Screen(desk, state)
-    screen.run()
-    return _end(desk, screen, arguments.file.name, console)
+    return _shown(desk, Screen(desk, state), arguments.file.name, console)
+
+
+def _shown(desk: "Desk", screen: "Screen", name: str, console: Console) -> Status:
+    """Shows the book until it is left. Whatever ends the screen, what can't be kept is said."""
+    try:
+        screen.run()
+    except Exception:
+        console.say(*screen.unseen)
+        raise
+    return _end(desk, screen, name, console)
 
 
 def _end(desk: "Desk", screen: "Screen", name: str, console: Console) -> Status:
