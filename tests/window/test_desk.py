@@ -74,6 +74,17 @@ def test_of_lines_that_are_refused_none_is_lost(
     assert [each.text for each in Drafts(desk.path).given_up()] == ["#\nTwo."]
 
 
+@pytest.mark.parametrize("typed", ["", "  "])
+def test_a_new_paragraph_of_blanks_alone_is_not_put_into_the_book(
+    desk: Desk, typed: str
+) -> None:
+    before = _prints(desk)
+    desk.act("new_after")
+    desk.window.print.setPlainText(typed)
+    desk.act("keep")
+    assert desk.new is None and _prints(desk) == before
+
+
 def test_a_line_end_from_elsewhere_is_a_blank(desk: Desk) -> None:
     desk.window.print.setPlainText("The Moon\nis far.")
     assert desk.settle()

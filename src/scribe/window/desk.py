@@ -645,7 +645,7 @@ class Desk:
         new, text = self.new, self.typed_text()
         if new is None and not self.is_typed():
             return True
-        if new is not None and not text:
+        if new is not None and not text.strip():
             self.leave_new()
             return True
         self.keep_draft(self.draft())

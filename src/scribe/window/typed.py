@@ -77,7 +77,7 @@ class Typed:
         if new is None and not desk.is_typed():
             desk.say("The print reads as before, so there is nothing to keep.")
             return
-        is_empty = not desk.typed_text()
+        is_empty = not desk.typed_text().strip()
         if desk.settle() and new is not None and not is_empty:
             desk.begin_new(New(Aim.AFTER, desk.number, desk.table_of_new()))
 
