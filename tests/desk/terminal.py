@@ -124,6 +124,8 @@ class Terminal:
 
     def answer(self, name: str) -> None:
         """Answers a question that comes by itself by a key, once there was time to read it."""
+        # keys that come while scribe is busy may have been pressed before
+        self.settle()
         time.sleep(_READING_SECONDS)
         self.keys(name)
 
