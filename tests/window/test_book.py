@@ -91,6 +91,31 @@ def test_a_mark_that_was_resolved_is_put_again(book: OpenBook) -> None:
     ]
 
 
+def test_a_mark_is_put_again_on_its_words_where_these_are_by_then(
+    book: OpenBook,
+) -> None:
+    book.done(requests.Correct(2, 0, 0, "And so, "))
+    book.resolved(book.reading(book.contents().paragraphs[1]), 1)
+    book.done(requests.Undo(2))
+    book.taken_back(lambda *_: None)
+    marks = book.session.marks_of(2)
+    assert [(mark.start, mark.stop, mark.resolved) for mark in marks] == [
+        (4, 7, True),
+        (4, 7, False),
+    ]
+
+
+def test_a_mark_whose_words_are_gone_is_put_again_on_a_character(
+    book: OpenBook,
+) -> None:
+    book.done(requests.Correct(2, 4, 4, ""))
+    book.resolved(book.reading(book.contents().paragraphs[1]), 1)
+    done = book.taken_back(lambda *_: None)
+    assert done.said.startswith("Taken back: mark 1 was resolved.")
+    mark = book.session.marks_of(2)[-1]
+    assert (mark.start, mark.stop, mark.resolved) == (4, 5, False)
+
+
 def test_a_correction_is_the_smallest_one(book: OpenBook) -> None:
     reading = book.reading(book.contents().paragraphs[1])
     assert book.corrected(reading, "The mon is far away.") is None

@@ -258,18 +258,18 @@ class OpenBook:
         return self._after(command, self._sent(command))
 
     def resolved(self, reading: ChosenParagraph, mark: int) -> Done:
-        """Resolves a mark, with its cells noted, on which it can be put again."""
-        its = reading.its
-        marks = tuple(each for each in its.marks if each.id == mark)
-        cells = cells_of_marks(self._session, replace(its, marks=marks))
+        """Resolves a mark of a paragraph, and notes how it is put again."""
         command = requests.Resolve(mark)
-        deed = (
-            deeds.resolved(marks[0], its.paragraph.id, cells[0])
-            if cells
-            else Deed(f"mark {mark} was resolved")
-        )
-        answer = self._sent(command, deed)
-        return replace(self._after(command, answer), paragraph=its.paragraph.id)
+        answer = self._sent(command, self._resolved(reading.its, mark))
+        number = reading.its.paragraph.id
+        return replace(self._after(command, answer), paragraph=number)
+
+    def _resolved(self, its: ParagraphReading, number: int) -> Deed:
+        """That a mark was resolved, which is put again on the cells of its words as they are now."""
+        (mark,) = (each for each in its.marks if each.id == number)
+        put = replace(deeds.on_a_character(mark, len(its.text)), resolved=False)
+        (cells,) = cells_of_marks(self._session, replace(its, marks=(put,)))
+        return deeds.resolved(mark, its.paragraph.id, cells)
 
     def with_table(
         self,
@@ -403,6 +403,10 @@ class OpenBook:
         if not self._deeds:
             raise NothingToTakeBack
         *earlier, deed = self._deeds
+        if deed.mark is not None:
+            # a correction may have been taken back by itself since
+            (its,) = (p for p in self._known if p.id == deed.paragraph)
+            deed = self._resolved(self.reading(its).its, deed.mark)
         if not deed.back:
             self._deeds = tuple(earlier)
             said = f"{deed.what[:1].upper()}{deed.what[1:]}, which stays."
