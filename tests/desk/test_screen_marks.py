@@ -312,3 +312,16 @@ def test_a_mark_that_comes_to_end_within_a_contraction_is_on_its_cell(
     assert sat.state.marked_cells == (Span(0, 1),)
     assert said(sat).startswith("the sea ⠮⠀⠎⠑⠁")
     assert "Mark 2, open, on “t”: so?" in said(sat)
+
+
+def test_the_cursor_stays_where_it_is_while_what_is_typed_becomes_composed(
+    moon: Path, sit: Sit
+) -> None:
+    table = (moon.parent / "plain.utb").read_bytes() + b"letter \\x00e9 123456\n"
+    with Session(moon) as session:
+        session.put_table("own", table)
+        session.add_paragraph("front", "own", "the sea")
+    sat = sit(moon)
+    sat.press("enter", "e", "\u0301", "e", "\u0301", " ", "enter")
+    assert sat.state.reading and sat.state.reading.text == "éé the sea"
+    assert sat.state.place == 3

@@ -9,6 +9,7 @@ from PyQt6.QtGui import QFont
 
 from braildesk import Style, requests
 from braildesk.desk.layout import PageSize
+from braildesk.text.spans import Span
 
 from scribe.window import dialogs
 from scribe.window.desk import Desk
@@ -247,6 +248,40 @@ def test_a_mark_at_the_caret_is_come_to_after_another_one_was_in_hand(
     desk.window.print.put_caret(4)
     desk.act("next_mark")
     assert desk.window.message.text == "Mark 1, open, on “mon”: spelled so?"
+
+
+def _give_accents(desk: Desk) -> None:
+    """Gives paragraph 2 a table with a letter that an accent may be typed after."""
+    table = desk.asked(desk.book.session.tables)[0].text + b"\nletter \\x00e9 15-1\n"
+    desk.do(requests.Table("own", table))
+    desk.book.tables.put("own", table)
+    desk.do(requests.Retable(2, "own"))
+
+
+def test_a_mark_is_put_on_the_words_that_are_selected_while_others_become_composed(
+    desk: Desk, monkeypatch: pytest.MonkeyPatch
+) -> None:
+    _give_accents(desk)
+    monkeypatch.setattr(dialogs, "text", lambda *_: "so?")
+    desk.choose(1)
+    desk.window.print.textCursor().insertText("e\u0301e\u0301 ")
+    desk.window.print.select(Span(9, 12))
+    desk.act("mark")
+    assert desk.window.print.text == "éé The mon is far away."
+    assert desk.reading is not None
+    mark = desk.reading.its.marks[-1]
+    assert (mark.start, mark.stop) == (7, 10)
+
+
+def test_the_caret_stays_where_it_is_while_what_is_typed_becomes_composed(
+    desk: Desk,
+) -> None:
+    _give_accents(desk)
+    desk.choose(1)
+    desk.window.print.textCursor().insertText("e\u0301e\u0301 ")
+    desk.act("keep")
+    assert desk.window.print.text == "éé The mon is far away."
+    assert desk.window.print.place == 3
 
 
 def test_page_and_line_are_said_of_what_is_gone_to(desk: Desk, given: Answers) -> None:

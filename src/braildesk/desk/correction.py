@@ -64,6 +64,15 @@ def with_typed(old: str, typed: str) -> str:
     return old if least is None else replaced(old, least.start, least.stop, least.text)
 
 
+def place_kept(typed: str, kept: str, place: int) -> int:
+    """Where a place of a text that was typed is in the print that it is kept as."""
+    if typed == kept:
+        return place
+    front = composed(typed[:place])
+    places = (n for n in range(len(kept)) if composed(kept[:n]) == front)
+    return next(places, min(place, len(kept)))
+
+
 def _shared(some: list[str], others: list[str]) -> int:
     """How many sequences two lists have in common at their fronts."""
     return sum(1 for _ in takewhile(lambda pair: pair[0] == pair[1], zip(some, others)))

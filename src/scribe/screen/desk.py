@@ -16,6 +16,7 @@ from braildesk import (
     requests,
 )
 from braildesk.desk import aftermath
+from braildesk.desk.correction import place_kept
 from braildesk.desk.draft import Aim, Draft
 from braildesk.desk.drafts import Drafts, LeftAt, NotKept
 from braildesk.desk.highlighting import cells_of_marks
@@ -569,7 +570,9 @@ class Desk:
         elif isinstance(command, requests.Resolve) and before.reading:
             number = before.reading.paragraph.id
         elif typed is not None and typed.purpose is Purpose.EDIT:
-            state = replace(state, pane=Pane.PRINT, place=typed.place)
+            kept_as = typing_keys.print_of(before, typed)
+            place = place_kept(typed.text, kept_as, typed.place)
+            state = replace(state, pane=Pane.PRINT, place=place)
         state = self._changed(state, number, before)
         return left_here(state) if isinstance(command, requests.Resolve) else state
 

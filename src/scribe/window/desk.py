@@ -14,7 +14,7 @@ from PyQt6.QtWidgets import QWidget
 from PyQt6.sip import voidptr
 
 from braildesk import After, DeskError, Lost, Mark, Paragraph, Refused, requests
-from braildesk.desk.correction import with_typed
+from braildesk.desk.correction import place_kept, with_typed
 from braildesk.desk.draft import Aim, Draft
 from braildesk.desk.drafts import Drafts, LeftAt, NotKept
 from braildesk.desk.highlighting import Highlighted
@@ -559,6 +559,11 @@ class Desk:
             composed(text) if self.new is not None else with_typed(self.before(), text)
         )
 
+    def as_kept(self, place: int) -> int:
+        """Where a place of what is typed is once that is kept."""
+        text = self.typed_text()
+        return place_kept(text, self.print_of(text), place)
+
     def is_typed(self) -> bool:
         """Whether a text is typed that the book doesn't have; none is while no paragraph is shown."""
         is_shown = self.reading is not None or self.new is not None
@@ -650,7 +655,7 @@ class Desk:
             return True
         self.keep_draft(self.draft())
         self.wait_for_draft()
-        reading = self.reading
+        reading, place = self.reading, self.as_kept(self.window.print.place)
         is_kept = False
         with self.failures():
             if new is None:
@@ -663,8 +668,11 @@ class Desk:
             return not self.is_typed() and self.new is None
         self.keep_draft(None)
         self.new = None
+        self._is_showing = True
+        self.window.print.put_caret(min(place, len(text)))
+        self._is_showing = False
         if done is None:
-            self.show_reading(self.window.print.place)
+            self.show_reading(place)
         else:
             self.show_done(done)
         return True

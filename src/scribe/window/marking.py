@@ -26,6 +26,7 @@ class Marking:
         desk, window = self.desk, self.desk.window
         on_cells = window.cells.hasFocus()
         cells, words = window.cells.selected, window.print.selected
+        words = Span(desk.as_kept(words.start), desk.as_kept(words.stop))
         number = self.desk.settled()
         if self.desk.chosen.struck:
             raise Stop(f"Paragraph {number} {STRUCK}")
