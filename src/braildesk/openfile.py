@@ -28,8 +28,8 @@ _SUMMED, _PART = 1 << 21, 1 << 16
 _TICK = 2 * 10**9
 #: How long a log is looked at that a program may be emptying, in seconds.
 _MOMENT = 0.5
-#: The bytes of a log before its first page.
-_FRONT = 32
+#: The bytes of a log before its first page, and those before each page, which sum up all up to it.
+_FRONT, _BEFORE_PAGE = 32, 24
 _READ = os.O_RDONLY | os.O_NOFOLLOW | os.O_NONBLOCK | os.O_CLOEXEC
 
 
@@ -42,6 +42,17 @@ class _Noted:
     front: bytes | None
     #: Whether a later write may leave the times as they are, since their clock ticks so slowly.
     is_fresh: bool
+
+
+@dataclass(frozen=True)
+class _LogState:
+    """What is another one once something was written into a log, also an earlier state of it."""
+
+    size: int
+    front: bytes
+    #: Where the last page that was written begins, 0 if there is none, and the bytes before it.
+    last: int
+    summed: bytes
 
 
 class OpenFile:
@@ -57,9 +68,11 @@ class OpenFile:
         self._noted: _Noted | None = None
         #: Whether the program may have written into it since then.
         self._is_lent = False
-        #: The log beside it, held open as well, and its size and front while the program waited.
+        #: The log beside it, held open as well, and what it was while the program waited.
         self._log: int | None = None
-        self._log_noted: tuple[int, bytes] | None = None
+        self._log_noted: _LogState | None = None
+        #: Whether the program may have written into the log since then.
+        self._is_log_lent = True
         if os.path.isfile(self.path):
             try:
                 # a pipe that stands there by now isn't waited for
@@ -82,19 +95,22 @@ class OpenFile:
     @property
     def is_log_written_into(self) -> bool:
         """Whether others wrote into the log since it was noted, while the program waits."""
-        if self._log is None or self._log_noted is None:
+        noted = self._log_noted
+        if self._log is None or noted is None or self._is_log_lent:
             return False
-        return _log_state(self._log) != self._log_noted
+        return _log_state(self._log, noted.last) != noted
 
     def note_log(self) -> None:
         """Notes the log, unless it is noted, while the program waits and writes nothing there."""
-        if self._log_noted is not None or self._descriptor is None:
+        if not self._is_log_lent or self._descriptor is None:
             return
         if self._log is None:
             with suppress(OSError):
                 self._log = os.open(f"{self.path}-wal", _READ)
         if self._log is not None:
-            self._log_noted = _log_state(self._log)
+            last = _last_page(self._log, self._log_noted)
+            self._log_noted = _log_state(self._log, last)
+            self._is_log_lent = False
 
     @property
     def is_overwritten(self) -> bool:
@@ -124,7 +140,7 @@ class OpenFile:
 
     def lend(self) -> None:
         """Says that the program gets a command, for which it may write into the file and the log."""
-        self._is_lent, self._log_noted = True, None
+        self._is_lent = self._is_log_lent = True
 
     @property
     def is_written_into(self) -> bool:
@@ -235,9 +251,27 @@ def _is_at(path: str, descriptor: int | None) -> bool:
         return True
 
 
-def _log_state(log: int) -> tuple[int, bytes]:
-    """What is another one once something was written into a log: its size, or its front."""
-    return os.fstat(log).st_size, os.pread(log, _FRONT, 0)
+def _log_state(log: int, last: int) -> _LogState:
+    front, summed = os.pread(log, _FRONT, 0), os.pread(log, _BEFORE_PAGE, last)
+    return _LogState(os.fstat(log).st_size, front, last, summed)
+
+
+def _last_page(log: int, before: _LogState | None) -> int:
+    """Where the last page of a log begins, 0 if it has none; it is longer than what it holds.
+
+    It is looked for from the one that was the last before, if that is there still.
+    """
+    front = os.pread(log, _FRONT, 0)
+    if len(front) < _FRONT:
+        return 0
+    # each page has the number of the log before it
+    number, step = front[16:24], _BEFORE_PAGE + int.from_bytes(front[8:12], "big")
+    last, place = 0, _FRONT
+    if before is not None and before.last and _log_state(log, before.last) == before:
+        last, place = before.last, before.last + step
+    while os.pread(log, _BEFORE_PAGE, place)[8:16] == number:
+        last, place = place, place + step
+    return last
 
 
 def _state(descriptor: int) -> tuple[int, int, int]:

@@ -955,6 +955,25 @@ def test_a_log_that_others_write_into_is_noticed(
         assert [session.print_of(each.id) for each in session.paragraphs()] == texts
 
 
+@pytest.mark.parametrize("moment", ["before a command", "before the end"])
+def test_an_earlier_state_of_the_same_log_is_noticed(book: Path, moment: str) -> None:
+    copied = book.with_name("copied")
+    with pytest.raises(Displaced) as caught:
+        with Session(book) as session:
+            session.add_paragraph("end", "en", "Of the backup.")
+            shutil.copyfile(log_of(book), copied)
+            session.add_paragraph("end", "en", "Kept.")
+            # it has the size and the front of the log that it takes the place of
+            assert log_of(book).stat().st_size == copied.stat().st_size
+            shutil.copyfile(copied, log_of(book))
+            if moment == "before a command":
+                session.strike(1)
+    assert "wrote into the log of the book" in caught.value.cause
+    saved = Path(f"{book}-saved-1.txt").read_text()
+    assert saved == "Of the backup.\n\nKept.\n"
+    assert log_of(book).read_bytes() == copied.read_bytes()
+
+
 def test_a_session_that_only_asked_leaves_a_backup_with_its_log_as_it_is(
     book: Path, backup: Path
 ) -> None:
