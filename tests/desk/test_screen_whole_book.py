@@ -12,7 +12,8 @@ from braildesk.desk.layout import PageSize
 from scribe.screen import whole_book
 from scribe.screen.state import HEAD_LINE, Size
 from sitting import Sat, Sit
-from terminal import Open
+from stand_in import KILL_PROGRAM, READ
+from terminal import Open, standing_in
 
 TIDES = "The tide comes, and the Tide goes; no tideway is as it was."
 
@@ -348,3 +349,25 @@ def test_words_are_changed_on_a_small_terminal_as_they_are_heard(
     screen.keys("escape", "q")
     assert screen.ended() == 0
     assert prints(tides)[1].count("flood") == 2
+
+
+def test_of_a_change_that_was_cut_short_no_earlier_one_is_taken_back(
+    tides: Path, sit: Sit, monkeypatch: pytest.MonkeyPatch
+) -> None:
+    # the session ends before the second of the places is changed
+    for name, value in standing_in(3, READ, KILL_PROGRAM).items():
+        monkeypatch.setenv(name, value)
+    sat = sit(tides)
+    sat.press("enter", "O", " ", "enter")
+    version = sat.state.version
+    asked(sat, "tide", "sea")
+    sat.press("a")
+    assert sat.state.message == (
+        "The session was ended by signal 9. The book was opened again: it is at version"
+        f" {version + 1}. What was being done was stopped after 1 change."
+    )
+    assert "last kept" not in sat.lines[0]
+    sat.press("u")
+    taken = "Taken back: the newest correction of paragraph 1."
+    assert sat.state.message == taken
+    assert sat.state.openings[1].words == "O The tide"

@@ -243,7 +243,7 @@ def test_what_was_done_is_not_taken_back_in_another_book(
     other.rename(moon)
     with pytest.raises(Displaced) as caught:
         book.done(requests.Move(1, "end"))
-    found, said = book.open_after(caught.value)
+    found, said = book.open_after(caught.value, 6)
     assert found is None and said == [caught.value.sentence]
     book.opened_again()
     with pytest.raises(NothingToTakeBack):

@@ -323,3 +323,45 @@ def prints_of(desk: Desk) -> list[str]:
     """The prints of the book at work."""
     session, book = desk.book.session, desk.asked(desk.book.contents).paragraphs
     return desk.asked(lambda: [session.print_of(each.id) for each in book])
+
+
+def test_of_words_whose_change_was_cut_short_no_earlier_change_is_taken_back(
+    opened: Opened, monkeypatch: pytest.MonkeyPatch
+) -> None:
+    wanted = ["a", "e"], [False, False]
+    monkeypatch.setattr(dialogs, "fields", lambda *_: wanted)
+    monkeypatch.setattr(dialogs, "choice", lambda *_: 0)
+    with opened("4 read") as desk:
+        desk.do(requests.Correct(2, 0, 0, "So, "))
+        desk.act("change_all")
+        assert desk.window.message.text == (
+            "The session was ended by signal 9. The book was opened again: it is at version 8."
+            " What was being done was stopped after 2 changes."
+        )
+        desk.act("take_back")
+        assert desk.window.message.text.startswith("Nothing that was done in this")
+        assert prints_of(desk)[1] == "So, The mon is fer eway."
+
+
+def test_of_many_that_are_taken_back_once_the_session_ended_meanwhile_none_is_twice(
+    opened: Opened, monkeypatch: pytest.MonkeyPatch
+) -> None:
+    wanted = ["a", "e"], [False, False]
+    monkeypatch.setattr(dialogs, "fields", lambda *_: wanted)
+    monkeypatch.setattr(dialogs, "choice", lambda *_: 0)
+    monkeypatch.setattr(dialogs, "report", lambda *_: None)
+    with opened("10 read") as desk:
+        desk.do(requests.Correct(3, 0, 0, "So, "))
+        desk.act("change_all")
+        before = prints_of(desk)
+        desk.act("take_back")
+        assert desk.window.message.text.endswith(
+            "What was being done was stopped after 2 changes."
+        )
+        desk.act("take_back")
+        assert desk.window.message.text.startswith("Taken back: ")
+        assert prints_of(desk)[1:] == [
+            "The mon is far away.",
+            "So, Twice a day the sea comes up.",
+        ]
+        assert before[1] == "The mon is fer ewey."

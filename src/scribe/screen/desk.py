@@ -488,16 +488,23 @@ class Desk:
         except OSError as failure:
             return _closed(state, of_system(failure))
 
-    def _after_loss(self, state: State, lost: Lost) -> State:
-        """The book opened again after its session ended by itself, and what it has is said."""
+    def _after_loss(self, state: State, lost: Lost, begun: int | None = None) -> State:
+        """The book opened again after its session ended by itself, and what it has is said.
+
+        Work of many commands, of which the state knows none, began at a version.
+        """
         state = self.saved(state.saying(""))
+        if begun is not None and begun != lost.version:
+            # what was done before would be taken back in the place of this
+            state = replace(state, deeds=(), kept="")
         if isinstance(lost, Displaced):
             return self._ended(_displaced_by(lost, state), lost.sentence)
         waits = draft_of(state) or self._unsent.waiting
         unsaved = state.message if waits != self._unsent.waiting else ""
         try:
             self._open_further()
-            found_words = found_again(aftermath.found_again(self._session, lost))
+            there = aftermath.found_again(self._session, lost)
+            found_words = found_again(there, begun)
             said = f"{lost.cause} {found_words} {unsaved}".strip()
             found = replace(state, pages=None).saying(said)
             is_same = state.version == self._session.last_version
@@ -655,7 +662,7 @@ class Desk:
             case FindPlaces() | ChangePlaces() | ListVolumes() | SetVolumes():
                 if whole_book.takes_long(state, action):
                     return replace(state, away=action, message="Please wait.")
-                return whole_book.done(self._session, state, action, lambda *_: None)
+                return self._done_or_lost(state, action, lambda *_: None)
             case GiveTable():
                 return self._with_table(state, action.name)
             case TypeAll():
@@ -742,14 +749,23 @@ class Desk:
 
         try:
             with in_sentences():
-                state = whole_book.done(self._session, state, action, tell)
+                state = self._done_or_lost(state, action, tell)
         except Stop as stop:
             state = state.saying(stop.sentence)
-        except (Lost, Refused) as failed:
-            return self._after_failure(state, failed)
+        except Refused as refused:
+            return self._after_failure(state, refused)
         except Interrupted:
             return state
-        return self._drawn(state)
+        return state if state.is_lost else self._drawn(state)
+
+    def _done_or_lost(
+        self, state: State, action: OfWholeBook, tell: whole_book.Report
+    ) -> State:
+        """Does what concerns the whole book, or opens it again if the session is lost meanwhile."""
+        try:
+            return whole_book.done(self._session, state, action, tell)
+        except Lost as lost:
+            return self._after_loss(state, lost, state.version)
 
     def _with_table(self, state: State, name: str) -> State:
         """Puts an installed table into the book if it has none of that name, then gives it."""

@@ -166,13 +166,16 @@ class OpenBook:
             self._deeds = ()
         return found
 
-    def open_after(self, lost: Lost) -> tuple[Contents | None, list[str]]:
-        """Opens the book again after its session was lost, and says what the book has."""
+    def open_after(self, lost: Lost, begun: int) -> tuple[Contents | None, list[str]]:
+        """Opens the book again after its session was lost, and says what the book has.
+
+        What was being done began at a version.
+        """
         if isinstance(lost, Displaced):
             # in what stands there now something else would be taken back
             self._deeds = ()
             return None, [lost.sentence]
-        session, said = opened_again(self.path, lost)
+        session, said = opened_again(self.path, lost, begun=begun)
         if session is None:
             return None, said
         before = lost.version
@@ -384,10 +387,16 @@ class OpenBook:
                     backs.insert(0, requests.Undo(each.paragraph))
                 yield each
 
-        for its in count.lines(
-            noted(change_all(self._session, wanted, is_wanted)), width
-        ):
-            lines += its
+        begun = self._session.last_version
+        try:
+            found = noted(change_all(self._session, wanted, is_wanted))
+            for its in count.lines(found, width):
+                lines += its
+        except Lost as lost:
+            if lost.version != begun:
+                # what was done before would be taken back in the place of this
+                self._deeds = ()
+            raise
         if backs:
             what = (
                 f"{quoted(wanted.old)} was replaced in {counted(len(backs), 'place')}"
@@ -415,10 +424,10 @@ class OpenBook:
             try:
                 report(done, len(deed.back))
                 answer = self._ask(command)
-            except (Refused, KeyboardInterrupt) as stopped:
+            except (Refused, KeyboardInterrupt, Lost) as stopped:
                 rest = replace(deed, back=deed.back[done:])
                 self._deeds = (*earlier, rest)
-                if len(deed.back) == 1:
+                if len(deed.back) == 1 or isinstance(stopped, Lost):
                     raise
                 raise NotAll(done, stopped) from stopped
         self._deeds = tuple(earlier)

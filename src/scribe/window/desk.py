@@ -774,7 +774,8 @@ class Desk:
         self.unwatch()
         self.wait_for_draft()
         try:
-            found, said = self.work.result(lambda: self.book.open_after(lost))
+            begun = self.contents.version
+            found, said = self.work.result(lambda: self.book.open_after(lost, begun))
         except (DeskError, OSError) as failed:
             found, said = None, [lost.sentence, str(failed)]
         if found is None:

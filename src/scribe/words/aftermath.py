@@ -7,6 +7,7 @@ from braildesk.desk import aftermath
 from braildesk.desk.aftermath import FoundAgain
 
 from scribe.words.console import Console
+from scribe.words.paragraph import counted
 
 
 def after_loss(path: Path, lost: Lost) -> list[str]:
@@ -21,11 +22,11 @@ def after_loss(path: Path, lost: Lost) -> list[str]:
 
 
 def opened_again(
-    path: Path, lost: Lost, shown: int | None = None
+    path: Path, lost: Lost, shown: int | None = None, begun: int | None = None
 ) -> tuple[Session | None, list[str]]:
     """The book in another session, if it can be opened again, and what is said of the loss.
 
-    What was kept up to a version may have been shown.
+    What was kept up to a version may have been shown. Work of many commands began at another.
     """
     if isinstance(lost, Displaced):
         return None, [lost.sentence]
@@ -37,7 +38,7 @@ def opened_again(
         why = f"The book could not be opened again: {failure.strerror}."
         return None, [lost.sentence, why]
     words = found_again if shown == lost.version else _found_unshown
-    return session, [lost.cause, words(found)]
+    return session, [lost.cause, words(found, begun)]
 
 
 def tell_end(console: Console, name: str, version: int, strayed: str) -> None:
@@ -48,20 +49,27 @@ def tell_end(console: Console, name: str, version: int, strayed: str) -> None:
         console.show(f"{name} is at version {version:,}.")
 
 
-def _found_unshown(found: FoundAgain) -> str:
+def _found_unshown(found: FoundAgain, begun: int | None = None) -> str:
     """What a book has if nobody may have read yet what the last command did."""
-    if found.is_answered and found.version == found.before:
+    is_one = begun is None or found.before == begun + 1
+    if found.is_answered and found.version == found.before and is_one:
         return (
             f"The book was opened again: it is at version {found.version:,}, and what was changed"
             " last is in it."
         )
-    return found_again(found)
+    return found_again(found, begun)
 
 
-def found_again(found: FoundAgain) -> str:
-    """What a book that was opened again has of what wasn't answered before."""
+def found_again(found: FoundAgain, begun: int | None = None) -> str:
+    """What a book that was opened again has of what wasn't answered before.
+
+    Of many commands that one key asked for, those that were answered weren't shown yet.
+    """
     at = f"The book was opened again: it is at version {found.version:,}"
     count, kept = found.unanswered, found.kept
+    if begun is not None and begun < found.before and kept is not None:
+        done = counted(found.version - begun, "change")
+        return f"{at}. What was being done was stopped after {done}."
     if kept is None:
         return (
             f"{at}, and was at {found.before:,} before: another program changed it meanwhile. Look"
