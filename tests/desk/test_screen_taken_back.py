@@ -6,7 +6,7 @@ import pytest
 
 from braildesk import Session
 from sitting import Sat, Sit
-from stand_in import KILL_PROGRAM, READ, REPLY
+from stand_in import ANSWERED, KILL_PROGRAM, READ, REPLY
 from terminal import standing_in
 
 #: Keys, what `u` says after them, and what the chosen paragraph or the book is then as before.
@@ -277,6 +277,21 @@ def test_what_a_lost_session_left_is_taken_back_later(
     sat.press("u", "y")
     sat.state = sat.desk.away(sat.state, print)
     assert [each.struck for each in sat.state.book[1:4]] == [True, True, True]
+
+
+def test_what_was_taken_back_as_the_session_ended_is_not_taken_back_twice(
+    moon: Path, sit: Sit, monkeypatch: pytest.MonkeyPatch
+) -> None:
+    # the session ends once it answered, and before the book is read again
+    for name, value in standing_in(3, ANSWERED, KILL_PROGRAM).items():
+        monkeypatch.setenv(name, value)
+    sat = sit(moon)
+    sat.press("b", "enter", "O", " ", "enter", "u")
+    assert sat.state.message.startswith("The session was ended by signal 9.")
+    assert sat.state.openings[1].words == "The moon is far away."
+    sat.press("u")
+    assert sat.state.message == "Taken back: paragraph 1 was made a heading."
+    assert sat.state.openings[1].words == "The moon is far away."
 
 
 def test_a_refusal_leaves_what_can_be_taken_back(

@@ -602,7 +602,16 @@ class Desk:
             return replace(state, away=action, message="Please wait.")
         if deed.paragraph is not None:
             state = refreshed(self._session, at_paragraph(state, deed.paragraph))
-        state = self._sent(state, replace(deed.back[0], expect=state.version))
+        command = replace(deed.back[0], expect=state.version)
+        try:
+            state = self._sent(state, command)
+        except _Interrupted as interrupted:
+            # it may have been answered before the session was lost
+            if self._session.last_version != command.expect:
+                found = interrupted.state
+                left = deeds.without(deed, earlier, found.deeds[-1])
+                interrupted.state = replace(found, deeds=left)
+            raise
         left = deeds.without(deed, earlier, state.deeds[-1])
         return saying_first(deed.sentence, replace(state, deeds=left))
 
