@@ -9,6 +9,7 @@ import pytest
 
 from braildesk import Session, Style
 from braildesk.desk.layout import PageSize
+from braildesk.desk.page_places import PageMap
 from braildesk.desk.proof import ProofLine, ProofPage, ProofWord, proof_pages
 from braildesk.text.cells import EMPTY_CELL
 
@@ -85,6 +86,26 @@ def test_a_mark_stands_at_the_line_of_its_first_word(moon: Path) -> None:
     with Session(moon) as session:
         session.resolve_mark(1)
     assert not any(each.is_marked for each in words_of(pages_of(moon)))
+
+
+def test_a_mark_that_begins_within_a_sign_for_a_blank_and_a_letter_stands_where_marks_says(
+    moon: Path,
+) -> None:
+    table = (ROOT / "sample" / "plain.utb").read_bytes()
+    # with the first rule there are fewer words in the cells than in the print
+    table += b"always a\\sb 1-12\nalways \\sf 0-124\n"
+    size = PageSize(12, 10)
+    with Session(moon) as session:
+        session.put_table("own", table)
+        number = session.add_paragraph("front", "own", "a b moon is far").id
+        session.add_mark(number, 10, 2, "so?")
+        places = PageMap(session, size)
+        (mark,) = session.marks_of(number)
+        there = places.of_character(number, mark.start, "a b moon is far")
+    assert mark.start == 11 and there is not None and there.line == 1
+    lines = pages_of(moon, size)[0].lines
+    assert [len(line.marks) for line in lines[:2]] == [1, 0]
+    assert [word.text for word in lines[1].words] == ["far"]
 
 
 def test_a_mark_on_a_blank_or_after_all_words_stands_at_a_line_too(moon: Path) -> None:

@@ -106,11 +106,18 @@ def _words(
     )
     places = answers(session, asked)
     for number, runs in others.items():
-        firsts = [next(places) for _ in runs]
-        lasts = [*firsts[1:], len(texts[number])]
+        text = texts[number]
+        # a cell may stand for a blank and the letter after it
+        firsts = [_after_blanks(text, next(places)) for _ in runs]
+        lasts = [*firsts[1:], len(text)]
         spans = zip(runs, firsts, lasts)
         paired[number] = [_Word(*run, first, last) for run, first, last in spans]
     return paired
+
+
+def _after_blanks(text: str, place: int) -> int:
+    """The first place from one on where no blank stands."""
+    return len(text) - len(text[place:].lstrip())
 
 
 def _pages(
