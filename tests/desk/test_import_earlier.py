@@ -17,7 +17,7 @@ from braildesk.desk.import_note import ImportNote
 from scribe.cli import run_words
 from scribe.words.console import Console
 from sitting import Sat, Sit
-from stand_in import KEPT, KILL_BOTH, READ
+from stand_in import KEPT, KILL_BOTH, KILL_PROGRAM, READ
 from terminal import standing_in
 from test_import import TEXT, prints, version
 from tool import Ran, scribe
@@ -145,6 +145,20 @@ def test_an_import_that_was_cut_short_is_done_anew_where_that_is_asked_for(
     assert again(killed, "--lines", "--again").status == 0
     assert prints(killed) == ["front", *LINES[:5], "end", *LINES]
     assert ran("show", killed).said == ""
+
+
+def test_an_import_done_anew_of_which_nothing_was_typed_leaves_the_earlier_one(
+    killed: Path, monkeypatch: pytest.MonkeyPatch
+) -> None:
+    with monkeypatch.context() as patched:
+        for name, value in standing_in(1, READ, KILL_PROGRAM).items():
+            patched.setenv(name, value)
+        said = again(killed, "--lines", "--again").said
+    assert "Nothing of text.txt was typed." in said
+    assert said.endswith(f"go on by: scribe import {killed} text.txt --lines --again\n")
+    assert Drafts(killed).imports() == (begun(killed),)
+    assert again(killed, "--continue").status == 0
+    assert prints(killed) == ["front", *LINES, "end"]
 
 
 def test_the_rest_of_an_import_can_be_left_out(killed: Path) -> None:

@@ -56,7 +56,7 @@ def check_told(said: str, book: Path) -> None:
     count = int(found[1]) if found else 0
     assert prints == LINES[:count]
     if not found:
-        assert "Nothing of text.txt is in the book." in said
+        assert "Nothing of text.txt was typed." in said
     if count < len(LINES):
         # what is noted of an import goes with a part that is in the book
         how = "--continue" if found else "--lines"

@@ -155,6 +155,8 @@ class Importer:
         self._reported: set[str] = set()
         self._digest = ""
         self._is_noted = False
+        #: What was noted of the text before.
+        self._earlier: ImportNote | None = None
         #: What was read of the manuscript, once it was.
         self.taken: Taken | None = None
 
@@ -162,7 +164,8 @@ class Importer:
         """What is to be typed, once nothing stands in its way; raises `NotImported`."""
         data = bytes_of(self.job.text)
         self._digest = digest_of(data)
-        self.job = self._decided(self._noted())
+        self._earlier = self._noted()
+        self.job = self._decided(self._earlier)
         if self.job.way is not Way.GO_ON:
             self.job = self._chosen(data)
         self.taken = _taken(self.job, data)
@@ -189,6 +192,7 @@ class Importer:
             look_for(job.book, intake, job.wait, cut)
             if cut.kept == 0 and not job.line:
                 self._end(note)
+                self._put_back()
             cut.is_noted = self._is_noted and not is_handed_over(job.text)
             raise
         self._end(note)
@@ -262,6 +266,14 @@ class Importer:
             if note := note or self._noted():
                 self._drafts.end_import(note)
             self._is_noted = False
+        except NotKept as fault:
+            self._report(fault)
+
+    def _put_back(self) -> None:
+        """Notes again what was noted of the text before, since nothing was typed."""
+        try:
+            if self._earlier is not None:
+                self._drafts.begin_import(self._earlier)
         except NotKept as fault:
             self._report(fault)
 

@@ -186,7 +186,7 @@ def _left(job: Import, intake: Intake, cut: CutShort, again: str) -> Iterator[st
         yield f"{job.text} is in the book {least}{where} of the book."
     elif not cut.is_lacking:
         yield f"Nothing of {job.text} was reported as kept." if cut.kept is None else (
-            f"Nothing of {job.text} is in the book."
+            f"Nothing of {job.text} was typed."
         )
     is_all_typed = kept == len(intake.passages)
     if cut.is_lacking and is_all_typed and not cut.is_noted:
@@ -215,6 +215,8 @@ def _command_from(job: Import, intake: Intake, kept: int, is_noted: bool) -> lis
         words += ["--after", str(intake.there + kept if kept else intake.after)]
     if kept or job.line:
         words += ["--from", str(intake.passages[kept].first_line)]
+    elif job.way is Way.AGAIN:
+        words.append("--again")
     return words
 
 
