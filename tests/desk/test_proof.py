@@ -93,7 +93,7 @@ def test_a_mark_that_begins_within_a_sign_for_a_blank_and_a_letter_stands_where_
 ) -> None:
     table = (ROOT / "sample" / "plain.utb").read_bytes()
     # with the first rule there are fewer words in the cells than in the print
-    table += b"always a\\sb 1-12\nalways \\sf 0-124\n"
+    table += b"always a\\sb 1-12\nalways \\sf 0-124\nalways s\\so 234-0-135\n"
     size = PageSize(12, 10)
     with Session(moon) as session:
         session.put_table("own", table)
@@ -106,6 +106,16 @@ def test_a_mark_that_begins_within_a_sign_for_a_blank_and_a_letter_stands_where_
     lines = pages_of(moon, size)[0].lines
     assert [len(line.marks) for line in lines[:2]] == [1, 0]
     assert [word.text for word in lines[1].words] == ["far"]
+    with Session(moon) as session:
+        # the sign stands for the end of one word as well, and the front of the next one
+        session.correct(number, 11, 4, " off")
+        session.add_mark(number, 9, 3, "and so?")
+        places = PageMap(session, size)
+        there = places.of_character(number, 10, "a b moon is off")
+    assert there is not None and there.line == 1
+    lines = pages_of(moon, size)[0].lines
+    assert [len(line.marks) for line in lines[:2]] == [2, 0]
+    assert [word.text for word in lines[1].words] == ["off"]
 
 
 def test_a_mark_on_a_blank_or_after_all_words_stands_at_a_line_too(moon: Path) -> None:

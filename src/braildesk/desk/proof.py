@@ -9,11 +9,12 @@ from itertools import groupby
 from braildesk import Mark, Paragraph, Session, Style
 from braildesk.desk.layout import PageSize, Row, Volume, parted, volume
 from braildesk.desk.readings import answers, prints
-from braildesk.protocol.requests import Marks, Whence
+from braildesk.protocol.requests import Marks, Whence, Where
 from braildesk.text.cells import EMPTY_CELL
 
 _CELLS = re.compile(f"[^{EMPTY_CELL}]+")
 _PRINT = re.compile(r"\S+")
+_BLANK = re.compile(r"\s+")
 
 
 @dataclass(frozen=True, slots=True)
@@ -104,20 +105,36 @@ def _words(
     asked = (
         Whence(number, start) for number, runs in others.items() for start, _ in runs
     )
-    places = answers(session, asked)
+    firsts_of = _in_turn(answers(session, asked), others)
+    begun = (
+        Where(number, place) for number, firsts in firsts_of.items() for place in firsts
+    )
+    cells_of = _in_turn(answers(session, begun), others)
     for number, runs in others.items():
         text = texts[number]
-        # a cell may stand for a blank and the letter after it
-        firsts = [_after_blanks(text, next(places)) for _ in runs]
+        found = zip(runs, firsts_of[number], cells_of[number])
+        firsts = [
+            # a sign may stand for the end of the word before, a blank and this one's front
+            _after_blank(text, place) if cell < start else place
+            for (start, _), place, cell in found
+        ]
         lasts = [*firsts[1:], len(text)]
         spans = zip(runs, firsts, lasts)
         paired[number] = [_Word(*run, first, last) for run, first, last in spans]
     return paired
 
 
-def _after_blanks(text: str, place: int) -> int:
-    """The first place from one on where no blank stands."""
-    return len(text) - len(text[place:].lstrip())
+def _in_turn(
+    found: Iterator[int], runs: Mapping[int, Sequence[object]]
+) -> dict[int, list[int]]:
+    """Numbers that were asked for runs of paragraphs, one after the other."""
+    return {number: [next(found) for _ in its] for number, its in runs.items()}
+
+
+def _after_blank(text: str, place: int) -> int:
+    """The first place after the next blank, if there is one."""
+    blank = _BLANK.search(text, place)
+    return blank.end() if blank else place
 
 
 def _pages(
