@@ -72,7 +72,7 @@ class OpenFile:
         self._log: int | None = None
         self._log_noted: _LogState | None = None
         #: Whether the program may have written into the log since then.
-        self._is_log_lent = True
+        self.is_log_lent = True
         if os.path.isfile(self.path):
             try:
                 # a pipe that stands there by now isn't waited for
@@ -96,13 +96,13 @@ class OpenFile:
     def is_log_written_into(self) -> bool:
         """Whether others wrote into the log since it was noted, while the program waits."""
         noted = self._log_noted
-        if self._log is None or noted is None or self._is_log_lent:
+        if self._log is None or noted is None or self.is_log_lent:
             return False
         return _log_state(self._log, noted.last) != noted
 
     def note_log(self) -> None:
         """Notes the log, unless it is noted, while the program waits and writes nothing there."""
-        if not self._is_log_lent or self._descriptor is None:
+        if not self.is_log_lent or self._descriptor is None:
             return
         if self._log is None:
             with suppress(OSError):
@@ -110,7 +110,7 @@ class OpenFile:
         if self._log is not None:
             last = _last_page(self._log, self._log_noted)
             self._log_noted = _log_state(self._log, last)
-            self._is_log_lent = False
+            self.is_log_lent = False
 
     @property
     def is_overwritten(self) -> bool:
@@ -140,7 +140,7 @@ class OpenFile:
 
     def lend(self) -> None:
         """Says that the program gets a command, for which it may write into the file and the log."""
-        self._is_lent = self._is_log_lent = True
+        self._is_lent = self.is_log_lent = True
 
     @property
     def is_written_into(self) -> bool:

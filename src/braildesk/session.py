@@ -356,7 +356,7 @@ class Session:
             )
         if reply.word == "ok" and not self._is_saving:
             self._judge_kept()
-        if self._is_at_rest:
+        if self._file.is_log_lent and self._is_at_rest:
             self._file.note_log()
         return reply
 

@@ -88,7 +88,7 @@ class Tally:
 
     def with_hit(self, hit: Hit, sought: str) -> "Tally":
         """With those of another paragraph."""
-        found = {hit.text[place.start : place.stop] for place in hit.places} - {sought}
+        found = {hit.text[start:stop] for start, stop in hit.places} - {sought}
         kinds = set(self.kinds).union(*(unlike(sought, words) for words in found))
         return Tally(
             self.count + len(hit.places),

@@ -28,9 +28,13 @@ class Excerpts:
 
         Where words are left out stands an ellipsis, also within the brackets if they are too long.
         """
+        if not self._is_plain or width < stop - start + _BRACKETS:
+            return _in_brackets(self._text, start, stop, width)
+        return self._plain_line(start, stop, width)
+
+    def _plain_line(self, start: int, stop: int, width: int) -> str:
+        """Such a line with room for the words of a text that is plain."""
         text, room = self._text, width - _BRACKETS - (stop - start)
-        if room < 0 or not self._is_plain:
-            return _in_brackets(text, start, stop, width)
         half, rest = room // 2, len(text) - stop
         before = room - rest if room - rest > half else half
         front = _ending(text, self._spaced, start, before)
@@ -43,11 +47,11 @@ class Excerpts:
         The excerpt begins a line of its own if the rest of the head's line is short, and goes on
         in others if the words fill more than one.
         """
-        text, room = self._text, width - columns(head)
-        size = stop - start + _BRACKETS
+        # nearly all are of the first kind, here and below
+        room = width - (len(head) if head.isascii() else columns(head))
+        text, size = self._text, stop - start + _BRACKETS
         if self._is_plain and size + _BESIDE <= room:
-            # nearly all are of this kind
-            return [head + self.line(start, stop, room)]
+            return [head + self._plain_line(start, stop, room)]
         if not self._is_plain:
             size = columns(f"[{visible(text[start:stop])}]")
         others = len(text) - (stop - start)

@@ -37,7 +37,7 @@ def find_spans(text: str, sought: str, form: Form = composed) -> tuple[Span, ...
     size, stored = len(wanted), _places(text, whole, form)
     starts = _starts(whole, wanted)
     if stored is None:
-        return tuple([Span(start, start + size) for start in starts])
+        return tuple(map(Span, starts, [start + size for start in starts]))
     return tuple(
         Span(stored[start], stored[start + size])
         for start in starts

@@ -139,7 +139,7 @@ class Console:
 
     def _write(self, lines: Iterable[str]) -> None:
         try:
-            self.output.writelines(lines)
+            self.output.write("".join(lines))
         except OSError as cause:
             raise OutputFailed(cause) from cause
 
@@ -213,11 +213,12 @@ class Heard(StringIO):
         super().__init__()
         self._report = report
 
-    def writelines(self, lines: Iterable[str]) -> None:  # type: ignore[override]
-        """Writes lines."""
-        for line in lines:
-            self.write(line)
-            self._report(line.rstrip("\n"))
+    def write(self, lines: str) -> int:
+        """Writes whole lines."""
+        size = super().write(lines)
+        for line in lines.split("\n")[:-1]:
+            self._report(line)
+        return size
 
     def isatty(self) -> bool:
         """Whether a person follows it, as one does here."""
