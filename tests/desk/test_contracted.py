@@ -17,8 +17,8 @@ import pytest
 from braildesk import Session
 import braildesk
 from braildesk.desk.own_folder import OwnFolder
-from braildesk.tables import read
-from braildesk.tables.convert import making
+from braildesk.tables import Table, read
+from braildesk.tables.convert import making, tailoring
 from braildesk.tables.convert.causes import Difference, Judge
 from braildesk.tables.convert.chooser import Choice, Chooser, Print
 from braildesk.tables.convert.draft import Origin, TableDraft
@@ -36,6 +36,8 @@ from braildesk.tables.convert.tailoring import (
     weights_of,
 )
 from braildesk.tables.convert.word_list import (
+    BESIDE,
+    LONE,
     WordList,
     keep,
     kept,
@@ -244,17 +246,126 @@ def test_a_word_that_comes_often_counts_as_often() -> None:
 def test_tokens_with_marks_within_are_made_of_a_list_of_many_words(
     tmp_path: Path,
 ) -> None:
-    words = ["".join(pair) for pair in product("abcdefg", repeat=2)]
+    words = ["".join(part) for part in product("abcdefg", repeat=3)]
     (tmp_path / "words").write_text("\n".join(words))
     found = WordList.of(tmp_path / "words")
     assert [*found.weights] == words
-    joined = {token for token, weight in found.joined.items() if weight == 0.3}
-    assert found.joined.keys() - joined == {*"abcdefg"}
+    lone = {token for token, weight in found.joined.items() if weight == LONE}
+    assert lone == {*"abcdefg"}
+    joined = found.joined.keys() - lone
     parts = {part for token in joined for part in re.findall("[a-z]+", token.lower())}
-    assert parts <= {*words, *"abcdefg"}
-    for form in ("[a-z]+[.][a-z]+", "/[a-z]+", "[A-Z][.][0-9]+", "[a-z]{2}[0-9]+"):
-        assert any(re.fullmatch(form, token) for token in joined)
+    others = {"st", "nd", "rd", "th", "s", "er", "http", "https", "www"}
+    assert {one for one in parts if len(one) == 3} <= {*words, *others}
+    for form in (
+        "[a-z]+[.][a-z]+",
+        "/[a-z]+",
+        "[A-Z][.][0-9]+",
+        "[a-z]{3}[0-9]+",
+        "[a-z]\u2019[a-z]+",
+        '"[^"]?[a-z]{3}[^"]*"',
+        '"[^ a-z0-9]"',
+    ):
+        assert any(re.fullmatch(form, token) for token in joined), form
     assert WordList.of(tmp_path / "words") == found
+
+
+def test_letters_alone_beside_marks_count_as_much_as_the_many_words_of_other_tokens(
+    tmp_path: Path,
+) -> None:
+    words = ["".join(part) for part in product("abc", repeat=6)]
+    (tmp_path / "words").write_text("\n".join(words))
+    found = WordList.of(tmp_path / "words").joined
+    of_letters = sum(found[f"({one})"] for one in "abc")
+    of_words = sum(its for one, its in found.items() if re.fullmatch("~[a-c]{6}", one))
+    assert of_letters == pytest.approx(of_words)
+
+
+def test_a_list_binds_rules_with_a_mark_to_their_places_and_a_book_does_not() -> None:
+    chooser = Chooser(read(SMALL_LETTERS + b"punctuation . 256\n").table)
+    answers = {"a.b": [("a", "⠁"), (".", "⠒"), ("b", "⠃")]}
+    answers["b b. b"] = [*map(spelled, "b b"), (".", "⠒"), *map(spelled, " b")]
+    words = WordList(Path("words"), {}, {"a.b": 1, "b.": 1})
+    found = list_examples(
+        words, cast(Liblouis, Answers(answers)), chooser, "b", nothing
+    )
+    own = {("midword", "."): cells_of("⠒"), ("endword", "."): cells_of("⠒")}
+    assert learned_from_list(words, chooser, found, 100, nothing) == own
+    for kind, characters in own:
+        chooser.remove(kind, characters)
+    for example in found:
+        example.choose(chooser)
+    assert Learner(chooser, found, 100).learn([1], nothing) == {
+        ("always", "."): cells_of("⠒")
+    }
+
+
+def test_rules_of_a_list_cover_no_blank_since_its_tokens_stand_in_no_text() -> None:
+    chooser = Chooser(read(SMALL_LETTERS + b"punctuation . 256\n").table)
+    pieces = [spelled("b"), (" .", "⠀⠒"), *map(spelled, "a b")]
+    words = WordList(Path("words"), {}, {".a": 1})
+    answers = cast(Liblouis, Answers({"b .a b": pieces}))
+    found = list_examples(words, answers, chooser, "b", nothing)
+    assert not learned_from_list(words, chooser, found, 100, nothing)
+    assert Learner(chooser, found, 100).learn([1], nothing) == {
+        ("midword", " ."): cells_of("⠀⠒")
+    }
+
+
+def spelled(character: str) -> tuple[str, str]:
+    return character, {"a": "⠁", "b": "⠃", " ": "⠀"}[character]
+
+
+def test_words_of_one_cell_are_learned_from_with_marks_and_keep_it_alone() -> None:
+    marks = ".,;:!?"
+    defined = "".join(f"punctuation {one} 256\n" for one in marks)
+    table = read(SMALL_LETTERS + defined.encode() + b"word ab 23\n").table
+    chooser = Chooser(table)
+    words = WordList(Path("words"), {"ab": 1}, {"b": LONE})
+    liblouis = cast(Liblouis, Spelling(table, {"ab": cells_of("⠆")}))
+    found = list_examples(words, liblouis, chooser, "b", nothing)
+    tokens = {one.token.strip(" ") for one in found}
+    beside_one = {"ab", *(f"ab{one}" for one in marks)}
+    assert tokens >= {*beside_one, "ab.ab"}
+    learned_from_list(words, chooser, found, 100, nothing)
+    wrong = {one.token.strip(" ") for one in found if not one.is_right}
+    assert wrong.isdisjoint(beside_one)
+
+
+def test_tokens_that_are_made_of_a_list_count_less_beside_a_manuscript(
+    tmp_path: Path, monkeypatch: pytest.MonkeyPatch
+) -> None:
+    weights: dict[str, float] = {}
+
+    class Weighing(Learner):
+        def __init__(
+            self, chooser: Chooser, found: Sequence[Example], most: int
+        ) -> None:
+            weights.update({one.token.strip(" "): one.weight for one in found})
+            super().__init__(chooser, found, most)
+
+    monkeypatch.setattr(tailoring, "Learner", Weighing)
+    words = "\n".join("".join(part) for part in product("abet", repeat=4))
+    made(tmp_path, ["hat b.a"], words)
+    assert (weights["aabb"], weights["hat"], weights["b.a"]) == (1, 2, 2)
+    assert weights["a"] == LONE
+    joined = [one for one in weights if "." in one and one != "b.a"]
+    assert joined and {weights[one] for one in joined} == {BESIDE}
+
+
+class Spelling:
+    """Stands in for a liblouis that takes each character alone, but for a few words."""
+
+    def __init__(self, table: Table, words: Mapping[str, tuple[int, ...]]) -> None:
+        self._table = table
+        self._words = words
+
+    def pieces(self, texts: Sequence[str]) -> list[list[tuple[str, tuple[int, ...]]]]:
+        return [[*self._pieces(text)] for text in texts]
+
+    def _pieces(self, text: str) -> Iterable[tuple[str, tuple[int, ...]]]:
+        if text in self._words:
+            return [(text, self._words[text])]
+        return [(one, tuple(self._table.definitions[one].cells)) for one in text]
 
 
 def test_tokens_of_a_list_leave_no_word_of_it_wrong() -> None:

@@ -57,6 +57,7 @@ QUESTIONS = "doc/debian/FAQ/{}.html"
 REFERENCE = "debian-reference/*.{}.html"
 DEVELOPERS = "developers-reference/{}*.html"
 PICTURES = "gimp/2.0/help/{}/*.html"
+PACKAGES = "doc/aptitude/html/{}/*.html"
 KEPT = Path(__file__).with_suffix(".tsv")
 COLUMNS = "made_for text words right within paragraphs held_back lines seconds".split()
 PAGE = (
@@ -86,6 +87,7 @@ TEXTS = (
     Text("reference.en", REFERENCE.format("en")),
     Text("developers.en", DEVELOPERS.format("")),
     Text("pictures.en", PICTURES.format("en"), MOST_WORDS),
+    Text("packages.en", PACKAGES.format("en")),
     Text("handbook.de", HANDBOOK.format("de-DE"), MOST_WORDS),
     Text("install.de", GUIDE.format("de")),
     Text("story.de", STORY.format("de")),
@@ -102,6 +104,7 @@ TEXTS = (
     Text("reference.fr", REFERENCE.format("fr")),
     Text("developers.fr", DEVELOPERS.format("fr/")),
     Text("pictures.fr", PICTURES.format("fr"), MOST_WORDS),
+    Text("packages.fr", PACKAGES.format("fr")),
 )
 TABLES = {"en": "en-ueb-g2.ctb", "de": "de-g2.ctb", "fr": "fr-bfu-g2.ctb"}
 LANGUAGES = {"en": "English", "de": "German", "fr": "French"}
@@ -116,6 +119,7 @@ TITLES = {
     "reference": "*Debian Reference*",
     "developers": "*Debian Developer's Reference*",
     "pictures": "the manual of GIMP",
+    "packages": "the manual of aptitude",
 }
 LISTS = {"en": "british-english", "de": "ngerman", "fr": "french"}
 

@@ -132,6 +132,14 @@ class Chooser:
         """The cells of a rule, or None if there is none."""
         return self._rules.get(characters, {}).get(kind)
 
+    def whole_words(self) -> list[str]:
+        """The words that have one cell, by a rule for the whole word."""
+        return [
+            characters
+            for characters, known in self._rules.items()
+            if len(known.get(WORD, ())) == 1 and characters.isalpha()
+        ]
+
     def lacking(self, text: str) -> set[str]:
         """The characters of a text that the table doesn't define."""
         return {each for each in text if each not in self._cells}

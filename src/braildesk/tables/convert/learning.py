@@ -40,15 +40,24 @@ Learned = dict[tuple[str, str], Cells]
 
 
 class Learner:
-    """Adds rules to a chooser by examples."""
+    """Adds rules to a chooser by examples.
+
+    The tokens of a list stand in no text. So a rule of theirs covers no blank, and one with a mark is
+    for its place alone, since for all places it would keep longer rules from beginning with the mark.
+    """
 
     def __init__(
-        self, chooser: Chooser, examples: Sequence[Example], most: int
+        self,
+        chooser: Chooser,
+        examples: Sequence[Example],
+        most: int,
+        of_list: bool = False,
     ) -> None:
         self._chooser: Final = chooser
         self._examples: Final = examples
         self._occurrences: Final = Occurrences(examples)
         self._most: Final = most
+        self._of_list: Final = of_list
         self._rejected: set[Rule] = set()
         self._lost: dict[Rule, float] = {}
 
@@ -127,7 +136,7 @@ class Learner:
             if example.is_right:
                 continue
             seen = set()
-            for rule, is_right in proposals(self._chooser, example):
+            for rule, is_right in proposals(self._chooser, example, self._of_list):
                 if rule in seen or rule in self._rejected or self._has(rule):
                     continue
                 seen.add(rule)

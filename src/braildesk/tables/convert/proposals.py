@@ -39,8 +39,10 @@ class _Beginning:
     kind: str | None
 
 
-def proposals(chooser: Chooser, example: Example) -> Iterator[Proposal]:
-    """The rules for an example that isn't right."""
+def proposals(
+    chooser: Chooser, example: Example, of_list: bool = False
+) -> Iterator[Proposal]:
+    """The rules for an example that isn't right, which is of a list of words or of a text."""
     wrong, beginnings = _up_to_wrong(example)
     rest_is_right: dict[int, bool] = {}
     for beginning in beginnings[-BEGINNINGS:]:
@@ -54,8 +56,8 @@ def proposals(chooser: Chooser, example: Example) -> Iterator[Proposal]:
             if end not in rest_is_right:
                 rest = chooser.cells(example.seen, end)
                 rest_is_right[end] = rest == example.wanted[example.starts[end] :]
-            for kind in _kinds(example, beginning, end):
-                characters = example.seen.folded[beginning.start : end]
+            characters = example.seen.folded[beginning.start : end]
+            for kind in _kinds(example, beginning, end, of_list):
                 yield (kind, characters, cells), rest_is_right[end]
     if beginnings and beginnings[0].start == 0:
         yield from _as_word(example)
@@ -100,18 +102,21 @@ def _cells_between(example: Example, start: int, end: int, sign: Cells) -> Cells
     return cells[len(sign) :]
 
 
-def _kinds(example: Example, beginning: _Beginning, end: int) -> Iterator[str]:
+def _kinds(
+    example: Example, beginning: _Beginning, end: int, of_list: bool
+) -> Iterator[str]:
     """The kinds that a rule may have: that of its place, and for all places."""
     characters = example.seen.folded[beginning.start : end]
     own = example.seen.kind(beginning.start, end)
-    if " " in characters and not _is_sure(characters, own):
+    if " " in characters and (of_list or not _is_sure(characters, own)):
         return
     if own is not None:
         yield own
     is_chosen = end > beginning.end or beginning.kind in (None, ALWAYS)
-    # a word that stands alone doesn't show what its letters are within another
-    is_seen_within = own != WORD or not characters.isalpha()
-    if is_chosen and is_seen_within and " " not in characters.strip(" "):
+    # a word that stands alone doesn't show what its letters are within another, nor a list what a
+    # mark is in a text
+    is_for_all = own != WORD if characters.isalpha() else own is None or not of_list
+    if is_chosen and is_for_all and " " not in characters.strip(" "):
         yield ALWAYS
 
 

@@ -1,13 +1,15 @@
 """Shapes of lines: the plain ones that the making asks about, and those that it has not seen.
 
 In a pattern `{w}` is a word, `{W}` one with a capital, `{A}` one of capitals, `{l}` a letter, `{L}`
-a capital, `{n}` a number of one to four digits, `{d}` a number of one or two, and `{t}` three digits.
+a capital, `{n}` a number of one to four digits, `{d}` a number of one or two, `{t}` three digits, and
+`{m}` a mark.
 """
 
 from __future__ import annotations
 
 import random
 import re
+import string
 from collections.abc import Container, Mapping, Sequence
 from dataclasses import dataclass
 from typing import Final
@@ -95,16 +97,38 @@ UNSEEN: Final = (
 JOINED: Final = (
     *_shapes("words with marks between", "{w}.{w}", "{w}/{w}", "{w}-{w}", "{w}_{w}"),
     *_shapes("words with marks between", "{w}:{w}", "{w}={w}", "{w}@{w}", "{W}.{w}"),
+    *_shapes("words with marks between", "{w}+{w}", "{w}&{w}", "{w}|{w}", "{w}~{w}"),
     *_shapes("words after a mark", "/{w}", "{w}/{w}/", ".{w}", "*.{w}", "'{w}'"),
+    *_shapes("words after a mark", "${w}", "#{w}", "~{w}", "+{w}", "^{w}", "|{w}|"),
+    *_shapes("paths", "~/{w}", "~/.{w}/{w}", "./{w}", "../{w}", "{w}/*", "/{w}/*.{w}"),
+    *_shapes("paths", "/{w}/{w}.{w}", "/{w}/{w}.{l}/{w}", "/{w}/{w}-{w}/{w}_{w}"),
+    *_shapes("paths", "http://{w}.{w}/{w}", "https://www.{w}.{w}/", "{w}@{w}.{w}.{w}"),
+    *_shapes("options", "-{w}", "--{w}", "--{w}={w}", "--{w}-{w}", "{A}={w}", "${A}"),
+    *_shapes("words in brackets", "{w}({d})", "{w}.{w}({d})", "{w}()", "({w}){w}"),
+    *_shapes("words in brackets", "[{w}]", "<{w}>", "{w}[{d}]", "{w}({w})"),
     *_shapes("letters beside a mark", "{w}.{l}", "{w}.{l}/", "{w}({l})", "{w}/{l}"),
     *_shapes("letters beside a mark", "{l}.{w}", "{l}-{w}", "{l}.{l}.", "{w}-{l}"),
     *_shapes("letters beside a mark", "-{l}", "({l})", "'{l}'", '"{l}"', "{l}."),
     *_shapes("letters beside a mark", "{L}.{w}", "{L}.{W}", "{L}.{d}", "{L}.{L}.{L}."),
+    *_shapes("letters beside a mark", "{L}&{L}", "{L}/{L}", "~{l}", "^{L}", "{w}={L}"),
+    *_shapes("letters at an apostrophe", "{l}'{w}", "{l}\u2019{w}", "{w}'{l}"),
     *_shapes("letters beside a number", "{w}{d}", "{l}{d}", "{d}{l}", "{w}{d}.{w}"),
+    *_shapes("letters beside a number", "{d}{w}", "{d}.{l}", "{w}-{d}.{d}", "{w}_{d}"),
+    *_shapes("marks alone", '"{m}"', '"{m}".', '"{m}{m}"', "({m})", "'{m}'", '"-{L}"'),
+    *_shapes("ordinals and years", "{d}st", "{d}nd", "{d}rd", "{d}th", "{d}s", "{d}er"),
+    *_shapes(
+        "capitals", "{A}_{A}", "{A}/{A}", "{A}.{w}", "{A}-{w}", "{w}.{W}", "{w}{W}"
+    ),
 )
 """Shapes of tokens with marks and numbers within, as technical texts have: names of files, and versions."""
 
-_SLOT: Final = re.compile(r"\{([wWAlLndt])\}")
+ENCLOSED: Final = (
+    *("{},", "{}.", "{};", "{}:", "{}?", "{}!", "({})", "({}", "{})"),
+    *('"{}"', '"{}".', '"{}",', '("{}")', "'{}'", "\u201c{}\u201d"),
+)
+"""What may stand around such a token."""
+
+_SLOT: Final = re.compile(r"\{([wWAlLndtm])\}")
 
 
 @dataclass(frozen=True)
@@ -151,6 +175,8 @@ def _filled(slot: str, material: Material, chance: random.Random) -> str:
         return str(chance.randint(1, 99))
     if slot == "t":
         return f"{chance.randint(0, 999):03}"
+    if slot == "m":
+        return chance.choice(string.punctuation)
     if slot in "lL":
         letter = chance.choice(material.letters)
         return material.in_capitals(letter) if slot == "L" else letter

@@ -45,6 +45,7 @@ from braildesk.tables.convert.word_list import (
     learned_from_list,
     list_examples,
     name_of,
+    weigh_less,
 )
 from braildesk.tables.operands import Cells
 
@@ -170,6 +171,8 @@ class _Tailoring:
         paragraphs = self._manuscript.paragraphs
         of_list = self._list_examples()
         from_list = self._from_list(of_list)
+        if self._means.words:
+            weigh_less(self._means.words, of_list)
         first, back = _parts(paragraphs)
         learned = self._from_manuscript(first, of_list, from_list)
         held_back = None

@@ -9,8 +9,10 @@ from __future__ import annotations
 import hashlib
 import string
 import zlib
+from collections import Counter
 from collections.abc import Iterable, Sequence
 from dataclasses import dataclass
+from itertools import cycle
 from pathlib import Path
 from typing import Final, Protocol
 
@@ -26,10 +28,10 @@ from braildesk.tables.convert.learning import (
 )
 from braildesk.tables.convert.operands import write_characters, write_dots
 from braildesk.tables.convert.oracle import Liblouis
-from braildesk.tables.convert.shapes import JOINED, Material, lines_of
+from braildesk.tables.convert.shapes import ENCLOSED, JOINED, Material, lines_of
 from braildesk.tables.convert.words import forms_in
 
-METHOD: Final = 2
+METHOD: Final = 3
 """Counted up with each change of what is learned from a list."""
 
 MOST_FORMS: Final = 120_000
@@ -39,10 +41,16 @@ LESS: Final = 0.3
 """What a form with a mark or a number within counts, so that those of a word don't outweigh the word."""
 
 LONE: Final = 100.0
-"""What a letter that stands alone counts, which tokens of few letters with marks are to leave as it is."""
+"""What a letter or a word of one cell counts that stands alone, which tokens with marks are to leave as it is."""
 
-JOINED_OF_EACH: Final = 150
+BESIDE: Final = 0.1
+"""What a token with a mark or a number within counts at most beside a manuscript, whose words go before it."""
+
+JOINED_OF_EACH: Final = 200
 """How many tokens of each shape with marks or numbers within are made of a list of many words."""
+
+RARE: Final = 0.01
+"""The share of words that have a letter which isn't taken alone, unless it is one of ASCII."""
 
 SEED: Final = 1
 
@@ -50,13 +58,32 @@ SEED: Final = 1
 def _made_of(forms: Sequence[str]) -> dict[str, float]:
     """Letters alone and tokens with marks or numbers within, of the words of a list."""
     words = [one.lower() for one in forms if one.isalpha() and one[1:].islower()]
-    letters = sorted({one for word in words for one in word if len(one.upper()) == 1})
-    upper = {one: one.upper() for one in letters}
+    having = Counter(one for word in words for one in {*word} if len(one.upper()) == 1)
+    usual = [one for one in having if one.isascii() or having[one] > RARE * len(words)]
     each = min(JOINED_OF_EACH, len(words) // len(JOINED))
-    defined = {*letters, *upper.values(), *string.digits, *string.punctuation}
-    found = lines_of(JOINED, Material(words, letters, upper), defined, each, SEED)
-    alone = letters if found else []
-    return dict.fromkeys((one.line for one in found), LESS) | dict.fromkeys(alone, LONE)
+    found = _joined(words, sorted(usual), each)
+    return found | dict.fromkeys(sorted(having) if found else (), LONE)
+
+
+def _joined(
+    words: Sequence[str], letters: Sequence[str], each: int
+) -> dict[str, float]:
+    """Tokens with marks or numbers within, so many of each shape, and some of them with marks around.
+
+    What all tokens of a shape count together is the same, so that few of letters alone are worth as
+    much as many with words.
+    """
+    upper = {
+        one: one.upper() for word in words for one in word if len(one.upper()) == 1
+    }
+    defined = {*upper, *upper.values(), *string.digits, *string.punctuation, "\u2019"}
+    material = Material(words, letters, upper)
+    plain: dict[str, float] = {}
+    for place, shape in enumerate(JOINED):
+        found = lines_of([shape], material, defined, each, SEED + place)
+        plain |= {one.line: LESS * each / len(found) for one in found}
+    enclosed = map(str.format, cycle(ENCLOSED), [*plain][::2])
+    return dict.fromkeys(enclosed, LESS) | plain
 
 
 class Folder(Protocol):
@@ -100,6 +127,13 @@ def list_examples(
 ) -> list[Example]:
     """The words of a list as examples, and the tokens that are made of them."""
     weights = words.weights | words.joined
+    short = [one for one in chooser.whole_words() if len(one) > 1]
+    if words.joined and short:
+        letters = sorted({one for word in short for one in word})
+        marked = (form.format(one) for one in short for form in ENCLOSED)
+        weights = _joined(short, letters, 2 * len(short)) | weights
+        # words of one cell have it alone before all, and beside few marks
+        weights |= dict.fromkeys(marked, 1) | dict.fromkeys(short, LONE)
     return examples(liblouis, chooser, weights, frame, progress)
 
 
@@ -120,14 +154,21 @@ def learned_from_list(
         example.choose(chooser)
     alone = [one for one in found if one.token.strip(" ") in words.weights]
     rounds = len(LIST_ROUNDS) + len(JOINED_ROUNDS)
-    learned = Learner(chooser, alone, most).learn(
+    learned = Learner(chooser, alone, most, of_list=True).learn(
         LIST_ROUNDS, lambda done, _: progress(done, rounds)
     )
     if len(alone) == len(found):
         return learned
-    return learned | Learner(chooser, found, most).learn(
+    return learned | Learner(chooser, found, most, of_list=True).learn(
         JOINED_ROUNDS, lambda done, _: progress(len(LIST_ROUNDS) + done, rounds)
     )
+
+
+def weigh_less(words: WordList, found: Iterable[Example]) -> None:
+    """Has the tokens that were made of a list count less, so that a manuscript is learned from with them."""
+    for one in found:
+        if one.weight < LONE and one.token.strip(" ") not in words.weights:
+            one.weight = min(one.weight, BESIDE)
 
 
 def keep(folder: Folder, name: str, rules: Learned) -> None:
