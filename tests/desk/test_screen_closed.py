@@ -271,9 +271,6 @@ def test_who_types_on_where_the_session_ends_does_not_end_scribe(
     terminal.wait(
         "That key came before the question could be read, and was no answer to it."
     )
-    for key in "quiet":
-        terminal.send(key)
-    terminal.wait("U brings it back, for a new paragraph.")
     terminal.answer("q")
     assert terminal.ended() == 3
     assert f"is in the new file “{moon}-saved-1”." in "".join(terminal.said.split("\n"))
