@@ -8,7 +8,7 @@ pub use Rattle.desk_model.proofs.Commands.Histories.{After-append}
 pub use Rattle.desk_model.proofs.Commands.Expecting.{holds-expected}
 -- Rows show at most one book, in any order of the rows, and those of a new file and filled tables show theirs.
 pub use Rattle.desk_model.proofs.Rows.OneBook.{one_book}
-pub use Rattle.desk_model.proofs.Rows.SameRows.{shown as shown-same, turned as turned-same}
+pub use Rattle.desk_model.proofs.Rows.SameRows.{shown as shown-same, symmetric as symmetric-same}
 pub use Rattle.desk_model.proofs.Rows.FilledRows.{filled-shown, new-shown}
 -- Rows that show a book have no damage, those without damage show one, and at most one damage is the first, in any order
 -- of the rows.

@@ -9,5 +9,5 @@ pub mod OneRefusal
 pub mod RefusalTests
 pub mod SomeOutcome
 pub mod TextTests
-pub mod Turns
+pub mod Ranks
 pub mod Undone

@@ -241,21 +241,21 @@ IsDamaged rows Mark id = IsDamagedMark rows.paras rows.marks id
 IsDamaged rows Cache id =
     (caches : List ParaCells) × (rows.caches ≡ Some caches) × IsDamagedCache rows.tabs rows.paras caches id
 
--- the turn in which a table is checked: `corr2` in that of `corr`
-abbrev pub table_turn : FileTable → ℕ
-table_turn Book = 1
-table_turn Tab = 2
-table_turn Para = 3
-table_turn Corr = 4
-table_turn NamedCorr = 4
-table_turn Mark = 5
-table_turn Cache = 6
+-- the rank of a table, in the order in which they are checked: `corr2` has that of `corr`
+abbrev pub table_rank : FileTable → ℕ
+table_rank Book = 1
+table_rank Tab = 2
+table_rank Para = 3
+table_rank Corr = 4
+table_rank NamedCorr = 4
+table_rank Mark = 5
+table_rank Cache = 6
 
 -- no table that is checked before this one is damaged, and this one at no smaller id: at most one
 -- damage is the first
 pub record IsFirstDamage (rows : FileRows) (table : FileTable) (id : ℤ) : Type 0 where
   pub damaged : IsDamaged rows table id
-  pub tables : (other : FileTable) (n : ℤ) → IsDamaged rows other n → table_turn table ≤ table_turn other
+  pub tables : (other : FileTable) (n : ℤ) → IsDamaged rows other n → table_rank table ≤ table_rank other
   pub ids : (n : ℤ) → IsDamaged rows table n → id ≤ℤ n
 
 -- if `book` has one row, with a format from 1 on, the entries are those of this format

@@ -9,7 +9,7 @@ pub mod NormalForm
 pub mod Sound
 pub mod Translation
 pub mod Step
-pub mod Turns
+pub mod Ranks
 pub mod Named
 pub mod Refusals
 pub mod Judging

@@ -11,7 +11,7 @@ use Rattle.desk_model.specs.Book.{Book, Paragraph, paragraph_of}
 use Rattle.desk_model.specs.NormalForm.{normal_form}
 use Rattle.desk_model.specs.Print.{print_of, print_undone, with_replacement}
 use Rattle.desk_model.specs.Step.{next_id, next_mark, replacement_by}
-use Rattle.desk_model.specs.Turns.{bad_table_turn, turn, undefined_turn}
+use Rattle.desk_model.specs.Ranks.{bad_table_rank, rank, undefined_rank}
 use Rattle.desk_model.specs.declared.refusal.Refusal.TheVariants.{NoMemory, TooLong}
 
 -- ---- what it may name
@@ -67,8 +67,8 @@ pub record Named : Type 0 where
   pub paragraph_translated : Option Translated
   -- the number that it answers, in each book
   pub number_answered : Book → Option ℕ
-  -- the first turn of refusals that is checked after it has allocated, if it allocates
-  pub turn_after_asking : Option ℕ
+  -- the first rank of refusals that is checked after it has allocated, if it allocates
+  pub rank_after_asking : Option ℕ
 
 -- what a command names that names nothing: each field by its default
 abbrev pub nothing_named : Named
@@ -91,7 +91,7 @@ nothing_named = record {
   paragraph_undone = None;
   paragraph_translated = None;
   number_answered = λ book. None;
-  turn_after_asking = None;
+  rank_after_asking = None;
 }
 
 -- ---- each command
@@ -110,7 +110,7 @@ next_entry id book = option_map (λ paragraph. length paragraph.history + 1) (pa
 -- print alone, and nothing after a new mark, the braille by another table and a new order.
 abbrev pub named_by : Command → Named
 named_by (Table name text) =
-    record nothing_named { table_given = Some (name, text); turn_after_asking = Some bad_table_turn }
+    record nothing_named { table_given = Some (name, text); rank_after_asking = Some bad_table_rank }
 named_by (TypeIn anchor table text) = record nothing_named {
   text_given = Some text;
   text_stored = Some (normal_form text);
@@ -120,7 +120,7 @@ named_by (TypeIn anchor table text) = record nothing_named {
   table_named = Some table;
   paragraph_translated = Some (Typed (normal_form text) table);
   number_answered = λ book. Some (next_id book);
-  turn_after_asking = Some (turn TooLong);
+  rank_after_asking = Some (rank TooLong);
 }
 named_by (Correct id start count text who) = record nothing_named {
   text_given = Some text;
@@ -133,7 +133,7 @@ named_by (Correct id start count text who) = record nothing_named {
   paragraph_translated =
       Some (Changed id (λ p. Some (with_replacement (print_of p) (replacement_by start count text))));
   number_answered = next_entry id;
-  turn_after_asking = Some (turn TooLong);
+  rank_after_asking = Some (rank TooLong);
 }
 named_by (Undo id) = record nothing_named {
   history_grown = Some id;
@@ -142,7 +142,7 @@ named_by (Undo id) = record nothing_named {
   paragraph_undone = Some id;
   paragraph_translated = Some (Changed id print_undone);
   number_answered = next_entry id;
-  turn_after_asking = Some undefined_turn;
+  rank_after_asking = Some undefined_rank;
 }
 named_by (Mark id cell count note) = record nothing_named {
   text_given = Some note;
@@ -151,7 +151,7 @@ named_by (Mark id cell count note) = record nothing_named {
   live_paragraph = Some id;
   span_named = Some (Cells id cell count);
   number_answered = λ book. Some (next_mark book);
-  turn_after_asking = Some (turn NoMemory);
+  rank_after_asking = Some (rank NoMemory);
 }
 named_by (Resolve id) = record nothing_named { mark_named = Some id }
 named_by (Strike id) =
@@ -165,12 +165,12 @@ named_by (Retable id table) = record nothing_named {
   table_named = Some table;
   live_paragraph = Some id;
   paragraph_translated = Some (Retabled id table);
-  turn_after_asking = Some (turn NoMemory);
+  rank_after_asking = Some (rank NoMemory);
 }
 named_by (Move id anchor) = record nothing_named {
   place_given = Some anchor;
   paragraphs_named = id ∷ paragraph_before anchor;
-  turn_after_asking = Some (turn NoMemory);
+  rank_after_asking = Some (rank NoMemory);
 }
 
 -- ---- what follows from what is named

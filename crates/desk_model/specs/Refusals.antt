@@ -22,7 +22,7 @@ use Rattle.desk_model.specs.Name.{IsProofreaderName, IsTableName}
 use Rattle.desk_model.specs.Named.{Cells, Changed, Characters, Retabled, Span, Translated, Typed, named_by}
 use Rattle.desk_model.specs.NormalForm.{IsFirstBarred}
 use Rattle.desk_model.specs.Translation.{LacksCells}
-use Rattle.desk_model.specs.Turns.{turn}
+use Rattle.desk_model.specs.Ranks.{rank}
 
 -- ---- what makes refusals hold, where that takes more than a line
 
@@ -174,7 +174,7 @@ Holds book expect command NoMemory = ⊥
 -- the refusal is the first that holds
 pub record IsRefused (book : Book) (expect : Option ℕ) (command : Command) (refusal : Refusal) : Type 0 where
   pub holds : Holds book expect command refusal
-  pub first : (other : Refusal) → Holds book expect command other → turn refusal ≤ turn other
+  pub first : (other : Refusal) → Holds book expect command other → rank refusal ≤ rank other
 
 -- no refusal holds
 abbrev pub IsAccepted : Book → Option ℕ → Command → Type 0

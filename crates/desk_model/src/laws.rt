@@ -129,5 +129,5 @@ pub fn rows_in_any_order()
     ensures shown { (a b : FileRows) (book : Book) → AreSameRows a b → Shows a book → Shows b book }
     ensures damage { (a b : FileRows) (table : FileTable) (id : ℤ) → AreSameRows a b
         → IsFirstDamage a table id → IsFirstDamage b table id }
-    ensures turned { (a b : FileRows) → AreSameRows a b → AreSameRows b a }
+    ensures symmetric { (a b : FileRows) → AreSameRows a b → AreSameRows b a }
 {}

@@ -14,7 +14,7 @@ use Rattle.desk_rebuild.specs.Rows.{IsFirstId, IsWhole, TellsDamage}
 use Rattle.desk_rebuild.specs.OrderedRows.{IsFirstUnsound, RowRule, TellsUnsound}
 use Rattle.desk_model.specs.Rebuilding.{IsFaultOf}
 use Rattle.desk_parts.specs.Rows.{Para as ParaRow, ParaCells, Tab as TabRow}
-use Rattle.desk_model.proofs.Commands.Turns.{same_some}
+use Rattle.desk_model.proofs.Commands.Ranks.{same_some}
 use Rattle.desk_model.proofs.Damage.FirstDamage.{IsWholeBefore, from_table}
 
 -- the fault of a table's rows is reported of it

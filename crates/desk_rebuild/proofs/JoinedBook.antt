@@ -33,7 +33,7 @@ use Rattle.desk_model.specs.Shows.{Shows, tab_of}
 use Rattle.desk_memory.proofs.Callers.{paragraph_with_id-cons}
 use Rattle.desk_model.proofs.Lists.Items.{lookup-map}
 use Rattle.desk_model.proofs.Rows.OneBook.{flag_back, marks_same, number, style_back, tables_same, to_flag, to_style}
-use Rattle.desk_model.proofs.Commands.Turns.{same_some}
+use Rattle.desk_model.proofs.Commands.Ranks.{same_some}
 use Rattle.desk_model.proofs.Lists.RowNumbers.{numbers, same_number}
 use Rattle.desk_model.proofs.Lists.TableEntries.{Decides-name}
 use Rattle.desk_model.proofs.Damage.UndamagedBook as whole

@@ -16,7 +16,7 @@ use Rattle.desk_model.specs.Print.{corrected_print}
 use Rattle.desk_parts.specs.Rows.{NamedCorr, Para}
 use Rattle.desk_model.specs.Shows.{flag_number, style_number}
 use Rattle.desk_model.proofs.Rows.OneBook.{number}
-use Rattle.desk_model.proofs.Commands.Turns.{same_some}
+use Rattle.desk_model.proofs.Commands.Ranks.{same_some}
 
 -- what a row of `para` says of a kept paragraph, and that with its history
 abbrev pub plain : KeptParagraph → KeptParagraph

@@ -35,7 +35,7 @@ use Rattle.desk_parts.specs.Rows.{StoredTab, Tab}
 use Rattle.desk_model.specs.Shows.{tab_of}
 use Rattle.desk_model.proofs.Lists.Items.{Contains-there, here-at}
 use Rattle.desk_model.proofs.Lists.Members.{Contains-behind, Contains-cases, Contains-here, Contains-map, Contains-none}
-use Rattle.desk_model.proofs.Lists.Permutations.{IsPermutation-filter, IsPermutation-turn}
+use Rattle.desk_model.proofs.Lists.Permutations.{IsPermutation-filter, IsPermutation-exchange}
 use Rattle.desk_model.proofs.Lists.RowNumbers.{Contains-from_map, pos_le}
 use Rattle.desk_model.proofs.Lists.TableEntries.{All-put, Decides-name, IsStrictlySortedBy-put, same_name}
 use Rattle.desk_model.proofs.Damage.UndamagedRows.{place-of}
@@ -163,7 +163,7 @@ put-moved name table (e ∷ es) none = by (slice_cmp nat_cmp name e.0) refl (put
     by Equal is rest = absurd (found-some name e.1 (e ∷ es) (subst (λ n. Contains (e ∷ es) (n, e.1)) (sym (same_name name e.0 is)) (Contains-here e es)) none)
     by Greater is rest =
         IsPermutation-trans ((name, table) ∷ e ∷ es) (e ∷ (name, table) ∷ es) (e ∷ with_table name table es)
-        (IsPermutation-turn (name, table) e es) (IsPermutation-cons e ((name, table) ∷ es) (with_table name table es) rest)
+        (IsPermutation-exchange (name, table) e es) (IsPermutation-cons e ((name, table) ∷ es) (with_table name table es) rest)
 
 -- ---- lists
 

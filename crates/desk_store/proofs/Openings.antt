@@ -21,7 +21,7 @@ use Rattle.desk_model.specs.Shows.{Shows as RowsShow}
 use Rattle.desk_model.specs.declared.new_tables.NewTables.{NewTables}
 use Rattle.desk_model.specs.declared.fault.PartsFault.{PartsFault}
 use Rattle.desk_model.specs.declared.fault.PartsFault.TheVariants as rebuilt
-use Rattle.desk_model.proofs.Callers.{first-damage, one_book, shown-same as shown, turned-same as turned, undamaged as sound}
+use Rattle.desk_model.proofs.Callers.{first-damage, one_book, shown-same as shown, symmetric-same as symmetric, undamaged as sound}
 use Rattle.desk_store.specs.BookFile.{rows_of}
 use Rattle.desk_store.specs.Books.{LeavesBook, MayServe}
 use Rattle.desk_rows.specs.Contents.{Contents}
@@ -96,7 +96,7 @@ module _ {S : Type 0} (g : Ghosts S) (make : Bool) (old : Held S) (there : ¬ Ha
     damage_told (rebuilt.Damaged table id) first l c those shows =
         let of = of_format s rows l c read.found those shows in
         let it = read.read of.0 l c of.1 shows in
-        inr (record { row = it.row; book = it.book; of = it.of; readable = it.readable; first = first-damage rows (rows_of l c) table id (turned (rows_of l c) rows it.same) first })
+        inr (record { row = it.row; book = it.book; of = it.of; readable = it.readable; first = first-damage rows (rows_of l c) table id (symmetric (rows_of l c) rows it.same) first })
     damage_told rebuilt.NoMemory first l c those shows = tt
 
     damage_shows_none : (fault : PartsFault) → IsFaultOf rows fault → (book : Book) → RowsShowIn s book → ¬ IsRefusal (rebuilt_as fault)
@@ -111,7 +111,7 @@ module _ {S : Type 0} (g : Ghosts S) (make : Bool) (old : Held S) (there : ¬ Ha
 
     module _ {book : Book} {some : Option NewTables} (shows_it : RowsShow rows book) (is : some ≡ lacking rows.entries rows.caches) where
       stood : (l : Layout) (c : Contents) → IsOfEither l → ShowsContents l c s → RowsShow (rows_of l c) book
-      stood l c of shows = shown rows (rows_of l c) (turned (rows_of l c) rows (read.read of.0 l c of.1 shows).same) book shows_it
+      stood l c of shows = shown rows (rows_of l c) (symmetric (rows_of l c) rows (read.read of.0 l c of.1 shows).same) book shows_it
 
       -- what stands there is this book
       one_stood : (l : Layout) (other : Book) → Stands l other s → other ≡ book

@@ -24,12 +24,12 @@ use Rattle.desk_memory.specs.Display.{IsShown}
 use Rattle.desk_model.specs.Step.{next_with_entry, replacement_by}
 use Rattle.desk_model.specs.NormalForm.{IsUnbarred, normal_form}
 use Rattle.desk_model.specs.Characters.{AreCharacters}
-use Rattle.desk_model.specs.Turns.{bad_text_turn, turn}
+use Rattle.desk_model.specs.Ranks.{bad_text_rank, rank}
 use Rattle.desk_model.proofs.Lists.Options.{IsSomeAnd-value}
 use Rattle.desk_book.proofs.Plans.EntryPlanned.{ChangesPrint-entered}
 use Rattle.desk_model.proofs.Books.SoundBooks.{short-sound}
 use Rattle.desk_book.proofs.Plans.EntryPlanning.{accepts_entry, halted, undefined, unstruck}
-use Rattle.desk_model.proofs.Commands.Turns.{passes_to, not_longer, past_text, to_turn}
+use Rattle.desk_model.proofs.Commands.Ranks.{passes_to, not_longer, past_text, to_rank}
 use Rattle.desk_model.proofs.Books.HistoryLists.{corrected_print-corrects}
 use Rattle.desk_model.proofs.Commands.Judging.{Passes-past}
 use Rattle.desk_book.proofs.Plans.Planning.{no_memory}
@@ -43,24 +43,24 @@ module _ (book : Book) (id start count : ℕ) (text who : List ℕ) where
   r = replacement_by start count text
 
   module _ (named : IsProofreaderName who) where
-    pub past_proofreader : Passes book None command bad_text_turn
-    past_proofreader = Passes-past book None command BadReader bad_text_turn refl (passes_to book command (turn BadReader) refl) (λ bad. bad named)
+    pub past_proofreader : Passes book None command bad_text_rank
+    past_proofreader = Passes-past book None command BadReader bad_text_rank refl (passes_to book command (rank BadReader) refl) (λ bad. bad named)
 
     module _ (unbarred : IsUnbarred text) where
-      cleaned : Passes book None command (turn NoParagraph)
+      cleaned : Passes book None command (rank NoParagraph)
       cleaned = past_text book command text past_proofreader refl unbarred
 
       module _ (kept : KeptParagraph) (meaning : Meaning) (shown : IsShown book id kept meaning) (free : kept.struck ≡ false) where
         abbrev p : Paragraph
         p = shown.paragraph
 
-        fit : Passes book None command (turn BadSpan)
-        fit = to_turn book command (turn NotStruck) (turn BadSpan) refl (unstruck book command id refl refl refl cleaned kept meaning shown free)
+        fit : Passes book None command (rank BadSpan)
+        fit = to_rank book command (rank NotStruck) (rank BadSpan) refl (unstruck book command id refl refl refl cleaned kept meaning shown free)
 
         module _ (span : start + count ≤ length kept.print) where
-          spanned : Passes book None command (turn TooLong)
+          spanned : Passes book None command (rank TooLong)
           spanned =
-              Passes-past book None command BadSpan (turn TooLong) refl fit
+              Passes-past book None command BadSpan (rank TooLong) refl fit
               (λ b. let past = IsSomeAnd-value (λ (q : Paragraph). length (print_of q) < start + count) shown.found b in
               let one = ap length shown.print in
               omega arith)
@@ -73,7 +73,7 @@ module _ (book : Book) (id start count : ℕ) (text who : List ℕ) where
               omega (arith, a, b)
 
           pub no_memory_here : (told : Refusal) → told ≡ NoMemory → IsTurnedDown book command told
-          no_memory_here told is = no_memory book command told (turn TooLong) refl spanned is
+          no_memory_here told is = no_memory book command told (rank TooLong) refl spanned is
 
           module _ (print : List ℕ) (print_is : print ≡ with_replacement (print_of p) r) (short : length (normal_form text) ≤ most_print) where
             abbrev replaced : Paragraph → Option (List ℕ)
@@ -93,7 +93,7 @@ module _ (book : Book) (id start count : ℕ) (text who : List ℕ) where
             pub undefined_here : TakesEntry book kept (length print) → (told : Refusal) → HaltsPrint meaning print told → IsTurnedDown book command told
             undefined_here takes told =
                 undefined book command id p shown.found kept shown.kept_is print shown.translated.text meaning shown.translated.found shown.translated.means refl replaced refl made
-                (not_longer most_print (Some (normal_form text)) (normal_form text) refl short) no_note spanned refl refl refl refl (turn TooLong) refl (lit≤ tt) takes told
+                (not_longer most_print (Some (normal_form text)) (normal_form text) refl short) no_note spanned refl refl refl refl (rank TooLong) refl (lit≤ tt) takes told
 
             pub planned_here : (new : NewEntry) (effect : Effect) → new.print.items ≡ print → IsEntered book id kept meaning new effect → entry_kept new.entry ≡ Corrects r who → TookFrom (print_of p) new.entry
                 → new.start ≡ start → new.removed ≡ count → new.added ≡ length (normal_form text) → AreCharacters (normal_form text) × AreCharacters who → IsPlanned book command effect

@@ -22,23 +22,23 @@ use Rattle.desk_model.specs.Limits.{most_entries, most_note, most_print, most_ve
 use Rattle.desk_book.specs.Plans.{IsTurnedDown}
 use Rattle.desk_model.specs.Named.{Changed, named_by}
 use Rattle.desk_model.specs.Refusals.{IsAccepted, IsLongerThan, new_print, print_and_table, print_made, print_to_translate}
-use Rattle.desk_model.specs.Turns.{bad_table_turn, turn, undefined_turn, untranslatable_turn}
+use Rattle.desk_model.specs.Ranks.{bad_table_rank, rank, undefined_rank, untranslatable_rank}
 use Rattle.desk_model.proofs.Lists.Options.{IsSomeAnd-of, IsSomeAnd-value}
 use Rattle.desk_model.proofs.Commands.Judging.{Passes-past, skips}
 use Rattle.desk_book.proofs.Plans.Planning.{full_version, no_memory, past_print, too_long, turned_down}
-use Rattle.desk_model.proofs.Commands.Turns.{accepted_after, changed-print, changed-translated, not_longer, past_fit, past_lengths, past_version, to_turn}
+use Rattle.desk_model.proofs.Commands.Ranks.{accepted_after, changed-print, changed-translated, not_longer, past_fit, past_lengths, past_version, to_rank}
 
-module _ (book : Book) (command : Command) (id : ℕ) (named : (named_by command).paragraphs_named ≡ id ∷ []) (live : (named_by command).live_paragraph ≡ Some id) (skip : skips command (turn NoTable) (turn Struck) ≡ true)
-    (passes : Passes book None command (turn NoParagraph)) where
+module _ (book : Book) (command : Command) (id : ℕ) (named : (named_by command).paragraphs_named ≡ id ∷ []) (live : (named_by command).live_paragraph ≡ Some id) (skip : skips command (rank NoTable) (rank Struck) ≡ true)
+    (passes : Passes book None command (rank NoParagraph)) where
   -- it is there, and isn't struck
-  pub unstruck : (kept : KeptParagraph) (meaning : Meaning) (shown : IsShown book id kept meaning) → kept.struck ≡ false → Passes book None command (turn NotStruck)
+  pub unstruck : (kept : KeptParagraph) (meaning : Meaning) (shown : IsShown book id kept meaning) → kept.struck ≡ false → Passes book None command (rank NotStruck)
   unstruck kept meaning shown free = past_fit book command id named live skip passes shown.paragraph shown.found (ap (λ (q : Paragraph). q.struck) shown.kept_is ∙ free)
 
 module _ (book : Book) (command : Command) (id : ℕ) (p : Paragraph) (there : paragraph_of book id ≡ Some p) (kept : KeptParagraph) (kept_is : p ≡ paragraph_kept (id, kept)) (print source : List ℕ) (meaning : Meaning)
     (found : text_of book p.table ≡ Some source) (means : Means source meaning) (grows : (named_by command).history_grown ≡ Some id) (change : Paragraph → Option (List ℕ))
     (changed : (named_by command).paragraph_translated ≡ Some (Changed id change)) (makes : change p ≡ Some print) (text : ¬ IsLongerThan most_print (named_by command).text_stored)
-    (note : ¬ IsLongerThan most_note (named_by command).note_given) (passes : Passes book None command (turn TooLong))
-    (to_entries : skips command (turn (Full Tables)) (turn (Full Entries)) ≡ true) (to_version : skips command (turn (Full Marks)) (turn (Full Version)) ≡ true) (to_print : skips command bad_table_turn undefined_turn ≡ true) (to_end : skips command untranslatable_turn (turn NoMemory) ≡ true) where
+    (note : ¬ IsLongerThan most_note (named_by command).note_given) (passes : Passes book None command (rank TooLong))
+    (to_entries : skips command (rank (Full Tables)) (rank (Full Entries)) ≡ true) (to_version : skips command (rank (Full Marks)) (rank (Full Version)) ≡ true) (to_print : skips command bad_table_rank undefined_rank ≡ true) (to_end : skips command untranslatable_rank (rank NoMemory) ≡ true) where
   abbrev table : BookTable
   table = record { text = source; rules = meaning }
 
@@ -55,35 +55,35 @@ module _ (book : Book) (command : Command) (id : ℕ) (p : Paragraph) (there : p
   count : length p.history ≡ length kept.history
   count = ap (λ (q : Paragraph). length q.history) kept_is ∙ length-map kept.history entry_kept
 
-  short : length print ≤ most_print → Passes book None command (turn (Full Entries))
-  short h = to_turn book command (turn (Full Tables)) (turn (Full Entries)) to_entries (past_lengths book command passes text (not_longer most_print (new_print book command) print made h) note)
+  short : length print ≤ most_print → Passes book None command (rank (Full Entries))
+  short h = to_rank book command (rank (Full Tables)) (rank (Full Entries)) to_entries (past_lengths book command passes text (not_longer most_print (new_print book command) print made h) note)
 
-  few : length print ≤ most_print → length kept.history < most_entries → Passes book None command (turn (Full Marks))
+  few : length print ≤ most_print → length kept.history < most_entries → Passes book None command (rank (Full Marks))
   few h room =
-      Passes-past book None command (Full Entries) (turn (Full Marks)) refl (short h)
+      Passes-past book None command (Full Entries) (rank (Full Marks)) refl (short h)
       (λ f. let full = IsSomeAnd-value at_limit there (IsSomeAnd-value (λ (n : ℕ). IsSomeAnd (paragraph_of book n) at_limit) grows f) in
       omega (arith, count))
 
-  left : length print ≤ most_print → length kept.history < most_entries → book.version < most_version → Passes book None command undefined_turn
-  left h room version = to_turn book command bad_table_turn undefined_turn to_print (past_version book command (turn (Full Marks)) (few h room) to_version version)
+  left : length print ≤ most_print → length kept.history < most_entries → book.version < most_version → Passes book None command undefined_rank
+  left h room version = to_rank book command bad_table_rank undefined_rank to_print (past_version book command (rank (Full Marks)) (few h room) to_version version)
 
   pub halted : (told : Refusal) → HaltsEntry book kept (length print) told → IsTurnedDown book command told
   halted told (inl (is, long)) = too_long book command told print passes made long is
   halted told (inr (inl (is, h, full))) =
-      turned_down book command (turn (Full Entries)) (Full Entries) told (short h) refl (IsSomeAnd-of (λ (n : ℕ). IsSomeAnd (paragraph_of book n) at_limit) grows
+      turned_down book command (rank (Full Entries)) (Full Entries) told (short h) refl (IsSomeAnd-of (λ (n : ℕ). IsSomeAnd (paragraph_of book n) at_limit) grows
       (IsSomeAnd-of at_limit there (omega (arith, count, full)))) is
-  halted told (inr (inr (is, h, room, full))) = full_version book command (turn (Full Marks)) told (few h room) to_version full is
+  halted told (inr (inr (is, h, room, full))) = full_version book command (rank (Full Marks)) told (few h room) to_version full is
 
-  module _ (n : ℕ) (asks : (named_by command).turn_after_asking ≡ Some n) (soon : n ≤ undefined_turn) (takes : TakesEntry book kept (length print)) where
+  module _ (n : ℕ) (asks : (named_by command).rank_after_asking ≡ Some n) (soon : n ≤ undefined_rank) (takes : TakesEntry book kept (length print)) where
     pub lacking : (told : Refusal) → told ≡ NoMemory → IsTurnedDown book command told
     lacking told is = no_memory book command told n asks (λ other h. let after = left takes.short takes.few takes.left other h in omega arith) is
 
     pub undefined : (told : Refusal) → HaltsPrint meaning print told → IsTurnedDown book command told
     undefined told (inl (place, is, first)) =
-        turned_down book command undefined_turn (Undefined place) told (left takes.short takes.few takes.left) refl
+        turned_down book command undefined_rank (Undefined place) told (left takes.short takes.few takes.left) refl
         (record { print = print; name = p.table; print_is = shown; text = source; meaning = meaning; found = found; means = means; first = first }) is
     undefined told (inr is) = lacking told is
 
   pub accepts_entry : length print ≤ most_print → length kept.history < most_entries → book.version < most_version → AreDefined meaning print → IsAccepted book None command
   accepts_entry h room version defined =
-      accepted_after book command untranslatable_turn (past_print book command p.table print table shown (record { found = found; means = means }) (left h room version) defined) to_end
+      accepted_after book command untranslatable_rank (past_print book command p.table print table shown (record { found = found; means = means }) (left h room version) defined) to_end

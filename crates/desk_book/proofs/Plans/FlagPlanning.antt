@@ -13,22 +13,22 @@ use Rattle.desk_model.specs.Loans.{GetsFlags}
 use Rattle.desk_model.specs.Named.{HasCharacters}
 use Rattle.desk_book.specs.Plans.{IsKeptFor, IsPlanned}
 use Rattle.desk_model.specs.Step.{Makes, next_with_paragraphs, with_change}
-use Rattle.desk_model.specs.Turns.{bad_table_turn, turn}
+use Rattle.desk_model.specs.Ranks.{bad_table_rank, rank}
 use Rattle.desk_model.specs.declared.refusal.Refusal.TheVariants.{Full, NoMemory}
 use Rattle.desk_model.specs.declared.refusal.Limit.TheVariants.{Version}
 use Rattle.desk_model.proofs.Books.ParagraphLists.{with_change-same}
 use Rattle.desk_model.proofs.Commands.Judging.{skips}
-use Rattle.desk_model.proofs.Commands.Turns.{accepted_after, past_version}
+use Rattle.desk_model.proofs.Commands.Ranks.{accepted_after, past_version}
 
 module _ (book : Book) (command : Command) (id : ℕ) (kept : KeptParagraph) (k : IsKeptFor book id kept) (change : Paragraph → Paragraph)
     (makes : Makes book command (next_with_paragraphs book (with_change id change book.paragraphs))) (written : HasCharacters command) (sets : GetsFlags command id) where
   -- where a version is left, and no refusal holds that is checked before
-  pub flags_planned : (n : ℕ) → Passes book None command n → skips command n (turn (Full Version)) ≡ true → skips command bad_table_turn (turn NoMemory) ≡ true → book.version < most_version
+  pub flags_planned : (n : ℕ) → Passes book None command n → skips command n (rank (Full Version)) ≡ true → skips command bad_table_rank (rank NoMemory) ≡ true → book.version < most_version
       → (effect : Effect) (style : Style) (begins struck : Bool) → effect ≡ SetFlags id style begins struck
       → change (paragraph_kept (id, kept)) ≡ record (paragraph_kept (id, kept)) { style = style; begins_volume = begins; struck = struck } → IsPlanned book command effect
   flags_planned n passes to_version to_end left effect style begins struck is same =
       subst (IsPlanned book command) (sym is) (
-        accepted_after book command bad_table_turn (past_version book command n passes to_version left) to_end,
+        accepted_after book command bad_table_rank (past_version book command n passes to_version left) to_end,
         (next_with_paragraphs book (with_change id change book.paragraphs), makes, (sets, ap (next_with_paragraphs book) (with_change-same id (paragraph_kept (id, kept)) change _ _ k.alone same))),
         written,
       )

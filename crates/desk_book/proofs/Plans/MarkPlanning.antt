@@ -20,8 +20,8 @@ use Rattle.desk_model.specs.Refusals.{IsAccepted}
 use Rattle.desk_memory.specs.Display.{IsShown}
 use Rattle.desk_model.specs.NormalForm.{IsUnbarred}
 use Rattle.desk_model.specs.Translation.{AreMarked, LacksCells}
-use Rattle.desk_model.specs.Turns.{bad_table_turn, bad_text_turn, turn}
-use Rattle.desk_model.proofs.Commands.Turns.{accepted_after, passes_to, past_lengths, past_text, past_version, to_turn}
+use Rattle.desk_model.specs.Ranks.{bad_table_rank, bad_text_rank, rank}
+use Rattle.desk_model.proofs.Commands.Ranks.{accepted_after, passes_to, past_lengths, past_text, past_version, to_rank}
 use Rattle.desk_book.proofs.Plans.EntryPlanning.{unstruck}
 use Rattle.desk_model.proofs.Commands.Judging.{Passes-accepted, Passes-past}
 use Rattle.desk_model.proofs.Commands.MarkedPlaces.{has_cells as cells_there}
@@ -32,15 +32,15 @@ module _ (book : Book) (id cell count : ℕ) (note : List ℕ) where
   command = Mark id cell count note
 
   module _ (unbarred : IsUnbarred note) where
-    cleaned : Passes book None command (turn NoParagraph)
-    cleaned = past_text book command note (passes_to book command bad_text_turn refl) refl unbarred
+    cleaned : Passes book None command (rank NoParagraph)
+    cleaned = past_text book command note (passes_to book command bad_text_rank refl) refl unbarred
 
     module _ (kept : KeptParagraph) (meaning : Meaning) (shown : IsShown book id kept meaning) (free : kept.struck ≡ false) where
       abbrev p : Paragraph
       p = shown.paragraph
 
-      fit : Passes book None command (turn BadSpan)
-      fit = to_turn book command (turn NotStruck) (turn BadSpan) refl (unstruck book command id refl refl refl cleaned kept meaning shown free)
+      fit : Passes book None command (rank BadSpan)
+      fit = to_rank book command (rank NotStruck) (rank BadSpan) refl (unstruck book command id refl refl refl cleaned kept meaning shown free)
 
       pub has_cells : (print cells : List ℕ) → print ≡ kept.print → cells ≡ kept.cells → HasCells meaning print (length cells)
       has_cells print cells same these choices tiles =
@@ -63,30 +63,30 @@ module _ (book : Book) (id cell count : ℕ) (note : List ℕ) where
             let some = at.0 in
             cells_there book id cell count (record { paragraph = p; meaning = meaning; choices = shown.choices }) (shown.found, shown.translated) (λ none. omega arith) at.1
 
-        spanned : Passes book None command (turn TooLong)
-        spanned = Passes-past book None command BadSpan (turn TooLong) refl fit not_lacking
+        spanned : Passes book None command (rank TooLong)
+        spanned = Passes-past book None command BadSpan (rank TooLong) refl fit not_lacking
 
         pub long_note : (told : Refusal) → (told ≡ TooLong) × (most_note < length note) → IsTurnedDown book command told
-        long_note told (is, long) = turned_down book command (turn TooLong) TooLong told spanned refl (inr (inr long)) is
+        long_note told (is, long) = turned_down book command (rank TooLong) TooLong told spanned refl (inr (inr long)) is
 
         module _ (short : length note ≤ most_note) where
-          shortened : Passes book None command (turn (Full Marks))
+          shortened : Passes book None command (rank (Full Marks))
           shortened =
-              to_turn book command (turn (Full Tables)) (turn (Full Marks)) refl
+              to_rank book command (rank (Full Tables)) (rank (Full Marks)) refl
               (past_lengths book command spanned (λ l. l) (λ l. l) (λ long. omega arith))
 
           pub full_marks : (told : Refusal) → (told ≡ Full Marks) × (most_marks ≤ length book.marks) → IsTurnedDown book command told
-          full_marks told (is, full) = turned_down book command (turn (Full Marks)) (Full Marks) told shortened refl (refl, full) is
+          full_marks told (is, full) = turned_down book command (rank (Full Marks)) (Full Marks) told shortened refl (refl, full) is
 
           module _ (room : length book.marks < most_marks) where
-            roomy : Passes book None command (turn (Full Version))
-            roomy = Passes-past book None command (Full Marks) (turn (Full Version)) refl shortened (λ f. let full = f.1 in omega arith)
+            roomy : Passes book None command (rank (Full Version))
+            roomy = Passes-past book None command (Full Marks) (rank (Full Version)) refl shortened (λ f. let full = f.1 in omega arith)
 
             pub full_of_versions : (told : Refusal) → (told ≡ Full Version) × (most_version ≤ book.version) → IsTurnedDown book command told
-            full_of_versions told (is, full) = full_version book command (turn (Full Version)) told roomy refl full is
+            full_of_versions told (is, full) = full_version book command (rank (Full Version)) told roomy refl full is
 
             pub accepted_mark : book.version < most_version → IsAccepted book None command
-            accepted_mark left = accepted_after book command bad_table_turn (past_version book command (turn (Full Version)) roomy refl left) refl
+            accepted_mark left = accepted_after book command bad_table_rank (past_version book command (rank (Full Version)) roomy refl left) refl
 
             pub no_memory_here : book.version < most_version → (told : Refusal) → told ≡ NoMemory → IsTurnedDown book command told
-            no_memory_here left told is = no_memory book command told (turn NoMemory) refl (Passes-accepted book None command (accepted_mark left) (turn NoMemory)) is
+            no_memory_here left told is = no_memory book command told (rank NoMemory) refl (Passes-accepted book None command (accepted_mark left) (rank NoMemory)) is

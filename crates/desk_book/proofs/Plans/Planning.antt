@@ -17,10 +17,10 @@ use Rattle.desk_model.specs.Limits.{most_print, most_version}
 use Rattle.desk_book.specs.Plans.{AreNotAllThere, AreThere, IsKeptFor, IsTableFor, IsTurnedDown}
 use Rattle.desk_model.specs.Named.{named_by}
 use Rattle.desk_model.specs.Refusals.{Holds, IsUndefined, new_print, print_to_translate}
-use Rattle.desk_model.specs.Turns.{turn, undefined_turn, untranslatable_turn}
+use Rattle.desk_model.specs.Ranks.{rank, undefined_rank, untranslatable_rank}
 use Rattle.desk_model.proofs.Lists.Options.{IsSomeAnd-of, IsSomeAnd-value}
 use Rattle.desk_model.proofs.Commands.Judging.{IsRefused-passes, Passes-past, Passes-skip, skips}
-use Rattle.desk_model.proofs.Commands.Turns.{defined_not_first, passes_to, same_some}
+use Rattle.desk_model.proofs.Commands.Ranks.{defined_not_first, passes_to, same_some}
 
 -- ---- paragraphs that are named
 
@@ -38,40 +38,40 @@ module _ (book : Book) where
   AreThere-cons id kept ids k rest other (zero, within, at) = subst (λ (n : ℕ). IsSome (paragraph_of book n)) at (ap is_some k.found)
   AreThere-cons id kept ids k rest other (suc i, within, at) = rest other (i, omega arith, at)
 
--- ---- turns
+-- ---- ranks
 
 module _ (book : Book) (command : Command) where
-  pub turned_down : (n : ℕ) (refusal told : Refusal) → Passes book None command n → turn refusal ≡ n → Holds book None command refusal → told ≡ refusal → IsTurnedDown book command told
+  pub turned_down : (n : ℕ) (refusal told : Refusal) → Passes book None command n → rank refusal ≡ n → Holds book None command refusal → told ≡ refusal → IsTurnedDown book command told
   turned_down n refusal told passes at holds same = subst (IsTurnedDown book command) (sym same) (inl (IsRefused-passes book None command n refusal passes at holds))
 
-  pub no_memory : (told : Refusal) (n : ℕ) → (named_by command).turn_after_asking ≡ Some n → Passes book None command n → told ≡ NoMemory → IsTurnedDown book command told
+  pub no_memory : (told : Refusal) (n : ℕ) → (named_by command).rank_after_asking ≡ Some n → Passes book None command n → told ≡ NoMemory → IsTurnedDown book command told
   no_memory told n asks passes is = inr (is, record { from = n; asks = asks; passes = passes })
 
-  pub no_paragraph : (told : Refusal) → Passes book None command (turn NoParagraph) → AreNotAllThere book (named_by command).paragraphs_named → told ≡ NoParagraph → IsTurnedDown book command told
-  no_paragraph told passes lacks = turned_down (turn NoParagraph) NoParagraph told passes refl lacks
+  pub no_paragraph : (told : Refusal) → Passes book None command (rank NoParagraph) → AreNotAllThere book (named_by command).paragraphs_named → told ≡ NoParagraph → IsTurnedDown book command told
+  no_paragraph told passes lacks = turned_down (rank NoParagraph) NoParagraph told passes refl lacks
 
-  pub past_paragraphs : Passes book None command (turn NoParagraph) → AreThere book (named_by command).paragraphs_named → Passes book None command (turn NoTable)
-  past_paragraphs passes there = Passes-past book None command NoParagraph (turn NoTable) refl passes (λ lacks. let found = there lacks.0 lacks.1 in let missing = lacks.2 in cc (ap is_some missing))
+  pub past_paragraphs : Passes book None command (rank NoParagraph) → AreThere book (named_by command).paragraphs_named → Passes book None command (rank NoTable)
+  past_paragraphs passes there = Passes-past book None command NoParagraph (rank NoTable) refl passes (λ lacks. let found = there lacks.0 lacks.1 in let missing = lacks.2 in cc (ap is_some missing))
 
-  pub no_table : (told : Refusal) (name : List ℕ) → Passes book None command (turn NoTable) → (named_by command).table_named ≡ Some name → text_of book name ≡ None → told ≡ NoTable → IsTurnedDown book command told
-  no_table told name passes named missing = turned_down (turn NoTable) NoTable told passes refl (IsSomeAnd-of (λ (n : List ℕ). text_of book n ≡ None) named missing)
+  pub no_table : (told : Refusal) (name : List ℕ) → Passes book None command (rank NoTable) → (named_by command).table_named ≡ Some name → text_of book name ≡ None → told ≡ NoTable → IsTurnedDown book command told
+  no_table told name passes named missing = turned_down (rank NoTable) NoTable told passes refl (IsSomeAnd-of (λ (n : List ℕ). text_of book n ≡ None) named missing)
 
-  pub too_long : (told : Refusal) (print : List ℕ) → Passes book None command (turn TooLong) → new_print book command ≡ Some print → most_print < length print → told ≡ TooLong → IsTurnedDown book command told
-  too_long told print passes made long = turned_down (turn TooLong) TooLong told passes refl (inr (inl (IsSomeAnd-of (λ (t : List ℕ). most_print < length t) made long)))
+  pub too_long : (told : Refusal) (print : List ℕ) → Passes book None command (rank TooLong) → new_print book command ≡ Some print → most_print < length print → told ≡ TooLong → IsTurnedDown book command told
+  too_long told print passes made long = turned_down (rank TooLong) TooLong told passes refl (inr (inl (IsSomeAnd-of (λ (t : List ℕ). most_print < length t) made long)))
 
-  pub full_version : (n : ℕ) (told : Refusal) → Passes book None command n → skips command n (turn (Full Version)) ≡ true → most_version ≤ book.version → told ≡ Full Version → IsTurnedDown book command told
-  full_version n told passes skip full = turned_down (turn (Full Version)) (Full Version) told (Passes-skip book None command n (turn (Full Version)) skip passes) refl full
+  pub full_version : (n : ℕ) (told : Refusal) → Passes book None command n → skips command n (rank (Full Version)) ≡ true → most_version ≤ book.version → told ≡ Full Version → IsTurnedDown book command told
+  full_version n told passes skip full = turned_down (rank (Full Version)) (Full Version) told (Passes-skip book None command n (rank (Full Version)) skip passes) refl full
 
   -- ---- a print by a table
 
   module _ (name print : List ℕ) (table : BookTable) (given : print_to_translate book command ≡ Some (print, name)) (found : IsTableFor book name table) where
-    pub undefined : (told : Refusal) (place : ℕ) → Passes book None command undefined_turn → told ≡ Undefined place → IsFirstUndefined table.rules print place → IsTurnedDown book command told
+    pub undefined : (told : Refusal) (place : ℕ) → Passes book None command undefined_rank → told ≡ Undefined place → IsFirstUndefined table.rules print place → IsTurnedDown book command told
     undefined told place passes is first =
-        turned_down undefined_turn (Undefined place) told passes refl
+        turned_down undefined_rank (Undefined place) told passes refl
         (record { print = print; name = name; print_is = given; text = table.text; meaning = table.rules; found = found.found; means = found.means; first = first }) is
 
-    pub past_print : Passes book None command undefined_turn → AreDefined table.rules print → Passes book None command untranslatable_turn
-    past_print passes defined = Passes-past book None command (Undefined 0) untranslatable_turn refl passes none
+    pub past_print : Passes book None command undefined_rank → AreDefined table.rules print → Passes book None command untranslatable_rank
+    past_print passes defined = Passes-past book None command (Undefined 0) untranslatable_rank refl passes none
       where
         none : (place : ℕ) → ¬ IsUndefined book command place
         none place u =
@@ -84,23 +84,23 @@ module _ (book : Book) (command : Command) where
 
   -- ---- a paragraph that is named first
 
-  pub unnamed : (told : Refusal) (id : ℕ) (ids : List ℕ) → skips command (turn BadName) (turn NoParagraph) ≡ true → (named_by command).paragraphs_named ≡ id ∷ ids → (told ≡ NoParagraph) × (paragraph_of book id ≡ None) → IsTurnedDown book command told
-  unnamed told id ids skip named (is, missing) = no_paragraph told (passes_to book command (turn NoParagraph) skip) (subst (AreNotAllThere book) (sym named) (AreNotAllThere-first book id ids missing)) is
+  pub unnamed : (told : Refusal) (id : ℕ) (ids : List ℕ) → skips command (rank BadName) (rank NoParagraph) ≡ true → (named_by command).paragraphs_named ≡ id ∷ ids → (told ≡ NoParagraph) × (paragraph_of book id ≡ None) → IsTurnedDown book command told
+  unnamed told id ids skip named (is, missing) = no_paragraph told (passes_to book command (rank NoParagraph) skip) (subst (AreNotAllThere book) (sym named) (AreNotAllThere-first book id ids missing)) is
 
   module _ (id : ℕ) (kept : KeptParagraph) (k : IsKeptFor book id kept) where
-    pub past_named : skips command (turn BadName) (turn NoParagraph) ≡ true → (named_by command).paragraphs_named ≡ id ∷ [] → Passes book None command (turn NoTable)
-    past_named skip named = past_paragraphs (passes_to book command (turn NoParagraph) skip) (subst (AreThere book) (sym named) (AreThere-cons book id kept [] k (AreThere-none book)))
+    pub past_named : skips command (rank BadName) (rank NoParagraph) ≡ true → (named_by command).paragraphs_named ≡ id ∷ [] → Passes book None command (rank NoTable)
+    past_named skip named = past_paragraphs (passes_to book command (rank NoParagraph) skip) (subst (AreThere book) (sym named) (AreThere-cons book id kept [] k (AreThere-none book)))
 
-    pub past_struck : Passes book None command (turn Struck) → (named_by command).live_paragraph ≡ Some id → kept.struck ≡ false → Passes book None command (turn NotStruck)
+    pub past_struck : Passes book None command (rank Struck) → (named_by command).live_paragraph ≡ Some id → kept.struck ≡ false → Passes book None command (rank NotStruck)
     past_struck passes named live =
-        Passes-past book None command Struck (turn NotStruck) refl passes
+        Passes-past book None command Struck (rank NotStruck) refl passes
         (λ s. both_ways kept.struck live
         (IsSomeAnd-value (λ (p : Paragraph). p.struck ≡ true) k.found
         (IsSomeAnd-value (λ (n : ℕ). IsSomeAnd (paragraph_of book n) (λ p. p.struck ≡ true)) named s)))
 
-    pub past_live : Passes book None command (turn NotStruck) → (named_by command).struck_paragraph ≡ Some id → kept.struck ≡ true → Passes book None command (turn Resolved)
+    pub past_live : Passes book None command (rank NotStruck) → (named_by command).struck_paragraph ≡ Some id → kept.struck ≡ true → Passes book None command (rank Resolved)
     past_live passes named struck =
-        Passes-past book None command NotStruck (turn Resolved) refl passes
+        Passes-past book None command NotStruck (rank Resolved) refl passes
         (λ s. both_ways kept.struck
         (IsSomeAnd-value (λ (p : Paragraph). p.struck ≡ false) k.found
         (IsSomeAnd-value (λ (n : ℕ). IsSomeAnd (paragraph_of book n) (λ p. p.struck ≡ false)) named s)) struck)

@@ -17,11 +17,11 @@ use Rattle.desk_model.specs.Name.{IsTableName}
 use Rattle.desk_model.specs.Refusals.{DefinesUser, IsAccepted, IsFirstUser, IsUntranslatable}
 use Rattle.desk_book.specs.Plans.{IsTurnedDown}
 use Rattle.desk_model.specs.Sound.{IsSound}
-use Rattle.desk_model.specs.Turns.{bad_table_turn, turn, untranslatable_turn}
+use Rattle.desk_model.specs.Ranks.{bad_table_rank, rank, untranslatable_rank}
 use Rattle.desk_model.proofs.Commands.Judging.{IsAccepted-passes, Passes-past}
 use Rattle.desk_book.proofs.Plans.Planning.{no_memory, turned_down}
 use Rattle.desk_model.proofs.Commands.FirstUndefined.{IsFirstUser-none}
-use Rattle.desk_model.proofs.Commands.Turns.{passes_to, same_some}
+use Rattle.desk_model.proofs.Commands.Ranks.{passes_to, same_some}
 
 -- a table that isn't there has no users
 pub unused : (book : Book) (name : List ℕ) (meaning : Meaning) → IsSound book → text_of book name ≡ None → All (DefinesUser meaning name) book.paragraphs
@@ -31,45 +31,45 @@ unused book name meaning sound none k d lt uses =
 
 module _ (book : Book) (name text : List ℕ) where
   pub bad_name : (told : Refusal) → (told ≡ BadName) × (¬ IsTableName name) → IsTurnedDown book (Table name text) told
-  bad_name told (is, bad) = turned_down book (Table name text) (turn BadName) BadName told (passes_to book (Table name text) (turn BadName) refl) refl bad is
+  bad_name told (is, bad) = turned_down book (Table name text) (rank BadName) BadName told (passes_to book (Table name text) (rank BadName) refl) refl bad is
 
   module _ (named : IsTableName name) where
-    pub past_name : Passes book None (Table name text) (turn (Full Tables))
+    pub past_name : Passes book None (Table name text) (rank (Full Tables))
     past_name =
-        Passes-past book None (Table name text) BadName (turn (Full Tables)) refl (passes_to book (Table name text) (turn BadName) refl)
+        Passes-past book None (Table name text) BadName (rank (Full Tables)) refl (passes_to book (Table name text) (rank BadName) refl)
         (λ bad. bad named)
 
     pub full_tables : (told : Refusal) → text_of book name ≡ None → (told ≡ Full Tables) × (most_tables ≤ length book.tables) → IsTurnedDown book (Table name text) told
     full_tables told new (is, full) =
-        turned_down book (Table name text) (turn (Full Tables)) (Full Tables) told past_name refl (new, full) is
+        turned_down book (Table name text) (rank (Full Tables)) (Full Tables) told past_name refl (new, full) is
 
-    pub past_tables : IsSome (text_of book name) ⊎ (length book.tables < most_tables) → Passes book None (Table name text) (turn (Full Paragraphs))
-    past_tables (inr left) = Passes-past book None (Table name text) (Full Tables) (turn (Full Paragraphs)) refl past_name (λ f. let full = f.1 in omega arith)
+    pub past_tables : IsSome (text_of book name) ⊎ (length book.tables < most_tables) → Passes book None (Table name text) (rank (Full Paragraphs))
+    past_tables (inr left) = Passes-past book None (Table name text) (Full Tables) (rank (Full Paragraphs)) refl past_name (λ f. let full = f.1 in omega arith)
     past_tables (inl old) =
-        Passes-past book None (Table name text) (Full Tables) (turn (Full Paragraphs)) refl past_name
+        Passes-past book None (Table name text) (Full Tables) (rank (Full Paragraphs)) refl past_name
         (λ f. let none = ap is_some f.0 in cc)
 
-  bad_table : (told : Refusal) (fault : TableFault) → Passes book None (Table name text) bad_table_turn → told ≡ BadTable fault → Bad text fault.line fault.cause → IsTurnedDown book (Table name text) told
-  bad_table told fault passes is bad = turned_down book (Table name text) bad_table_turn (BadTable fault) told passes refl bad is
+  bad_table : (told : Refusal) (fault : TableFault) → Passes book None (Table name text) bad_table_rank → told ≡ BadTable fault → Bad text fault.line fault.cause → IsTurnedDown book (Table name text) told
+  bad_table told fault passes is bad = turned_down book (Table name text) bad_table_rank (BadTable fault) told passes refl bad is
 
   -- what reading the text may answer
-  pub unread : (told : Refusal) → Passes book None (Table name text) bad_table_turn → ((fault : TableFault) × (told ≡ BadTable fault) × Bad text fault.line fault.cause) ⊎ (told ≡ NoMemory) → IsTurnedDown book (Table name text) told
+  pub unread : (told : Refusal) → Passes book None (Table name text) bad_table_rank → ((fault : TableFault) × (told ≡ BadTable fault) × Bad text fault.line fault.cause) ⊎ (told ≡ NoMemory) → IsTurnedDown book (Table name text) told
   unread told passes (inl (fault, is, bad)) = bad_table told fault passes is bad
-  unread told passes (inr is) = no_memory book (Table name text) told bad_table_turn refl passes is
+  unread told passes (inr is) = no_memory book (Table name text) told bad_table_rank refl passes is
 
   module _ (meaning : Meaning) (means : Means text meaning) where
-    pub past_reading : Passes book None (Table name text) bad_table_turn → Passes book None (Table name text) untranslatable_turn
+    pub past_reading : Passes book None (Table name text) bad_table_rank → Passes book None (Table name text) untranslatable_rank
     past_reading passes =
-        Passes-past book None (Table name text) (BadTable (record { line = 0; cause = 0 })) untranslatable_turn refl passes
+        Passes-past book None (Table name text) (BadTable (record { line = 0; cause = 0 })) untranslatable_rank refl passes
         (λ fault bad. means_or_bad text meaning fault.line fault.cause means bad)
 
-    pub untranslatable : (told : Refusal) (id place : ℕ) → Passes book None (Table name text) untranslatable_turn → told ≡ Untranslatable id place → IsFirstUser meaning name book.paragraphs id place → IsTurnedDown book (Table name text) told
+    pub untranslatable : (told : Refusal) (id place : ℕ) → Passes book None (Table name text) untranslatable_rank → told ≡ Untranslatable id place → IsFirstUser meaning name book.paragraphs id place → IsTurnedDown book (Table name text) told
     untranslatable told id place passes is user =
-        turned_down book (Table name text) untranslatable_turn (Untranslatable id place) told passes refl
+        turned_down book (Table name text) untranslatable_rank (Untranslatable id place) told passes refl
         (record { name = name; text = text; given = refl; meaning = meaning; means = means; user = user }) is
 
-    pub past_users : Passes book None (Table name text) untranslatable_turn → All (DefinesUser meaning name) book.paragraphs → IsAccepted book None (Table name text)
-    past_users passes defined = IsAccepted-passes book None (Table name text) (Passes-past book None (Table name text) (Untranslatable 0 0) (turn NoMemory) refl passes none)
+    pub past_users : Passes book None (Table name text) untranslatable_rank → All (DefinesUser meaning name) book.paragraphs → IsAccepted book None (Table name text)
+    past_users passes defined = IsAccepted-passes book None (Table name text) (Passes-past book None (Table name text) (Untranslatable 0 0) (rank NoMemory) refl passes none)
       where
         none : (id place : ℕ) → ¬ IsUntranslatable book (Table name text) id place
         none id place u =

@@ -26,12 +26,12 @@ use Rattle.desk_model.specs.Refusals.{IsLongerThan}
 use Rattle.desk_memory.specs.Display.{IsShown}
 use Rattle.desk_model.specs.Sound.{AreSoundEntries}
 use Rattle.desk_model.specs.Step.{next_with_entry}
-use Rattle.desk_model.specs.Turns.{turn, undefined_turn}
+use Rattle.desk_model.specs.Ranks.{rank, undefined_rank}
 use Rattle.desk_model.proofs.Lists.Options.{IsSomeAnd-value}
 use Rattle.desk_book.proofs.Plans.EntryPlanned.{ChangesPrint-entered}
 use Rattle.desk_model.proofs.Books.SoundBooks.{short-sound}
 use Rattle.desk_book.proofs.Plans.EntryPlanning.{accepts_entry, halted, lacking, undefined, unstruck}
-use Rattle.desk_model.proofs.Commands.Turns.{passes_to, to_turn}
+use Rattle.desk_model.proofs.Commands.Ranks.{passes_to, to_rank}
 use Rattle.desk_model.proofs.Commands.Judging.{Passes-past}
 use Rattle.desk_memory.proofs.Callers.{taken-span, text-span, undone-length, undone-print}
 
@@ -39,8 +39,8 @@ module _ (book : Book) (id : ℕ) where
   abbrev command : Command
   command = Undo id
 
-  start_here : Passes book None command (turn NoParagraph)
-  start_here = passes_to book command (turn NoParagraph) refl
+  start_here : Passes book None command (rank NoParagraph)
+  start_here = passes_to book command (rank NoParagraph) refl
 
   module _ (kept : KeptParagraph) (meaning : Meaning) (shown : IsShown book id kept meaning) (free : kept.struck ≡ false) where
     abbrev p : Paragraph
@@ -55,8 +55,8 @@ module _ (book : Book) (id : ℕ) where
     pub sound_kept : AreSoundEntries kept.original (entries_kept kept.history)
     sound_kept = subst (λ (q : Paragraph). AreSoundEntries q.original q.history) shown.kept_is shown.sound.history.entries
 
-    fit : Passes book None command (turn NothingToUndo)
-    fit = to_turn book command (turn NotStruck) (turn NothingToUndo) refl (unstruck book command id refl refl refl start_here kept meaning shown free)
+    fit : Passes book None command (rank NothingToUndo)
+    fit = to_rank book command (rank NotStruck) (rank NothingToUndo) refl (unstruck book command id refl refl refl start_here kept meaning shown free)
 
     module _ (number : ℕ) (c : Correction) (force : IsNewestInForce kept.history number c) where
       abbrev r : Replacement
@@ -93,8 +93,8 @@ module _ (book : Book) (id : ℕ) where
       undone : print_undone p ≡ Some before
       undone = ap (option_map (λ (correction : ℕ × Replacement). print_of (with_entry (Undoes correction.0) p))) newest_is
 
-      passed : Passes book None command (turn TooLong)
-      passed = Passes-past book None command NothingToUndo (turn TooLong) refl fit
+      passed : Passes book None command (rank TooLong)
+      passed = Passes-past book None command NothingToUndo (rank TooLong) refl fit
           (λ n. let none = sym newest_is ∙ IsSomeAnd-value (λ (q : Paragraph). newest q.history ≡ None) shown.found n in cc)
 
       no_text : ¬ IsLongerThan most_print None
@@ -113,11 +113,11 @@ module _ (book : Book) (id : ℕ) where
 
         pub no_memory_here : TakesEntry book kept (length print) → (told : Refusal) → told ≡ NoMemory → IsTurnedDown book command told
         no_memory_here takes told =
-            lacking book command id p shown.found kept shown.kept_is print shown.translated.text meaning shown.translated.found shown.translated.means refl print_undone refl made no_text no_note passed refl refl refl refl undefined_turn refl (lit≤ tt) takes told
+            lacking book command id p shown.found kept shown.kept_is print shown.translated.text meaning shown.translated.found shown.translated.means refl print_undone refl made no_text no_note passed refl refl refl refl undefined_rank refl (lit≤ tt) takes told
 
         pub undefined_here : TakesEntry book kept (length print) → (told : Refusal) → HaltsPrint meaning print told → IsTurnedDown book command told
         undefined_here takes told =
-            undefined book command id p shown.found kept shown.kept_is print shown.translated.text meaning shown.translated.found shown.translated.means refl print_undone refl made no_text no_note passed refl refl refl refl undefined_turn refl (lit≤ tt) takes told
+            undefined book command id p shown.found kept shown.kept_is print shown.translated.text meaning shown.translated.found shown.translated.means refl print_undone refl made no_text no_note passed refl refl refl refl undefined_rank refl (lit≤ tt) takes told
 
         pub planned_here : (new : NewEntry) (effect : Effect) → new.print.items ≡ print → IsEntered book id kept meaning new effect → new.entry ≡ KeptUndoes number
             → new.start ≡ c.start → new.removed ≡ length c.text → new.added ≡ length c.taken → IsPlanned book command effect

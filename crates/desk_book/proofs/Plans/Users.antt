@@ -18,7 +18,7 @@ use Rattle.desk_model.specs.Print.{print_of}
 use Rattle.desk_model.specs.Sound.{IsSound}
 use Rattle.desk_model.proofs.Books.ParagraphLists.{Contains-found}
 use Rattle.desk_model.proofs.Commands.FirstUndefined.{IsFirstUser-later}
-use Rattle.desk_model.proofs.Commands.Turns.{same_some}
+use Rattle.desk_model.proofs.Commands.Ranks.{same_some}
 use Rattle.desk_model.proofs.Books.SoundBooks.{paragraph_of-own, paragraph_of-within}
 use Rattle.desk_model.proofs.Lists.Items.{push-cases}
 

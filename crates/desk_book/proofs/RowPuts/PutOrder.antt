@@ -35,8 +35,8 @@ use Rattle.desk_model.proofs.Books.SoundBooks.{paragraphs-apart}
 -- ---- lists made of elements in another order
 
 module _ {X Y : Type 0} (f : X → List Y) where
-  turned : (x y : X) (xs : List X) → IsPermutation (flat_map f (x ∷ y ∷ xs)) (flat_map f (y ∷ x ∷ xs))
-  turned x y xs =
+  heads_exchanged : (x y : X) (xs : List X) → IsPermutation (flat_map f (x ∷ y ∷ xs)) (flat_map f (y ∷ x ∷ xs))
+  heads_exchanged x y xs =
       subst (λ (l : List Y). IsPermutation l (f y ++ (f x ++ flat_map f xs))) (append_assoc (f x) (f y) (flat_map f xs))
       (subst (IsPermutation ((f x ++ f y) ++ flat_map f xs)) (append_assoc (f y) (f x) (flat_map f xs))
       (IsPermutation-append_left (flat_map f xs) (f x ++ f y) (f y ++ f x) (IsPermutation-append_comm (f x) (f y))))
@@ -44,7 +44,7 @@ module _ {X Y : Type 0} (f : X → List Y) where
   pub IsPermutation-flat_map : (xs ys : List X) → IsPermutation xs ys → IsPermutation (flat_map f xs) (flat_map f ys)
   IsPermutation-flat_map =
       along_permutation (λ xs ys. IsPermutation (flat_map f xs) (flat_map f ys)) (λ xs. IsPermutation-refl (flat_map f xs))
-      (λ x xs ys h. IsPermutation-append_right (f x) (flat_map f xs) (flat_map f ys) h) turned
+      (λ x xs ys h. IsPermutation-append_right (f x) (flat_map f xs) (flat_map f ys) h) heads_exchanged
       (λ xs ys zs g h. IsPermutation-trans (flat_map f xs) (flat_map f ys) (flat_map f zs) g h)
 
 -- ---- the index of an id

@@ -36,7 +36,7 @@ use Rattle.desk_model.specs.NormalForm.{is_barred, IsClean, IsUnbarred, normal_f
 use Rattle.desk_model.specs.Characters.{AreCharacters}
 use Rattle.desk_model.proofs.Lists.Options.{IsSomeAnd-of}
 use Rattle.desk_model.proofs.Commands.Accepted.{given_proofreader, given_unbarred, room_for_entry, room_for_mark, short_note, room_for_version, named_paragraph, named_table, shown_defined, short_print, room_for_paragraph, given_name, given_meaning, room_for_table, users_defined}
-use Rattle.desk_model.proofs.Commands.Turns.{changed-print, changed-translated}
+use Rattle.desk_model.proofs.Commands.Ranks.{changed-print, changed-translated}
 use Rattle.desk_model.proofs.Lists.Members.{Contains-here, Contains-behind, Contains-map}
 use Rattle.desk_model.proofs.Books.SoundParagraphs.{KeepsText, IsSoundMark-kept, IsSound-changed, IsSound-kept_text, IsSound-reordered, IsSound-with_paragraph}
 use Rattle.desk_model.proofs.Books.ParagraphLists.{IsPermutation-with_move, ids_of, id-found, Contains-found}

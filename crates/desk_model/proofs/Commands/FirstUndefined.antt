@@ -10,7 +10,7 @@ use Rattle.louis_translate.specs.Position.{AreDefined, IsFirstUndefined}
 use Rattle.desk_model.specs.Book.{Paragraph}
 use Rattle.desk_model.specs.Refusals.{DefinesUser, IsFirstUser}
 use Rattle.desk_model.specs.Print.{print_of}
-use Rattle.desk_model.proofs.Commands.Turns.{defined_not_first}
+use Rattle.desk_model.proofs.Commands.Ranks.{defined_not_first}
 use Rattle.desk_model.proofs.Lists.Members.{Contains-here}
 use Rattle.desk_model.proofs.Lists.TableEntries.{Decides-name}
 

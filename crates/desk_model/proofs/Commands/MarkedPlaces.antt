@@ -13,7 +13,7 @@ use Rattle.louis_translate.proofs.Tilings.{one_cover, one_tiling}
 use Rattle.desk_model.specs.Book.{Book, Paragraph, paragraph_of, text_of}
 use Rattle.desk_model.specs.Print.{print_of}
 use Rattle.desk_model.specs.Translation.{AreMarked, IsTranslatedBy, LacksCells}
-use Rattle.desk_model.proofs.Commands.Turns.{same_some}
+use Rattle.desk_model.proofs.Commands.Ranks.{same_some}
 
 -- ---- the choice that made a cell
 

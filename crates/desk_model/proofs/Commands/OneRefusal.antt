@@ -17,9 +17,9 @@ use Rattle.desk_model.specs.Named.{named_by}
 use Rattle.desk_model.specs.Refusals.{DefinesUser, Holds, IsRefused, IsUndefined, IsUntranslatable}
 use Rattle.desk_model.specs.Print.{print_of}
 use Rattle.desk_model.specs.NormalForm.{IsFirstBarred}
-use Rattle.desk_model.specs.Turns.{turn}
-use Rattle.desk_model.proofs.Commands.Judging.{limit_turn, same_limit}
-use Rattle.desk_model.proofs.Commands.Turns.{defined_not_first, same_some}
+use Rattle.desk_model.specs.Ranks.{rank}
+use Rattle.desk_model.proofs.Commands.Judging.{limit_rank, same_limit}
+use Rattle.desk_model.proofs.Commands.Ranks.{defined_not_first, same_some}
 
 -- ---- firsts
 
@@ -94,9 +94,9 @@ module _ (book : Book) (expect : Option ℕ) (command : Command) where
         one_undefined a.meaning (print_of u.paragraph) place other u.first (subst (λ (p : Paragraph). IsFirstUndefined a.meaning (print_of p) other) (sym one) first),
       )
 
-  -- ---- of one turn
+  -- ---- of one rank
 
-  same_refusal : (r s : Refusal) → turn r ≡ turn s → Holds book expect command r → Holds book expect command s → r ≡ s
+  same_refusal : (r s : Refusal) → rank r ≡ rank s → Holds book expect command r → Holds book expect command s → r ≡ s
   same_refusal (Moved v) (Moved w) e a b = ap Moved (a.told ∙ sym b.told)
   same_refusal BadName BadName e a b = refl
   same_refusal BadReader BadReader e a b = refl
@@ -110,15 +110,15 @@ module _ (book : Book) (expect : Option ℕ) (command : Command) where
   same_refusal BadSpan BadSpan e a b = refl
   same_refusal NothingToUndo NothingToUndo e a b = refl
   same_refusal TooLong TooLong e a b = refl
-  same_refusal TooLong (Full other) e a b = let turns = limit_turn other in absurd (omega arith)
+  same_refusal TooLong (Full other) e a b = let ranks = limit_rank other in absurd (omega arith)
   same_refusal (Full limit) (Full other) e a b = ap Full (same_limit limit other e)
-  same_refusal (Full limit) s e a b = let turns = limit_turn limit in absurd (omega arith)
+  same_refusal (Full limit) s e a b = let ranks = limit_rank limit in absurd (omega arith)
   same_refusal (BadTable f) (BadTable g) e a b = ap BadTable (one_table (named_by command).table_given f g a b)
-  same_refusal (BadTable f) (Full other) e a b = let turns = limit_turn other in absurd (omega arith)
+  same_refusal (BadTable f) (Full other) e a b = let ranks = limit_rank other in absurd (omega arith)
   same_refusal (Undefined p) (Undefined q) e a b = ap Undefined (one_place p q a b)
-  same_refusal (Undefined p) (Full other) e a b = let turns = limit_turn other in absurd (omega arith)
+  same_refusal (Undefined p) (Full other) e a b = let ranks = limit_rank other in absurd (omega arith)
   same_refusal (Untranslatable id p) (Untranslatable n q) e a b = let both = one_user id n p q a b in λ i. Untranslatable (both.0 i) (both.1 i)
-  same_refusal (Untranslatable id p) (Full other) e a b = let turns = limit_turn other in absurd (omega arith)
+  same_refusal (Untranslatable id p) (Full other) e a b = let ranks = limit_rank other in absurd (omega arith)
   same_refusal NoMemory s e a b = absurd a
   same_refusal r s e a b = absurd (omega arith)
 

@@ -25,7 +25,7 @@ use Rattle.desk_model.specs.Translation.{LacksCells}
 use Rattle.desk_model.proofs.Commands.FirstUndefined.{IsFirstUser-none, all_or_first_user, defined_or_first}
 use Rattle.desk_model.proofs.Commands.MarkedPlaces.{has_cells}
 use Rattle.desk_model.proofs.Lists.Members.{Contains-behind, Contains-cases, Contains-here, Contains-none}
-use Rattle.desk_model.proofs.Commands.Turns.{defined_not_first, same_some}
+use Rattle.desk_model.proofs.Commands.Ranks.{defined_not_first, same_some}
 use Rattle.desk_model.proofs.Commands.TextTests.{IsFirstBarred-position, IsUnbarred-none, IsUnbarred-position}
 use Rattle.desk_model.proofs.Lists.Decisions.{Decided, SomeOrNone, all, at_most, below, both, either, implied, is_none, is_so, isnt_so, not, of_given}
 

@@ -16,72 +16,72 @@ use Rattle.desk_model.specs.Refusals.{Holds, IsAccepted, IsRefused}
 use Rattle.desk_model.specs.Sound.{IsSound}
 use Rattle.desk_model.specs.Translation.{AreMarked}
 use Rattle.desk_model.specs.Step.{Makes, next_with_entry, next_with_marks, next_mark}
-use Rattle.desk_model.specs.Turns.{bad_table_turn, bad_text_turn, turn, undefined_turn, untranslatable_turn}
+use Rattle.desk_model.specs.Ranks.{bad_table_rank, bad_text_rank, rank, undefined_rank, untranslatable_rank}
 use Rattle.desk_model.proofs.Commands.Accepted.{named_paragraph}
 use Rattle.desk_model.proofs.Commands.Judging.{IsAccepted-passes, IsRefused-passes, NoneHolds, Passes-past, Passes-start, skips}
 use Rattle.desk_model.proofs.Commands.MarkedPlaces.{one_span, some_span}
 use Rattle.desk_model.proofs.Lists.Members.{Contains-here}
 use Rattle.desk_model.proofs.Commands.OneRefusal.{one_refusal}
-use Rattle.desk_model.proofs.Commands.Turns.{same_some}
+use Rattle.desk_model.proofs.Commands.Ranks.{same_some}
 use Rattle.desk_model.proofs.Books.SoundBooks.{IsSoundParagraph-found}
 use Rattle.desk_model.proofs.Lists.Decisions.{Decided, SomeOrNone}
 use Rattle.desk_model.proofs.Lists.Options.{IsSomeAnd-of}
 use Rattle.desk_model.proofs.Commands.RefusalTests.{bad_name, bad_reader, bad_span, bad_table, bad_text, is_full, is_not_struck, is_resolved, is_struck, lacks_mark, lacks_paragraph, lacks_table, moved_or, nothing_to_undo, too_long, undefined, untranslatable}
 
--- ---- one turn after the other
+-- ---- one rank after the other
 
 module _ (book : Book) (expect : Option ℕ) (command : Command) where
   abbrev Told : Type 0
   Told = (refusal : Refusal) × IsRefused book expect command refusal
 
-  -- a refusal is reported, or none that comes before turn n holds
+  -- a refusal is reported, or none of a rank below n holds
   abbrev Judged : ℕ → Type 0
   Judged n = Told ⊎ Passes book expect command n
 
-  turned : (n m : ℕ) (refusal : Refusal) → turn refusal ≡ n → Decided (Holds book expect command refusal)
+  judged : (n m : ℕ) (refusal : Refusal) → rank refusal ≡ n → Decided (Holds book expect command refusal)
       → (Passes book expect command n → ¬ Holds book expect command refusal → Passes book expect command m) → Judged n → Judged m
-  turned n m refusal at held more (inl told) = inl told
-  turned n m refusal at (inl holds) more (inr passes) = inl (refusal, IsRefused-passes book expect command n refusal passes at holds)
-  turned n m refusal at (inr not_held) more (inr passes) = inr (more passes not_held)
+  judged n m refusal at held more (inl told) = inl told
+  judged n m refusal at (inl holds) more (inr passes) = inl (refusal, IsRefused-passes book expect command n refusal passes at holds)
+  judged n m refusal at (inr not_held) more (inr passes) = inr (more passes not_held)
 
-  turned_by : {X : Type 0} (n : ℕ) (N : Type 0) (refusal : X → Refusal) → ((x : X) → turn (refusal x) ≡ n) → SomeOrNone (λ x. Holds book expect command (refusal x))
+  judged_by : {X : Type 0} (n : ℕ) (N : Type 0) (refusal : X → Refusal) → ((x : X) → rank (refusal x) ≡ n) → SomeOrNone (λ x. Holds book expect command (refusal x))
       → (Passes book expect command n → ((x : X) → ¬ Holds book expect command (refusal x)) → N) → Judged n → Told ⊎ N
-  turned_by n N refusal at held more (inl told) = inl told
-  turned_by n N refusal at (inl holds) more (inr passes) = inl (refusal holds.0, IsRefused-passes book expect command n (refusal holds.0) passes (at holds.0) holds.1)
-  turned_by n N refusal at (inr not_held) more (inr passes) = inr (more passes not_held)
+  judged_by n N refusal at held more (inl told) = inl told
+  judged_by n N refusal at (inl holds) more (inr passes) = inl (refusal holds.0, IsRefused-passes book expect command n (refusal holds.0) passes (at holds.0) holds.1)
+  judged_by n N refusal at (inr not_held) more (inr passes) = inr (more passes not_held)
 
-  past : (refusal : Refusal) (m : ℕ) → skips command (turn refusal + 1) m ≡ true → Passes book expect command (turn refusal) → NoneHolds book expect command refusal → Passes book expect command m
+  past : (refusal : Refusal) (m : ℕ) → skips command (rank refusal + 1) m ≡ true → Passes book expect command (rank refusal) → NoneHolds book expect command refusal → Passes book expect command m
   past = Passes-past book expect command
 
-  full_or : (limit : Limit) → skips command (turn (Full limit) + 1) (turn (Full limit) + 10) ≡ true → Judged (turn (Full limit)) → Judged (turn (Full limit) + 10)
-  full_or limit skip = turned (turn (Full limit)) (turn (Full limit) + 10) (Full limit) refl (is_full book command limit) (past (Full limit) (turn (Full limit) + 10) skip)
+  full_or : (limit : Limit) → skips command (rank (Full limit) + 1) (rank (Full limit) + 10) ≡ true → Judged (rank (Full limit)) → Judged (rank (Full limit) + 10)
+  full_or limit skip = judged (rank (Full limit)) (rank (Full limit) + 10) (Full limit) refl (is_full book command limit) (past (Full limit) (rank (Full limit) + 10) skip)
 
-  to_lookups : Judged (turn Struck)
+  to_lookups : Judged (rank Struck)
   to_lookups =
-      let moved : Judged (turn BadName) = turned_by 0 (Passes book expect command (turn BadName)) Moved (λ v. refl) (moved_or book command expect) (past (Moved 0) (turn BadName) refl) (inr (Passes-start book expect command)) in
-      let named : Judged (turn BadReader) = turned (turn BadName) (turn BadReader) BadName refl (bad_name book command) (past BadName (turn BadReader) refl) moved in
-      let proofreader : Judged bad_text_turn = turned (turn BadReader) bad_text_turn BadReader refl (bad_reader book command) (past BadReader bad_text_turn refl) named in
-      let text : Judged (turn NoParagraph) = turned_by bad_text_turn (Passes book expect command (turn NoParagraph)) BadText (λ place. refl) (bad_text book command) (past (BadText 0) (turn NoParagraph) refl) proofreader in
-      let paragraph : Judged (turn NoTable) = turned (turn NoParagraph) (turn NoTable) NoParagraph refl (lacks_paragraph book command) (past NoParagraph (turn NoTable) refl) text in
-      let table : Judged (turn NoMark) = turned (turn NoTable) (turn NoMark) NoTable refl (lacks_table book command) (past NoTable (turn NoMark) refl) paragraph in
-      turned (turn NoMark) (turn Struck) NoMark refl (lacks_mark book command) (past NoMark (turn Struck) refl) table
+      let moved : Judged (rank BadName) = judged_by 0 (Passes book expect command (rank BadName)) Moved (λ v. refl) (moved_or book command expect) (past (Moved 0) (rank BadName) refl) (inr (Passes-start book expect command)) in
+      let named : Judged (rank BadReader) = judged (rank BadName) (rank BadReader) BadName refl (bad_name book command) (past BadName (rank BadReader) refl) moved in
+      let proofreader : Judged bad_text_rank = judged (rank BadReader) bad_text_rank BadReader refl (bad_reader book command) (past BadReader bad_text_rank refl) named in
+      let text : Judged (rank NoParagraph) = judged_by bad_text_rank (Passes book expect command (rank NoParagraph)) BadText (λ place. refl) (bad_text book command) (past (BadText 0) (rank NoParagraph) refl) proofreader in
+      let paragraph : Judged (rank NoTable) = judged (rank NoParagraph) (rank NoTable) NoParagraph refl (lacks_paragraph book command) (past NoParagraph (rank NoTable) refl) text in
+      let table : Judged (rank NoMark) = judged (rank NoTable) (rank NoMark) NoTable refl (lacks_table book command) (past NoTable (rank NoMark) refl) paragraph in
+      judged (rank NoMark) (rank Struck) NoMark refl (lacks_mark book command) (past NoMark (rank Struck) refl) table
 
-  to_limits : Judged (turn (Full Tables))
+  to_limits : Judged (rank (Full Tables))
   to_limits =
-      let struck : Judged (turn NotStruck) = turned (turn Struck) (turn NotStruck) Struck refl (is_struck book command) (past Struck (turn NotStruck) refl) to_lookups in
-      let live : Judged (turn Resolved) = turned (turn NotStruck) (turn Resolved) NotStruck refl (is_not_struck book command) (past NotStruck (turn Resolved) refl) struck in
-      let resolved : Judged (turn BadSpan) = turned (turn Resolved) (turn BadSpan) Resolved refl (is_resolved book command) (past Resolved (turn BadSpan) refl) live in
-      let span : Judged (turn NothingToUndo) = turned (turn BadSpan) (turn NothingToUndo) BadSpan refl (bad_span book command) (past BadSpan (turn NothingToUndo) refl) resolved in
-      let nothing : Judged (turn TooLong) = turned (turn NothingToUndo) (turn TooLong) NothingToUndo refl (nothing_to_undo book command) (past NothingToUndo (turn TooLong) refl) span in
-      turned (turn TooLong) (turn (Full Tables)) TooLong refl (too_long book command) (past TooLong (turn (Full Tables)) refl) nothing
+      let struck : Judged (rank NotStruck) = judged (rank Struck) (rank NotStruck) Struck refl (is_struck book command) (past Struck (rank NotStruck) refl) to_lookups in
+      let live : Judged (rank Resolved) = judged (rank NotStruck) (rank Resolved) NotStruck refl (is_not_struck book command) (past NotStruck (rank Resolved) refl) struck in
+      let resolved : Judged (rank BadSpan) = judged (rank Resolved) (rank BadSpan) Resolved refl (is_resolved book command) (past Resolved (rank BadSpan) refl) live in
+      let span : Judged (rank NothingToUndo) = judged (rank BadSpan) (rank NothingToUndo) BadSpan refl (bad_span book command) (past BadSpan (rank NothingToUndo) refl) resolved in
+      let nothing : Judged (rank TooLong) = judged (rank NothingToUndo) (rank TooLong) NothingToUndo refl (nothing_to_undo book command) (past NothingToUndo (rank TooLong) refl) span in
+      judged (rank TooLong) (rank (Full Tables)) TooLong refl (too_long book command) (past TooLong (rank (Full Tables)) refl) nothing
 
   told_or_accepted : Told ⊎ IsAccepted book expect command
   told_or_accepted =
-      let limits : Judged bad_table_turn = full_or Version refl (full_or Marks refl (full_or Entries refl (full_or Paragraphs refl (full_or Tables refl to_limits)))) in
-      let table : Judged undefined_turn = turned_by bad_table_turn (Passes book expect command undefined_turn) BadTable (λ fault. refl) (bad_table book command) (past (BadTable (record { line = 0; cause = 0 })) undefined_turn refl) limits in
-      let shown : Judged untranslatable_turn = turned_by undefined_turn (Passes book expect command untranslatable_turn) Undefined (λ place. refl) (undefined book command) (past (Undefined 0) untranslatable_turn refl) table in
-      turned_by untranslatable_turn (IsAccepted book expect command) (λ at. Untranslatable at.0 at.1) (λ at. refl) (untranslatable book command)
-      (λ p none. IsAccepted-passes book expect command (past (Untranslatable 0 0) (turn NoMemory) refl p (λ id place. none (id, place)))) shown
+      let limits : Judged bad_table_rank = full_or Version refl (full_or Marks refl (full_or Entries refl (full_or Paragraphs refl (full_or Tables refl to_limits)))) in
+      let table : Judged undefined_rank = judged_by bad_table_rank (Passes book expect command undefined_rank) BadTable (λ fault. refl) (bad_table book command) (past (BadTable (record { line = 0; cause = 0 })) undefined_rank refl) limits in
+      let shown : Judged untranslatable_rank = judged_by undefined_rank (Passes book expect command untranslatable_rank) Undefined (λ place. refl) (undefined book command) (past (Undefined 0) untranslatable_rank refl) table in
+      judged_by untranslatable_rank (IsAccepted book expect command) (λ at. Untranslatable at.0 at.1) (λ at. refl) (untranslatable book command)
+      (λ p none. IsAccepted-passes book expect command (past (Untranslatable 0 0) (rank NoMemory) refl p (λ id place. none (id, place)))) shown
 
 -- ---- the next book
 

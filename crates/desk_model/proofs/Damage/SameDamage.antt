@@ -11,7 +11,7 @@ use Rattle.desk_parts.specs.FileRows.{FileRows, entries_in}
 use Rattle.desk_parts.specs.Rows.{Mark as MarkRow, NamedCorr as EntryRow, Para as ParaRow, ParaCells, Tab as TabRow}
 use Rattle.desk_model.specs.SameRows.{AreSameCaches, AreSameRows}
 use Rattle.desk_model.proofs.Lists.Permutations.{IsPermutation-filter}
-use Rattle.desk_model.proofs.Rows.SameRows.{entries_in-moved, table_of-moved, turned}
+use Rattle.desk_model.proofs.Rows.SameRows.{entries_in-moved, table_of-moved, symmetric}
 
 -- ---- keys
 
@@ -121,7 +121,7 @@ sound-cache tabs tabs' paras paras' caches caches' tabs-moved paras-moved caches
 
 module _ (a b : FileRows) (same : AreSameRows a b) where
   abbrev back : AreSameRows b a
-  back = turned a b same
+  back = symmetric a b same
 
   damaged-para : (id : ℤ) → IsDamagedPara a.tabs a.paras id → IsDamagedPara b.tabs b.paras id
   damaged-para =
@@ -171,7 +171,7 @@ module _ (a b : FileRows) (same : AreSameRows a b) where
 
 pub first-damage : (a b : FileRows) (table : FileTable) (id : ℤ) → AreSameRows a b → IsFirstDamage a table id → IsFirstDamage b table id
 first-damage a b table id same first =
-    let there = damaged b a (turned a b same) in
+    let there = damaged b a (symmetric a b same) in
     record {
       damaged = damaged a b same table id first.damaged;
       tables = λ other n damage. first.tables other n (there other n damage);

@@ -11,7 +11,7 @@ use Rattle.desk_model.specs.Damage.{IsNumber, IsWithin, rows_with}
 use Rattle.desk_model.proofs.Lists.Decisions.{Decided}
 use Rattle.desk_model.proofs.Lists.Members.{Contains-behind, Contains-cases, Contains-here, Contains-map, Contains-none}
 use Rattle.desk_model.proofs.Lists.Numbering.{Contains-range}
-use Rattle.desk_model.proofs.Lists.Permutations.{IsPermutation-filter, IsPermutation-turn, pull_back}
+use Rattle.desk_model.proofs.Lists.Permutations.{IsPermutation-filter, IsPermutation-exchange, pull_back}
 use Rattle.desk_model.proofs.Lists.RowNumbers.{Contains-from_map, numbers, same_number}
 use Rattle.desk_model.proofs.Lists.Stable.{at_least, le_from, same_int}
 use Rattle.desk_model.proofs.Lists.Items.{range_with_len-push}
@@ -36,7 +36,7 @@ taken_out (y ∷ xs) x c =
       | inl is ↦ (xs, subst (λ z. IsPermutation (y ∷ xs) (z ∷ xs)) is (IsPermutation-refl (y ∷ xs)))
       | inr later ↦
           let rest = taken_out xs x later in
-          (y ∷ rest.0, IsPermutation-trans (y ∷ xs) (y ∷ x ∷ rest.0) (x ∷ y ∷ rest.0) (IsPermutation-cons y xs (x ∷ rest.0) rest.1) (IsPermutation-turn y x rest.0))
+          (y ∷ rest.0, IsPermutation-trans (y ∷ xs) (y ∷ x ∷ rest.0) (x ∷ y ∷ rest.0) (IsPermutation-cons y xs (x ∷ rest.0) rest.1) (IsPermutation-exchange y x rest.0))
     ]
 
 -- no element stands there twice
@@ -47,7 +47,7 @@ pub once-rest : {X : Type 0} (xs others : List X) (x : X) → AreOnce xs → IsP
 once-rest xs others x once moved y left is =
     λ c. once y (x ∷ left)
     (IsPermutation-trans xs (x ∷ others) (y ∷ x ∷ left) moved
-    (IsPermutation-trans (x ∷ others) (x ∷ y ∷ left) (y ∷ x ∷ left) (IsPermutation-cons x others (y ∷ left) is) (IsPermutation-turn x y left)))
+    (IsPermutation-trans (x ∷ others) (x ∷ y ∷ left) (y ∷ x ∷ left) (IsPermutation-cons x others (y ∷ left) is) (IsPermutation-exchange x y left)))
     (Contains-behind x y left c)
 
 pub once-permutation : {X : Type 0} (xs ys : List X) → IsPermutation xs ys → AreOnce xs → AreOnce ys

@@ -7,19 +7,19 @@ pub IsPermutation-same : {X : Type 0} (xs ys : List X) → xs ≡ ys → IsPermu
 IsPermutation-same xs ys e = subst (IsPermutation xs) e (IsPermutation-refl xs)
 
 -- the first two change places
-pub IsPermutation-turn : {X : Type 0} (x y : X) (xs : List X) → IsPermutation (x ∷ y ∷ xs) (y ∷ x ∷ xs)
-IsPermutation-turn x y xs = IsPermutation-middle (x ∷ []) y xs
+pub IsPermutation-exchange : {X : Type 0} (x y : X) (xs : List X) → IsPermutation (x ∷ y ∷ xs) (y ∷ x ∷ xs)
+IsPermutation-exchange x y xs = IsPermutation-middle (x ∷ []) y xs
 
 -- A relation holds along each permutation if it is reflexive and transitive, goes under a head, and over an exchange of two heads.
 module _ {X : Type 0} (R : List X → List X → Type 0) (same : (xs : List X) → R xs xs)
     (under : (x : X) (xs ys : List X) → R xs ys → R (x ∷ xs) (x ∷ ys))
-    (turn : (x y : X) (xs : List X) → R (x ∷ y ∷ xs) (y ∷ x ∷ xs))
+    (exchange : (x y : X) (xs : List X) → R (x ∷ y ∷ xs) (y ∷ x ∷ xs))
     (chain : (xs ys zs : List X) → R xs ys → R ys zs → R xs zs) where
   to_head : (l : List X) (j : ℕ) (x d : X) → j < length l → R (x ∷ l) (get_or l j d ∷ set l j x)
   to_head [] j x d h = absurd (omega arith)
-  to_head (y ∷ l) zero x d h = turn x y l
+  to_head (y ∷ l) zero x d h = exchange x y l
   to_head (y ∷ l) (suc j) x d h =
-      chain _ _ _ (turn x y l) (chain _ _ _ (under y _ _ (to_head l j x d (omega arith))) (turn y (get_or l j d) (set l j x)))
+      chain _ _ _ (exchange x y l) (chain _ _ _ (under y _ _ (to_head l j x d (omega arith))) (exchange y (get_or l j d) (set l j x)))
 
   exchanged : (l : List X) (i j : ℕ) (d : X) → i < length l → j < length l → R l (set (set l i (get_or l j d)) j (get_or l i d))
   exchanged [] i j d p q = absurd (omega arith)
@@ -43,11 +43,11 @@ module _ {X : Type 0} (p : X → Bool) where
       go true = IsPermutation-cons x _ _ h
       go false = h
 
-  turn_filter : (x y : X) (xs : List X) → IsPermutation (filter p (x ∷ y ∷ xs)) (filter p (y ∷ x ∷ xs))
-  turn_filter x y xs = go (p x) (p y)
+  exchange_filter : (x y : X) (xs : List X) → IsPermutation (filter p (x ∷ y ∷ xs)) (filter p (y ∷ x ∷ xs))
+  exchange_filter x y xs = go (p x) (p y)
     where
       go : (a b : Bool) → IsPermutation (cond a (x ∷ cond b (y ∷ filter p xs) (filter p xs)) (cond b (y ∷ filter p xs) (filter p xs))) (cond b (y ∷ cond a (x ∷ filter p xs) (filter p xs)) (cond a (x ∷ filter p xs) (filter p xs)))
-      go true true = IsPermutation-turn x y (filter p xs)
+      go true true = IsPermutation-exchange x y (filter p xs)
       go true false = IsPermutation-refl (x ∷ filter p xs)
       go false true = IsPermutation-refl (y ∷ filter p xs)
       go false false = IsPermutation-refl (filter p xs)
@@ -56,7 +56,7 @@ module _ {X : Type 0} (p : X → Bool) where
   pub IsPermutation-filter : (xs ys : List X) → IsPermutation xs ys → IsPermutation (filter p xs) (filter p ys)
   IsPermutation-filter =
       along_permutation (λ xs ys. IsPermutation (filter p xs) (filter p ys))
-      (λ xs. IsPermutation-refl (filter p xs)) under_filter turn_filter
+      (λ xs. IsPermutation-refl (filter p xs)) under_filter exchange_filter
       (λ xs ys zs. IsPermutation-trans (filter p xs) (filter p ys) (filter p zs))
 
 -- ---- what a map makes of elements in another order
@@ -74,12 +74,12 @@ module _ {A B : Type 0} (f : A → B) where
       let later = rest from tail in
       (a ∷ later.0, IsPermutation-cons a from later.0 later.1, λ i. head i ∷ later.2 i)
 
-  heads_turned : (x y : B) (xs : List B) → PullsBack (x ∷ y ∷ xs) (y ∷ x ∷ xs)
-  heads_turned x y xs [] is = absurd (cc)
-  heads_turned x y xs (a ∷ []) is = absurd (cc)
-  heads_turned x y xs (a ∷ b ∷ from) is = (b ∷ a ∷ from, IsPermutation-turn a b from, cc)
+  heads_exchanged : (x y : B) (xs : List B) → PullsBack (x ∷ y ∷ xs) (y ∷ x ∷ xs)
+  heads_exchanged x y xs [] is = absurd (cc)
+  heads_exchanged x y xs (a ∷ []) is = absurd (cc)
+  heads_exchanged x y xs (a ∷ b ∷ from) is = (b ∷ a ∷ from, IsPermutation-exchange a b from, cc)
 
   pub pull_back : (xs ys : List B) → IsPermutation xs ys → PullsBack xs ys
   pull_back =
-      along_permutation PullsBack (λ xs from is. (from, IsPermutation-refl from, is)) under_head heads_turned
+      along_permutation PullsBack (λ xs from is. (from, IsPermutation-refl from, is)) under_head heads_exchanged
       (λ xs ys zs p q from is. let mid = p from is in let last = q mid.0 mid.2 in (last.0, IsPermutation-trans from mid.0 last.0 mid.1 last.1, last.2))

@@ -26,7 +26,7 @@ use Rattle.desk_model.specs.Sound.{IsSound}
 use Rattle.desk_model.proofs.Rows.BookRows.{book_caches, some_rows, some_unnamed_rows}
 use Rattle.desk_model.proofs.Rows.PutRows.{filter-all}
 use Rattle.desk_model.proofs.Books.ParagraphLists.{ids_of}
-use Rattle.desk_model.proofs.Commands.Turns.{same_some}
+use Rattle.desk_model.proofs.Commands.Ranks.{same_some}
 use Rattle.desk_model.proofs.Lists.RowNumbers.{int_eq-pos}
 use Rattle.desk_model.proofs.Rows.SameRows.{AreCached-moved, AreEntriesOf-moved}
 use Rattle.desk_model.proofs.Books.SoundBooks.{paragraphs-apart}

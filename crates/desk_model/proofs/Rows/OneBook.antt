@@ -29,7 +29,7 @@ use Rattle.desk_model.proofs.Books.SoundBooks.{paragraphs-apart}
 
 module _ {X K : Type 0} (R : K → K → Ordering) (total : IsTotalOrder R) (key : X → K) where
   not_both : (a b : K) → R a b ≡ Less → R b a ≡ Less → ⊥
-  not_both a b p q = let turned : Less ≡ Greater = sym p ∙ (total.antisymm a b ∙ ap ordering_reverse q) in cc
+  not_both a b p q = let reversed : Less ≡ Greater = sym p ∙ (total.antisymm a b ∙ ap ordering_reverse q) in cc
 
   below : (k : K) (xs : List X) (z : X) → AllByRecursion (λ other. R k other ≡ Less) (map key xs) → Contains xs z → R k (key z) ≡ Less
   below k [] z all c = absurd (Contains-none z c)

@@ -11,30 +11,30 @@ use Rattle.desk_model.specs.FilledRows.{AreEntriesOf}
 use Rattle.desk_parts.specs.Rows.{ParaCells, Corr, NamedCorr}
 use Rattle.desk_model.specs.SameRows.{AreSameCaches, AreSameEntries, AreSameRows}
 use Rattle.desk_model.specs.Shows.{AreCached, IsCached, Shows, book_row_of, entry_rows_of}
-use Rattle.desk_model.proofs.Commands.Turns.{same_some}
+use Rattle.desk_model.proofs.Commands.Ranks.{same_some}
 
 -- ---- the other way round
 
-entries-turned : (a b : EntryRows) → AreSameEntries a b → AreSameEntries b a
-entries-turned (Unnamed a) (Unnamed b) moved = IsPermutation-sym a b moved
-entries-turned (Unnamed a) (Named b) other = absurd other
-entries-turned (Named a) (Unnamed b) other = absurd other
-entries-turned (Named a) (Named b) moved = IsPermutation-sym a b moved
+entries-symmetric : (a b : EntryRows) → AreSameEntries a b → AreSameEntries b a
+entries-symmetric (Unnamed a) (Unnamed b) moved = IsPermutation-sym a b moved
+entries-symmetric (Unnamed a) (Named b) other = absurd other
+entries-symmetric (Named a) (Unnamed b) other = absurd other
+entries-symmetric (Named a) (Named b) moved = IsPermutation-sym a b moved
 
-caches-turned : (a b : Option (List ParaCells)) → AreSameCaches a b → AreSameCaches b a
-caches-turned None None same = tt
-caches-turned None (Some b) other = absurd other
-caches-turned (Some a) None other = absurd other
-caches-turned (Some a) (Some b) moved = IsPermutation-sym a b moved
+caches-symmetric : (a b : Option (List ParaCells)) → AreSameCaches a b → AreSameCaches b a
+caches-symmetric None None same = tt
+caches-symmetric None (Some b) other = absurd other
+caches-symmetric (Some a) None other = absurd other
+caches-symmetric (Some a) (Some b) moved = IsPermutation-sym a b moved
 
-pub turned : (a b : FileRows) → AreSameRows a b → AreSameRows b a
-turned a b same = record {
+pub symmetric : (a b : FileRows) → AreSameRows a b → AreSameRows b a
+symmetric a b same = record {
   books = sym same.books;
   tabs = IsPermutation-sym a.tabs b.tabs same.tabs;
   paras = IsPermutation-sym a.paras b.paras same.paras;
-  entries = entries-turned a.entries b.entries same.entries;
+  entries = entries-symmetric a.entries b.entries same.entries;
   marks = IsPermutation-sym a.marks b.marks same.marks;
-  caches = caches-turned a.caches b.caches same.caches;
+  caches = caches-symmetric a.caches b.caches same.caches;
 }
 
 -- ---- entries

@@ -10,7 +10,7 @@ use Rattle.std.proofs.lemmas.Bool.{cases_Bool}
 use Rattle.std.proofs.lemmas.Cmp.{nat_list_cmp_total}
 use Rattle.std.proofs.lemmas.List.Sorted.{IsPermutation-cons, IsPermutation-refl, IsPermutation-trans}
 use Rattle.desk_parts.specs.Rows.{Tab}
-use Rattle.desk_model.proofs.Lists.Permutations.{IsPermutation-turn}
+use Rattle.desk_model.proofs.Lists.Permutations.{IsPermutation-exchange}
 use Rattle.desk_model.proofs.Lists.TableEntries.{same_name}
 
 -- ---- each list has an order
@@ -33,7 +33,7 @@ module _ {X : Type 0} (lt : X → X → Bool) (other_way : (x y : X) → lt x y 
         | inl less ↦
             let rest = inserted x ys rises.1 in (
               y ∷ rest.0,
-              IsPermutation-trans (x ∷ y ∷ ys) (y ∷ x ∷ ys) (y ∷ rest.0) (IsPermutation-turn x y ys) (IsPermutation-cons y (x ∷ ys) rest.0 rest.1),
+              IsPermutation-trans (x ∷ y ∷ ys) (y ∷ x ∷ ys) (y ∷ rest.0) (IsPermutation-exchange x y ys) (IsPermutation-cons y (x ∷ ys) rest.0 rest.1),
               (rest.3 y rises.0 (other_way y x less), rest.2),
               λ w follows first. follows,
             )

@@ -19,7 +19,7 @@ use Rattle.desk_model.specs.Book.{new_mark}
 use Rattle.desk_model.specs.NormalForm.{IsUnbarred, is_barred}
 use Rattle.desk_model.proofs.Damage.FirstDamage.{IsWholeBefore, before-book, before-cache, before-entries, before-mark, before-para, before-tab}
 use Rattle.desk_model.proofs.Lists.Members.{Contains-behind, Contains-cases, Contains-here, Contains-none}
-use Rattle.desk_model.proofs.Commands.Turns.{same_some}
+use Rattle.desk_model.proofs.Commands.Ranks.{same_some}
 use Rattle.desk_model.proofs.Lists.RowNumbers.{pos_le, same_number}
 use Rattle.desk_model.proofs.Lists.Stable.{le_from}
 

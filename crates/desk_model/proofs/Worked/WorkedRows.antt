@@ -35,10 +35,10 @@ use Rattle.desk_model.specs.Numbers.{code_of}
 use Rattle.desk_model.specs.Named.{number_of}
 use Rattle.desk_model.specs.Step.{Makes}
 use Rattle.desk_model.specs.NormalForm.{IsUnbarred, is_barred}
-use Rattle.desk_model.specs.Turns.{bad_table_turn, bad_text_turn, turn, undefined_turn}
+use Rattle.desk_model.specs.Ranks.{bad_table_rank, bad_text_rank, rank, undefined_rank}
 use Rattle.desk_model.proofs.Commands.Expecting.{moved}
 use Rattle.desk_model.proofs.Commands.Judging.{IsRefused-passes, Passes-past}
-use Rattle.desk_model.proofs.Commands.Turns.{passes_to, past_text, to_turn, past_fit, past_lengths, past_one, past_there, past_version, not_longer}
+use Rattle.desk_model.proofs.Commands.Ranks.{passes_to, past_text, to_rank, past_fit, past_lengths, past_one, past_there, past_version, not_longer}
 
 -- `The cat`
 abbrev the_cat : List ℕ
@@ -133,11 +133,11 @@ refusals =
     ∷ TooLong ∷ Full Tables ∷ Full Paragraphs ∷ Full Entries ∷ Full Marks ∷ Full Version ∷ BadTable fault ∷ Undefined 0
     ∷ Untranslatable 0 0 ∷ NoMemory ∷ []
 
-codes-in-turn : map code_of refusals ≡ 16 ∷ 17 ∷ 18 ∷ 6 ∷ 2 ∷ 3 ∷ 4 ∷ 11 ∷ 12 ∷ 13 ∷ 5 ∷ 10 ∷ 14 ∷ 15 ∷ 15 ∷ 15 ∷ 15 ∷ 15 ∷ 8 ∷ 7 ∷ 9 ∷ 90 ∷ []
-codes-in-turn = refl
+codes-by-rank : map code_of refusals ≡ 16 ∷ 17 ∷ 18 ∷ 6 ∷ 2 ∷ 3 ∷ 4 ∷ 11 ∷ 12 ∷ 13 ∷ 5 ∷ 10 ∷ 14 ∷ 15 ∷ 15 ∷ 15 ∷ 15 ∷ 15 ∷ 8 ∷ 7 ∷ 9 ∷ 90 ∷ []
+codes-by-rank = refl
 
-turns-rise : map turn refusals ≡ 0 ∷ 10 ∷ 15 ∷ 20 ∷ 30 ∷ 40 ∷ 50 ∷ 60 ∷ 70 ∷ 80 ∷ 90 ∷ 100 ∷ 110 ∷ 120 ∷ 130 ∷ 140 ∷ 150 ∷ 160 ∷ 170 ∷ 180 ∷ 190 ∷ 200 ∷ []
-turns-rise = refl
+ranks-rise : map rank refusals ≡ 0 ∷ 10 ∷ 15 ∷ 20 ∷ 30 ∷ 40 ∷ 50 ∷ 60 ∷ 70 ∷ 80 ∷ 90 ∷ 100 ∷ 110 ∷ 120 ∷ 130 ∷ 140 ∷ 150 ∷ 160 ∷ 170 ∷ 180 ∷ 190 ∷ 200 ∷ []
+ranks-rise = refl
 
 -- ---- commands on a book
 
@@ -159,13 +159,13 @@ numbers-of-entries : map (λ command. number_of taken_back_book command) (Correc
 numbers-of-entries = refl
 
 -- a replacement by `x`, without a name, is checked by what its paragraph is
-x-passes : (book : Book) (id start count : ℕ) → Passes book None (Correct id start count (120 ∷ []) []) (turn NoParagraph)
+x-passes : (book : Book) (id start count : ℕ) → Passes book None (Correct id start count (120 ∷ []) []) (rank NoParagraph)
 x-passes book id start count =
     let named : IsProofreaderName [] = record { short = lit≤ tt; characters = All-nil (λ character. is_proofreader_character character ≡ true) } in
     let unbarred : IsUnbarred (120 ∷ []) = All-cons (λ character. is_barred character ≡ false) 120 [] refl (All-nil (λ character. is_barred character ≡ false)) in
     let command = Correct id start count (120 ∷ []) [] in
     past_text book command (120 ∷ [])
-    (Passes-past book None command BadReader bad_text_turn refl (passes_to book command (turn BadReader) refl) (λ bad. bad named)) refl unbarred
+    (Passes-past book None command BadReader bad_text_rank refl (passes_to book command (rank BadReader) refl) (λ bad. bad named)) refl unbarred
 
 -- a replacement of the ninth character of seven, an expected version 9 at version 4, and an undo where no correction is in
 -- force
@@ -176,15 +176,15 @@ past-the-print : IsRefused taken_back_book None x_past_the_end BadSpan
 past-the-print =
     let book = taken_back_book in
     let fit = past_fit book x_past_the_end 1 refl refl refl (x-passes book 1 8 1) _ refl refl in
-    IsRefused-passes book None x_past_the_end (turn BadSpan) BadSpan (to_turn book x_past_the_end (turn NotStruck) (turn BadSpan) refl fit) refl (lit< tt)
+    IsRefused-passes book None x_past_the_end (rank BadSpan) BadSpan (to_rank book x_past_the_end (rank NotStruck) (rank BadSpan) refl fit) refl (lit< tt)
 
 another-version : IsRefused taken_back_book (Some 9) (Undo 1) (Moved 4)
 another-version = moved taken_back_book (Some 9) (Undo 1) 4 (record { expected = 9; given = refl; other = λ same. omega arith; told = refl })
 
 none-in-force : IsRefused taken_back_book None (Undo 1) NothingToUndo
 none-in-force =
-    let passes = past_fit taken_back_book (Undo 1) 1 refl refl refl (passes_to taken_back_book (Undo 1) (turn NoParagraph) refl) _ refl refl in
-    IsRefused-passes taken_back_book None (Undo 1) (turn NothingToUndo) NothingToUndo (to_turn taken_back_book (Undo 1) (turn NotStruck) (turn NothingToUndo) refl passes) refl refl
+    let passes = past_fit taken_back_book (Undo 1) 1 refl refl refl (passes_to taken_back_book (Undo 1) (rank NoParagraph) refl) _ refl refl in
+    IsRefused-passes taken_back_book None (Undo 1) (rank NothingToUndo) NothingToUndo (to_rank taken_back_book (Undo 1) (rank NotStruck) (rank NothingToUndo) refl passes) refl refl
 
 -- what a strike and a restoring make, and that neither is accepted again, nor a correction while the paragraph is struck
 makes-struck : Makes (cat_book 2 [] false) (Strike 1) (cat_book 3 [] true)
@@ -196,21 +196,21 @@ makes-restored = refl
 struck-already : IsRefused (cat_book 3 [] true) None (Strike 1) Struck
 struck-already =
     let book = cat_book 3 [] true in
-    let there = past_there book (Strike 1) 1 refl refl refl (passes_to book (Strike 1) (turn NoParagraph) refl) _ refl in
-    IsRefused-passes book None (Strike 1) (turn Struck) Struck there refl refl
+    let there = past_there book (Strike 1) 1 refl refl refl (passes_to book (Strike 1) (rank NoParagraph) refl) _ refl in
+    IsRefused-passes book None (Strike 1) (rank Struck) Struck there refl refl
 
 corrected_print-while-struck : IsRefused (cat_book 3 [] true) None (Correct 1 0 0 (120 ∷ []) []) Struck
 corrected_print-while-struck =
     let book = cat_book 3 [] true in
     let command = Correct 1 0 0 (120 ∷ []) [] in
     let there = past_there book command 1 refl refl refl (x-passes book 1 0 0) _ refl in
-    IsRefused-passes book None command (turn Struck) Struck there refl refl
+    IsRefused-passes book None command (rank Struck) Struck there refl refl
 
 restored-already : IsRefused (cat_book 4 [] false) None (Restore 1) NotStruck
 restored-already =
     let book = cat_book 4 [] false in
-    let there = past_one book (Restore 1) 1 _ refl refl (passes_to book (Restore 1) (turn NoParagraph) refl) in
-    IsRefused-passes book None (Restore 1) (turn NotStruck) NotStruck (to_turn book (Restore 1) (turn NoTable) (turn NotStruck) refl there) refl refl
+    let there = past_one book (Restore 1) 1 _ refl refl (passes_to book (Restore 1) (rank NoParagraph) refl) in
+    IsRefused-passes book None (Restore 1) (rank NotStruck) NotStruck (to_rank book (Restore 1) (rank NoTable) (rank NotStruck) refl there) refl refl
 
 -- `letter a 1` and `letter b 12`, a table that defines no `c`
 abbrev a_line : List ℕ
@@ -274,13 +274,13 @@ undo-not-defined : IsRefused retabled_book None (Undo 1) (Undefined 0)
 undo-not-defined =
     let book = retabled_book in
     let p = c_corrected in
-    let fit = to_turn book (Undo 1) (turn NotStruck) (turn NothingToUndo) refl (past_fit book (Undo 1) 1 refl refl refl (passes_to book (Undo 1) (turn NoParagraph) refl) p refl refl) in
-    let passes = Passes-past book None (Undo 1) NothingToUndo (turn TooLong) refl fit
+    let fit = to_rank book (Undo 1) (rank NotStruck) (rank NothingToUndo) refl (past_fit book (Undo 1) 1 refl refl refl (passes_to book (Undo 1) (rank NoParagraph) refl) p refl refl) in
+    let passes = Passes-past book None (Undo 1) NothingToUndo (rank TooLong) refl fit
     (λ none. cc none) in
     let short = past_lengths book (Undo 1) passes (λ l. l) (not_longer most_print (new_print book (Undo 1)) (99 ∷ []) refl (lit≤ tt)) (λ l. l) in
-    let few = Passes-past book None (Undo 1) (Full Entries) (turn (Full Marks)) refl (to_turn book (Undo 1) (turn (Full Tables)) (turn (Full Entries)) refl short)
+    let few = Passes-past book None (Undo 1) (Full Entries) (rank (Full Marks)) refl (to_rank book (Undo 1) (rank (Full Tables)) (rank (Full Entries)) refl short)
     (λ full. let many : most_entries ≤ 1 = full in omega arith) in
-    let left = to_turn book (Undo 1) bad_table_turn undefined_turn refl (past_version book (Undo 1) (turn (Full Marks)) few refl (lit< tt)) in
+    let left = to_rank book (Undo 1) bad_table_rank undefined_rank refl (past_version book (Undo 1) (rank (Full Marks)) few refl (lit< tt)) in
     let first : IsFirstUndefined ab_meaning (99 ∷ []) 0 = record { within = lit< tt; undefined = refl; before = λ i lt. absurd (omega arith) } in
-    IsRefused-passes book None (Undo 1) undefined_turn (Undefined 0) left refl
+    IsRefused-passes book None (Undo 1) undefined_rank (Undefined 0) left refl
     (record { print = 99 ∷ []; name = 97 ∷ 98 ∷ []; print_is = refl; text = ab_text; meaning = ab_meaning; found = refl; means = ab-means; first = first })

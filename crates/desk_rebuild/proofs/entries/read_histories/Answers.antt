@@ -13,19 +13,19 @@ use Rattle.desk_rebuild.proofs.ReadGroups.{HaveReadTo, as-long, at-enumerate, re
 use Rattle.desk_rebuild.proofs.entries.read_histories.Goals as goal
 use Rattle.desk_rebuild.proofs.entries.read_histories.Goals.{After-index_mut}
 
--- a turn has the next group, and the paragraph with the same index
-turn : (c : After-index_mut) → (c.in-Some.index ≡ length c.loop-index.yielded) × (length c.loop-index.yielded < length c.args.groups.items)
+-- a step has the next group, and the paragraph with the same index
+step : (c : After-index_mut) → (c.in-Some.index ≡ length c.loop-index.yielded) × (length c.loop-index.yielded < length c.args.groups.items)
     × (slice_get (map (λ group. group.items) c.args.groups.items) (length c.loop-index.yielded) ≡ Some c.in-Some.rows.items)
     × (slice_get c.loop-index.items.items (length c.loop-index.yielded) ≡ Some c.index_mut.result.now)
-turn c =
+step c =
     let groups = c.args.groups.items in
     let lists = map (λ group. group.items) groups in
     let now = c.loop-index.items.items in
     let n = length c.loop-index.yielded in
     let source : c.into_iter-index-iterator.result.iter ≡ c.into_iter.result = cc in
     let road = YieldsList-from_enumerate {s = c.into_iter-index-iterator.result} (YieldsList-from_vec {s = c.into_iter-index-iterator.result.iter} groups (ap into_iter_items source ∙ c.into_iter.ensures.rest) (ap into_iter_len source ∙ (c.into_iter.ensures.len ∙ c.args.groups.ok.0))) (cc) in
-    let turn = YieldsList-turn road c.loop-index.yielded c.loop-index.index-iterator c.loop-index.yielded_by c.next.result c.next.new.self (c.in-Some.index, c.in-Some.rows) c.in-Some.is c.next.ensures.steps in
-    let found = at-enumerate groups n c.in-Some.index c.in-Some.rows turn.0 turn.1 in
+    let step = YieldsList-turn road c.loop-index.yielded c.loop-index.index-iterator c.loop-index.yielded_by c.next.result c.next.new.self (c.in-Some.index, c.in-Some.rows) c.in-Some.is c.next.ensures.steps in
+    let found = at-enumerate groups n c.in-Some.index c.in-Some.rows step.0 step.1 in
     let within = slice_get_within groups n c.in-Some.rows found.1 in
     let long = as-long lists c.args.items.now.items now n c.loop-index.invariant in
     let bound : c.in-Some.index < length now = (let here = found.0 in let all = c.requires in omega (arith, within, long, all, here)) in
@@ -34,7 +34,7 @@ turn c =
 
 pub loop-index-preserved : goal.loop-index-preserved
 loop-index-preserved c =
-    let here = turn (goal.at.loop-index-preserved c).After-index_mut in
+    let here = step (goal.at.loop-index-preserved c).After-index_mut in
     let lists = map (λ group. group.items) c.args.groups.items in
     let was = c.args.items.now.items in
     let now = c.loop-index.items.items in
@@ -45,7 +45,7 @@ loop-index-preserved c =
 
 pub returns-in_err-read_history-clause-damaged : goal.returns-in_err-read_history-clause-damaged
 returns-in_err-read_history-clause-damaged c =
-    let here = turn (goal.at.returns-in_err-read_history-clause-damaged c).After-index_mut in
+    let here = step (goal.at.returns-in_err-read_history-clause-damaged c).After-index_mut in
     let groups = c.args.groups in
     let n = length c.loop-index.yielded in
     let id : to_z w64 (of_z w64 (to_z w64 c.in-Some.index +ℤ pos 1)) ≡ pos (n + 1) =

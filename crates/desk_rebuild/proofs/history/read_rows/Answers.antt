@@ -16,13 +16,13 @@ use Rattle.desk_rebuild.proofs.history.read_rows.Goals as goal
 use Rattle.desk_rebuild.proofs.history.read_rows.Goals.{In-Some}
 use Rattle.desk_model.proofs.Lists.Items.{take-more}
 
--- the row that a turn has is the next of the rows
+-- the row that a step has is the next of the rows
 row_at : (c : In-Some) → slice_get c.args.rows.items (length c.loop-row.yielded) ≡ Some c.in-Some.row
 row_at c =
     let rows = c.args.rows.items in
     let given = c.into_iter-row-iterator.ensures.into_iter_gives in
-    let turn = YieldsList-turn (YieldsList-from_vec {s = c.into_iter-row-iterator.result} rows given.0 (given.1 ∙ c.args.rows.ok.0)) c.loop-row.yielded c.loop-row.row-iterator c.loop-row.yielded_by c.next.result c.next.new.self c.in-Some.row c.in-Some.is c.next.ensures.steps in
-    slice_get_read rows (length rows) (length c.loop-row.yielded) c.in-Some.row refl turn.0 turn.1
+    let step = YieldsList-turn (YieldsList-from_vec {s = c.into_iter-row-iterator.result} rows given.0 (given.1 ∙ c.args.rows.ok.0)) c.loop-row.yielded c.loop-row.row-iterator c.loop-row.yielded_by c.next.result c.next.new.self c.in-Some.row c.in-Some.is c.next.ensures.steps in
+    slice_get_read rows (length rows) (length c.loop-row.yielded) c.in-Some.row refl step.0 step.1
 
 pub read-requires : goal.read-requires
 read-requires c = (chars c.args.original.now, c.loop-row.yielded, c.loop-row.invariant.0)

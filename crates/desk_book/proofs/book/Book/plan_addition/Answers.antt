@@ -5,21 +5,21 @@ use Rattle.desk_model.specs.Book.{Book}
 use Rattle.desk_model.specs.Judging.{Passes}
 use Rattle.desk_model.specs.Limits.{most_tables, most_version}
 use Rattle.desk_model.specs.Name.{IsTableName}
-use Rattle.desk_model.specs.Turns.{bad_table_turn, turn}
+use Rattle.desk_model.specs.Ranks.{bad_table_rank, rank}
 use Rattle.desk_model.specs.declared.refusal.Refusal.TheVariants.{Full}
 use Rattle.desk_model.specs.declared.refusal.Limit.TheVariants.{Paragraphs}
 use Rattle.desk_book.proofs.Kept.KeptLookups.{count-tables, sound}
 use Rattle.desk_book.proofs.Plans.Planning.{full_version, no_memory}
-use Rattle.desk_model.proofs.Commands.Turns.{past_version}
+use Rattle.desk_model.proofs.Commands.Ranks.{past_version}
 use Rattle.desk_book.proofs.Plans.TablePlanning.{full_tables, past_reading, past_tables, past_users, unread, unused}
 use Rattle.desk_book.proofs.book.Book.plan_addition.Goals as goal
 
 module _ (book : Book) (name text : List ℕ) (named : IsTableName name) (room : length book.tables < most_tables) where
-  roomy : Passes book None (Table name text) (turn (Full Paragraphs))
+  roomy : Passes book None (Table name text) (rank (Full Paragraphs))
   roomy = past_tables book name text named (inr room)
 
-  left : book.version < most_version → Passes book None (Table name text) bad_table_turn
-  left version = past_version book (Table name text) (turn (Full Paragraphs)) roomy refl version
+  left : book.version < most_version → Passes book None (Table name text) bad_table_rank
+  left version = past_version book (Table name text) (rank (Full Paragraphs)) roomy refl version
 
 pub returns-in_err-check_tables : goal.returns-in_err-check_tables
 returns-in_err-check_tables c =
@@ -31,7 +31,7 @@ returns-in_err-check_version c =
     let p = err_from_is_err_and c.from_residual-in_err-check_version.result c.from_residual-in_err-check_version.ensures.1 in
     let told = c.in_err-check_version.ensures.full in
     let passes = roomy c.args.self.now c.args.name.now c.args.text.now c.requires.name c.in_ok-check_tables.ensures.left in
-    rw (p.1, p.2) (record { planned = tt; refused = full_version c.args.self.now (Table c.args.name.now c.args.text.now) (turn (Full Paragraphs)) _ passes refl told.1 told.0 })
+    rw (p.1, p.2) (record { planned = tt; refused = full_version c.args.self.now (Table c.args.name.now c.args.text.now) (rank (Full Paragraphs)) _ passes refl told.1 told.0 })
 
 pub returns-in_err-read_table : goal.returns-in_err-read_table
 returns-in_err-read_table c =
@@ -43,13 +43,13 @@ pub returns-in_err-copy : goal.returns-in_err-copy
 returns-in_err-copy c =
     let p = err_from_is_err_and c.from_residual-in_err-copy.result c.from_residual-in_err-copy.ensures.1 in
     let passes = left c.args.self.now c.args.name.now c.args.text.now c.requires.name c.in_ok-check_tables.ensures.left c.in_ok-check_version.ensures.left in
-    rw p.1 (record { planned = tt; refused = no_memory c.args.self.now (Table c.args.name.now c.args.text.now) _ bad_table_turn refl passes p.2 })
+    rw p.1 (record { planned = tt; refused = no_memory c.args.self.now (Table c.args.name.now c.args.text.now) _ bad_table_rank refl passes p.2 })
 
 pub returns-in_err-new : goal.returns-in_err-new
 returns-in_err-new c =
     let p = err_from_is_err_and c.from_residual-in_err-new.result c.from_residual-in_err-new.ensures.1 in
     let passes = left c.args.self.now c.args.name.now c.args.text.now c.requires.name c.in_ok-check_tables.ensures.left c.in_ok-check_version.ensures.left in
-    rw p.1 (record { planned = tt; refused = no_memory c.args.self.now (Table c.args.name.now c.args.text.now) _ bad_table_turn refl passes p.2 })
+    rw p.1 (record { planned = tt; refused = no_memory c.args.self.now (Table c.args.name.now c.args.text.now) _ bad_table_rank refl passes p.2 })
 
 pub returns-clause-planned : goal.returns-clause-planned
 returns-clause-planned c =

@@ -9,19 +9,19 @@ use Rattle.desk_memory.specs.Kept.{with_id_moved}
 use Rattle.desk_book.specs.Plans.{AreThere, IsKeptFor}
 use Rattle.desk_model.specs.Named.{paragraph_before}
 use Rattle.desk_model.specs.Step.{with_move}
-use Rattle.desk_model.specs.Turns.{bad_table_turn, turn}
+use Rattle.desk_model.specs.Ranks.{bad_table_rank, rank}
 use Rattle.desk_model.specs.declared.refusal.Refusal.TheVariants.{NoMemory, NoParagraph, NoTable}
 use Rattle.desk_book.proofs.Kept.KeptLookups.{ids_of-book, sound}
 use Rattle.desk_memory.proofs.Callers.{ids_of-with_move}
 use Rattle.desk_model.proofs.Books.ParagraphLists.{ids_of}
 use Rattle.desk_model.proofs.Books.SoundSteps.{IsPermutation-moved}
 use Rattle.desk_book.proofs.Plans.Planning.{AreNotAllThere-cons, AreThere-cons, full_version, no_memory, no_paragraph, past_paragraphs, unnamed}
-use Rattle.desk_model.proofs.Commands.Turns.{accepted_after, passes_to, past_version, to_turn}
+use Rattle.desk_model.proofs.Commands.Ranks.{accepted_after, passes_to, past_version, to_rank}
 use Rattle.desk_book.proofs.book.Book.plan_move.Goals as goal
 
-named : (book : Book) (id : ℕ) (anchor : Anchor) (kept : KeptParagraph) → IsKeptFor book id kept → AreThere book (paragraph_before anchor) → Passes book None (Move id anchor) (turn NoTable)
+named : (book : Book) (id : ℕ) (anchor : Anchor) (kept : KeptParagraph) → IsKeptFor book id kept → AreThere book (paragraph_before anchor) → Passes book None (Move id anchor) (rank NoTable)
 named book id anchor kept found there =
-    past_paragraphs book (Move id anchor) (passes_to book (Move id anchor) (turn NoParagraph) refl) (AreThere-cons book id kept (paragraph_before anchor) found there)
+    past_paragraphs book (Move id anchor) (passes_to book (Move id anchor) (rank NoParagraph) refl) (AreThere-cons book id kept (paragraph_before anchor) found there)
 
 pub returns-in_err-kept_paragraph : goal.returns-in_err-kept_paragraph
 returns-in_err-kept_paragraph c =
@@ -35,7 +35,7 @@ returns-in_err-check_anchor c =
     let told = c.in_err-check_anchor.ensures.missing in
     rw (p.1, p.2) (record {
       planned = tt;
-      refused = no_paragraph c.args.self.now command _ (passes_to c.args.self.now command (turn NoParagraph) refl) (AreNotAllThere-cons c.args.self.now c.args.id (paragraph_before c.args.anchor) told.1) told.0;
+      refused = no_paragraph c.args.self.now command _ (passes_to c.args.self.now command (rank NoParagraph) refl) (AreNotAllThere-cons c.args.self.now c.args.id (paragraph_before c.args.anchor) told.1) told.0;
     })
 
 pub returns-in_err-check_version : goal.returns-in_err-check_version
@@ -43,24 +43,24 @@ returns-in_err-check_version c =
     let p = err_from_is_err_and c.from_residual-in_err-check_version.result c.from_residual-in_err-check_version.ensures.1 in
     let passes = named c.args.self.now c.args.id c.args.anchor _ c.in_ok-kept_paragraph.ensures.found c.in_ok-check_anchor.ensures.there in
     let told = c.in_err-check_version.ensures.full in
-    rw (p.1, p.2) (record { planned = tt; refused = full_version c.args.self.now (Move c.args.id c.args.anchor) (turn NoTable) _ passes refl told.1 told.0 })
+    rw (p.1, p.2) (record { planned = tt; refused = full_version c.args.self.now (Move c.args.id c.args.anchor) (rank NoTable) _ passes refl told.1 told.0 })
 
 pub returns-in_err-order_with_move : goal.returns-in_err-order_with_move
 returns-in_err-order_with_move c =
     let p = err_from_is_err_and c.from_residual-in_err-order_with_move.result c.from_residual-in_err-order_with_move.ensures.1 in
     let passes = named c.args.self.now c.args.id c.args.anchor _ c.in_ok-kept_paragraph.ensures.found c.in_ok-check_anchor.ensures.there in
-    let left = past_version c.args.self.now (Move c.args.id c.args.anchor) (turn NoTable) passes refl c.in_ok-check_version.ensures.left in
-    rw p.1 (record { planned = tt; refused = no_memory c.args.self.now (Move c.args.id c.args.anchor) _ (turn NoMemory) refl (to_turn c.args.self.now (Move c.args.id c.args.anchor) bad_table_turn (turn NoMemory) refl left) p.2 })
+    let left = past_version c.args.self.now (Move c.args.id c.args.anchor) (rank NoTable) passes refl c.in_ok-check_version.ensures.left in
+    rw p.1 (record { planned = tt; refused = no_memory c.args.self.now (Move c.args.id c.args.anchor) _ (rank NoMemory) refl (to_rank c.args.self.now (Move c.args.id c.args.anchor) bad_table_rank (rank NoMemory) refl left) p.2 })
 
 pub returns-clause-planned : goal.returns-clause-planned
 returns-clause-planned c =
     let found = c.in_ok-kept_paragraph.ensures.found in
     let passes = named c.args.self.now c.args.id c.args.anchor _ found c.in_ok-check_anchor.ensures.there in
-    let left = past_version c.args.self.now (Move c.args.id c.args.anchor) (turn NoTable) passes refl c.in_ok-check_version.ensures.left in
+    let left = past_version c.args.self.now (Move c.args.id c.args.anchor) (rank NoTable) passes refl c.in_ok-check_version.ensures.left in
     let order : c.in_ok-order_with_move.field-0 ≡ ids_of (with_move c.args.id c.args.anchor c.args.self.now) =
     c.in_ok-order_with_move.ensures
     ∙ (ap (with_id_moved c.args.anchor c.args.id) (sym (ids_of-book _ _ _ _ c.args.self.now c.self.view_is))
     ∙ sym (ids_of-with_move c.args.self.now c.args.id c.args.anchor _ found.found refl)) in
-    let accepted = accepted_after c.args.self.now (Move c.args.id c.args.anchor) bad_table_turn left refl in
+    let accepted = accepted_after c.args.self.now (Move c.args.id c.args.anchor) bad_table_rank left refl in
     let moved = IsPermutation-moved c.args.self.now None c.args.id c.args.anchor (sound _ _ _ _ c.args.self.now c.self.view_is c.self.invariant) accepted in
     (accepted, (_, refl, ((refl, moved, refl), order)), (tt, tt, tt))

@@ -9,23 +9,23 @@ use Rattle.desk_book.specs.Changes.{AreRenewed}
 use Rattle.desk_model.specs.Judging.{Passes}
 use Rattle.desk_model.specs.Limits.{most_version}
 use Rattle.desk_model.specs.Name.{IsTableName}
-use Rattle.desk_model.specs.Turns.{bad_table_turn, turn, untranslatable_turn}
+use Rattle.desk_model.specs.Ranks.{bad_table_rank, rank, untranslatable_rank}
 use Rattle.desk_model.specs.declared.refusal.Refusal.TheVariants.{Full}
 use Rattle.desk_model.specs.declared.refusal.Limit.TheVariants.{Paragraphs}
 use Rattle.desk_book.proofs.Plans.Planning.{full_version, no_memory}
-use Rattle.desk_model.proofs.Commands.Turns.{past_version}
+use Rattle.desk_model.proofs.Commands.Ranks.{past_version}
 use Rattle.desk_book.proofs.Plans.TablePlanning.{past_reading, past_tables, past_users, unread, untranslatable}
 use Rattle.desk_book.proofs.book.Book.plan_replacement.Goals as goal
 
 module _ (book : Book) (name text : List ℕ) (named : IsTableName name) (old : IsSome (text_of book name)) where
-  there : Passes book None (Table name text) (turn (Full Paragraphs))
+  there : Passes book None (Table name text) (rank (Full Paragraphs))
   there = past_tables book name text named (inl old)
 
   module _ (version : book.version < most_version) where
-    left : Passes book None (Table name text) bad_table_turn
-    left = past_version book (Table name text) (turn (Full Paragraphs)) there refl version
+    left : Passes book None (Table name text) bad_table_rank
+    left = past_version book (Table name text) (rank (Full Paragraphs)) there refl version
 
-    judged : (meaning : Meaning) → Means text meaning → Passes book None (Table name text) untranslatable_turn
+    judged : (meaning : Meaning) → Means text meaning → Passes book None (Table name text) untranslatable_rank
     judged meaning means = past_reading book name text meaning means left
 
 pub returns-in_err-check_version : goal.returns-in_err-check_version
@@ -33,7 +33,7 @@ returns-in_err-check_version c =
     let p = err_from_is_err_and c.from_residual.result c.from_residual.ensures.1 in
     let told = c.in_err-check_version.ensures.full in
     let passes = there c.args.self.now c.args.name.now c.args.text.now c.requires.name c.requires.old in
-    rw (p.1, p.2) (record { planned = tt; refused = full_version c.args.self.now (Table c.args.name.now c.args.text.now) (turn (Full Paragraphs)) _ passes refl told.1 told.0 })
+    rw (p.1, p.2) (record { planned = tt; refused = full_version c.args.self.now (Table c.args.name.now c.args.text.now) (rank (Full Paragraphs)) _ passes refl told.1 told.0 })
 
 pub returns-in_err-table : goal.returns-in_err-table
 returns-in_err-table c =
@@ -53,13 +53,13 @@ pub returns-in_err-cells : goal.returns-in_err-cells
 returns-in_err-cells c =
     let p = err_from_is_err_and c.from_residual-in_err-cells.result c.from_residual-in_err-cells.ensures.1 in
     let passes = left c.args.self.now c.args.name.now c.args.text.now c.requires.name c.requires.old c.in_ok-check_version.ensures.left in
-    rw p.1 (record { planned = tt; refused = no_memory c.args.self.now (Table c.args.name.now c.args.text.now) _ bad_table_turn refl passes p.2 })
+    rw p.1 (record { planned = tt; refused = no_memory c.args.self.now (Table c.args.name.now c.args.text.now) _ bad_table_rank refl passes p.2 })
 
 pub returns-in_err-copy : goal.returns-in_err-copy
 returns-in_err-copy c =
     let p = err_from_is_err_and c.from_residual-in_err-copy.result c.from_residual-in_err-copy.ensures.1 in
     let passes = left c.args.self.now c.args.name.now c.args.text.now c.requires.name c.requires.old c.in_ok-check_version.ensures.left in
-    rw p.1 (record { planned = tt; refused = no_memory c.args.self.now (Table c.args.name.now c.args.text.now) _ bad_table_turn refl passes p.2 })
+    rw p.1 (record { planned = tt; refused = no_memory c.args.self.now (Table c.args.name.now c.args.text.now) _ bad_table_rank refl passes p.2 })
 
 pub returns-clause-planned : goal.returns-clause-planned
 returns-clause-planned c =

@@ -1,9 +1,9 @@
 use Rattle.std.proofs.Common.{false, refl}
 use Rattle.desk_model.specs.declared.command.Command.TheVariants.{Restore}
 use Rattle.desk_model.specs.Book.{Paragraph}
-use Rattle.desk_model.specs.Turns.{turn}
+use Rattle.desk_model.specs.Ranks.{rank}
 use Rattle.desk_model.specs.declared.refusal.Refusal.TheVariants.{NoTable, NotStruck, Resolved}
-use Rattle.desk_model.proofs.Commands.Turns.{to_turn}
+use Rattle.desk_model.proofs.Commands.Ranks.{to_rank}
 use Rattle.desk_book.proofs.Plans.FlagPlanning.{flags_planned}
 use Rattle.desk_book.proofs.Plans.Planning.{past_named, past_live}
 use Rattle.desk_book.proofs.book.Book.plan_restore.Goals as goal
@@ -11,6 +11,6 @@ use Rattle.desk_book.proofs.book.Book.plan_restore.Goals as goal
 pub returns-clause-planned : goal.returns-clause-planned
 returns-clause-planned c =
     let kept = c.in_ok-paragraph.ensures.found in
-    let named = to_turn c.args.self.now (Restore c.args.id) (turn NoTable) (turn NotStruck) refl (past_named c.args.self.now (Restore c.args.id) c.args.id _ kept refl refl) in
+    let named = to_rank c.args.self.now (Restore c.args.id) (rank NoTable) (rank NotStruck) refl (past_named c.args.self.now (Restore c.args.id) c.args.id _ kept refl refl) in
     flags_planned c.args.self.now (Restore c.args.id) c.args.id _ kept (λ (p : Paragraph). record p { struck = false }) refl (tt, tt, tt) refl
-    (turn Resolved) (past_live c.args.self.now (Restore c.args.id) c.args.id _ kept named refl c.if-not-paragraph.false) refl refl c.in_ok-check_version.ensures.left _ _ _ _ c.with_struck.ensures refl
+    (rank Resolved) (past_live c.args.self.now (Restore c.args.id) c.args.id _ kept named refl c.if-not-paragraph.false) refl refl c.in_ok-check_version.ensures.left _ _ _ _ c.with_struck.ensures refl

@@ -14,14 +14,14 @@ use Rattle.desk_model.specs.Limits.{most_version}
 use Rattle.desk_book.specs.Plans.{IsKeptFor, IsTableFor}
 use Rattle.desk_model.specs.Print.{print_of}
 use Rattle.desk_model.specs.Refusals.{print_to_translate}
-use Rattle.desk_model.specs.Turns.{bad_table_turn, turn, undefined_turn, untranslatable_turn}
+use Rattle.desk_model.specs.Ranks.{bad_table_rank, rank, undefined_rank, untranslatable_rank}
 use Rattle.desk_model.proofs.Lists.Options.{IsSomeAnd-of}
-use Rattle.desk_model.proofs.Commands.Turns.{accepted_after, past_table, past_version, to_turn}
+use Rattle.desk_model.proofs.Commands.Ranks.{accepted_after, past_table, past_version, to_rank}
 use Rattle.desk_book.proofs.Plans.Planning.{full_version, no_memory, no_table, past_named, past_print, past_struck, turned_down, undefined, unnamed}
 use Rattle.desk_book.proofs.book.Book.plan_retable.Goals as goal
 
 module _ (book : Book) (id : ℕ) (name : List ℕ) (kept : KeptParagraph) (found : IsKeptFor book id kept) where
-  named : Passes book None (Retable id name) (turn NoTable)
+  named : Passes book None (Retable id name) (rank NoTable)
   named = past_named book (Retable id name) id kept found refl refl
 
   print : List ℕ
@@ -36,18 +36,18 @@ module _ (book : Book) (id : ℕ) (name : List ℕ) (kept : KeptParagraph) (foun
   print_is shown same = same ∙ found.print
 
   module _ (table : BookTable) (there : IsTableFor book name table) where
-    tabled : Passes book None (Retable id name) (turn Struck)
-    tabled = to_turn book (Retable id name) (turn NoMark) (turn Struck) refl (past_table book (Retable id name) name table.text named refl there.found)
+    tabled : Passes book None (Retable id name) (rank Struck)
+    tabled = to_rank book (Retable id name) (rank NoMark) (rank Struck) refl (past_table book (Retable id name) name table.text named refl there.found)
 
-    live : kept.struck ≡ false → Passes book None (Retable id name) (turn NotStruck)
+    live : kept.struck ≡ false → Passes book None (Retable id name) (rank NotStruck)
     live = past_struck book (Retable id name) id kept found tabled refl
 
-    left : kept.struck ≡ false → book.version < most_version → Passes book None (Retable id name) undefined_turn
-    left unstruck room = to_turn book (Retable id name) bad_table_turn undefined_turn refl (past_version book (Retable id name) (turn NotStruck) (live unstruck) refl room)
+    left : kept.struck ≡ false → book.version < most_version → Passes book None (Retable id name) undefined_rank
+    left unstruck room = to_rank book (Retable id name) bad_table_rank undefined_rank refl (past_version book (Retable id name) (rank NotStruck) (live unstruck) refl room)
 
-    judged : kept.struck ≡ false → book.version < most_version → (shown : List ℕ) → shown ≡ kept.print → AreDefined table.rules shown → Passes book None (Retable id name) (turn NoMemory)
+    judged : kept.struck ≡ false → book.version < most_version → (shown : List ℕ) → shown ≡ kept.print → AreDefined table.rules shown → Passes book None (Retable id name) (rank NoMemory)
     judged unstruck room shown same defined =
-        to_turn book (Retable id name) untranslatable_turn (turn NoMemory) refl
+        to_rank book (Retable id name) untranslatable_rank (rank NoMemory) refl
         (past_print book (Retable id name) name print table given there (left unstruck room) (subst (AreDefined table.rules) (print_is shown same) defined))
 
 pub returns-in_err-paragraph : goal.returns-in_err-paragraph
@@ -68,7 +68,7 @@ returns-then-paragraph c =
     let passes = tabled c.args.self.now c.args.id c.args.table.now _ kept _ c.in_ok-kept.ensures.found in
     record {
       planned = tt;
-      refused = turned_down c.args.self.now (Retable c.args.id c.args.table.now) (turn Struck) Struck Struck passes refl
+      refused = turned_down c.args.self.now (Retable c.args.id c.args.table.now) (rank Struck) Struck Struck passes refl
           (IsSomeAnd-of (λ (p : Paragraph). p.struck ≡ true) kept.found c.if-paragraph.true) refl;
     }
 
@@ -77,7 +77,7 @@ returns-in_err-check_version c =
     let p = err_from_is_err_and c.from_residual-in_err-check_version.result c.from_residual-in_err-check_version.ensures.1 in
     let passes = live c.args.self.now c.args.id c.args.table.now _ c.in_ok-paragraph.ensures.found _ c.in_ok-kept.ensures.found c.if-paragraph.false in
     let told = c.in_err-check_version.ensures.full in
-    rw (p.1, p.2) (record { planned = tt; refused = full_version c.args.self.now (Retable c.args.id c.args.table.now) (turn NotStruck) _ passes refl told.1 told.0 })
+    rw (p.1, p.2) (record { planned = tt; refused = full_version c.args.self.now (Retable c.args.id c.args.table.now) (rank NotStruck) _ passes refl told.1 told.0 })
 
 pub returns-in_err-check_print : goal.returns-in_err-check_print
 returns-in_err-check_print c =
@@ -97,13 +97,13 @@ pub returns-in_err-copy : goal.returns-in_err-copy
 returns-in_err-copy c =
     let p = err_from_is_err_and c.from_residual-in_err-copy.result c.from_residual-in_err-copy.ensures.1 in
     let passes = judged c.args.self.now c.args.id c.args.table.now _ c.in_ok-paragraph.ensures.found _ c.in_ok-kept.ensures.found c.if-paragraph.false c.in_ok-check_version.ensures.left _ c.as_slice-print.ensures c.in_ok-check_print.ensures.defined in
-    rw p.1 (record { planned = tt; refused = no_memory c.args.self.now (Retable c.args.id c.args.table.now) _ (turn NoMemory) refl passes p.2 })
+    rw p.1 (record { planned = tt; refused = no_memory c.args.self.now (Retable c.args.id c.args.table.now) _ (rank NoMemory) refl passes p.2 })
 
 pub returns-in_err-cells_of : goal.returns-in_err-cells_of
 returns-in_err-cells_of c =
     let p = err_from_is_err_and c.from_residual-in_err-cells_of.result c.from_residual-in_err-cells_of.ensures.1 in
     let passes = judged c.args.self.now c.args.id c.args.table.now _ c.in_ok-paragraph.ensures.found _ c.in_ok-kept.ensures.found c.if-paragraph.false c.in_ok-check_version.ensures.left _ c.as_slice-print.ensures c.in_ok-check_print.ensures.defined in
-    rw p.1 (record { planned = tt; refused = no_memory c.args.self.now (Retable c.args.id c.args.table.now) _ (turn NoMemory) refl passes p.2 })
+    rw p.1 (record { planned = tt; refused = no_memory c.args.self.now (Retable c.args.id c.args.table.now) _ (rank NoMemory) refl passes p.2 })
 
 pub returns-clause-planned : goal.returns-clause-planned
 returns-clause-planned c =
@@ -117,7 +117,7 @@ returns-clause-planned c =
     let judged = past_print book (Retable c.args.id c.args.table.now) c.args.table.now _ _ (given book c.args.id c.args.table.now _ kept) table passes defined in
     let copied = c.in_ok-copy.ensures.text ∙ c.as_str.ensures in
     let cells = subst (λ (t : List ℕ). AreCellsOf rules t c.in_ok-cells_of.field-0) shown c.in_ok-cells_of.ensures in (
-      accepted_after book (Retable c.args.id c.args.table.now) untranslatable_turn judged refl,
+      accepted_after book (Retable c.args.id c.args.table.now) untranslatable_rank judged refl,
       (_, refl, rw copied ((refl, refl), record { paragraph = _; there = kept.found; source = _; meaning = rules; found = table.found; means = table.means; cells_are = cells })),
       (tt, tt, tt),
     )

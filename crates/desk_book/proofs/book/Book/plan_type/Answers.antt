@@ -15,13 +15,13 @@ use Rattle.desk_model.specs.Named.{paragraph_before}
 use Rattle.desk_memory.specs.Room.{Suffices}
 use Rattle.desk_model.specs.Step.{new_paragraph, next_id, with_paragraph}
 use Rattle.desk_model.specs.NormalForm.{normal_form}
-use Rattle.desk_model.specs.Turns.{bad_table_turn, bad_text_turn, turn, undefined_turn, untranslatable_turn}
+use Rattle.desk_model.specs.Ranks.{bad_table_rank, bad_text_rank, rank, undefined_rank, untranslatable_rank}
 use Rattle.desk_model.specs.declared.refusal.Limit.TheVariants.{Entries, Paragraphs, Tables}
 use Rattle.desk_book.proofs.Kept.KeptLookups.{Contains-there, count-paragraphs, few-kept, ids_of-book}
 use Rattle.desk_book.proofs.Plans.NewParagraphs.{IsKeptTyped-new}
 use Rattle.desk_memory.proofs.Callers.{ids_of-with_paragraph}
 use Rattle.desk_model.proofs.Books.ParagraphLists.{ids_of}
-use Rattle.desk_model.proofs.Commands.Turns.{accepted_after, passes_to, past_length, past_room, past_table, past_text, past_version, to_turn}
+use Rattle.desk_model.proofs.Commands.Ranks.{accepted_after, passes_to, past_length, past_room, past_table, past_text, past_version, to_rank}
 use Rattle.desk_book.proofs.Plans.Planning.{no_memory, past_paragraphs, past_print}
 use Rattle.desk_book.proofs.book.Book.plan_type.Goals as goal
 use Rattle.desk_book.proofs.book.Book.plan_type.Goals.{In_ok-kept}
@@ -31,20 +31,20 @@ module _ (c : In_ok-kept) where
   abbrev command : Command
   command = TypeIn c.args.anchor c.args.table.now c.args.text.now
 
-  tabled : Passes c.args.self.now None command (turn TooLong)
+  tabled : Passes c.args.self.now None command (rank TooLong)
   tabled =
-      let cleaned = past_text c.args.self.now command c.args.text.now (passes_to c.args.self.now command bad_text_turn refl) refl c.in_ok-check_text.ensures.unbarred in
+      let cleaned = past_text c.args.self.now command c.args.text.now (passes_to c.args.self.now command bad_text_rank refl) refl c.in_ok-check_text.ensures.unbarred in
       let anchored = past_paragraphs c.args.self.now command cleaned c.in_ok-check_anchor.ensures.there in
-      to_turn c.args.self.now command (turn NoMark) (turn TooLong) refl (past_table c.args.self.now command c.args.table.now _ anchored refl c.in_ok-kept.ensures.found.found)
+      to_rank c.args.self.now command (rank NoMark) (rank TooLong) refl (past_table c.args.self.now command c.args.table.now _ anchored refl c.in_ok-kept.ensures.found.found)
 
   -- where an allocation fails then
   lacking : (r : Result Effect Refusal) → IsErrAnd r (λ told. told ≡ NoMemory) → IfErr r (IsTurnedDown c.args.self.now command)
-  lacking r failed = let p = err_from_is_err_and r failed in rw p.1 (no_memory c.args.self.now command p.0 (turn TooLong) refl tabled p.2)
+  lacking r failed = let p = err_from_is_err_and r failed in rw p.1 (no_memory c.args.self.now command p.0 (rank TooLong) refl tabled p.2)
 
-  left : length (normal_form c.args.text.now) ≤ most_print → length c.args.self.now.paragraphs < most_paragraphs → c.args.self.now.version < most_version → Passes c.args.self.now None command undefined_turn
+  left : length (normal_form c.args.text.now) ≤ most_print → length c.args.self.now.paragraphs < most_paragraphs → c.args.self.now.version < most_version → Passes c.args.self.now None command undefined_rank
   left short room version =
-      let shortened = to_turn c.args.self.now command (turn (Full Tables)) (turn (Full Paragraphs)) refl (past_length c.args.self.now command (normal_form c.args.text.now) tabled refl refl refl short) in
-      to_turn c.args.self.now command bad_table_turn undefined_turn refl (past_version c.args.self.now command (turn (Full Entries)) (past_room c.args.self.now command shortened room) refl version)
+      let shortened = to_rank c.args.self.now command (rank (Full Tables)) (rank (Full Paragraphs)) refl (past_length c.args.self.now command (normal_form c.args.text.now) tabled refl refl refl short) in
+      to_rank c.args.self.now command bad_table_rank undefined_rank refl (past_version c.args.self.now command (rank (Full Entries)) (past_room c.args.self.now command shortened room) refl version)
 
 pub returns-in_err-print-clause-refused : goal.returns-in_err-print-clause-refused
 returns-in_err-print-clause-refused c = lacking (goal.at.returns-in_err-print-clause-refused c).In_ok-kept _ c.from_residual-in_err-print.ensures.1
@@ -84,7 +84,7 @@ returns-clause-planned c =
     ∙ (c.place_for.ensures.place (next_id book)
     ∙ (ap (with_id c.args.anchor (next_id book)) (sym (ids_of-book _ _ _ _ book c.self.view_is))
     ∙ sym (ids_of-with_paragraph c.args.anchor (new_paragraph (next_id book) c.args.table.now c.args.text.now) book.paragraphs))) in (
-      accepted_after book (TypeIn c.args.anchor c.args.table.now c.args.text.now) untranslatable_turn judged refl,
+      accepted_after book (TypeIn c.args.anchor c.args.table.now c.args.text.now) untranslatable_rank judged refl,
       (
         _,
         refl,

@@ -3,7 +3,7 @@ use Rattle.std.specs.Option.{option_copied_mut}
 use Rattle.desk_memory.specs.declared.paragraphs.Paragraph.{Paragraph as KeptParagraph}
 use Rattle.desk_memory.specs.KeptPrints.{with_print_changed}
 use Rattle.desk_memory.specs.Room.{Suffices}
-use Rattle.desk_model.proofs.Commands.Turns.{same_some}
+use Rattle.desk_model.proofs.Commands.Ranks.{same_some}
 use Rattle.desk_memory.proofs.paragraphs.Paragraphs.change_print.Goals as goal
 
 pub push-requires-clause-few : goal.push-requires-clause-few
