@@ -5,7 +5,7 @@ use Rattle.std.specs.List.{find}
 use Rattle.std.specs.Cmp.Lexicographic.{pointwise}
 use Rattle.desk_model.specs.declared.style.Style.{Style}
 
--- so many characters of a print, from a place on, become a text
+-- a text that replaces so many characters of a print from a place on
 pub record Replacement : Type 0 where
   pub start : ℕ
   pub count : ℕ
@@ -38,7 +38,7 @@ pub record Mark : Type 0 where
   pub touched : Bool
   pub resolved : Bool
 
--- a mark that was just put on places of a print
+-- a mark that was just made on places of a print
 abbrev pub new_mark : (id paragraph start end : ℕ) → List ℕ → Mark
 new_mark id paragraph start end note = record {
   id = id;
@@ -71,7 +71,7 @@ paragraph_of book id = find (λ paragraph. nat_eq paragraph.id id) book.paragrap
 abbrev pub mark_of : Book → ℕ → Option Mark
 mark_of book id = find (λ mark. nat_eq mark.id id) book.marks
 
--- a book without anything
+-- a book with nothing in it
 abbrev pub empty_book : Book
 empty_book = record { version = 0; tables = []; paragraphs = []; marks = [] }
 

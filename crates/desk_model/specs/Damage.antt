@@ -1,7 +1,7 @@
 -- What is wrong with rows that show no book, and which of it is reported: the first damaged table,
--- and in it the smallest id. All of this is meant of rows whose texts are UTF-8 and whose tables
--- are those of their format; of others another fault is reported before. A table's damage is meant
--- if those that are checked before it are sound.
+-- and in it the smallest id. All of this is said of rows whose texts are UTF-8 and whose tables are
+-- those of their format; for any others another fault is reported first. What is said of a table
+-- counts only if the tables that are checked before it are sound.
 use Rattle.std.specs.Prelude.{◌≡◌, ◌≢◌, ◌⊎◌, ℕ, ◌+◌, ◌<◌, ◌≤◌, ℤ, pos, ◌+ℤ◌, ◌≤ℤ◌, nat_abs, if◌then◌else◌}
 use Rattle.std.specs.Prelude.{List, [], ◌∷◌, map, filter, length, take, slice_get, option_map, Some}
 use Rattle.std.specs.List.{Contains}
@@ -169,8 +169,8 @@ pub record HasSoundEntries (entries : List EntryRow) (para : ParaRow) : Type 0 w
       → IsSoundEntryRow (chars para.original) sorted index row
   pub print : corrected_print (chars para.original) (history_of sorted) ≡ chars para.print
 
--- the paragraph with this id hasn't sound entries, or there are entries of this id and no such
--- paragraph
+-- the paragraph with this id doesn't have sound entries, or there are entries of this id and no
+-- such paragraph
 abbrev pub IsDamagedEntries : List ParaRow → List EntryRow → ℤ → Type 0
 IsDamagedEntries paras entries id =
     ((para : ParaRow) × Contains paras para × (para.id ≡ id) × ¬ HasSoundEntries entries para)
@@ -228,8 +228,7 @@ IsDamagedCache tabs paras caches id =
 -- that of the paragraph in `para`, `corr`, `corr2` and `cache`; and that of the mark in `mark`. If
 -- a number is missing, the next one that is there is damaged; a key that two rows have is damaged,
 -- of equal names in `tab` the second in the order of their texts; of two rows with one place the
--- one with the greater id. This is meant for rows whose texts are UTF-8 and whose tables are those
--- of the format (`HasItsTables`), and of each table if those that are checked before it are sound.
+-- one with the greater id.
 abbrev pub IsDamaged : FileRows → FileTable → ℤ → Type 0
 IsDamaged rows Book id = IsDamagedBook rows.books id
 IsDamaged rows Tab id = IsDamagedTab rows.tabs id

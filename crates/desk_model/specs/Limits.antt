@@ -1,7 +1,7 @@
--- How much a book may hold.
+-- How much a book may have.
 use Rattle.std.specs.Prelude.{ℕ}
 
--- 2 to the 53rd
+-- the greatest version, 2 to the 53rd
 abbrev pub most_version : ℕ
 most_version = 9007199254740992
 
@@ -13,7 +13,7 @@ most_tables = 16
 abbrev pub most_name : ℕ
 most_name = 32
 
--- struck ones counted
+-- paragraphs of a book, struck ones counted
 abbrev pub most_paragraphs : ℕ
 most_paragraphs = 20000
 

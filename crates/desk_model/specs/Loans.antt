@@ -21,11 +21,11 @@ row_number n = pos (min n 9223372036854775807)
 abbrev pub next_entry_number : Book → ℕ → ℕ
 next_entry_number book id = unwrap_or (option_map (λ paragraph. length paragraph.history + 1) (paragraph_of book id)) 1
 
--- the paragraph with this id comes
+-- the paragraph with this id is new
 abbrev pub Comes : Book → Command → ℕ → Type 0
 Comes book command id = (id ≡ next_id book) × ((named_by command).adds_paragraph ≡ true)
 
--- the mark comes: the next book has it after those of this one
+-- the mark is new: the next book has it after those of this one
 abbrev pub GetsMark : (book next : Book) → Mark → Type 0
 GetsMark book next mark = next.marks ≡ book.marks ++ mark ∷ []
 
@@ -51,14 +51,14 @@ UsesReplaced book command id =
     (name : List ℕ) × (text : List ℕ) × (paragraph : Paragraph) × ((named_by command).table_given ≡ Some (name, text))
     × (paragraph_of book id ≡ Some paragraph) × (paragraph.table ≡ name)
 
--- the paragraph with this id gets other braille: it comes, its print changes, it gets another
+-- the paragraph with this id gets other braille: it is new, its print changes, it gets another
 -- table, or its table another text
 abbrev pub GetsCells : Book → Command → ℕ → Type 0
 GetsCells book command id =
     Comes book command id ⊎ (GetsEntry command id
     ⊎ (((table : List ℕ) × GetsTable command id table) ⊎ UsesReplaced book command id))
 
--- paragraphs stand at other places: one comes, or is moved
+-- paragraphs stand at other places: one is added or moved
 abbrev pub Reorders : Command → Type 0
 Reorders command = IsSome (named_by command).place_given
 
@@ -70,7 +70,7 @@ StandsAt book id index = slice_get (map (λ paragraph. paragraph.id) book.paragr
 abbrev pub ComesTo : (book next : Book) → (id index : ℕ) → Type 0
 ComesTo book next id index = StandsAt next id index × ¬ StandsAt book id index
 
--- The command, which makes the next book of this one, changes what this is put for. No whole row of
+-- This is put for what the command changes, which makes the next book of this one. No whole row of
 -- `book` or `corr` is lent, and columns are set in rows of `book`, `para` and `mark` alone.
 abbrev pub IsLent : (book next : Book) → Command → RowPut → Type 0
 IsLent book next command (PutRow tables.Book row) = ⊥

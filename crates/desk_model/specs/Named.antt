@@ -16,7 +16,7 @@ use Rattle.desk_model.specs.declared.refusal.Refusal.TheVariants.{NoMemory, TooL
 
 -- ---- what it may name
 
--- characters of a paragraph's print, up to a place, or cells of its braille, from a place, so many
+-- characters of a paragraph's print up to a place, or so many cells of its braille from a place on
 pub data Span : Type 0 where
   Characters : (id end : ℕ) → Span
   Cells : (id cell count : ℕ) → Span
@@ -37,11 +37,11 @@ pub record Named : Type 0 where
   pub text_given : Option (List ℕ)
   -- the name of a proofreader that is given
   pub proofreader_given : Option (List ℕ)
-  -- a text that is typed or put in place of another, as it is stored
+  -- a text that is typed or replaces another, as it is stored
   pub text_stored : Option (List ℕ)
   -- the note of a new mark
   pub note_given : Option (List ℕ)
-  -- where a paragraph is put
+  -- where a paragraph is to stand
   pub place_given : Option Anchor
   -- the mark that it speaks of
   pub mark_named : Option ℕ
@@ -96,7 +96,7 @@ nothing_named = record {
 
 -- ---- each command
 
--- the paragraph that something is put after
+-- the paragraph after which another is to stand
 abbrev pub paragraph_before : Anchor → List ℕ
 paragraph_before Front = []
 paragraph_before End = []
@@ -106,8 +106,9 @@ paragraph_before (Para id) = id ∷ []
 abbrev pub next_entry : ℕ → Book → Option ℕ
 next_entry id book = option_map (λ paragraph. length paragraph.history + 1) (paragraph_of book id)
 
--- The text of a table is checked while it is read, a typed text after it is made, of an undo the
--- print alone, and nothing after a new mark, the braille by another table and a new order.
+-- A command allocates before it checks a table's text, the length of a text in its normal form, or
+-- the print of an undo; a new mark, the braille by another table and a new order it allocates when
+-- nothing is left to check.
 abbrev pub named_by : Command → Named
 named_by (Table name text) =
     record nothing_named { table_given = Some (name, text); rank_after_asking = Some bad_table_rank }
@@ -180,7 +181,7 @@ named_by (Move id anchor) = record nothing_named {
 abbrev pub number_of : Book → Command → Option ℕ
 number_of book command = (named_by command).number_answered book
 
--- each text that the command puts into the book is of characters
+-- each text that the command adds to the book is of characters
 abbrev pub HasCharacters : Command → Type 0
 HasCharacters command =
     IfSome (named_by command).text_stored AreCharacters × IfSome (named_by command).proofreader_given AreCharacters

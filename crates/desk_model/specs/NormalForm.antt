@@ -1,14 +1,14 @@
--- Texts as a book keeps them.
+-- Texts as they are stored in a book.
 use Rattle.std.specs.Prelude.{◌≡◌, ℕ, ◌<◌, Bool, true, false, ◌||◌, not, ◌==◌, List, length, slice_index}
 use Rattle.std.specs.List.{filter, All}
 use Rattle.unicode_normalization.specs.Forms.{nfc}
 use Rattle.desk_model.specs.Characters.{AreCharacters}
 
--- a line feed, a carriage return or U+0000, which no text of a book may hold
+-- a line feed, a carriage return or U+0000, which no text of a book may have
 abbrev pub is_barred : ℕ → Bool
 is_barred character = character == 10 || character == 13 || character == 0
 
--- the text holds no barred character
+-- the text has no barred character
 abbrev pub IsUnbarred : List ℕ → Type 0
 IsUnbarred text = All (λ character. is_barred character ≡ false) text
 

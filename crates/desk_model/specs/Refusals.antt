@@ -24,7 +24,7 @@ use Rattle.desk_model.specs.NormalForm.{IsFirstBarred}
 use Rattle.desk_model.specs.Translation.{LacksCells}
 use Rattle.desk_model.specs.Ranks.{rank}
 
--- ---- what makes refusals hold, where that takes more than a line
+-- ---- what makes refusals hold, if that takes more than a line
 
 -- the book has another version than the one expected, and this is the book's
 pub record IsMoved (book : Book) (expect : Option ℕ) (version : ℕ) : Type 0 where
@@ -107,8 +107,8 @@ pub record IsFirstUser (meaning : Meaning) (name : List ℕ) (paragraphs : List 
   pub first : IsFirstUndefined meaning (print_of paragraph) place
   pub others : All (DefinesUser meaning name) before
 
--- by its new text the table doesn't define the print of a paragraph that uses it, which none does
--- with a table that isn't there yet: the first such paragraph, and the first place
+-- By its new text the table doesn't define the print of a paragraph that uses it; a table that
+-- isn't there yet is used by none. These are the first such paragraph, and the first place of it.
 pub record IsUntranslatable (book : Book) (command : Command) (id place : ℕ) : Type 0 where
   pub name : List ℕ
   pub text : List ℕ
@@ -121,8 +121,8 @@ pub record IsUntranslatable (book : Book) (command : Command) (id place : ℕ) :
 
 -- When each refusal holds of a command.
 -- Moved: the book has another version than the one expected, and this is the book's.
--- BadName: the name that it gives a table isn't a table's name.
--- BadReader: the name of a proofreader that it gives isn't one.
+-- BadName: the name that it gives a table isn't one that a table may have.
+-- BadReader: the name that it gives a proofreader isn't one that a proofreader may have.
 -- BadText: the text, as it was given, has a barred character, first at this place.
 -- NoParagraph: a paragraph that it speaks of isn't there.
 -- NoTable: the table that a paragraph is to use isn't there.

@@ -18,7 +18,7 @@ use Rattle.desk_model.specs.Name.{IsProofreaderName, IsTableName}
 -- ---- histories
 
 -- after the entries before it, a correction replaces characters that are there by a clean text, for
--- a proofreader whose name is one, and an undo names the newest correction then in force
+-- a proofreader with a name that is allowed, and an undo names the newest correction then in force
 abbrev pub IsSoundEntry : List ℕ → List Entry → Entry → Type 0
 IsSoundEntry original before (Corrects r who) =
     (r.start + r.count ≤ length (corrected_print original before)) × IsClean r.text × IsProofreaderName who

@@ -19,7 +19,7 @@ use Rattle.desk_model.specs.Print.{newest, with_entry}
 use Rattle.desk_model.specs.NormalForm.{normal_form}
 use Rattle.desk_model.specs.Translation.{AreMarked}
 
--- the paragraphs with this one more, put where the command says
+-- the paragraphs with a new one, where the command says
 abbrev pub with_paragraph : Anchor → Paragraph → List Paragraph → List Paragraph
 with_paragraph Front new paragraphs = new ∷ paragraphs
 with_paragraph End new paragraphs = paragraphs ++ new ∷ []
@@ -43,13 +43,13 @@ new_paragraph id table text = record {
   struck = false;
 }
 
--- whether something is put after the paragraph with this id
+-- whether this is the place after the paragraph with this id
 abbrev pub is_after : ℕ → Anchor → Bool
 is_after id Front = false
 is_after id End = false
 is_after id (Para other) = other == id
 
--- the paragraphs with the one with this id taken out and put elsewhere; after itself it stays
+-- the paragraphs with the one with this id moved; a move after itself leaves it where it is
 abbrev pub with_move : ℕ → Anchor → Book → List Paragraph
 with_move id anchor book =
     let others = filter (λ paragraph. not (paragraph.id == id)) book.paragraphs in
@@ -75,7 +75,7 @@ next_with_table book name text =
 
 -- ---- corrections and marks
 
--- so many characters from a place on become the text as it is stored
+-- the text, as it is stored, in place of so many characters from a place on
 abbrev pub replacement_by : (start count : ℕ) → List ℕ → Replacement
 replacement_by start count text = record { start = start; count = count; text = normal_form text }
 

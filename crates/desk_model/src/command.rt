@@ -2,7 +2,7 @@
 use super::lent::{LentBytes, LentText};
 use super::style::Style;
 
-/// Where a paragraph is put.
+/// Where a paragraph is to stand.
 #[derive(Clone, Copy, Debug, PartialEq, Eq)]
 pub enum Anchor {
     /// Before all others.
@@ -13,7 +13,7 @@ pub enum Anchor {
     Para(u64),
 }
 
-/// A command over a book. Paragraphs are named by their ids.
+/// A command on a book. Paragraphs are named by their ids.
 #[derive(Debug, Drop)]
 pub enum Command<'a> {
     /// Adds a table, or replaces the text of the table that has the name.
@@ -25,15 +25,14 @@ pub enum Command<'a> {
     },
     /// Types a new paragraph.
     TypeIn {
-        /// Where it is put.
+        /// Where it is to stand.
         after: Anchor,
         /// The name of its table.
         table: LentText<'a>,
         /// What is typed; the print is its Unicode normal form C.
         text: LentText<'a>,
     },
-    /// Puts a text in place of characters of a paragraph's print, which are none, some or all of
-    /// it.
+    /// Replaces characters of a paragraph's print, none, some or all of them, by a text.
     Correct {
         /// The paragraph.
         paragraph: u64,
@@ -41,20 +40,20 @@ pub enum Command<'a> {
         start: usize,
         /// How many characters are replaced.
         count: usize,
-        /// What is put in their place; its Unicode normal form C is kept.
+        /// What replaces them; its Unicode normal form C is stored.
         text: LentText<'a>,
-        /// The name of the proofreader who corrects: 0 to 40 characters, none of them a blank, a
-        /// line feed, a carriage return or U+0000.
+        /// The name of the proofreader who corrects: at most 40 characters, without blanks, line
+        /// feeds, carriage returns and U+0000. It may be empty.
         who: LentText<'a>,
     },
-    /// Takes back the newest correction of a paragraph that is in force. It is one more entry of
-    /// the history, moves marks like the replacement that puts back what had been replaced, and is
-    /// refused if the paragraph's present table doesn't define the print.
+    /// Takes back the newest correction of a paragraph that is in force. This is one more entry of
+    /// the history. It moves marks as the replacement does that restores what had been replaced,
+    /// and is refused if the paragraph's present table doesn't define the restored print.
     Undo {
         /// The paragraph.
         paragraph: u64,
     },
-    /// Puts a new mark on the places of a paragraph's print that cells of its braille stand for.
+    /// Makes a new mark on the places of a paragraph's print that cells of its braille stand for.
     Mark {
         /// The paragraph.
         paragraph: u64,
@@ -62,7 +61,7 @@ pub enum Command<'a> {
         cell: usize,
         /// How many cells, at least one.
         count: usize,
-        /// The proofreader's note, which is kept as it is given.
+        /// The proofreader's note, which is stored as it is given.
         note: LentText<'a>,
     },
     /// Says that a mark has been dealt with.
@@ -75,7 +74,7 @@ pub enum Command<'a> {
         /// The paragraph.
         paragraph: u64,
     },
-    /// Puts a struck paragraph back into the volumes.
+    /// Takes a struck paragraph back into the volumes.
     Restore {
         /// The paragraph.
         paragraph: u64,
@@ -101,11 +100,11 @@ pub enum Command<'a> {
         /// The name of the table.
         table: LentText<'a>,
     },
-    /// Takes a paragraph out of its place and puts it elsewhere. After itself it stays where it is.
+    /// Moves a paragraph to another place. A move after itself leaves it where it is.
     Move {
         /// The paragraph.
         paragraph: u64,
-        /// Where it is put.
+        /// Where it is to stand.
         after: Anchor,
     },
 }

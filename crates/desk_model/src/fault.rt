@@ -14,8 +14,8 @@ pub enum PartsFault {
         /// The first damaged table, in the order `book`, `tab`, `para`, `corr` or `corr2`, `mark`,
         /// `cache`.
         table: FileTable,
-        /// The smallest id of the damage in it: in `book` 1, in `tab` the number of the row in
-        /// order of names, in `mark` the mark, and else the paragraph.
+        /// The smallest id at which it is damaged: 1 in `book`, the number of the row by order of
+        /// names in `tab`, that of the mark in `mark`, and that of the paragraph in any other.
         id: i64,
     },
     /// An allocation failed.

@@ -5,11 +5,11 @@
 pub enum Done<'a> {
     /// It corrected the print.
     Corrected {
-        /// The place of the first character that gave way, from 0.
+        /// The place of the first character that was replaced, from 0.
         start: usize,
-        /// How many gave way.
+        /// How many were replaced.
         count: usize,
-        /// The text that came in their place.
+        /// The text that replaced them.
         text: &'a str,
         /// The name of the proofreader, which may be empty.
         who: &'a str,

@@ -77,9 +77,9 @@ pub fn new_rows_show_the_empty_book()
     ensures { Shows new_rows empty_book }
 {}
 
-/// Rows that show a book show it still once they are brought to the second format, or get the
-/// braille of its paragraphs, all at once or by what is put, one after the other, into tables that
-/// are empty.
+/// Rows that show a book still show it once they are brought to the second format or get the
+/// braille of its paragraphs, either all at once or by what is put, one after the other, into empty
+/// tables.
 pub fn filled_rows_show_their_book()
     ensures format { (rows : FileRows) (book : Book) → Shows rows book → Shows (in_second_format rows) book }
     ensures braille { (rows : FileRows) (book : Book) (caches : List ParaCells) → Shows rows book
@@ -94,7 +94,7 @@ pub fn filled_rows_show_their_book()
         → Shows (with_puts (second_format_puts book.version rows caches) (with_new_tables rows)) book }
 {}
 
-/// Rows that show a book show it still once they have new tables, which are empty, and all that
+/// Rows that show a book still show it once they have new tables, which are empty, and all that
 /// fills these with the book's entries and braille is put, one after the other; and each of it has
 /// its table.
 pub fn filled_tables_show_their_book()

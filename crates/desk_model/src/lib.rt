@@ -1,6 +1,7 @@
 //! What a book is, what can be asked of it, what each command makes of it, when a command is
 //! refused, which rows show a book, and what is damaged in rows that show none: definitions, and
-//! the laws that they have. How a book is kept isn't said here.
+//! the laws that they have. How a book is held in memory, and how it is
+//! kept in its file, isn't said here.
 //!
 //! The definitions stand in `specs/`, and `laws` has what holds of them. The types are those of
 //! which the definitions speak: a command, whose texts contracts see as the codes of their
@@ -17,7 +18,7 @@
 //! assert_eq!(rt; Refusal::NoParagraph.code(), 2);
 //! ```
 //!
-//! `desk_book` has the book that keeps to them, and `desk_store` its file.
+//! `desk_book` has the book that obeys them, and `desk_store` its file.
 #![tactic(auto)]
 
 mod command;

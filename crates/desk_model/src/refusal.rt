@@ -77,7 +77,7 @@ pub enum Refusal {
     /// The mark is resolved.
     #[error("the mark is resolved")]
     Resolved,
-    /// The places or cells are not all there, or a mark is put on no cell.
+    /// The places or cells are not all there, or a mark would cover no cell.
     #[error("the places are not all there")]
     BadSpan,
     /// No correction of the paragraph is in force.

@@ -15,7 +15,7 @@ pub struct Span {
 }
 
 impl Span {
-    /// The span after so many characters of the print, from a place on, gave way to others.
+    /// The span after so many characters of the print, from a place on, were replaced by others.
     pub fn after_edit(self, start: usize, removed: usize, added: usize) -> Span
         requires ordered { self.start ≤ self.end }
         requires print { self.end ≤ most_print }
