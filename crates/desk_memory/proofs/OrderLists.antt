@@ -1,7 +1,5 @@
 -- The ids of paragraphs that are put somewhere, against the order that is given for them.
-use Rattle.std.proofs.Common.{◌≡◌, ℕ, List, [], ◌∷◌, map, Some, refl, ap, ◌∙◌, inl, inr}
-use Rattle.std.specs.List.{filter}
-use Rattle.std.specs.Prelude.{nat_eq, not}
+use Rattle.std.proofs.Common.{◌≡◌, ℕ, List, [], ◌∷◌, map, Some, refl, ap, ◌∙◌, inl, inr, filter, nat_eq, not}
 use Rattle.std.proofs.lemmas.Bool.{cases_Bool}
 use Rattle.std.proofs.lemmas.List.{map-append}
 use Rattle.desk_model.specs.declared.command.Anchor.{Anchor}

@@ -1,11 +1,9 @@
 -- A paragraph that is lent, and what a change of it makes of the book's paragraphs.
-use Rattle.std.proofs.Common.{◌≡◌, ℕ, ◌+◌, ◌<◌, List, length, slice_get, Option, Some, None, set, sym, ap, ◌∙◌, arith}
+use Rattle.std.proofs.Common.{◌≡◌, ℕ, ◌+◌, ◌<◌, List, length, slice_get, Option, Some, None, set, sym, ap, ◌∙◌, arith, IsPermutation, nat_eq, MatchOption}
 use Rattle.std.specs.List.{flat_map, range_with_len}
-use Rattle.std.specs.List.Sorted.{IsPermutation}
 use Rattle.std.specs.Map.{lookup}
 use Rattle.std.specs.Borrow.{MutBor}
 use Rattle.std.specs.Option.{option_copied_mut}
-use Rattle.std.specs.Prelude.{nat_eq, MatchOption}
 use Rattle.desk_memory.specs.declared.paragraphs.Paragraph.{Paragraph as KeptParagraph}
 use Rattle.desk_memory.specs.Kept.{KeptParagraphs, paragraph_with_id, with_kept_change}
 use Rattle.desk_memory.proofs.Arranging.{length-in_order, lookup_index-in_order, with_kept_change-in_order}

@@ -1,7 +1,6 @@
 -- The entries of a history from an index on.
-use Rattle.std.proofs.Common.{◌≡◌, ℕ, zero, suc, ◌+◌, ◌<◌, List, [], ◌∷◌, length, Some, None, refl, ap, ◌∙◌, arith}
+use Rattle.std.proofs.Common.{◌≡◌, ℕ, zero, suc, ◌+◌, ◌<◌, List, [], ◌∷◌, length, Some, None, refl, ap, ◌∙◌, arith, option_map, slice_get}
 use Rattle.std.specs.List.{enumerate_from}
-use Rattle.std.specs.Prelude.{option_map, slice_get}
 use Rattle.std.proofs.lemmas.Option.{slice_get-map, slice_get_within}
 use Rattle.desk_memory.specs.declared.history.KeptEntry.{KeptEntry}
 use Rattle.desk_model.specs.Book.{Entry}

@@ -1,10 +1,8 @@
 -- How a book is kept: its tables with their rules, its paragraphs with their prints and cells, and
 -- its marks.
-use Rattle.std.specs.Prelude.{◌≡◌, ℕ, ◌-◌, ◌≤◌, length, drop, nat_eq, not, ◌==◌, if◌then◌else◌, List, [], ◌∷◌}
-use Rattle.std.specs.Prelude.{◌++◌, map, slice_get, Option, Some, option_to_list, option_map}
+use Rattle.std.specs.Prelude.{◌≡◌, ℕ, ◌-◌, ◌≤◌, length, drop, nat_eq, not, ◌==◌, if◌then◌else◌, List, [], ◌∷◌, ◌++◌}
+use Rattle.std.specs.Prelude.{map, slice_get, Option, Some, option_to_list, option_map, chars, String, string_bytes}
 use Rattle.std.specs.List.{All, enumerate_from, filter, find, flat_map, fold}
-use Rattle.std.specs.Str.{chars}
-use Rattle.std.specs.Prelude.{String, string_bytes}
 use Rattle.std.specs.Option.{option_and_then, option_map_or}
 use Rattle.std.specs.Map.{lookup}
 use Rattle.std.specs.Ordering.{nat_cmp}

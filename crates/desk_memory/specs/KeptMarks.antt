@@ -1,8 +1,7 @@
 -- Marks as they are kept.
-use Rattle.std.specs.Prelude.{ℕ, ◌+◌, ◌≤◌, ◌==◌, true, if◌then◌else◌, zero, suc, List, []}
-use Rattle.std.specs.Prelude.{◌∷◌, map, Option, None, slice_get, slice_set}
+use Rattle.std.specs.Prelude.{ℕ, ◌+◌, ◌≤◌, ◌==◌, true, if◌then◌else◌, zero, suc, List, [], ◌∷◌, map, Option, None}
+use Rattle.std.specs.Prelude.{slice_get, slice_set, All}
 use Rattle.std.specs.Option.{option_map_or}
-use Rattle.std.specs.List.{All}
 use Rattle.desk_memory.specs.declared.marks.KeptMark.{KeptMark}
 use Rattle.desk_model.specs.declared.span.Span.{Span}
 use Rattle.desk_model.specs.Limits.{most_print}

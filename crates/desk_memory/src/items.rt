@@ -1,8 +1,7 @@
 //! Lists that a planned change makes longer without allocating. An item at the end has a constant
 //! cost, taken over all; one at a place moves those behind it.
 ghost use Rattle.desk_memory.specs.Room.{Suffices, grown as grown_lem, room_of};
-ghost use Rattle.std.specs.List.{insert};
-ghost use Rattle.std.specs.Prelude.{◌≡◌, ◌+◌, ◌<◌, ◌≤◌, ◌^◌, [], ◌∷◌, ◌++◌, IfOk, length};
+ghost use Rattle.std.specs.Prelude.{insert, ◌≡◌, ◌+◌, ◌<◌, ◌≤◌, ◌^◌, [], ◌∷◌, ◌++◌, IfOk, length};
 
 use std::alloc::{AllocError, Global};
 use std::marker::Model;

@@ -5,9 +5,8 @@ ghost use Rattle.desk_memory.specs.Kept.{mark_kept};
 ghost use Rattle.desk_model.specs.Book.{new_mark};
 ghost use Rattle.desk_model.specs.Limits.{most_print};
 ghost use Rattle.desk_memory.specs.Room.{Suffices};
-ghost use Rattle.std.specs.Option.{option_copied};
 ghost use Rattle.desk_model.specs.Limits.{most_marks};
-ghost use Rattle.std.specs.Prelude.{◌≡◌, ◌+◌, ◌-◌, ◌<◌, ◌≤◌, ◌^◌, [], ◌∷◌, ◌++◌, ℕ, IfOk, None, length};
+ghost use Rattle.std.specs.Prelude.{option_copied, ◌≡◌, ◌+◌, ◌-◌, ◌<◌, ◌≤◌, ◌^◌, [], ◌∷◌, ◌++◌, ℕ, IfOk, None, length};
 
 use super::items::{Items, Room};
 use desk_model::{Span, Text};

@@ -6,12 +6,11 @@ ghost use Rattle.desk_model.specs.Named.{paragraph_before};
 ghost use Rattle.desk_memory.specs.Room.{Suffices};
 ghost use Rattle.desk_model.specs.Step.{is_after};
 ghost use Rattle.std.specs.List.{Contains, filter, flat_map, insert, position, range_with_len};
-ghost use Rattle.std.specs.List.Sorted.{IsPermutation};
 ghost use Rattle.std.specs.Map.{lookup};
 ghost use Rattle.std.specs.Option.{option_copied, option_map_or};
 ghost use Rattle.desk_model.specs.Limits.{most_paragraphs};
-ghost use Rattle.std.specs.Prelude.{◌≡◌, ◌+◌, ◌<◌, ◌≤◌, ◌^◌, [], ◌∷◌, ◌++◌, ℕ, IfNone, IfOk, IfSome, MatchOption};
-ghost use Rattle.std.specs.Prelude.{OnOk, Some, ◌==◌, length, map, nat_eq, not, option_map, slice_get};
+ghost use Rattle.std.specs.Prelude.{IsPermutation, ◌≡◌, ◌+◌, ◌<◌, ◌≤◌, ◌^◌, [], ◌∷◌, ◌++◌, ℕ, IfNone, IfOk, IfSome};
+ghost use Rattle.std.specs.Prelude.{MatchOption, OnOk, Some, ◌==◌, length, map, nat_eq, not, option_map, slice_get};
 
 use super::history::KeptEntry;
 use super::items::{Items, Room};
@@ -137,8 +136,7 @@ pub struct Paragraphs {
 impl Model for Paragraphs {
     ghost use Rattle.desk_memory.specs.Kept.{KeptParagraphs, paragraph_with_id};
     ghost use Rattle.std.specs.List.{flat_map, range_with_len};
-    ghost use Rattle.std.specs.List.Sorted.{IsPermutation};
-    ghost use Rattle.std.specs.Prelude.{length};
+    ghost use Rattle.std.specs.Prelude.{IsPermutation, length};
 
     ghost Value = { KeptParagraphs };
 

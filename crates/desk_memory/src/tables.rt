@@ -3,9 +3,8 @@ ghost use Rattle.louis_table.specs.Table.{Means};
 ghost use Rattle.louis_table.specs.Tells.{Tells};
 ghost use Rattle.std.specs.Cmp.Lexicographic.{pointwise};
 ghost use Rattle.std.specs.Map.{lookup};
-ghost use Rattle.std.specs.Option.{option_copied};
-ghost use Rattle.std.specs.Prelude.{◌≡◌, ◌<◌, ◌≤◌, [], None, IfErr, IfOk, IsSome, OnOk, length, nat_eq, string_bytes};
-ghost use Rattle.std.specs.Str.{chars};
+ghost use Rattle.std.specs.Prelude.{option_copied, ◌≡◌, ◌<◌, ◌≤◌, [], None, IfErr, IfOk, IsSome, OnOk, length, nat_eq};
+ghost use Rattle.std.specs.Prelude.{string_bytes, chars};
 
 use desk_model::{Bytes, Text};
 use indexmap::IndexMap;

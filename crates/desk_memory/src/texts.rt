@@ -2,8 +2,7 @@
 ghost use Rattle.desk_model.specs.Name.{IsProofreaderName, IsTableName, is_name_character, is_proofreader_character};
 ghost use Rattle.desk_model.specs.NormalForm.{is_barred, normal_form};
 ghost use Rattle.std.specs.List.{filter, list_all, position};
-ghost use Rattle.std.specs.Prelude.{◌≡◌, ◌↔◌, IfOk, IsTrue, length, not};
-ghost use Rattle.std.specs.Str.{chars};
+ghost use Rattle.std.specs.Prelude.{◌≡◌, ◌↔◌, IfOk, IsTrue, length, not, chars};
 
 use super::limits::{MOST_NAME, MOST_PROOFREADER};
 use std::alloc::{AllocError, Global};

@@ -1,7 +1,6 @@
 -- A book: what was typed, corrected and marked, and nothing that follows from that.
-use Rattle.std.specs.Prelude.{ℕ, nat_eq, Bool, false, List, [], Option}
+use Rattle.std.specs.Prelude.{ℕ, nat_eq, Bool, false, List, [], Option, find}
 use Rattle.std.specs.Map.{lookup}
-use Rattle.std.specs.List.{find}
 use Rattle.std.specs.Cmp.Lexicographic.{pointwise}
 use Rattle.desk_model.specs.declared.style.Style.{Style}
 

@@ -1,6 +1,5 @@
 -- The lines of a paragraph's history.
-use Rattle.std.specs.Prelude.{◌≡◌, ℕ, List, [], ◌∷◌, Option, MatchOption}
-use Rattle.std.specs.Str.{chars}
+use Rattle.std.specs.Prelude.{◌≡◌, ℕ, List, [], ◌∷◌, Option, MatchOption, chars}
 use Rattle.desk_model.specs.declared.history_item.Done.{Done}
 use Rattle.desk_model.specs.declared.history_item.Done.TheVariants.{Corrected, TookBack}
 use Rattle.desk_model.specs.declared.history_item.HistoryItem.{HistoryItem}

@@ -1,6 +1,5 @@
 -- The line of a paragraph in the list of a book.
-use Rattle.std.specs.Prelude.{◌≡◌, List, [], ◌∷◌, length, Option, MatchOption}
-use Rattle.std.specs.Str.{chars}
+use Rattle.std.specs.Prelude.{◌≡◌, List, [], ◌∷◌, length, Option, MatchOption, chars}
 use Rattle.desk_model.specs.declared.list_item.ListItem.{ListItem}
 use Rattle.desk_model.specs.Book.{Paragraph}
 use Rattle.desk_model.specs.Print.{print_of}

@@ -1,7 +1,6 @@
 -- Which rows a change may lend: those of what its command changes, and no others.
-use Rattle.std.specs.Prelude.{◌≡◌, ◌⊎◌, ℕ, ℤ, ◌+◌, true, IsSome, List, [], ◌∷◌, ◌++◌, Some}
-use Rattle.std.specs.Prelude.{encode_utf8_all, pos, min, length, map, option_map, slice_get, unwrap_or}
-use Rattle.std.specs.List.{All, Contains}
+use Rattle.std.specs.Prelude.{◌≡◌, ◌⊎◌, ℕ, ℤ, ◌+◌, true, IsSome, List, [], ◌∷◌, ◌++◌, Some, encode_utf8_all, pos, min}
+use Rattle.std.specs.Prelude.{length, map, option_map, slice_get, unwrap_or, All, Contains}
 use Rattle.desk_model.specs.declared.command.Command.{Command}
 use Rattle.desk_model.specs.Book.{Book, Mark, Paragraph, paragraph_of}
 use Rattle.desk_parts.specs.Puts.{Flags, Place, Print, PutRow, Resolved, RowPut}

@@ -1,6 +1,5 @@
 -- The names of tables, and of proofreaders.
-use Rattle.std.specs.Prelude.{◌≡◌, ℕ, ◌<◌, ◌≤◌, Bool, true, not, ◌||◌, ◌&&◌, ◌==◌, nat_le, List, length}
-use Rattle.std.specs.List.{All}
+use Rattle.std.specs.Prelude.{◌≡◌, ℕ, ◌<◌, ◌≤◌, Bool, true, not, ◌||◌, ◌&&◌, ◌==◌, nat_le, List, length, All}
 use Rattle.desk_model.specs.Limits.{most_name, most_proofreader}
 use Rattle.desk_model.specs.NormalForm.{is_barred}
 

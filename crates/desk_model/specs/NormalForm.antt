@@ -1,6 +1,5 @@
 -- Texts as they are stored in a book.
-use Rattle.std.specs.Prelude.{◌≡◌, ℕ, ◌<◌, Bool, true, false, ◌||◌, not, ◌==◌, List, length, slice_index}
-use Rattle.std.specs.List.{filter, All}
+use Rattle.std.specs.Prelude.{◌≡◌, ℕ, ◌<◌, Bool, true, false, ◌||◌, not, ◌==◌, List, length, slice_index, filter, All}
 use Rattle.unicode_normalization.specs.Forms.{nfc}
 use Rattle.desk_model.specs.Characters.{AreCharacters}
 

@@ -1,7 +1,5 @@
 -- The lines of a paragraph's marks.
-use Rattle.std.specs.Prelude.{◌≡◌, ℕ, ◌==◌, List, [], ◌∷◌, Option, MatchOption}
-use Rattle.std.specs.List.{filter}
-use Rattle.std.specs.Str.{chars}
+use Rattle.std.specs.Prelude.{◌≡◌, ℕ, ◌==◌, List, [], ◌∷◌, Option, MatchOption, filter, chars}
 use Rattle.desk_model.specs.declared.mark_item.MarkItem.{MarkItem}
 use Rattle.desk_model.specs.Book.{Mark}
 

@@ -1,8 +1,6 @@
 -- When a command is refused, and with which refusal. Only the first that holds is reported.
-use Rattle.std.specs.Prelude.{◌≡◌, ◌≢◌, ℕ, ◌⊎◌, ◌<◌, ◌≤◌, true, false, List, ◌∷◌, ◌++◌}
-use Rattle.std.specs.Prelude.{length, Option, Some, None, IsSome, IsSomeAnd, option_map}
-use Rattle.std.specs.List.{All, Contains}
-use Rattle.std.specs.Option.{option_and_then}
+use Rattle.std.specs.Prelude.{◌≡◌, ◌≢◌, ℕ, ◌⊎◌, ◌<◌, ◌≤◌, true, false, List, ◌∷◌, ◌++◌, length, Option, Some, None}
+use Rattle.std.specs.Prelude.{IsSome, IsSomeAnd, option_map, All, Contains, option_and_then}
 use Rattle.louis_table.specs.Meaning.{Meaning}
 use Rattle.louis_table.specs.Table.{Means, Bad}
 use Rattle.louis_translate.specs.Position.{AreDefined, IsFirstUndefined}

@@ -1,6 +1,5 @@
 -- When the rows of two files are the same, in whatever order they stand.
-use Rattle.std.specs.Prelude.{◌≡◌, List, Option, Some, None, ⊤}
-use Rattle.std.specs.List.Sorted.{IsPermutation}
+use Rattle.std.specs.Prelude.{◌≡◌, List, Option, Some, None, ⊤, IsPermutation}
 use Rattle.desk_parts.specs.FileRows.{EntryRows, FileRows, Named, Unnamed}
 use Rattle.desk_parts.specs.Rows.{ParaCells}
 

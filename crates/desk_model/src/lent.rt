@@ -1,6 +1,5 @@
 //! Texts and bytes that are lent.
-ghost use Rattle.std.specs.Prelude.{◌≡◌};
-ghost use Rattle.std.specs.Str.{chars};
+ghost use Rattle.std.specs.Prelude.{◌≡◌, chars};
 
 use std::marker::Model;
 
@@ -11,8 +10,7 @@ pub struct LentText<'a> {
 }
 
 impl<'a> Model for LentText<'a> {
-    ghost use Rattle.std.specs.Prelude.{List, ℕ};
-    ghost use Rattle.std.specs.Str.{chars};
+    ghost use Rattle.std.specs.Prelude.{List, ℕ, chars};
 
     ghost Value = { List ℕ };
 

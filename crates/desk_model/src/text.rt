@@ -1,6 +1,5 @@
 //! Texts as their characters, and bytes.
-ghost use Rattle.std.specs.Prelude.{◌≡◌, List, ℕ, string_bytes};
-ghost use Rattle.std.specs.Str.{chars};
+ghost use Rattle.std.specs.Prelude.{◌≡◌, List, ℕ, string_bytes, chars};
 ghost use Rattle.desk_model.specs.Characters.{AreCharacters};
 
 use std::marker::Model;

@@ -1,7 +1,5 @@
 -- The rows of a book's whole file.
-use Rattle.std.specs.Prelude.{ℕ, List, [], map, Option, IsUtf8, ⊤}
-use Rattle.std.specs.List.{All}
-use Rattle.std.specs.Str.{chars}
+use Rattle.std.specs.Prelude.{ℕ, List, [], map, Option, IsUtf8, ⊤, All, chars}
 use Rattle.desk_parts.specs.declared.file_table.FileTable.{FileTable}
 use Rattle.desk_parts.specs.declared.file_table.FileTable.TheVariants as tables
 use Rattle.desk_parts.specs.declared.rows.BookRow.{BookRow}

@@ -1,7 +1,6 @@
 -- What is put into the rows of a book's file, and the rows after it.
 use Rattle.std.specs.Prelude.{◌≡◌, ℕ, ℤ, pos, Bool, not, ◌&&◌, if◌then◌else◌, List, [], ◌∷◌, map, filter, fold, Option}
-use Rattle.std.specs.Prelude.{option_map, option_to_list, MatchOption, IsSome, bytes_eq, encode_utf8_all}
-use Rattle.std.specs.List.{All}
+use Rattle.std.specs.Prelude.{option_map, option_to_list, MatchOption, IsSome, bytes_eq, encode_utf8_all, All}
 use Rattle.std.specs.Ordering.{int_eq}
 use Rattle.desk_parts.specs.declared.file_table.FileTable.{FileTable}
 use Rattle.desk_parts.specs.declared.file_table.FileTable.TheVariants as tables

@@ -1,15 +1,11 @@
 -- The rows of `cache` in the order of their ids, against the paragraphs that are kept: the first that doesn't fit is the
 -- smallest id of the damage.
-use Rattle.std.proofs.Common.{◌≡◌, ◌⊎◌, ℕ, zero, suc, ◌+◌, ◌-◌, ◌<◌, ◌≤◌, ℤ, pos, negsuc, ◌≤ℤ◌, ◌<ℤ◌, nat_abs, Bool, true, false, List, [], ◌∷◌, ◌++◌, map, filter, length, take, drop, get_or, slice_get, Option, Some, None, option_map, Contains, refl, sym, ap, ap₂, subst, ◌∙◌, arith, inl, inr}
+use Rattle.std.proofs.Common.{◌≡◌, ◌⊎◌, ℕ, zero, suc, ◌+◌, ◌-◌, ◌<◌, ◌≤◌, ℤ, pos, negsuc, ◌≤ℤ◌, ◌<ℤ◌, nat_abs, Bool, true, false, List, [], ◌∷◌, ◌++◌, map, filter, length, take, drop, get_or, slice_get, Option, Some, None, option_map, Contains, refl, sym, ap, ap₂, subst, ◌∙◌, arith, inl, inr, IsPermutation, IsSortedByKey, int_cmp, int_eq, is_lt, nat_cmp, nat_eq, chars}
 use Rattle.std.specs.Cmp.{signed_Decides, unsigned_ties}
 use Rattle.std.specs.Cmp.Lexicographic.{lists_ties, pointwise, slice_cmp}
 use Rattle.std.specs.List.{All, range_with_len}
-use Rattle.std.specs.List.Sorted.{IsPermutation, IsSortedByKey}
 use Rattle.std.specs.Map.{lookup}
-use Rattle.std.specs.Ordering.{int_cmp, int_eq, is_lt, nat_cmp}
 use Rattle.std.specs.Option.{option_flatten}
-use Rattle.std.specs.Prelude.{nat_eq}
-use Rattle.std.specs.Str.{chars}
 use Rattle.std.proofs.lemmas.Bool.{cases_lt, cond-false, cond-true, false_from_ne_true}
 use Rattle.std.proofs.lemmas.Cmp.{by_ranked, eq_by_cmp_equiv, int_cmp_total, int_ranked, nat_list_cmp_total}
 use Rattle.std.proofs.lemmas.Int.{ints}

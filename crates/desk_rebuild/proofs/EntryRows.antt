@@ -1,8 +1,6 @@
 -- The rows of all histories, read: what their paragraphs have, or which of their damage is first.
-use Rattle.std.proofs.Common.{◌≡◌, ℕ, ◌+◌, ◌-◌, ◌<◌, ◌≤◌, ℤ, pos, negsuc, ◌≤ℤ◌, ◌<ℤ◌, nat_abs, List, [], ◌∷◌, map, length, Option, Some, None, Contains, refl, sym, ap, subst, ◌∙◌, arith, inl, inr}
+use Rattle.std.proofs.Common.{◌≡◌, ℕ, ◌+◌, ◌-◌, ◌<◌, ◌≤◌, ℤ, pos, negsuc, ◌≤ℤ◌, ◌<ℤ◌, nat_abs, List, [], ◌∷◌, map, length, Option, Some, None, Contains, refl, sym, ap, subst, ◌∙◌, arith, inl, inr, option_map, slice_get, chars}
 use Rattle.std.specs.List.{All, range_with_len}
-use Rattle.std.specs.Prelude.{option_map, slice_get}
-use Rattle.std.specs.Str.{chars}
 use Rattle.std.proofs.lemmas.Bool.{cases_lt}
 use Rattle.std.proofs.lemmas.Int.{ints}
 use Rattle.std.proofs.lemmas.List.Elements.{All-cons, All-contains, All-nil}

@@ -1,6 +1,5 @@
 -- The damage of a table is the first, where the tables before it have none.
-use Rattle.std.proofs.Common.{◌≡◌, ℤ, List, Result, Ok, Err, Some, None, refl, sym, subst}
-use Rattle.std.specs.Prelude.{IfErr, IfOk, IsErrAnd, MatchResult, OnOk}
+use Rattle.std.proofs.Common.{◌≡◌, ℤ, List, Result, Ok, Err, Some, None, refl, sym, subst, IfErr, IfOk, IsErrAnd, MatchResult, OnOk}
 use Rattle.std.proofs.lemmas.Result.{IfErr-weaker, IfOk-weaker}
 use Rattle.desk_parts.specs.declared.file_table.FileTable.{FileTable}
 use Rattle.desk_model.specs.declared.fault.PartsFault.{PartsFault}

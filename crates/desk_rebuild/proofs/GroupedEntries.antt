@@ -1,8 +1,6 @@
 -- The rows of all histories in groups, one for each paragraph.
-use Rattle.std.proofs.Common.{append-nil, ◌≢◌, ◌≡◌, ◌⊎◌, ℕ, ◌+◌, ℤ, pos, ◌≤ℤ◌, List, [], ◌∷◌, ◌++◌, map, length, Option, Some, None, Contains, set, refl, sym, ap, subst, ◌∙◌, arith, inl, inr}
+use Rattle.std.proofs.Common.{append-nil, ◌≢◌, ◌≡◌, ◌⊎◌, ℕ, ◌+◌, ℤ, pos, ◌≤ℤ◌, List, [], ◌∷◌, ◌++◌, map, length, Option, Some, None, Contains, set, refl, sym, ap, subst, ◌∙◌, arith, inl, inr, int_eq, IfSome, option_map, slice_get}
 use Rattle.std.specs.Cmp.{signed_Decides}
-use Rattle.std.specs.Ordering.{int_eq}
-use Rattle.std.specs.Prelude.{IfSome, option_map, slice_get}
 use Rattle.std.proofs.lemmas.Int.{ints}
 use Rattle.std.proofs.lemmas.Bool.{cases_eq, cases_lt, cond-false, cond-true, false_from_ne_true}
 use Rattle.std.proofs.lemmas.List.{length-append, length-map, length-set}

@@ -1,11 +1,7 @@
 -- What an entry that is read from its row does to the print that those before it leave.
-use Rattle.std.proofs.Common.{◌↔◌, IsTrue, Bool, Ordering, Less, Equal, Greater, is_eq, ◌≡◌, ℕ, zero, suc, ◌+◌, ◌-◌, ◌≤◌, ℤ, pos, ◌+ℤ◌, ◌≤ℤ◌, nat_abs, true, false, List, [], ◌∷◌, ◌++◌, length, take, drop, Option, Some, None, refl, sym, ap, ap₂, subst, ◌∙◌, arith, inl, inr}
-use Rattle.std.specs.Prelude.{IfSome, nat_eq, not, option_map, slice_range}
-use Rattle.std.specs.List.{position}
-use Rattle.std.specs.Option.{is_some}
+use Rattle.std.proofs.Common.{◌↔◌, IsTrue, Bool, Ordering, Less, Equal, Greater, is_eq, ◌≡◌, ℕ, zero, suc, ◌+◌, ◌-◌, ◌≤◌, ℤ, pos, ◌+ℤ◌, ◌≤ℤ◌, nat_abs, true, false, List, [], ◌∷◌, ◌++◌, length, take, drop, Option, Some, None, refl, sym, ap, ap₂, subst, ◌∙◌, arith, inl, inr, IfSome, nat_eq, not, option_map, slice_range, position, is_some, chars}
 use Rattle.std.specs.Ordering.{nat_cmp, ordering_reverse}
 use Rattle.std.specs.Cmp.Lexicographic.{nat_list_cmp_total, pointwise, slice_cmp}
-use Rattle.std.specs.Str.{chars}
 use Rattle.std.proofs.lemmas.Bool.{both_ways, cases_Bool}
 use Rattle.std.proofs.lemmas.List.{length-map}
 use Rattle.desk_memory.specs.declared.history.Correction.{Correction}

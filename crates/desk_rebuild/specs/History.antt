@@ -1,7 +1,6 @@
 -- What is said of the rows of one history while they are read.
 use Rattle.std.specs.Prelude.{◌≡◌, ◌⊎◌, ℕ, ◌+◌, ◌<◌, ◌≤◌, pos, List, [], ◌∷◌, ◌++◌, length, nat_abs, slice_get, Some}
-use Rattle.std.specs.List.Sorted.{IsPermutation}
-use Rattle.std.specs.Str.{chars}
+use Rattle.std.specs.Prelude.{IsPermutation, chars}
 use Rattle.desk_rebuild.specs.declared.history.Next.{Next}
 use Rattle.desk_rebuild.specs.declared.history.Reading.{Reading}
 use Rattle.desk_memory.specs.declared.paragraphs.Paragraph.{Paragraph as KeptParagraph}

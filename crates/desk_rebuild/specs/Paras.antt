@@ -1,8 +1,7 @@
 -- Rows of paragraphs, checked against the tables that are kept.
-use Rattle.std.specs.Prelude.{◌≡◌, ◌≢◌, ℕ, suc, ℤ, pos, ◌+◌, ◌<◌, List, [], length, nat_eq, slice_get, Some}
+use Rattle.std.specs.Prelude.{◌≡◌, ◌≢◌, ℕ, suc, ℤ, pos, ◌+◌, ◌<◌, List, [], length, nat_eq, slice_get, Some, chars}
 use Rattle.std.specs.Cmp.Lexicographic.{pointwise}
 use Rattle.std.specs.Map.{lookup}
-use Rattle.std.specs.Str.{chars}
 use Rattle.louis_translate.specs.Position.{AreDefined}
 use Rattle.desk_memory.specs.declared.paragraphs.Paragraph.{Paragraph as KeptParagraph}
 use Rattle.desk_memory.specs.declared.tables.BookTable.{BookTable}

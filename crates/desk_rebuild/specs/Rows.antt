@@ -1,12 +1,11 @@
 -- What is read of the rows of a book's file, table by table, and what is reported if a table is
 -- damaged.
-use Rattle.std.specs.Prelude.{◌≡◌, ℕ, ℤ, pos, ◌+◌, ◌-◌, ◌≤ℤ◌, nat_abs, List, []}
-use Rattle.std.specs.Prelude.{map, filter, length, slice_get, Some, ⊤}
+use Rattle.std.specs.Prelude.{◌≡◌, ℕ, ℤ, pos, ◌+◌, ◌-◌, ◌≤ℤ◌, nat_abs, List, [], map, filter, length, slice_get, Some}
+use Rattle.std.specs.Prelude.{⊤, chars}
 use Rattle.std.specs.List.{All, range_with_len}
 use Rattle.std.specs.List.Sorted.{IsPermutation, IsStrictlySortedBy}
 use Rattle.std.specs.Cmp.Lexicographic.{slice_cmp}
 use Rattle.std.specs.Ordering.{int_eq, nat_cmp}
-use Rattle.std.specs.Str.{chars}
 use Rattle.louis_table.specs.Meaning.{Meaning}
 use Rattle.louis_table.specs.Table.{Means}
 use Rattle.desk_memory.specs.declared.marks.KeptMark.{KeptMark}

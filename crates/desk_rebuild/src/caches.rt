@@ -7,11 +7,9 @@ ghost use Rattle.desk_memory.specs.Kept.{renewed_items};
 ghost use Rattle.desk_model.specs.Limits.{most_paragraphs};
 ghost use Rattle.desk_parts.specs.Rows.{Para, Tab};
 ghost use Rattle.louis_translate.specs.Position.{AreDefined};
-ghost use Rattle.std.specs.List.{All};
-ghost use Rattle.std.specs.List.Sorted.{IsPermutation, IsSortedByKey};
 ghost use Rattle.std.specs.Ordering.{int_cmp};
-ghost use Rattle.std.specs.Prelude.{◌≡◌, ◌≢◌, ◌≤◌, ◌++◌, IfErr, IfNone, IfOk, IfSome};
-ghost use Rattle.std.specs.Prelude.{IsTrue, List, OnOk, Some, length, map, ◌↔◌};
+ghost use Rattle.std.specs.Prelude.{All, IsPermutation, IsSortedByKey, ◌≡◌, ◌≢◌, ◌≤◌, ◌++◌, IfErr, IfNone, IfOk};
+ghost use Rattle.std.specs.Prelude.{IfSome, IsTrue, List, OnOk, Some, length, map, ◌↔◌};
 
 use super::damage::RowsFault;
 use cell_core::{Cell, Cells};

@@ -5,9 +5,8 @@ ghost use Rattle.desk_rebuild.specs.Entries.{AreGrouped, HaveRead, IsFirstStray,
 ghost use Rattle.desk_parts.specs.FileRows.{HasUtf8Texts};
 ghost use Rattle.desk_parts.specs.declared.file_table.FileTable.{FileTable};
 ghost use Rattle.desk_parts.specs.Rows.{Para};
-ghost use Rattle.std.specs.List.{All};
-ghost use Rattle.std.specs.Prelude.{◌≡◌, ◌⊎◌, ◌+◌, ◌<◌, pos, ◌≤ℤ◌, List, [], IfErr, IfNone};
-ghost use Rattle.std.specs.Prelude.{IfOk, IfSome, OnOk, Some, length, map};
+ghost use Rattle.std.specs.Prelude.{All, ◌≡◌, ◌⊎◌, ◌+◌, ◌<◌, pos, ◌≤ℤ◌, List, [], IfErr, IfNone, IfOk, IfSome, OnOk};
+ghost use Rattle.std.specs.Prelude.{Some, length, map};
 
 use super::damage::RowsFault;
 use super::history::read_history;

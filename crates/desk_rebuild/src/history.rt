@@ -5,9 +5,8 @@ ghost use Rattle.desk_rebuild.specs.Rows.{without_history};
 ghost use Rattle.desk_rebuild.specs.History.{AreSoundRows, CanBeRead, HasRead, IsCorrecting};
 ghost use Rattle.desk_rebuild.specs.History.{IsFit, IsNext, IsRead, IsSoundNext};
 ghost use Rattle.desk_parts.specs.Rows.{NamedCorr};
-ghost use Rattle.std.specs.Prelude.{◌≡◌, ◌⊎◌, ℕ, ◌+◌, ◌≤◌, ◌↔◌, pos, ◌+ℤ◌, ◌≤ℤ◌, List, ◌∷◌, ◌++◌, []};
-ghost use Rattle.std.specs.Prelude.{IfErr, IfNone, IfOk, IfSome, IsTrue, OnOk, length};
-ghost use Rattle.std.specs.Str.{chars};
+ghost use Rattle.std.specs.Prelude.{◌≡◌, ◌⊎◌, ℕ, ◌+◌, ◌≤◌, ◌↔◌, pos, ◌+ℤ◌, ◌≤ℤ◌, List, ◌∷◌, ◌++◌, [], IfErr, IfNone};
+ghost use Rattle.std.specs.Prelude.{IfOk, IfSome, IsTrue, OnOk, length, chars};
 
 use super::damage::RowsFault;
 use desk_memory::{

@@ -9,11 +9,8 @@ ghost use Rattle.desk_rebuild.specs.OrderedRows.{AreInOrder, IsSoundAt, TellsUns
 ghost use Rattle.desk_model.specs.Limits.{most_marks};
 ghost use Rattle.desk_parts.specs.Rows.{Para};
 ghost use Rattle.desk_parts.specs.declared.file_table.FileTable.{FileTable};
-ghost use Rattle.std.specs.List.{All};
-ghost use Rattle.std.specs.List.Sorted.{IsPermutation};
-ghost use Rattle.std.specs.Prelude.{◌≡◌, ◌↔◌, ◌≤◌, [], List, IfErr, IfOk, IsTrue};
-ghost use Rattle.std.specs.Prelude.{MatchOption, MatchResult, OnOk, length, map, pos};
-ghost use Rattle.std.specs.Str.{chars};
+ghost use Rattle.std.specs.Prelude.{All, IsPermutation, ◌≡◌, ◌↔◌, ◌≤◌, [], List, IfErr, IfOk, IsTrue, MatchOption};
+ghost use Rattle.std.specs.Prelude.{MatchResult, OnOk, length, map, pos, chars};
 
 use super::damage::{RowsFault, Unsound, flag_of, of_table};
 use crate::ordered_rows::is_next;

@@ -8,10 +8,9 @@ ghost use Rattle.desk_model.specs.Limits.{most_tables};
 ghost use Rattle.desk_parts.specs.Rows.{Tab};
 ghost use Rattle.desk_parts.specs.declared.file_table.FileTable.{FileTable};
 ghost use Rattle.louis_table.specs.Table.{Means};
-ghost use Rattle.std.specs.Str.{chars};
-ghost use Rattle.std.specs.List.Sorted.{IsPermutation, IsSortedBy};
 ghost use Rattle.std.specs.Ordering.{is_lt};
-ghost use Rattle.std.specs.Prelude.{◌≡◌, ◌≤◌, [], ◌∷◌, ◌++◌, ◌↔◌, List, IfErr, IfOk, IsTrue, OnOk, length};
+ghost use Rattle.std.specs.Prelude.{chars, IsPermutation, IsSortedBy, ◌≡◌, ◌≤◌, [], ◌∷◌, ◌++◌, ◌↔◌, List, IfErr, IfOk};
+ghost use Rattle.std.specs.Prelude.{IsTrue, OnOk, length};
 
 use super::damage::{RowsFault, of_table};
 use desk_memory::{BookTable, BoxedTable, MOST_TABLES, Tables, is_table_name};

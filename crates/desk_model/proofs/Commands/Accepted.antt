@@ -1,7 +1,5 @@
 -- What is true of a command because no refusal holds of it.
-use Rattle.std.proofs.Common.{◌≡◌, ℕ, ◌<◌, ◌≤◌, List, length, get_or, Option, Some, None, Contains, true, refl, ap, arith, inl, inr}
-use Rattle.std.specs.List.{All, position}
-use Rattle.std.specs.Prelude.{IsSomeAnd, is_some}
+use Rattle.std.proofs.Common.{◌≡◌, ℕ, ◌<◌, ◌≤◌, List, length, get_or, Option, Some, None, Contains, true, refl, ap, arith, inl, inr, All, position, IsSomeAnd, is_some}
 use Rattle.std.proofs.lemmas.Bool.{cases_lt, true_from_ne_false, both_ways}
 use Rattle.louis_table.specs.Meaning.{Meaning}
 use Rattle.louis_table.specs.Table.{Bad, Means}

@@ -1,7 +1,5 @@
 -- Of each refusal it is decided whether it holds of a command.
-use Rattle.std.proofs.Common.{◌≡◌, ℕ, ◌+◌, ◌<◌, ◌≤◌, true, false, List, [], ◌∷◌, length, Option, Some, None, Contains, refl, sym, ap, subst, ◌∙◌, inl, inr}
-use Rattle.std.specs.List.{position}
-use Rattle.std.specs.Prelude.{IsSomeAnd, is_some}
+use Rattle.std.proofs.Common.{◌≡◌, ℕ, ◌+◌, ◌<◌, ◌≤◌, true, false, List, [], ◌∷◌, length, Option, Some, None, Contains, refl, sym, ap, subst, ◌∙◌, inl, inr, position, IsSomeAnd, is_some}
 use Rattle.std.proofs.lemmas.Bool.{cases_eq, cases_lt}
 use Rattle.louis_table.proofs.OneMeaning.{means_or_bad, one_meaning, some_meaning}
 use Rattle.louis_table.specs.Meaning.{Meaning}

@@ -1,6 +1,5 @@
 -- What a search for a barred character finds.
-use Rattle.std.proofs.Common.{◌≡◌, ℕ, List, Some, None, length, arith, inl, inr}
-use Rattle.std.specs.Prelude.{not}
+use Rattle.std.proofs.Common.{◌≡◌, ℕ, List, Some, None, length, arith, inl, inr, not}
 use Rattle.std.specs.List.{position, position_or_len}
 use Rattle.std.proofs.lemmas.Bool.{cases_lt, lt-ltb, both_ways, not-true}
 use Rattle.std.proofs.lemmas.List.Quantifiers.{position-Some}

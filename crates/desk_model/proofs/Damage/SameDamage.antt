@@ -1,7 +1,5 @@
 -- The same is damaged in rows in any order.
-use Rattle.std.proofs.Common.{◌≡◌, ℕ, ℤ, List, Contains, Option, None, Some, filter, refl, sym, ◌∙◌, subst, inl, inr}
-use Rattle.std.specs.List.Sorted.{IsPermutation}
-use Rattle.std.specs.Ordering.{int_eq}
+use Rattle.std.proofs.Common.{◌≡◌, ℕ, ℤ, List, Contains, Option, None, Some, filter, refl, sym, ◌∙◌, subst, inl, inr, IsPermutation, int_eq}
 use Rattle.std.proofs.lemmas.List.Sorted.{Contains-permutation, IsPermutation-sym, IsPermutation-trans, length_permutation}
 use Rattle.louis_table.specs.Meaning.{Meaning}
 use Rattle.desk_parts.specs.declared.file_table.FileTable.{FileTable}

@@ -1,11 +1,7 @@
 -- Rows of histories and of braille that show a book have no damage.
-use Rattle.std.proofs.Common.{◌≡◌, ◌⊎◌, ℕ, zero, suc, ◌+◌, ◌≤◌, ℤ, pos, ◌+ℤ◌, ◌≤ℤ◌, Bool, true, false, List, [], ◌∷◌, ◌++◌, map, filter, length, take, Some, Contains, append-nil, refl, sym, ap, ap₂, subst, ◌∙◌, arith, inl, inr}
+use Rattle.std.proofs.Common.{◌≡◌, ◌⊎◌, ℕ, zero, suc, ◌+◌, ◌≤◌, ℤ, pos, ◌+ℤ◌, ◌≤ℤ◌, Bool, true, false, List, [], ◌∷◌, ◌++◌, map, filter, length, take, Some, Contains, append-nil, refl, sym, ap, ap₂, subst, ◌∙◌, arith, inl, inr, IsPermutation, int_eq, IsUtf8, if◌then◌else◌, nat_abs, nat_eq, option_map, slice_get, chars}
 use Rattle.std.specs.List.{enumerate_from, flat_map, range_with_len, take-map}
-use Rattle.std.specs.List.Sorted.{IsPermutation}
-use Rattle.std.specs.Ordering.{int_eq}
 use Rattle.std.specs.Cmp.{signed_Decides}
-use Rattle.std.specs.Prelude.{IsUtf8, if◌then◌else◌, nat_abs, nat_eq, option_map, slice_get}
-use Rattle.std.specs.Str.{chars}
 use Rattle.std.proofs.lemmas.Bool.{cond-false, cond-true}
 use Rattle.std.proofs.lemmas.List.Elements.{All-contains, All-contains_itself, All-filter, filter-append}
 use Rattle.std.proofs.lemmas.List.Sorted.{Contains-permutation, IsPermutation-sym, IsPermutation-trans}

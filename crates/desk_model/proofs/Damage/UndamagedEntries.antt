@@ -1,10 +1,7 @@
 -- Rows of histories without damage are sound, in the order of their numbers.
-use Rattle.std.proofs.Common.{◌≡◌, ◌⊎◌, ℕ, suc, ◌+◌, ℤ, pos, ◌+ℤ◌, List, [], ◌∷◌, map, filter, length, take, Option, Some, Contains, refl, sym, ap, subst, ◌∙◌, arith, inl, inr}
+use Rattle.std.proofs.Common.{◌≡◌, ◌⊎◌, ℕ, suc, ◌+◌, ℤ, pos, ◌+ℤ◌, List, [], ◌∷◌, map, filter, length, take, Option, Some, Contains, refl, sym, ap, subst, ◌∙◌, arith, inl, inr, int_eq, nat_cmp, option_map, slice_get, chars}
 use Rattle.std.specs.List.{range_with_len}
 use Rattle.std.specs.List.Sorted.{IsPermutation, IsStrictlySortedBy}
-use Rattle.std.specs.Ordering.{int_eq, nat_cmp}
-use Rattle.std.specs.Prelude.{option_map, slice_get}
-use Rattle.std.specs.Str.{chars}
 use Rattle.std.proofs.lemmas.Cmp.{nat_cmp_total}
 use Rattle.std.proofs.lemmas.List.{length-map, map-id}
 use Rattle.std.proofs.lemmas.List.Sorted.{Contains-permutation, IsPermutation-map, IsPermutation-sym, length_permutation}

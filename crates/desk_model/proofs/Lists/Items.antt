@@ -1,8 +1,7 @@
 -- Lists by the places of their items.
-use Rattle.std.proofs.Common.{◌≡◌, ◌≢◌, ℕ, zero, suc, ◌+◌, ◌<◌, Bool, List, [], ◌∷◌, ◌++◌, map, length, set, slice_get, Option, Some, None, Bor, option_map, All, flat_map, refl, sym, ap, ◌∙◌, subst, inl, inr, arith, map-id, drop, take, Contains, ◌⊎◌, get_or}
+use Rattle.std.proofs.Common.{◌≡◌, ◌≢◌, ℕ, zero, suc, ◌+◌, ◌<◌, Bool, List, [], ◌∷◌, ◌++◌, map, length, set, slice_get, Option, Some, None, Bor, option_map, All, flat_map, refl, sym, ap, ◌∙◌, subst, inl, inr, arith, map-id, drop, take, Contains, ◌⊎◌, get_or, option_copied}
 use Rattle.std.specs.Map.{lookup}
 use Rattle.std.specs.List.{range_with_len}
-use Rattle.std.specs.Option.{option_copied}
 use Rattle.std.specs.Slice.{IsItemAt}
 use Rattle.std.proofs.Math.Seq.{take-append_seam}
 use Rattle.std.proofs.lemmas.List.{map-append, take-append-le}

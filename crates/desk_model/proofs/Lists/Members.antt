@@ -1,7 +1,5 @@
 -- Elements of lists, and the first that passes a test.
-use Rattle.std.proofs.Common.{◌≡◌, ◌⊎◌, zero, suc, Bool, true, List, [], ◌∷◌, map, Some, Contains, refl, sym, ap, ◌∙◌, arith, inl, inr}
-use Rattle.std.specs.List.{find}
-use Rattle.std.specs.Prelude.{option_map}
+use Rattle.std.proofs.Common.{◌≡◌, ◌⊎◌, zero, suc, Bool, true, List, [], ◌∷◌, map, Some, Contains, refl, sym, ap, ◌∙◌, arith, inl, inr, find, option_map}
 use Rattle.std.proofs.lemmas.Bool.{cases_Bool, cond-true, cond-false}
 use Rattle.std.proofs.lemmas.List.{length-map, get_or-map}
 

@@ -1,6 +1,5 @@
 -- A value that an option gives, and of which something holds.
-use Rattle.std.proofs.Common.{◌≡◌, true, Option, Some, None, refl, sym, subst}
-use Rattle.std.specs.Prelude.{IsSomeAnd, is_some}
+use Rattle.std.proofs.Common.{◌≡◌, true, Option, Some, None, refl, sym, subst, IsSomeAnd, is_some}
 
 -- it gives this value, of which it holds
 pub IsSomeAnd-of : {X : Type 0} (P : X → Type 0) {o : Option X} {x : X} → o ≡ Some x → P x → IsSomeAnd o P

@@ -1,9 +1,7 @@
 -- What can't fail, holds: of numbers, texts and pairs.
-use Rattle.std.proofs.Common.{◌≡◌, ℕ, ◌≤◌, ℤ, pos, negsuc, ◌≤ℤ◌, nat_abs, false, List, [], ◌∷◌, Contains, refl, sym, subst, inl, inr, leb→le}
+use Rattle.std.proofs.Common.{◌≡◌, ℕ, ◌≤◌, ℤ, pos, negsuc, ◌≤ℤ◌, nat_abs, false, List, [], ◌∷◌, Contains, refl, sym, subst, inl, inr, leb→le, int_eq, T, nat_eq}
 use Rattle.std.specs.Cmp.{signed_Decides}
 use Rattle.std.specs.Cmp.Lexicographic.{pointwise}
-use Rattle.std.specs.Ordering.{int_eq}
-use Rattle.std.specs.Prelude.{T, nat_eq}
 use Rattle.std.proofs.lemmas.Bool.{cases_Bool, cases_eq, both_ways, le-leb}
 use Rattle.desk_model.specs.Damage.{IsFlag, IsWithin}
 use Rattle.desk_model.specs.NormalForm.{IsUnbarred, is_barred}

@@ -1,9 +1,7 @@
 -- Rows that show a sound book.
-use Rattle.std.proofs.Common.{◌≡◌, ℕ, ◌+◌, ◌<◌, ◌≤◌, ◌&&◌, pos, true, List, [], ◌∷◌, map, take, get_or, Some, Contains, refl, ap₂, subst, arith, inl, inr, None, sym, ◌∙◌}
+use Rattle.std.proofs.Common.{◌≡◌, ℕ, ◌+◌, ◌<◌, ◌≤◌, ◌&&◌, pos, true, List, [], ◌∷◌, map, take, get_or, Some, Contains, refl, ap₂, subst, arith, inl, inr, None, sym, ◌∙◌, IsNone, IsUtf8, IsSome, chars}
 use Rattle.std.specs.Char.{IsScalar}
 use Rattle.std.specs.List.{All, enumerate_from, flat_map}
-use Rattle.std.specs.Prelude.{IsNone, IsUtf8, IsSome}
-use Rattle.std.specs.Str.{chars}
 use Rattle.std.proofs.Math.Utf8.{encodes, scalars, low_scalar}
 use Rattle.std.proofs.lemmas.Bool.{cases_lt}
 use Rattle.std.proofs.lemmas.List.Elements.{All-append, All-cons, All-contains_itself, All-head, All-map, All-nil, All-tail, All-weaker}

@@ -1,12 +1,9 @@
 -- Rows of a new file show the empty book, and rows that show a book show it still once they are brought to the second
 -- format, or get the braille of its paragraphs.
-use Rattle.std.proofs.Common.{◌≡◌, ℕ, ◌<◌, pos, true, false, List, [], ◌∷◌, ◌++◌, map, length, get_or, Option, None, Some, append-nil, refl, sym, ap, ap₂, subst, ◌∙◌, arith}
+use Rattle.std.proofs.Common.{◌≡◌, ℕ, ◌<◌, pos, true, false, List, [], ◌∷◌, ◌++◌, map, length, get_or, Option, None, Some, append-nil, refl, sym, ap, ap₂, subst, ◌∙◌, arith, IsPermutation, int_eq, IsNone, IsSome, nat_eq, not}
 use Rattle.std.specs.List.{All, IsDistinct}
-use Rattle.std.specs.List.Sorted.{IsPermutation}
 use Rattle.std.specs.Option.{ForSome}
 use Rattle.std.specs.Cmp.{int_eq_equiv}
-use Rattle.std.specs.Ordering.{int_eq}
-use Rattle.std.specs.Prelude.{IsNone, IsSome, nat_eq, not}
 use Rattle.std.proofs.lemmas.List.{get_or-map, length-map}
 use Rattle.std.proofs.lemmas.Simd.{map-map}
 use Rattle.std.proofs.lemmas.List.Elements.{All-append, All-cons, All-head, All-map, All-nil, All-tail, All-from_recursion}

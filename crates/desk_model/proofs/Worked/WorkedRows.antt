@@ -1,6 +1,5 @@
 -- Histories, marks, refusals and their order, worked by the definitions alone: they say what these rows say, and not only what the code does.
-use Rattle.std.proofs.Common.{◌≡◌, ℕ, ◌≤◌, Bool, true, false, List, [], ◌∷◌, ◌++◌, Ok, map, refl, sym, subst, arith, lit<, lit≤}
-use Rattle.std.specs.Prelude.{Some, None}
+use Rattle.std.proofs.Common.{◌≡◌, ℕ, ◌≤◌, Bool, true, false, List, [], ◌∷◌, ◌++◌, Ok, map, refl, sym, subst, arith, lit<, lit≤, Some, None}
 use Rattle.std.specs.Str.{IsUtf8, chars}
 use Rattle.std.proofs.lemmas.List.Elements.{All-cons, All-nil}
 use lib.Utf8.{encode}

@@ -1,5 +1,4 @@
-use Rattle.std.proofs.Common.{◌≡◌, List, Option, Some, None, Vec, Global, option_map, sym, ap, subst}
-use Rattle.std.specs.Prelude.{IfErr, OnOk}
+use Rattle.std.proofs.Common.{◌≡◌, List, Option, Some, None, Vec, Global, option_map, sym, ap, subst, IfErr, OnOk}
 use Rattle.std.proofs.lemmas.Result.{IfErr-weaker, on_ok_weaker}
 use Rattle.desk_parts.specs.declared.file_table.FileTable.TheVariants.{Cache}
 use Rattle.desk_rebuild.specs.declared.damage.RowsFault.TheVariants.{NoMemory}

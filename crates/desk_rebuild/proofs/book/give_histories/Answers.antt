@@ -1,6 +1,4 @@
-use Rattle.std.proofs.Common.{◌≡◌, List, map, subst}
-use Rattle.std.specs.List.{All}
-use Rattle.std.specs.Prelude.{IfErr, OnOk}
+use Rattle.std.proofs.Common.{◌≡◌, List, map, subst, All, IfErr, OnOk}
 use Rattle.desk_model.specs.Damage.{IsDamagedEntries}
 use Rattle.desk_parts.specs.declared.file_table.FileTable.TheVariants as tables
 use Rattle.desk_parts.specs.FileRows.{HasUtf8Texts, entries_in}

@@ -1,5 +1,4 @@
-use Rattle.std.proofs.Common.{◌==◌, ℕ, List, length, sym, ap, ◌∙◌}
-use Rattle.std.proofs.lemmas.Bool.{eqb-true}
+use Rattle.std.proofs.Common.{◌==◌, ℕ, List, length, sym, ap, ◌∙◌, eqb-true}
 use Rattle.std.proofs.lemmas.List.{nil_from_length}
 use Rattle.desk_rebuild.proofs.CellRows.{IsBehind-start, IsBehind-next, IsBehind-goes_on, IsBehind-ends, IsBehind-empty}
 use Rattle.desk_rebuild.proofs.caches.is_braille.Goals as goal

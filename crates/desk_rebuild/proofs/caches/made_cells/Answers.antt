@@ -1,5 +1,4 @@
-use Rattle.std.proofs.Common.{List, map, subst, sym, ap, ◌∙◌}
-use Rattle.std.specs.List.{All}
+use Rattle.std.proofs.Common.{List, map, subst, sym, ap, ◌∙◌, All}
 use Rattle.desk_memory.specs.declared.paragraphs.Paragraph.{Paragraph as KeptParagraph}
 use Rattle.desk_rebuild.specs.Rows.{HasCells, without_cells}
 use Rattle.desk_rebuild.specs.Caches.{AreTheirCells, IsTranslatable}

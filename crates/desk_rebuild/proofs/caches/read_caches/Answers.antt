@@ -1,5 +1,4 @@
-use Rattle.std.proofs.Common.{◌≤◌, List, length, map, subst, sym, ap, ◌∙◌, rules, w64, FitsSigned}
-use Rattle.std.specs.List.{All}
+use Rattle.std.proofs.Common.{◌≤◌, List, length, map, subst, sym, ap, ◌∙◌, rules, w64, FitsSigned, All}
 use Rattle.std.proofs.lemmas.Int.{to_z-of_z}
 use Rattle.desk_memory.specs.declared.paragraphs.Paragraph.{Paragraph as KeptParagraph}
 use Rattle.desk_model.specs.Damage.{IsDamagedCache}

@@ -1,5 +1,4 @@
-use Rattle.std.proofs.Common.{[]}
-use Rattle.std.specs.Prelude.{map}
+use Rattle.std.proofs.Common.{[], map}
 use Rattle.desk_rebuild.specs.Entries.{AreGrouped}
 use Rattle.desk_rebuild.proofs.entries.no_rows.Given as goal
 

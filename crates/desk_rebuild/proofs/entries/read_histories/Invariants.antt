@@ -1,5 +1,4 @@
-use Rattle.std.proofs.Common.{length}
-use Rattle.std.specs.Prelude.{map}
+use Rattle.std.proofs.Common.{length, map}
 use Rattle.desk_rebuild.proofs.ReadGroups.{HaveReadTo}
 use Rattle.desk_rebuild.proofs.entries.read_histories.Given as goal
 

@@ -1,7 +1,4 @@
-use Rattle.std.proofs.Common.{arith, ◌≡◌, pos, refl, sym, ap, subst, ◌∙◌, rules}
-use Rattle.std.specs.List.{position}
-use Rattle.std.specs.Option.{is_some}
-use Rattle.std.specs.Str.{chars}
+use Rattle.std.proofs.Common.{arith, ◌≡◌, pos, refl, sym, ap, subst, ◌∙◌, rules, position, is_some, chars}
 use Rattle.std.proofs.lemmas.Bool.{both_ways}
 use Rattle.std.proofs.lemmas.Int.{ints, to_z-of_z}
 use Rattle.std.proofs.lemmas.Str.{chars_from_encodes}

@@ -1,5 +1,4 @@
-use Rattle.std.proofs.Common.{◌≡◌, ℕ, List, arith, length, w64, inl, inr, sym, ap, subst, ◌∙◌, rules}
-use Rattle.std.specs.Str.{chars}
+use Rattle.std.proofs.Common.{◌≡◌, ℕ, List, arith, length, w64, inl, inr, sym, ap, subst, ◌∙◌, rules, chars}
 use Rattle.std.proofs.lemmas.Bool.{eqb-true, both_ways}
 use Rattle.std.proofs.lemmas.Int.{to_z-of_z}
 use Rattle.std.proofs.lemmas.List.{nil_from_length}

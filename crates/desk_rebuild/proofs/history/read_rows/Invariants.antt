@@ -1,5 +1,4 @@
-use Rattle.std.proofs.Common.{◌≡◌, length, take}
-use Rattle.std.specs.Str.{chars}
+use Rattle.std.proofs.Common.{◌≡◌, length, take, chars}
 use Rattle.desk_rebuild.specs.History.{IsRead}
 use Rattle.desk_rebuild.proofs.ReadRows.{AreSoundTo}
 use Rattle.desk_rebuild.proofs.history.read_rows.Given as goal

@@ -1,8 +1,5 @@
-use Rattle.std.proofs.Common.{◌≡◌, pos, refl, sym, ap, ◌∙◌, rules, ℕ, []}
-use Rattle.std.specs.Prelude.{string_bytes}
-use Rattle.std.proofs.lemmas.Bool.{eqb-true}
+use Rattle.std.proofs.Common.{◌≡◌, pos, refl, sym, ap, ◌∙◌, rules, ℕ, [], string_bytes, eqb-true, option_map}
 use Rattle.std.proofs.lemmas.List.{nil_from_length}
-use Rattle.std.specs.Prelude.{option_map}
 use Rattle.desk_model.specs.Book.{Replacement}
 use Rattle.desk_model.specs.Damage.{IsSoundUndo}
 use Rattle.desk_memory.specs.Histories.{entries_kept}

@@ -1,8 +1,4 @@
-use Rattle.std.proofs.Common.{◌≡◌, ℕ, ◌≤◌, Bool, true, false, List, length, Option, Some, None, refl, sym, arith}
-use Rattle.std.specs.List.{position}
-use Rattle.std.specs.Option.{is_some}
-use Rattle.std.specs.Prelude.{IsTrue, not}
-use Rattle.std.specs.Str.{chars}
+use Rattle.std.proofs.Common.{◌≡◌, ℕ, ◌≤◌, Bool, true, false, List, length, Option, Some, None, refl, sym, arith, position, is_some, IsTrue, not, chars}
 use Rattle.desk_rebuild.specs.Marks.{IsNoteText}
 use Rattle.desk_model.specs.Limits.{most_note}
 use Rattle.desk_model.specs.NormalForm.{is_barred}

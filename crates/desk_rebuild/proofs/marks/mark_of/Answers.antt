@@ -1,8 +1,6 @@
-use Rattle.std.proofs.Common.{◌≡◌, ℕ, ℤ, pos, nat_abs, Bool, List, length, SFits, to_z, of_z, w64, refl, subst, sym, ap, ◌∙◌, arith, rules}
+use Rattle.std.proofs.Common.{◌≡◌, ℕ, ℤ, pos, nat_abs, Bool, List, length, SFits, to_z, of_z, w64, refl, subst, sym, ap, ◌∙◌, arith, rules, MatchOption, string_bytes, chars}
 use Rattle.std.proofs.lemmas.Int.{to_z-of_z}
 use Rattle.std.proofs.lemmas.Str.{IsUtf8-string_bytes}
-use Rattle.std.specs.Prelude.{MatchOption, string_bytes}
-use Rattle.std.specs.Str.{chars}
 use Rattle.desk_model.specs.Damage.{IsFlag}
 use Rattle.desk_rebuild.specs.Marks.{HasId, IsKeptOf, IsMarkOn, IsNoteText, IsSpan}
 use Rattle.desk_parts.specs.declared.file_table.FileTable.TheVariants as tables

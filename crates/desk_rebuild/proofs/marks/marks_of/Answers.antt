@@ -1,5 +1,4 @@
-use Rattle.std.proofs.Common.{◌≡◌, ◌+◌, ◌∷◌, ◌++◌, [], List, length, append_assoc, subst, sym, ap, ◌∙◌, rules}
-use Rattle.std.proofs.lemmas.List.{length-append}
+use Rattle.std.proofs.Common.{◌≡◌, ◌+◌, ◌∷◌, ◌++◌, [], List, length, append_assoc, subst, sym, ap, ◌∙◌, rules, length-append}
 use Rattle.std.specs.Vec.Iter.{into_iter_items}
 use Rattle.desk_rebuild.specs.Marks.{IsKeptOf, mark_rule}
 use Rattle.desk_rebuild.specs.OrderedRows.{AreKeptUpTo, IsSoundAt}

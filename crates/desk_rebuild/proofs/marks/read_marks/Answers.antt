@@ -1,6 +1,4 @@
-use Rattle.std.proofs.Common.{◌≤◌, List, Err, Ok, length, sym, subst, ◌∙◌}
-use Rattle.std.specs.List.{All}
-use Rattle.std.specs.Prelude.{IfErr}
+use Rattle.std.proofs.Common.{◌≤◌, List, Err, Ok, length, sym, subst, ◌∙◌, All, IfErr}
 use Rattle.desk_memory.specs.declared.marks.KeptMark.{KeptMark}
 use Rattle.desk_memory.specs.declared.paragraphs.Paragraph.{Paragraph as KeptParagraph}
 use Rattle.desk_parts.specs.declared.file_table.FileTable.TheVariants.{Mark as MarkTable}

@@ -1,5 +1,4 @@
-use Rattle.std.proofs.Common.{◌≡◌, List, [], length}
-use Rattle.std.specs.List.{All}
+use Rattle.std.proofs.Common.{◌≡◌, List, [], length, All}
 use Rattle.desk_rebuild.specs.declared.paras.OrderedParas.{OrderedParas}
 use Rattle.desk_memory.specs.declared.paragraphs.Paragraph.{Paragraph as KeptParagraph}
 use Rattle.desk_parts.specs.declared.file_table.FileTable.TheVariants.{Para as ParaTable}

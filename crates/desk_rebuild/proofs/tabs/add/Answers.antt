@@ -1,8 +1,6 @@
-use Rattle.std.proofs.Common.{true≢false, ◌≡◌, ◌+◌, ◌∷◌, ◌++◌, pos, ◌+ℤ◌, Err, length, w64, to_z, of_z, subst, sym, ap, ◌∙◌, arith, rules}
+use Rattle.std.proofs.Common.{true≢false, ◌≡◌, ◌+◌, ◌∷◌, ◌++◌, pos, ◌+ℤ◌, Err, length, w64, to_z, of_z, subst, sym, ap, ◌∙◌, arith, rules, [], IfErr, None, nat_eq, string_bytes, chars}
 use Rattle.std.specs.Map.{lookup}
-use Rattle.std.specs.Prelude.{[], IfErr, None, nat_eq, string_bytes}
 use Rattle.louis_table.specs.Table.{Means}
-use Rattle.std.specs.Str.{chars}
 use Rattle.std.specs.Cmp.Lexicographic.{pointwise}
 use Rattle.std.proofs.lemmas.Result.{err_from_is_err_and}
 use Rattle.desk_parts.specs.declared.file_table.FileTable.TheVariants as tables

@@ -1,5 +1,4 @@
-use Rattle.std.proofs.Common.{List}
-use Rattle.std.specs.List.Sorted.{IsPermutation}
+use Rattle.std.proofs.Common.{List, IsPermutation}
 use Rattle.std.proofs.lemmas.List.Sorted.{IsPermutation-map}
 use Rattle.desk_parts.specs.declared.file_table.FileTable.TheVariants.{Tab}
 use Rattle.desk_model.specs.Damage.{IsDamagedTab}

@@ -1,5 +1,4 @@
-use Rattle.std.proofs.Common.{◌≡◌, ◌+◌, ◌≤◌, ℕ, true, is_ok, length, None, subst, sym, ap, ap₂, ◌∙◌, arith, option_map}
-use Rattle.std.specs.Prelude.{vec_capacity}
+use Rattle.std.proofs.Common.{◌≡◌, ◌+◌, ◌≤◌, ℕ, true, is_ok, length, None, subst, sym, ap, ap₂, ◌∙◌, arith, option_map, vec_capacity}
 use Rattle.desk_memory.specs.Room.{Suffices, grown, room_of}
 use Rattle.desk_memory.proofs.RoomLists.{grown-within, room_of-more}
 use Rattle.desk_memory.proofs.items.Items.with_item_at.Goals as goal

@@ -1,6 +1,4 @@
-use Rattle.std.proofs.Common.{◌≡◌, ◌+◌, ◌<◌, [], ◌∷◌, Some, get_or, length, refl, sym, ap, ◌∙◌, rules}
-use Rattle.std.specs.List.{flat_map}
-use Rattle.std.specs.Prelude.{slice_get}
+use Rattle.std.proofs.Common.{◌≡◌, ◌+◌, ◌<◌, [], ◌∷◌, Some, get_or, length, refl, sym, ap, ◌∙◌, rules, flat_map, slice_get}
 use Rattle.std.proofs.lemmas.Option.{slice_get-get_or}
 use Rattle.desk_memory.specs.declared.marks.KeptMark.{KeptMark}
 use Rattle.desk_memory.specs.Kept.{mark_kept}

@@ -1,11 +1,10 @@
-use Rattle.std.proofs.Common.{◌≡◌, ℕ, List, ◌-◌, length, slice_get, Some, None, refl, sym, ap, ◌∙◌, arith}
+use Rattle.std.proofs.Common.{◌≡◌, ℕ, List, ◌-◌, length, slice_get, Some, None, refl, sym, ap, ◌∙◌, arith, IsPermutation}
 use Rattle.std.proofs.lemmas.Option.{slice_get_read}
 use Rattle.desk_memory.proofs.Arranging.{AreUpTo-order, IsUpTo, slice_get_none-in_order, slice_get_some-in_order}
 use Rattle.desk_model.proofs.Lists.Items.{All-slice_get, option_copied-item}
 use Rattle.desk_memory.proofs.WalkedLists.{lent-there}
 use Rattle.std.specs.Borrow.{Bor}
 use Rattle.std.specs.List.{range_with_len}
-use Rattle.std.specs.List.Sorted.{IsPermutation}
 use Rattle.std.specs.Slice.{IsItemAt}
 use Rattle.desk_memory.proofs.paragraphs.Paragraphs.at.Goals as goal
 

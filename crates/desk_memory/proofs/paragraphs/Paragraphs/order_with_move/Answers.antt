@@ -1,5 +1,4 @@
-use Rattle.std.proofs.Common.{◌≡◌, ◌==◌, cond, false, true, not, sym, ap, ◌∙◌}
-use Rattle.std.specs.List.{filter}
+use Rattle.std.proofs.Common.{◌≡◌, ◌==◌, cond, false, true, not, sym, ap, ◌∙◌, filter}
 use Rattle.desk_memory.specs.Kept.{ids, with_id}
 use Rattle.desk_model.specs.Step.{is_after}
 use Rattle.desk_memory.proofs.Arranging.{ids-shown}

@@ -1,6 +1,4 @@
-use Rattle.std.proofs.Common.{◌≡◌, ◌+◌, [], length, Some, None, subst, sym, ap, ap₂, ◌∙◌, arith}
-use Rattle.std.specs.List.{Contains, insert, position}
-use Rattle.std.specs.Prelude.{nat_eq}
+use Rattle.std.proofs.Common.{◌≡◌, ◌+◌, [], length, Some, None, subst, sym, ap, ap₂, ◌∙◌, arith, Contains, insert, position, nat_eq}
 use Rattle.desk_model.specs.declared.command.Anchor.{Anchor}
 use Rattle.desk_model.specs.declared.command.Anchor.TheVariants.{End, Para}
 use Rattle.desk_memory.specs.Kept.{ids, with_id}

@@ -1,6 +1,5 @@
-use Rattle.std.proofs.Common.{◌≡◌, length, map, vec_len, sym, ap, ap₂, ◌∙◌}
+use Rattle.std.proofs.Common.{◌≡◌, length, map, vec_len, sym, ap, ap₂, ◌∙◌, flat_map}
 use Rattle.std.proofs.lemmas.List.{with_items_is}
-use Rattle.std.specs.List.{flat_map}
 use Rattle.desk_memory.specs.declared.paragraphs.Paragraphs.TheInside.{Inside}
 use Rattle.desk_memory.specs.Kept.{paragraph_with_id, renewed_items, with_new_cells}
 use Rattle.desk_memory.proofs.Renewing.{length-renewed_items, with_new_cells-in_order}

@@ -1,7 +1,5 @@
-use Rattle.std.proofs.Common.{◌≡◌, ◌+◌, ◌∷◌, ◌++◌, [], length, subst, sym, ap, ap₂, ◌∙◌, arith}
+use Rattle.std.proofs.Common.{◌≡◌, ◌+◌, ◌∷◌, ◌++◌, [], length, subst, sym, ap, ap₂, ◌∙◌, arith, IsPermutation, length-append}
 use Rattle.std.specs.List.{flat_map, insert, range_with_len}
-use Rattle.std.specs.List.Sorted.{IsPermutation}
-use Rattle.std.proofs.lemmas.List.{length-append}
 use Rattle.desk_memory.specs.Kept.{ids, in_order_of, paragraph_with_id}
 use Rattle.desk_memory.specs.Room.{Suffices}
 use Rattle.desk_memory.proofs.Arranging.{ids-shown, in_order_of-pushed, length-order, length-shown}

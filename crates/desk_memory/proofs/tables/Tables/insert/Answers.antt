@@ -1,7 +1,5 @@
-use Rattle.std.proofs.Common.{[], sym, refl}
+use Rattle.std.proofs.Common.{[], sym, refl, string_eq, chars}
 use Rattle.std.specs.String.{string_bytes, string_eq_equiv}
-use Rattle.std.specs.Prelude.{string_eq}
-use Rattle.std.specs.Str.{chars}
 use Rattle.desk_memory.proofs.ByName.{by_name-joined, insert_all-distinct}
 use Rattle.desk_memory.proofs.tables.Tables.insert.Goals as goal
 

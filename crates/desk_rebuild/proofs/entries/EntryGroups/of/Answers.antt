@@ -1,4 +1,4 @@
-use Rattle.std.proofs.Common.{◌≡◌, ◌+◌, ◌++◌, ◌∷◌, ◌≤ℤ◌, ◌⊎◌, ℤ, [], pos, Some, length, refl, sym, ap, subst, ◌∙◌, arith, w64, of_z, to_z}
+use Rattle.std.proofs.Common.{◌≡◌, ◌+◌, ◌++◌, ◌∷◌, ◌≤ℤ◌, ◌⊎◌, ℤ, [], pos, Some, length, refl, sym, ap, subst, ◌∙◌, arith, w64, of_z, to_z, All, IsUtf8, String, string_bytes}
 use Rattle.std.proofs.lemmas.Int.{ints}
 use Rattle.std.proofs.lemmas.Iterator.Adapters.{YieldsList-from_vec}
 use Rattle.std.proofs.lemmas.Iterator.Consumers.{YieldsList-end}
@@ -6,8 +6,6 @@ use Rattle.std.proofs.lemmas.List.{length-map, map-id}
 use Rattle.std.proofs.lemmas.Option.{slice_get_read}
 use Rattle.std.proofs.lemmas.List.Elements.{All-push}
 use Rattle.std.proofs.lemmas.Str.{IsUtf8-string_bytes}
-use Rattle.std.specs.List.{All}
-use Rattle.std.specs.Prelude.{IsUtf8, String, string_bytes}
 use Rattle.desk_parts.specs.declared.file_table.FileTable.TheVariants as tables
 use Rattle.desk_parts.specs.FileRows.{HasUtf8Texts}
 use Rattle.desk_parts.specs.declared.rows.NamedCorrRow.TheInside.{Inside}

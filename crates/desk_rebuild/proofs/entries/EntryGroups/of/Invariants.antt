@@ -1,5 +1,4 @@
-use Rattle.std.specs.List.{All}
-use Rattle.std.specs.Prelude.{map}
+use Rattle.std.proofs.Common.{All, map}
 use Rattle.desk_rebuild.specs.Entries.{AreGrouped, IsFirstStray}
 use Rattle.desk_parts.specs.declared.file_table.FileTable.TheVariants as tables
 use Rattle.desk_parts.specs.FileRows.{HasUtf8Texts}

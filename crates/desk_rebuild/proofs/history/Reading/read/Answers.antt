@@ -1,6 +1,4 @@
-use Rattle.std.proofs.Common.{◌≡◌, ◌+◌, pos, w64, to_z, of_z, ◌+ℤ◌, inr, sym, ap, subst, ◌∙◌, refl, arith, Option, length, ◌++◌, ◌∷◌, []}
-use Rattle.std.specs.Prelude.{IfNone, IfSome}
-use Rattle.std.specs.Result.{is_ok}
+use Rattle.std.proofs.Common.{◌≡◌, ◌+◌, pos, w64, to_z, of_z, ◌+ℤ◌, inr, sym, ap, subst, ◌∙◌, refl, arith, Option, length, ◌++◌, ◌∷◌, [], IfNone, IfSome, is_ok}
 use Rattle.std.proofs.lemmas.Bool.{cond-true}
 use Rattle.std.proofs.lemmas.Int.{ints, to_z-of_z}
 use Rattle.desk_rebuild.specs.declared.history.Next.{Next}
