@@ -5,7 +5,7 @@ print there may be a curved one, a dash, a no-break space, or a capital at the f
 """
 
 from collections.abc import Iterable, Iterator, Sequence
-from dataclasses import dataclass
+from dataclasses import dataclass, replace
 from enum import Enum, auto
 
 from braildesk import Paragraph, Session
@@ -86,22 +86,25 @@ class Tally:
     paragraphs: int = 0
     kinds: tuple[Variant, ...] = ()
 
-    def with_hit(self, hit: Hit, sought: str) -> "Tally":
-        """With those of another paragraph."""
+    def with_hit(self, hit: Hit) -> "Tally":
+        """With those of another paragraph, which are what was looked for."""
+        return Tally(self.count + len(hit.places), self.paragraphs + 1, self.kinds)
+
+    def with_alike(self, hit: Hit, sought: str) -> "Tally":
+        """With those of another paragraph, which are like it."""
         found = {hit.text[start:stop] for start, stop in hit.places} - {sought}
+        if not found:
+            return self.with_hit(hit)
         kinds = set(self.kinds).union(*(unlike(sought, words) for words in found))
-        return Tally(
-            self.count + len(hit.places),
-            self.paragraphs + 1,
-            tuple(kind for kind in Variant if kind in kinds) if found else self.kinds,
-        )
+        its = tuple(kind for kind in Variant if kind in kinds)
+        return replace(self.with_hit(hit), kinds=its)
 
 
 def tallied(found: Iterable[Hit], sought: str) -> Tally:
     """How much was found."""
     tally = Tally()
     for hit in found:
-        tally = tally.with_hit(hit, sought)
+        tally = tally.with_alike(hit, sought)
     return tally
 
 

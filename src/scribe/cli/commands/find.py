@@ -70,8 +70,8 @@ def answer(session: Session, arguments: Namespace, console: Console) -> None:
     tally = others = Tally()
     pages = page_map(arguments, session)
     if arguments.braille:
-        for hit in find_cells(session, sought := cells(arguments)):
-            tally = tally.with_hit(hit, sought)
+        for hit in find_cells(session, cells(arguments)):
+            tally = tally.with_hit(hit)
             found, where = print_of(session, hit), _of_cells(pages, hit)
             console.show(*cell_lines(hit, *found, width, console.cells, where))
     else:
@@ -79,7 +79,8 @@ def answer(session: Session, arguments: Namespace, console: Console) -> None:
         hits: Iterable[Hit] = find_words(session, text, form)
         # while these are being found, nothing else can be asked
         for hit in hits if pages is None else list(hits):
-            tally = tally.with_hit(hit, text)
+            is_alike = arguments.alike
+            tally = tally.with_alike(hit, text) if is_alike else tally.with_hit(hit)
             console.show(*word_lines(hit, width, _of_words(pages, hit)))
         if not (tally.count or arguments.alike):
             others = tallied(find_words(session, text, alike), text)
