@@ -131,15 +131,19 @@ class Console:
 
     def show(self, *lines: str) -> None:
         """Writes lines that a person asked for."""
-        self._write(self._lines(lines, _INDENT))
+        if self.width is None and "".join(lines).isprintable():
+            # nothing of them is written out or broken, as is so of most for another program
+            self._write("\n".join((*lines, "")))
+        else:
+            self._write("".join(self._lines(lines, _INDENT)))
 
     def pass_on(self, *lines: str) -> None:
         """Writes lines that another program reads, as long as they come."""
-        self._write(visible(line) + "\n" for line in lines)
+        self._write("".join(visible(line) + "\n" for line in lines))
 
-    def _write(self, lines: Iterable[str]) -> None:
+    def _write(self, text: str) -> None:
         try:
-            self.output.write("".join(lines))
+            self.output.write(text)
         except OSError as cause:
             raise OutputFailed(cause) from cause
 

@@ -41,13 +41,11 @@ def word_lines(
     It is said where that is on the pages, if this was asked for.
     """
     title, excerpts = _title(hit), Excerpts(hit.text)
-    return [
-        line
-        for start, stop in hit.places
-        for line in excerpts.lines(
-            f"{title}{where(start)}, character {start + 1}: ", start, stop, width
-        )
-    ]
+    lines: list[str] = []
+    for start, stop in hit.places:
+        head = f"{title}{where(start)}, character {start + 1}: "
+        lines += excerpts.lines(head, start, stop, width)
+    return lines
 
 
 def cell_lines(
