@@ -3,7 +3,6 @@
 import time
 import unicodedata
 from collections.abc import (
-    Callable,
     ItemsView,
     Iterable,
     Iterator,
@@ -25,7 +24,7 @@ from braildesk.desk.validation import faults
 from braildesk.protocol import requests
 from braildesk.tables import read, warnings
 from braildesk.tables.convert.shipped import head_of
-from braildesk.text import sequences, wrapping
+from braildesk.text import sequences
 from braildesk.text.sequences import belongs, composed
 from braildesk.text.spans import find_spans
 from braildesk.text.wrapping import wrap
@@ -148,13 +147,13 @@ def test_a_text_is_measured_once_for_all_places_that_are_found_in_it(
     monkeypatch: pytest.MonkeyPatch,
 ) -> None:
     measured: list[int] = []
-    of_text = wrapping.measure
+    of_text = sequences.is_plain
 
-    def measure(text: str) -> Callable[[str], int]:
+    def is_plain(text: str) -> bool:
         measured.append(len(text))
         return of_text(text)
 
-    monkeypatch.setattr("braildesk.text.excerpt.measure", measure)
+    monkeypatch.setattr("braildesk.text.excerpt.is_plain", is_plain)
     text = "the moon " * 1_000
     its = Paragraph(1, "en", Style.BODY, False, False, len(text))
     lines = list(word_lines(Hit(its, text, find_spans(text, "moon")), 80))

@@ -4,7 +4,7 @@ from collections.abc import Callable, Sequence
 
 from braildesk.text.cells import BLANKS, EMPTY_CELL
 from braildesk.text.characters import visible
-from braildesk.text.sequences import sequences
+from braildesk.text.sequences import is_plain, sequences
 from braildesk.text.wrapping import columns, measure, wrap
 
 _CUT = "…"
@@ -20,8 +20,7 @@ class Excerpts:
     def __init__(self, text: str) -> None:
         self._text = text
         self._spaced = _spaced(text)
-        #: Whether each character stands for itself, in one column.
-        self._is_plain = visible(text) == text and measure(text) is len
+        self._is_plain = is_plain(text)
 
     def line(self, start: int, stop: int, width: int) -> str:
         """The words from one place to another in brackets, and words around them, in a line.

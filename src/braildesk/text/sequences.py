@@ -21,6 +21,8 @@ _SENTENCE = r"[.!?\u2026][\u201d\u2019\u00bb\"')\]]*\s+"
 # characters that never belong to the one before them: those of Latin, of punctuation and of braille
 _ALONE = "\0-\u02ff\u2010-\u2027\u2800-\u28ff"
 _ALL_ALONE = re.compile(f"[{_ALONE}]*")
+#: Latin letters, the signs that stand among them, and braille, without what isn't seen.
+PLAIN = re.compile("[ -~\u00a0-\u00ac\u00ae-\u02ff\u2010-\u2027\u2800-\u28ff]*")
 _LATE = re.compile(f"[^{_ALONE}]")
 JOINING_JAMO = range(0x1160, 0x1200)
 _MORE_JOINING_JAMO = range(0xD7B0, 0xD800)
@@ -39,6 +41,17 @@ def belongs(before: str, character: str) -> bool:
         return True
     # letters that join, as there are since Unicode 16
     return len(unicodedata.normalize("NFC", before + character)) < 2
+
+
+# a text in which words are found is shown after that
+@lru_cache(maxsize=8)
+def is_plain(text: str) -> bool:
+    """Whether each character is a sequence of its own, which is seen and takes one column.
+
+    It may be so of a text of other characters than those of Latin and of braille too.
+    """
+    is_ascii = text.isascii() and text.isprintable()
+    return is_ascii or PLAIN.fullmatch(text) is not None
 
 
 def seams(text: str) -> Sequence[int]:

@@ -6,15 +6,13 @@ from collections.abc import Callable
 from functools import lru_cache
 
 from braildesk.text.cells import BLANKS
-from braildesk.text.sequences import JOINING_JAMO, sequences
+from braildesk.text.sequences import JOINING_JAMO, PLAIN, sequences
 
 # the most that a tab takes
 TAB_COLUMNS = 8
 _BLANKS = "".join(BLANKS)
 # a text that ends in blanks would be looked through from each of them to its end
 _WORD = re.compile(f"([{_BLANKS}]*)([^{_BLANKS}]+)")
-# characters of one column each: Latin letters, the signs that stand among them, and braille
-_NARROW = re.compile("[ -~\u00a0-\u02ff\u2010-\u2027\u2800-\u28ff]*")
 _UNSEEN = ("Mn", "Me")
 # where characters that are no part of Unicode yet will be ideographs
 _IDEOGRAPHS = (range(0xFA6E, 0xFB00), range(0x20000, 0x2FFFE), range(0x30000, 0x3FFFE))
@@ -23,15 +21,15 @@ _IDEOGRAPHS = (range(0xFA6E, 0xFB00), range(0x20000, 0x2FFFE), range(0x30000, 0x
 def columns(text: str) -> int:
     """How many columns of a terminal a text takes."""
     # the first is far quicker, and texts of ASCII are many
-    if text.isascii() and text.isprintable() or _NARROW.fullmatch(text):
+    if text.isascii() and text.isprintable() or PLAIN.fullmatch(text):
         return len(text)
     return sum(map(_columns_of, text))
 
 
 def measure(text: str) -> Callable[[str], int]:
     """What gives the columns that a part of a text takes."""
-    is_plain = text.isascii() and text.isprintable()
-    return len if is_plain or _NARROW.fullmatch(text) else columns
+    is_ascii = text.isascii() and text.isprintable()
+    return len if is_ascii or PLAIN.fullmatch(text) else columns
 
 
 def wrap(text: str, width: int, indent: str = "") -> list[str]:
