@@ -9,7 +9,6 @@ from bisect import bisect_right
 from collections.abc import Iterable, Iterator, Sequence
 from dataclasses import dataclass
 from functools import cached_property
-from io import StringIO
 from itertools import groupby, islice
 
 from braildesk import Style
@@ -90,7 +89,7 @@ class Passage:
 
     @property
     def _joined(self) -> str:
-        return " ".join(line.text for line in self.lines)
+        return " ".join([line.text for line in self.lines])
 
     def position(self, place: int) -> Position:
         """Where in the file a place of the print comes from, by the front of its sequence."""
@@ -161,9 +160,13 @@ def _parted(lines: Iterator[TextLine], by_lines: bool) -> Iterator[Passage]:
 
 def text_lines(data: bytes) -> Iterator[str]:
     """The lines of a text, as they are between their ends; raises `UnreadableText`."""
+    text, front = decoded(data), 0
     # lines are taken one by one, since a text may have millions that are blank
-    for whole in StringIO(decoded(data), newline="\n"):
-        yield whole.removesuffix("\n").removesuffix("\r")
+    while (end := text.find("\n", front)) >= 0:
+        yield text[front:end].removesuffix("\r")
+        front = end + 1
+    if front < len(text):
+        yield text[front:].removesuffix("\r")
 
 
 def _lines(data: bytes) -> Iterator[TextLine]:

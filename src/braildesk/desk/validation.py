@@ -8,6 +8,7 @@ from dataclasses import dataclass
 from braildesk import Refused, Table, translate
 from braildesk.desk.manuscript import Passage, Position
 from braildesk.text import limits
+from braildesk.text.characters import characters_of
 
 
 @dataclass(frozen=True)
@@ -39,32 +40,29 @@ class TextFault:
     """What is at fault in a text, and where it is first."""
 
     position: Position
-    what: Barred | Lacking | TooLongPassage | Refused
+    what: Barred | Lacking | TooLongPassage
     #: The paragraph that has it.
     passage: Passage
 
 
 def faults(passages: Sequence[Passage], table: Table) -> list[TextFault]:
-    """Each character that can't be typed with a table, and each paragraph that is too long."""
-    unprintable = "".join(p.text for p in passages if not p.text.isprintable())
-    barred = {each for each in set(unprintable) if unicodedata.category(each) == "Cc"}
-    lines = [each for each in passages if not _is_faulty(each, barred)]
-    answers = translate(table, [each.text for each in lines])
-    is_refused = any(isinstance(each, Refused) for each in answers)
-    if len(lines) == len(passages) and not is_refused:
-        # as of most texts, of which no character has to be looked at by itself
-        return []
+    """Each character that can't be typed with a table, and each paragraph that is too long.
+
+    A table refuses nothing else of a print but characters that it doesn't define, and a character
+    is defined or isn't wherever it stands. So each is asked for once, by itself.
+    """
     whole = "".join(passage.text for passage in passages)
-    others = sorted(set(whole) - barred)
+    there = characters_of(whole)
+    barred = {each for each in there if unicodedata.category(each) == "Cc"}
+    others = sorted(there - barred)
     lacking = _refused(others, translate(table, others))
-    counts = Counter(whole)
+    counts = Counter(whole if barred or lacking else "")
     found = [
         *_of_characters(passages, barred, lambda each: Barred(each, counts[each])),
         *_of_characters(
             passages, lacking, lambda each: Lacking(each, counts[each], table.name)
         ),
         *(_too_long(each) for each in passages if _is_too_long(each)),
-        *_of_lines(lines, answers, lacking),
     ]
     return sorted(found, key=lambda fault: fault.position)
 
@@ -72,11 +70,6 @@ def faults(passages: Sequence[Passage], table: Table) -> list[TextFault]:
 def _refused(asked: Sequence[str], answers: Sequence[str | Refused]) -> set[str]:
     pairs = zip(asked, answers)
     return {character for character, answer in pairs if isinstance(answer, Refused)}
-
-
-def _is_faulty(passage: Passage, unfit: set[str]) -> bool:
-    has_unfit = bool(unfit) and not unfit.isdisjoint(passage.text)
-    return has_unfit or _is_too_long(passage)
 
 
 def _is_too_long(passage: Passage) -> bool:
@@ -111,12 +104,3 @@ def _first_places(text: str, sought: Collection[str]) -> dict[str, int]:
 def _too_long(passage: Passage) -> TextFault:
     position = passage.position(limits.PRINT_CHARACTERS)
     return TextFault(position, TooLongPassage(passage), passage)
-
-
-def _of_lines(
-    passages: Sequence[Passage], answers: Sequence[str | Refused], lacking: set[str]
-) -> Iterator[TextFault]:
-    """What the table refuses of whole paragraphs but those of characters that it lacks: nothing."""
-    for passage, answer in zip(passages, answers):
-        if isinstance(answer, Refused) and not _is_faulty(passage, lacking):
-            yield TextFault(passage.position(answer.place or 0), answer, passage)

@@ -35,6 +35,15 @@ _UNSEEN = frozenset({"Cc", "Cf", "Cs", "Zl", "Zp"})
 # U+0000 to U+001F but the tab, and U+007F to U+009F, as UTF-8
 _CONTROL = re.compile(rb"[\x00-\x08\x0a-\x1f\x7f]|\xc2[\x80-\x9f]")
 
+_ASCII = bytes(range(0x80))
+
+
+def characters_of(text: str) -> set[str]:
+    """The characters that a text has. Those of ASCII, of which most texts are, are looked for."""
+    data = text.encode("utf-8", "surrogatepass")
+    beyond = data.translate(None, _ASCII).decode("utf-8", "surrogatepass")
+    return {chr(code) for code in _ASCII if code in data}.union(beyond)
+
 
 def is_visible(character: str) -> bool:
     """Whether it is seen within a text: no control, and no blank but the space of every text."""

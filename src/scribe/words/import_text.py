@@ -482,19 +482,17 @@ def _place(fault: TextFault) -> str:
     return f"line {line}, column {column}"
 
 
-def _fault(what: Barred | Lacking | TooLongPassage | Refused) -> str:
+def _fault(what: Barred | Lacking | TooLongPassage) -> str:
     match what:
         case Barred(character=character, count=count):
             return f"{characters.code_and_name(character)} is a control character. {_often(count)}"
         case Lacking(character=character, count=count, table=table):
             named = characters.named(character)
             return f"{named} has no cells by the table {table}. {_often(count)}"
-        case TooLongPassage(passage=passage):
-            return (
-                f"The paragraph of {lines_of(passage)} has {len(passage.text):,} characters, and a"
-                f" paragraph has at most {limits.PRINT_CHARACTERS:,}. This is the first beyond."
-            )
-    return what.sentence
+    return (
+        f"The paragraph of {lines_of(what.passage)} has {len(what.passage.text):,} characters, and a"
+        f" paragraph has at most {limits.PRINT_CHARACTERS:,}. This is the first beyond."
+    )
 
 
 def _often(count: int) -> str:
