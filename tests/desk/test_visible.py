@@ -7,7 +7,7 @@ from pathlib import Path
 import pytest
 
 from braildesk.tables.convert.draft import comment_lines
-from braildesk.text.characters import control_refused, near, visible
+from braildesk.text.characters import characters_of, control_refused, near, visible
 
 from scribe.words.console import Console
 from tool import scribe
@@ -26,6 +26,19 @@ from tool import scribe
 )
 def test_what_cannot_be_seen_is_written_out(text: str, wanted: str) -> None:
     assert visible(text) == wanted
+
+
+@pytest.mark.parametrize(
+    "text, wanted",
+    [
+        ("", set()),
+        ("moon\n", {"m", "o", "n", "\n"}),
+        # the last of them stand nowhere at the front
+        ("a月" * 5_000 + "\x00bé\udcff\U0001f319", set("a月\x00bé\udcff\U0001f319")),
+    ],
+)
+def test_all_characters_of_a_text_are_found(text: str, wanted: set[str]) -> None:
+    assert characters_of(text) == wanted
 
 
 def test_a_console_writes_out_what_would_move_the_cursor_or_end_a_line() -> None:

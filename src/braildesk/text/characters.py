@@ -35,14 +35,16 @@ _UNSEEN = frozenset({"Cc", "Cf", "Cs", "Zl", "Zp"})
 # U+0000 to U+001F but the tab, and U+007F to U+009F, as UTF-8
 _CONTROL = re.compile(rb"[\x00-\x08\x0a-\x1f\x7f]|\xc2[\x80-\x9f]")
 
-_ASCII = bytes(range(0x80))
+#: So many characters at the front of a text have nearly all that stand in the rest of it.
+_FRONT = 4_096
 
 
 def characters_of(text: str) -> set[str]:
-    """The characters that a text has. Those of ASCII, of which most texts are, are looked for."""
+    """The characters that a text has, of which only those are looked at that its front hasn't."""
+    known = {each for each in text[:_FRONT] if each.isascii()}
     data = text.encode("utf-8", "surrogatepass")
-    beyond = data.translate(None, _ASCII).decode("utf-8", "surrogatepass")
-    return {chr(code) for code in _ASCII if code in data}.union(beyond)
+    rest = data.translate(None, "".join(known).encode())
+    return known.union(rest.decode("utf-8", "surrogatepass"))
 
 
 def is_visible(character: str) -> bool:
