@@ -23,6 +23,9 @@ _READ = 1 << 16
 _LONG = 1_000
 #: How many seconds a program is waited for still, once somebody stopped the waiting.
 _PATIENCE = 2.0
+#: Of so many replies to commands that are to come none is waited for by itself, since the program would
+#: wake this process for each, but what comes within so many seconds.
+_MANY, _PAUSE = 64, 0.001
 
 
 @dataclass(frozen=True, eq=False)
@@ -77,6 +80,10 @@ class Pipe:
         self._queue: deque[bytes] = deque()
         self._queued_bytes = 0
         self._chunk = memoryview(b"")
+        #: How many requests were taken from the queue whose replies weren't given yet.
+        self._under_way = 0
+        #: Whether the newest of them is a command, which takes the program longer than a query.
+        self.is_of_commands = False
         self._writable = True
         self._is_closing = False
         #: How often replies were read.
@@ -128,6 +135,7 @@ class Pipe:
         """Takes the next reply, which is there. The caller notes it among the same steps."""
         reply = self._reader.pop()
         assert reply is not None
+        self._under_way -= 1
         return reply
 
     def push(self) -> None:
@@ -181,6 +189,7 @@ class Pipe:
                     parts.append(self._queue.popleft())
                     size += len(parts[-1])
                 self._queued_bytes -= size
+                self._under_way += len(parts)
                 self._chunk = memoryview(b"".join(parts))
         return bool(self._chunk)
 
@@ -207,6 +216,9 @@ class Pipe:
         Once somebody stopped that, as by Ctrl-C, a program that does nothing is ended by a signal.
         """
         try:
+            is_in_blocks = self.is_of_commands and self._under_way > _MANY
+            if is_in_blocks and not self._poll.poll(0):
+                time.sleep(_PAUSE)
             while not (found := self._poll.poll(_LONG)):
                 if self._until is None:
                     self._while_waiting()

@@ -294,7 +294,8 @@ class Session:
         """Queues a request, whose reply is waited for after those of the earlier ones."""
         if self._is_at_rest:
             self._judge_file(request)
-        if isinstance(request, Command):
+        self._pipe.is_of_commands = isinstance(request, Command)
+        if self._pipe.is_of_commands:
             self._file.lend()
         with self._pipe.steps:
             self._sent.append(request)
