@@ -243,7 +243,7 @@ def test_where_a_volume_fails_it_is_said_which_files_are_new_and_which_older(
     assert failed.value.status is Status.FAILED
     assert failed.value.sentence == (
         f"Volume 2 could not be written: Is a directory. {out}/moon-2.brf is as it was."
-        " Volume 1 is new. Volume 3 is as before."
+        " Volume 1 is new. Volume 3 was not made."
     )
     assert files(out) == ["moon-1.brf", "moon-2.brf"]
 

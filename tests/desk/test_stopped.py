@@ -182,6 +182,35 @@ def test_an_export_that_is_told_to_end_while_it_writes_says_which_files_are_new(
     assert sorted(folder.iterdir()) == files
 
 
+@pytest.mark.parametrize(
+    "there, told",
+    [
+        ((), " Volume 1 is new. Volumes 2 and 3 were not made."),
+        ((3,), " Volume 1 is new. Volume 3 is as before. Volume 2 was not made."),
+    ],
+)
+def test_of_volumes_without_a_file_an_export_that_is_told_to_end_says_so(
+    volumes: Path, monkeypatch: pytest.MonkeyPatch, there: tuple[int, ...], told: str
+) -> None:
+    folder = volumes.with_name("pages")
+    for number in {1, 2, 3}.difference(there):
+        (folder / f"moon-{number}.brf").unlink()
+    replace = os.replace
+
+    def replaced(one: str, other: str, **folders: int) -> None:
+        replace(one, other, **folders)
+        raise Interrupted(signal.SIGTERM)
+
+    monkeypatch.setattr(os, "replace", replaced)
+    said = StringIO()
+    job = Job(volumes, folder, PageSize(), wait=0)
+    with pytest.raises(Interrupted):
+        export_in_words(job, Console(BytesIO(), StringIO(), said))
+    assert said.getvalue() == f"Stopped by SIGTERM.{told}\n"
+    names = {f"moon-{number}.brf" for number in {1, *there}}
+    assert {path.name for path in folder.iterdir()} == names
+
+
 def test_work_beside_the_screen_ends_before_its_next_step(
     book: Path, text: Path, sit: Sit
 ) -> None:

@@ -242,7 +242,7 @@ def test_an_export_that_is_cancelled_says_which_volumes_are_new(
     monkeypatch.setattr(dialogs, "folder", lambda *_: str(folder))
     written, ended = cancelled("volume 1", lambda: desk.act("export"))
     assert written.endswith("moon-1.brf: volume 1, 1 page, 9 cells with dots.")
-    assert ended == "Stopped. Volume 1 is new. Volumes 2 and 3 are as before."
+    assert ended == "Stopped. Volume 1 is new. Volumes 2 and 3 were not made."
     assert desk.window.message.text == ended
     assert [each.name for each in folder.iterdir()] == ["moon-1.brf"]
     # the book is open again, and worked on

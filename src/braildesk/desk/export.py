@@ -2,7 +2,7 @@
 
 import os
 import re
-from collections.abc import Callable, Iterator, Sequence
+from collections.abc import Callable, Iterable, Iterator, Sequence
 from dataclasses import dataclass
 from pathlib import Path
 
@@ -131,6 +131,8 @@ class Files:
 
     new: tuple[int, ...]
     as_before: tuple[int, ...]
+    #: The volumes that have no file.
+    not_made: tuple[int, ...]
 
 
 class BookChanges(Problem):
@@ -212,8 +214,15 @@ class Export:
         rest = [n for n in self._wanted if n not in self._written]
         # the first of these may have its pages and not be noted yet
         if rest and _has(self.job.file(rest[0]), self._wanted[rest[0]]):
-            return Files((*self._written, rest[0]), tuple(rest[1:]))
-        return Files(tuple(self._written), tuple(rest))
+            return self._files((*self._written, rest[0]), rest[1:])
+        return self._files(self._written, rest)
+
+    def _files(self, new: Iterable[int], others: Iterable[int]) -> Files:
+        """What the files have: some volumes are new in theirs, and of others some may have none."""
+        there: dict[bool, list[int]] = {True: [], False: []}
+        for number in others:
+            there[os.path.lexists(self.job.file(number))].append(number)
+        return Files(tuple(new), tuple(there[True]), tuple(there[False]))
 
     @property
     def _wanted(self) -> dict[int, bytes]:
@@ -278,8 +287,7 @@ class Export:
         try:
             write_whole(file, pages, Access.of(self.job.book))
         except OSError as cause:
-            later = tuple(range(volume + 1, self.volumes + 1))
-            files = Files(tuple(self._written), later)
+            files = self._files(self._written, range(volume + 1, self.volumes + 1))
             raise NotWritten(volume, file, cause, is_there, files) from cause
 
 

@@ -1,6 +1,7 @@
 """An export in words: what became of each volume."""
 
 from collections.abc import Iterator, Sequence
+from dataclasses import replace
 
 from braildesk.desk.export import (
     BookChanges,
@@ -131,7 +132,7 @@ def _why_no_folder(none: NoFolder) -> str:
 def not_written(fault: NotWritten) -> str:
     """What is said of a volume that couldn't be written, and of the others."""
     if isinstance(fault.cause, MayNotLast):
-        files = Files((*fault.files.new, fault.volume), fault.files.as_before)
+        files = replace(fault.files, new=(*fault.files.new, fault.volume))
         return may_not_last(fault.file, fault.cause) + _files(files)
     left = "is as it was" if fault.is_there else "was not made"
     return (
@@ -142,17 +143,22 @@ def not_written(fault: NotWritten) -> str:
 
 def _files(files: Files) -> str:
     """What became of some volumes, if there are any."""
-    new = f" {_numbered(files.new)} new." if files.new else ""
-    return new + (
-        f" {_numbered(files.as_before)} as before." if files.as_before else ""
+    said = (
+        _numbered(files.new, "is", "are", "new"),
+        _numbered(files.as_before, "is", "are", "as before"),
+        _numbered(files.not_made, "was", "were", "not made"),
     )
+    return "".join(said)
 
 
-def _numbered(volumes: Sequence[int]) -> str:
+def _numbered(volumes: Sequence[int], one: str, more: str, what: str) -> str:
+    """A sentence of some volumes, after a blank; nothing if there are none."""
+    if not volumes:
+        return ""
     *others, last = map(str, volumes)
     if not others:
-        return f"Volume {last} is"
-    return f"Volumes {', '.join(others)} and {last} are"
+        return f" Volume {last} {one} {what}."
+    return f" Volumes {', '.join(others)} and {last} {more} {what}."
 
 
 def _ending(job: Job, volumes: int) -> list[str]:
