@@ -5,10 +5,10 @@ import re
 import stat
 import subprocess
 from collections.abc import Callable, Iterable, Iterator
-from contextlib import contextmanager
+from contextlib import contextmanager, nullcontext
 from os import PathLike, fspath
 from pathlib import Path
-from subprocess import PIPE, Popen
+from subprocess import DEVNULL, PIPE, Popen
 
 from braildesk import opening
 from braildesk.held import copy_held, held
@@ -44,6 +44,8 @@ from braildesk.workshop import made_for_a_while
 StrPath = str | PathLike[str]
 
 _CHECKOUT = Path(__file__).resolve().parents[2]
+#: How long the program is waited for before it is asked whether it still is to be, in seconds.
+_PAUSE = 0.2
 _CODE = re.compile(r"(?:braildesk: )?no ([0-9 ]+)")
 
 
@@ -93,15 +95,22 @@ def make_book(
 
 
 def check(
-    path: StrPath, program: StrPath | None = None, *, timeout: float = 0.0
+    path: StrPath,
+    program: StrPath | None = None,
+    *,
+    timeout: float = 0.0,
+    while_waiting: Callable[[], None] = lambda: None,
 ) -> int:
     """The version of the book in a file.
 
-    While another program has the book open, this is tried again for ``timeout`` seconds.
+    While another program has the book open, this is tried again for ``timeout`` seconds. While the
+    program doesn't answer, ``while_waiting`` is called again and again, here and below.
     """
     asked = BookFile(fspath(path))
     words = ["check", "--", _word(asked)]
-    answer = waited(lambda: _run(program, words, asked), timeout)
+    answer = waited(
+        lambda: _run(program, words, asked, while_waiting=while_waiting), timeout
+    )
     return int(answer.removeprefix(b"ok "))
 
 
@@ -113,13 +122,16 @@ def export(
     program: StrPath | None = None,
     *,
     timeout: float = 0.0,
+    while_waiting: Callable[[], None] = lambda: None,
 ) -> bytes:
     """The pages of a volume, in Braille Ready Format.
 
     While another program has the book open, this is tried again for ``timeout`` seconds.
     """
     asked, words = _of_export(path, volume, width, lines)
-    return waited(lambda: _run(program, words, asked), timeout)
+    return waited(
+        lambda: _run(program, words, asked, while_waiting=while_waiting), timeout
+    )
 
 
 @contextmanager
@@ -150,7 +162,11 @@ def _of_export(
 
 
 def translate(
-    table: StrPath | Table, lines: Iterable[str], program: StrPath | None = None
+    table: StrPath | Table,
+    lines: Iterable[str],
+    program: StrPath | None = None,
+    *,
+    while_waiting: Callable[[], None] = lambda: None,
 ) -> list[str | Refused]:
     """The braille of each line, or why it is refused.
 
@@ -163,9 +179,10 @@ def translate(
         line.text.encode() + b"\r\n" for line in judged if isinstance(line, PrintLine)
     )
     if isinstance(table, Table):
-        output = _by_text(program, asked, sent)
+        output = _by_text(program, asked, sent, while_waiting)
     else:
-        output = _run(program, ["translate", "--", _word(asked)], asked, sent)
+        words = ["translate", "--", _word(asked)]
+        output = _run(program, words, asked, sent, while_waiting=while_waiting)
     answers = iter(output.decode().split("\n"))
     return [_answered(line, answers) for line in judged]
 
@@ -283,13 +300,18 @@ def _table_asked(table: StrPath | Table) -> TableFile:
     return TableFile("./@en" if is_file_of_that_name else fspath(table))
 
 
-def _by_text(program: StrPath | None, asked: TableFile, sent: bytes) -> bytes:
+def _by_text(
+    program: StrPath | None,
+    asked: TableFile,
+    sent: bytes,
+    while_waiting: Callable[[], None],
+) -> bytes:
     """The answers to lines by a table whose text is handed over in memory, and in no file."""
-    with _in_memory(asked.text) as descriptor:
+    with _in_memory(asked.text, "text of a table") as descriptor:
         path = f"/dev/fd/{descriptor}"
         words = ["translate", "--", path]
         try:
-            return _run(program, words, asked, sent, (descriptor,))
+            return _run(program, words, asked, sent, (descriptor,), while_waiting)
         except CannotOpen as refused_by_program:
             raise Failed(
                 f"The text of the table {asked.path} could not be handed to braildesk, since it"
@@ -298,24 +320,24 @@ def _by_text(program: StrPath | None, asked: TableFile, sent: bytes) -> bytes:
 
 
 @contextmanager
-def _in_memory(text: bytes) -> Iterator[int]:
-    """The descriptor of a file in memory with a text."""
+def _in_memory(text: bytes, what: str) -> Iterator[int]:
+    """The descriptor of a file in memory with a text, at its front."""
     try:
-        descriptor = os.memfd_create("table")
+        descriptor = os.memfd_create("text")
     except OSError as error:
-        raise _no_room(error) from error
+        raise _no_room(what, error) from error
     with open(descriptor, "wb") as file:
         try:
             file.write(text)
-            file.flush()
+            file.seek(0)
         except OSError as error:
-            raise _no_room(error) from error
+            raise _no_room(what, error) from error
         yield descriptor
 
 
-def _no_room(error: OSError) -> Failed:
+def _no_room(what: str, error: OSError) -> Failed:
     return Failed(
-        f"The text of a table could not be kept in memory: {error.strerror}. Nothing was"
+        f"The {what} could not be kept in memory: {error.strerror}. Nothing was"
         " translated. Close other programs, and try again."
     )
 
@@ -326,10 +348,14 @@ def _run(
     asked: AskedOfFile,
     sent: bytes = b"",
     shared: tuple[int, ...] = (),
+    while_waiting: Callable[[], None] = lambda: None,
 ) -> bytes:
     """What the program answers."""
-    with _begun(program, words, asked, shared) as process:
-        return _answered_by(process, asked, sent)
+    # from a pipe it might read so slowly that the writing had to be waited for
+    given = _in_memory(sent, "print") if sent else nullcontext(DEVNULL)
+    with given as source:
+        with _begun(program, words, asked, shared, source) as process:
+            return _answered_by(process, asked, while_waiting)
 
 
 @contextmanager
@@ -338,13 +364,14 @@ def _begun(
     words: list[str],
     asked: AskedOfFile,
     shared: tuple[int, ...] = (),
+    source: int = DEVNULL,
 ) -> Iterator[Popen[bytes]]:
     """The program at work, which is ended by a signal if its end isn't waited for."""
     found = find(program)
     judge(asked, found)
     try:
         process = Popen(
-            [found, *words], stdin=PIPE, stdout=PIPE, stderr=PIPE, pass_fds=shared
+            [found, *words], stdin=source, stdout=PIPE, stderr=PIPE, pass_fds=shared
         )
     except OSError as error:
         raise cannot_run(found, error) from error
@@ -355,9 +382,18 @@ def _begun(
             process.kill()
 
 
-def _answered_by(process: Popen[bytes], asked: AskedOfFile, sent: bytes = b"") -> bytes:
+def _answered_by(
+    process: Popen[bytes],
+    asked: AskedOfFile,
+    while_waiting: Callable[[], None] = lambda: None,
+) -> bytes:
     """What the program answers, which comes to its end by that."""
-    output, errors = process.communicate(sent)
+    while True:
+        try:
+            output, errors = process.communicate(timeout=_PAUSE)
+            break
+        except subprocess.TimeoutExpired:
+            while_waiting()
     if process.returncode:
         raise unopened(process.returncode, errors.decode(errors="replace"), asked)
     return output

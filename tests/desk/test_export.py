@@ -6,6 +6,7 @@ import shutil
 import stat
 from io import BytesIO, StringIO
 from pathlib import Path
+from typing import Any
 
 import pytest
 from hypothesis import given
@@ -166,7 +167,7 @@ def changed_after(
     """Has another session type a paragraph each time that a volume was read, so many times."""
     left = [times]
 
-    def read(path: Path, number: int, width: int, lines: int, timeout: float) -> bytes:
+    def read(path: Path, number: int, width: int, lines: int, **more: Any) -> bytes:
         pages = braildesk.export(path, number, width, lines)
         if number == volume and left[0]:
             left[0] -= 1
@@ -203,7 +204,7 @@ def test_all_volumes_are_of_one_book_where_a_copy_of_another_replaces_it(
     assert braildesk.check(moon) == braildesk.check(other)
     export_one = braildesk.export
 
-    def read(path: Path, number: int, width: int, lines: int, timeout: float) -> bytes:
+    def read(path: Path, number: int, width: int, lines: int, **more: Any) -> bytes:
         pages = export_one(path, number, width, lines)
         if number == 1 and other.exists():
             other.replace(moon)

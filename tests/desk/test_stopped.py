@@ -274,6 +274,39 @@ def test_an_import_of_the_screen_ends_at_a_signal_and_says_what_is_in_the_book(
     assert 3 <= len(prints) < len(LINES)
 
 
+@pytest.mark.parametrize(
+    "key, action, said",
+    [
+        ("x", "check", "Nothing was exported."),
+        ("x", "export", "Nothing was exported."),
+        ("i", "translate", "Nothing was typed."),
+    ],
+)
+def test_a_program_that_was_stopped_keeps_no_work_of_the_screen_from_ending(
+    volumes: Path, at: Open, key: str, action: str, said: str
+) -> None:
+    folder = volumes.parent
+    queue, path = folder / "queue", folder / "stopping"
+    os.mkfifo(queue)
+    path.write_text(
+        "#!/bin/sh\n"
+        f'if [ "$1" = {action} ]; then echo $$ > "{queue}"; kill -STOP $$; fi\n'
+        f"exec '{braildesk.find()}' \"$@\"\n"
+    )
+    path.chmod(0o755)
+    text = folder / "text.txt"
+    text.write_text("The sun\n")
+    terminal = at(volumes, BRAILDESK=str(path))
+    terminal.wait("? shows the keys.")
+    terminal.keys(key, str(folder / "pages") if key == "x" else str(text), "enter")
+    stopped = int(queue.read_text())
+    terminal.send_signal(signal.SIGTERM)
+    assert terminal.ended() == -signal.SIGTERM
+    assert terminal.said == f"Stopped by SIGTERM. {said}\n"
+    # and it isn't left behind
+    assert not Path(f"/proc/{stopped}").exists()
+
+
 def test_a_taking_back_of_the_screen_ends_at_a_signal_and_says_how_far_it_came(
     book: Path, at: Open
 ) -> None:

@@ -170,7 +170,8 @@ class NotWritten(Problem):
 class Export:
     """An export that is made, and what it has done so far.
 
-    The check is called between any two of its steps, and ends it by what it raises.
+    The check is called between any two of its steps, and while the program is waited for, and ends it
+    by what it raises.
     """
 
     def __init__(self, job: Job, check: Callable[[], None] = lambda: None) -> None:
@@ -233,10 +234,10 @@ class Export:
     def _of_one_version(self) -> list[bytes | Refused]:
         """The pages of each volume, or why it is refused, all read while the book was at one version."""
         job = self.job
-        version = _version(job)
+        version = _version(job, self._check)
         for _ in range(TRIES):
             volumes = list(self._read())
-            before, version = version, _version(job)
+            before, version = version, _version(job, self._check)
             if before == version:
                 return volumes
         raise BookChanges(version[0], job.folder)
@@ -247,7 +248,7 @@ class Export:
         while True:
             self._check()
             try:
-                yield _pages_of(self.job, volume)
+                yield _pages_of(self.job, volume, self._check)
             except NotFound:
                 return
             except Refused as refused:
@@ -324,9 +325,10 @@ def _only_volume(job: Job) -> int:
     raise WhichVolume(None)
 
 
-def _pages_of(job: Job, volume: int) -> bytes:
+def _pages_of(job: Job, volume: int, check: Callable[[], None] = lambda: None) -> bytes:
     size = job.page_size
-    return export(job.read_at, volume, size.width, size.lines, timeout=job.wait)
+    sizes = size.width, size.lines
+    return export(job.read_at, volume, *sizes, timeout=job.wait, while_waiting=check)
 
 
 def _parted(pages: bytes) -> list[bytes]:
@@ -343,9 +345,10 @@ def _read(file: Path) -> bytes | None:
         return None
 
 
-def _version(job: Job) -> tuple[int, int, int]:
+def _version(job: Job, while_waiting: Callable[[], None]) -> tuple[int, int, int]:
     """The version of the book, and the device and inode of its file: a copy may replace that."""
-    version, found = check(job.read_at, timeout=job.wait), job.read_at.stat()
+    version = check(job.read_at, timeout=job.wait, while_waiting=while_waiting)
+    found = job.read_at.stat()
     return version, found.st_dev, found.st_ino
 
 

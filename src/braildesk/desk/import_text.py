@@ -62,6 +62,8 @@ class Import:
     replacements: Path | None = None
     #: What is called each second in which the program doesn't answer.
     while_waiting: Callable[[], None] = lambda: None
+    #: Raises what ends the import, and is called while a table is asked for its braille.
+    check: Callable[[], None] = lambda: None
 
     @property
     def kind(self) -> ManuscriptKind:
@@ -325,7 +327,8 @@ def _intake(job: Import, whole: Sequence[Passage]) -> Intake:
     found = read_tables(job.book, timeout=job.wait)
     table = table_for(found, anchor, job.table)
     made = made_from(table.text)
-    faulty = Faulty(job.text, faults(rest, table), len(book), len(rest), made)
+    found_faults = faults(rest, table, job.check)
+    faulty = Faulty(job.text, found_faults, len(book), len(rest), made)
     if faulty.faults or faulty.over:
         raise faulty
     lacking = settings(before[-1], anchor.id, anchor) if before and anchor else ()
@@ -350,7 +353,7 @@ def _signs_for(job: Import, reading: ReadingOptions) -> ReadingOptions:
     with job.opened() as session:
         anchor = paragraph_before(session.paragraphs(), job.after)
     table = table_for(read_tables(job.book, timeout=job.wait), anchor, job.table)
-    bullet, *brackets = translate(table, [BULLET, *BRACKETS])
+    bullet, *brackets = translate(table, [BULLET, *BRACKETS], while_waiting=job.check)
     if isinstance(bullet, Refused):
         reading = replace(reading, bullet="-")
     if any(isinstance(each, Refused) for each in brackets):

@@ -45,7 +45,11 @@ class TextFault:
     passage: Passage
 
 
-def faults(passages: Sequence[Passage], table: Table) -> list[TextFault]:
+def faults(
+    passages: Sequence[Passage],
+    table: Table,
+    while_waiting: Callable[[], None] = lambda: None,
+) -> list[TextFault]:
     """Each character that can't be typed with a table, and each paragraph that is too long.
 
     A table refuses nothing else of a print but characters that it doesn't define, and a character
@@ -55,7 +59,7 @@ def faults(passages: Sequence[Passage], table: Table) -> list[TextFault]:
     there = characters_of(whole)
     barred = {each for each in there if unicodedata.category(each) == "Cc"}
     others = sorted(there - barred)
-    lacking = _refused(others, translate(table, others))
+    lacking = _refused(others, translate(table, others, while_waiting=while_waiting))
     counts = Counter(whole if barred or lacking else "")
     found = [
         *_of_characters(passages, barred, lambda each: Barred(each, counts[each])),

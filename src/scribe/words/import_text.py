@@ -110,7 +110,7 @@ def trial_in_words(job: Import, console: Console, report: Path | None = None) ->
 
 def _importer(job: Import, console: Console) -> Importer:
     """What imports a text, and says what it waits for, and what is in the way of noting that."""
-    job = replace(job, while_waiting=console.waiting())
+    job = replace(job, while_waiting=console.waiting(), check=console.check)
     return Importer(job, lambda fault: console.say(not_kept(fault)))
 
 
