@@ -7,9 +7,11 @@ import sqlite3
 import stat
 import struct
 import time
-from collections.abc import Callable, Iterable, Iterator
+from collections.abc import Callable, Iterable, Iterator, Mapping
 from contextlib import closing
+from itertools import repeat
 from os import PathLike, fsencode, fspath
+from types import MappingProxyType
 from typing import BinaryIO, TypeVar
 from urllib.parse import quote
 
@@ -251,7 +253,33 @@ def _lock(kind: int) -> bytes:
 # of a book is one.
 #: How many steps of SQLite's machine may be taken in a file of a stranger.
 STEPS = 1_000_000
-_TABLES = (b"book", b"tab", b"para", b"corr", b"corr2", b"mark", b"cache")
+#: How many of them a byte of a row takes at most.
+_STEPS_OF_BYTE = 4
+#: A file of so many bytes is read by the program within a second or two, whatever its rows are.
+_SOON_READ = 1 << 25
+#: The bytes of a character at most, and the cells for it, with those of a sign before it.
+_WIDE, _CELLS = 4, 40
+#: The bytes of a value of a book at most, but for the text of a table: the cells of a print.
+_VALUE = max(limits.LINE_BYTES, limits.PRINT_CHARACTERS * _CELLS)
+#: Those of a table's text, with its line endings and a byte order mark.
+_TABLE_TEXT = limits.TABLE_LINES * (limits.TABLE_LINE_CHARACTERS * _WIDE + 2) + 3
+#: The columns of each table of a book, what gives its longest bytes, or 0, and how many bytes a value
+#: has at most.
+_TABLES: Mapping[bytes, tuple[str, str, int]] = MappingProxyType(
+    {
+        b"book": ("id format version", "0", _VALUE),
+        b"tab": ("name", "max(length(body))", _TABLE_TEXT),
+        b"para": ("id place tab original print style volume struck", "0", _VALUE),
+        b"corr": ("para seq kind start len body", "0", _VALUE),
+        b"corr2": ("para seq kind start len body who", "0", _VALUE),
+        b"mark": ("id para start stop note touched resolved", "0", _VALUE),
+        b"cache": ("para", "max(length(cells))", _VALUE),
+    }
+)
+#: The bytes of a definition in a schema at most.
+_SCHEMA = 1 << 20
+#: What SQLite ends by if there is too much to be read.
+_ENDLESS = (sqlite3.SQLITE_INTERRUPT, sqlite3.SQLITE_TOOBIG)
 #: The front of what SQLite says of a schema that it can't read.
 _MALFORMED = "malformed database schema"
 
@@ -262,33 +290,76 @@ def reader(path: str | PathLike[str], is_alone: bool) -> sqlite3.Connection:
     how = "mode=rw&immutable=1" if is_alone else "mode=rw"
     address = f"file:{quote(fsencode(fspath(path)))}?{how}"
     database = sqlite3.connect(address, uri=True)
+    database.setlimit(sqlite3.SQLITE_LIMIT_LENGTH, _SCHEMA)
     database.execute("PRAGMA trusted_schema = OFF")
     database.set_progress_handler(lambda: 1, STEPS)
     return database
 
 
 def fault_in(path: str | PathLike[str], is_alone: bool) -> Why | None:
-    """What in a schema keeps its file from being opened; None if the program has to say it."""
+    """What in a file keeps it from being opened; None if the program has to say it."""
     try:
         with closing(reader(path, is_alone)) as database:
-            return None if _keeps_its_rows(database) else Why.COMPUTED
+            tables = _tables_in(database)
+            if not all(tables.values()):
+                return Why.COMPUTED
+            size = _size(path) + (0 if is_alone else _size(f"{fspath(path)}-wal"))
+            is_long = size > _SOON_READ and _has_long_value(database, size, tables)
+            return Why.TOO_LONG if is_long else None
     except sqlite3.Error as error:
         code = getattr(error, "sqlite_errorcode", None)
-        is_stopped = code == sqlite3.SQLITE_INTERRUPT
         is_malformed = str(error).startswith(_MALFORMED)
-        return Why.NO_SCHEMA if is_stopped or is_malformed else None
+        return Why.NO_SCHEMA if code in _ENDLESS or is_malformed else None
 
 
-def _keeps_its_rows(database: sqlite3.Connection) -> bool:
-    """Whether the tables of a book that are there keep their rows.
+def _tables_in(database: sqlite3.Connection) -> dict[bytes, bool]:
+    """The names of a book that are there, and whether each is that of a table that keeps its rows.
 
-    Their kinds are those that SQLite makes of the schema, whose own rows may say something else.
+    SQLite refuses a schema whose rows name another kind than their texts, but takes a virtual table
+    for one. Its own list of all tables is not asked for: it goes through all views for that, which
+    has no end if each of them has another one twice.
     """
     database.text_factory = bytes
-    kinds = database.execute(
-        "SELECT lower(name), type FROM pragma_table_list WHERE schema = 'main'"
+    rows = database.execute(
+        "SELECT lower(name), type = 'table' AND rootpage > 0 AND sql LIKE 'CREATE TABLE%'"
+        " AND NOT EXISTS (SELECT 1 FROM pragma_table_xinfo(s.name, 'main') WHERE hidden)"
+        " FROM main.sqlite_schema s"
+        " WHERE type IN ('table', 'view')"
     )
-    return all(kind == b"table" for name, kind in kinds if name in _TABLES)
+    return {name: bool(keeps_rows) for name, keeps_rows in rows if name in _TABLES}
+
+
+def _has_long_value(
+    database: sqlite3.Connection, size: int, names: Iterable[bytes]
+) -> bool:
+    """Whether a value in a file of such a size is longer than any of a book, or its rows have no end."""
+    # a row takes few steps for each of its bytes, unless one page stands for many
+    rounds = (STEPS + _STEPS_OF_BYTE * size) // STEPS
+    # Ctrl-C raises nothing in what runs no line of Python, and what fails ends the query
+    database.set_progress_handler(repeat(0, rounds).__next__, STEPS)
+    for name in names:
+        columns, longest_bytes, most = _TABLES[name]
+        # a longer text isn't read at all, and of bytes only how many they are
+        database.setlimit(sqlite3.SQLITE_LIMIT_LENGTH, most)
+        counts = ", ".join(f"count({column})" for column in columns.split())
+        query = f"SELECT {counts}, {longest_bytes} FROM main.{name.decode()}"
+        try:
+            *_, longest = database.execute(query).fetchone()
+        except sqlite3.Error as error:
+            if getattr(error, "sqlite_errorcode", None) in _ENDLESS:
+                return True
+        else:
+            if (longest or 0) > most:
+                return True
+    return False
+
+
+def _size(path: str | PathLike[str]) -> int:
+    """The bytes of a file, none if it isn't there."""
+    try:
+        return os.path.getsize(path)
+    except OSError:
+        return 0
 
 
 #: What of a book no command changes or takes away, in an order that a later book keeps.

@@ -46,6 +46,8 @@ StrPath = str | PathLike[str]
 _CHECKOUT = Path(__file__).resolve().parents[2]
 #: How long the program is waited for before it is asked whether it still is to be, in seconds.
 _PAUSE = 0.2
+#: What the program isn't asked of at all.
+_NOT_A_BOOK = (Why.COMPUTED, Why.TOO_LONG)
 _CODE = re.compile(r"(?:braildesk: )?no ([0-9 ]+)")
 
 
@@ -235,7 +237,7 @@ def _fault_of(path: str, program: str) -> Why | None:
     log = log_path(path)
     with held(BookFile(path)):
         fault = fault_in(real_path(path), is_alone=True)
-    if fault is Why.COMPUTED or not has_work(log):
+    if fault in _NOT_A_BOOK or not has_work(log):
         return fault
     return _fault_with_log(path, log, program)
 
@@ -247,7 +249,7 @@ def _fault_with_log(path: str, log: str, program: str) -> Why | None:
             copy_held(file, log, both)
             copy_held(file, "", alone)
         fault = fault_in(both, is_alone=False)
-        if fault is Why.COMPUTED:
+        if fault in _NOT_A_BOOK:
             return fault
         is_whole = fault is None and _is_book(both, program)
         is_of_another = _is_book(alone, program) and not (

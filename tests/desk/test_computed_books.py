@@ -3,6 +3,7 @@
 import os
 import shutil
 import sqlite3
+import struct
 from collections.abc import Callable
 from contextlib import closing
 from pathlib import Path
@@ -10,8 +11,8 @@ from pathlib import Path
 import pytest
 
 import braildesk
-from braildesk import CannotOpen, Refused, Session, Why, limits
-from braildesk.opening import reader
+from braildesk import CannotOpen, Refused, Session, Why, limits, opening
+from braildesk.opening import fault_in, reader
 from strangers import in_time
 from tool import scribe
 
@@ -24,13 +25,42 @@ DONE = {
     "a view without end": f"DROP TABLE book; CREATE VIEW book AS {ENDLESS}",
     "a view in capitals": f"DROP TABLE mark; CREATE VIEW Mark AS {ENDLESS}",
     "a virtual table": "DROP TABLE tab; CREATE VIRTUAL TABLE tab USING fts5(name, body)",
+    "a generated column": "DROP TABLE tab; CREATE TABLE tab(name TEXT NOT NULL PRIMARY KEY,"
+    " body BLOB NOT NULL AS (hex(zeroblob(60000000)))) STRICT",
 }
+#: Views of which each has the one before twice, so that nobody comes to the end of the last.
+TWICE = "CREATE VIEW v0 AS SELECT 1 AS x;" + "".join(
+    f"CREATE VIEW v{n} AS SELECT a.x FROM v{n - 1} a, v{n - 1} b;" for n in range(1, 41)
+)
 
 
 def altered(book: Path, statements: str) -> None:
     """Carries statements out in the file of a book."""
     with closing(sqlite3.connect(book)) as database:
         database.executescript(statements)
+
+
+def logged(book: Path, statements: str) -> None:
+    """The same, with what is changed in the log beside the file."""
+    with closing(sqlite3.connect(book)) as database:
+        database.execute("PRAGMA journal_mode = WAL")
+        database.executescript(statements)
+        database.commit()
+        files = [(Path(f"{book}{end}"), f"{book}-kept{end}") for end in ("", "-wal")]
+        for path, to in files:
+            shutil.copyfile(path, to)
+    for path, to in files:
+        os.replace(to, path)
+
+
+@pytest.fixture
+def full(book: Path) -> Path:
+    """A book with a row in each table."""
+    with Session(book) as session:
+        session.add_paragraph("end", "en", "The moon")
+        session.correct(1, 0, 3, "A", by="Ann")
+        session.add_mark(1, 0, 1, "why?")
+    return book
 
 
 @pytest.mark.parametrize("name", DONE)
@@ -50,8 +80,8 @@ def test_a_file_whose_rows_are_computed_is_not_opened(book: Path, name: str) -> 
         assert caught.value.why is Why.COMPUTED
     assert caught.value.sentence == (
         f"“{book}” was not opened, since it isn't made as books are: one of its tables is a view or"
-        " a virtual table, whose rows are computed and may have no end. Nothing was changed. Ask"
-        " whoever made it for the book itself."
+        " has another part that is computed, and may have no end. Nothing was changed. Ask whoever"
+        " made it for the book itself."
     )
     assert book.read_bytes() == before
 
@@ -68,6 +98,111 @@ def test_scribe_reads_nothing_of_a_view_without_end(
     )
     assert (ran.status, ran.shown) == (2, "")
     assert ran.said.startswith(f"“{book.name}” was not opened, since it isn't made as")
+
+
+def test_views_that_take_for_ever_beside_a_book_are_not_looked_at(book: Path) -> None:
+    altered(book, TWICE)
+    ran = scribe("list", book.name, folder=book.parent, before=in_time)
+    assert ran.status == 0
+
+
+#: How many bytes are more than any value of a book has, by its column.
+TOO_LONG = {
+    "tab.body": 80_040_004,
+    **dict.fromkeys(("para.tab", "para.original", "para.print"), 160_001),
+    **dict.fromkeys(("corr2.body", "corr2.who", "mark.note"), 160_001),
+    "cache.cells": 160_001,
+    # a column of numbers has anything if the file is made by hand
+    "mark.start": 160_001,
+}
+
+
+def lengthened(column: str, size: int) -> str:
+    """The statement by which a column has values of so many bytes."""
+    table, name = column.split(".")
+    data = f"zeroblob({size})"
+    if column not in ("tab.body", "cache.cells"):
+        data = f"CAST({data} AS TEXT)"
+    return f"""
+        PRAGMA writable_schema = ON;
+        UPDATE sqlite_schema SET sql = replace(sql, 'STRICT', '') WHERE name = '{table}';
+        PRAGMA writable_schema = RESET;
+        UPDATE {table} SET {name} = {data};
+    """
+
+
+@pytest.mark.parametrize("column", TOO_LONG)
+@pytest.mark.parametrize("is_logged", [False, True])
+def test_a_value_that_no_book_has_is_refused_before_it_is_read(
+    full: Path, column: str, is_logged: bool, monkeypatch: pytest.MonkeyPatch
+) -> None:
+    # a small file is soon read
+    monkeypatch.setattr(opening, "_SOON_READ", 0)
+    change = lengthened(column, TOO_LONG[column])
+    (logged if is_logged else altered)(full, change)
+    with pytest.raises(CannotOpen) as caught:
+        Session(full, "false")
+    assert caught.value.sentence == (
+        f"“{full}” was not opened, since it isn't made as books are: a text in it is longer than any"
+        " of a book, or its rows have no end. Nothing was changed. Ask whoever made it for the book"
+        " itself."
+    )
+
+
+def test_a_row_of_many_megabytes_is_refused_at_once(full: Path) -> None:
+    altered(full, lengthened("para.print", 34_000_000))
+    ran = scribe("show", full.name, folder=full.parent, before=in_time)
+    assert (ran.status, ran.shown) == (2, "")
+    assert ran.said.startswith(f"“{full.name}” was not opened, since it isn't made as")
+
+
+def test_pages_that_stand_for_many_are_not_counted_for_ever(
+    full: Path, monkeypatch: pytest.MonkeyPatch
+) -> None:
+    monkeypatch.setattr(opening, "_SOON_READ", 0)
+    repeat_pages(full, "mark", 5)
+    assert fault_in(full, is_alone=True) is Why.TOO_LONG
+
+
+def repeat_pages(book: Path, table: str, levels: int) -> None:
+    """Has the rows of a table stand below pages of which each has the next one 300 times."""
+    with closing(sqlite3.connect(book)) as database:
+        asked = "SELECT rootpage FROM sqlite_schema WHERE name = ?"
+        (root,) = database.execute(asked, [table]).fetchone()
+        (size,) = database.execute("PRAGMA page_size").fetchone()
+        (count,) = database.execute("PRAGMA page_count").fetchone()
+    data = bytearray(book.read_bytes())
+    data += data[(root - 1) * size : root * size]
+    for number in range(count + 1, count + levels):
+        data += page_above(number, size)
+    data[(root - 1) * size : root * size] = page_above(count + levels, size)
+    data[28:32] = struct.pack(">I", count + levels)
+    book.write_bytes(data)
+
+
+def page_above(child: int, size: int) -> bytes:
+    """A page of a table's tree that has 300 times the same page below it."""
+    cells = [struct.pack(">IBB", child, 0x81, number & 0x7F) for number in range(300)]
+    start = size - sum(map(len, cells))
+    head = struct.pack(">BHHHBI", 5, 0, len(cells), start, 0, child)
+    places = b"".join(struct.pack(">H", start + 6 * n) for n in range(len(cells)))
+    return (head + places).ljust(start, b"\0") + b"".join(cells)
+
+
+def test_the_longest_values_of_a_sound_book_are_not_refused(full: Path) -> None:
+    # 4,000 characters of four bytes, each with a sign and cells of 20 each; 20,000 lines of 1,000
+    # such characters with CR LF after a byte order mark
+    wide = chr(0x1F600)
+    with closing(sqlite3.connect(full)) as database, database:
+        for column in ("para.original", "para.print", "corr2.body"):
+            table, name = column.split(".")
+            database.execute(f"UPDATE {table} SET {name} = ?", [wide * 4_000])
+        database.execute("UPDATE mark SET note = ?", [wide * 500])
+        database.execute("UPDATE corr2 SET who = ?", [wide * 40])
+        database.execute("UPDATE cache SET cells = zeroblob(160000)")
+        database.execute("UPDATE tab SET body = zeroblob(80040003)")
+    assert full.stat().st_size > 80_000_000
+    assert fault_in(full, is_alone=True) is None
 
 
 def test_what_a_log_makes_of_a_file_is_looked_at_too(

@@ -30,6 +30,7 @@ class Why(StrEnum):
     JOURNAL = "journal"
     COMPUTED = "computed"
     NO_SCHEMA = "no schema"
+    TOO_LONG = "too long"
     CUT_SHORT = "cut short"
     TOO_LARGE = "too large"
     TOO_LARGE_FOR_BOOK = "too large for a book"
@@ -170,8 +171,11 @@ UNOPENED = MappingProxyType(
         " was stopped while it changed that file, or somebody put it there. Nothing was changed."
         " Keep both files, and go on with an earlier copy.",
         Why.COMPUTED: "{path} was not opened, since it isn't made as books are: one of its tables"
-        " is a view or a virtual table, whose rows are computed and may have no end. Nothing was"
-        " changed. Ask whoever made it for the book itself.",
+        " is a view or has another part that is computed, and may have no end. Nothing was changed."
+        " Ask whoever made it for the book itself.",
+        Why.TOO_LONG: "{path} was not opened, since it isn't made as books are: a text in it is longer"
+        " than any of a book, or its rows have no end. Nothing was changed. Ask whoever made it for"
+        " the book itself.",
         Why.NO_SCHEMA: "The list of the tables in {path} can't be read. Nothing was changed. Keep"
         " the file as it is, and go on with an earlier copy.",
         Why.CUT_SHORT: "The book {path} is cut short: its end is missing. Nothing was changed."
