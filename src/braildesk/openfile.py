@@ -2,22 +2,26 @@
 
 import os
 import time
-from contextlib import suppress
+from collections.abc import Iterator
+from contextlib import contextmanager, suppress
 from dataclasses import dataclass
 from pathlib import Path
 from typing import BinaryIO
 from zlib import crc32
 
 from braildesk import program as programs
+from braildesk.held import copy_held
 from braildesk.opening import MAGIC, has_work, is_used
 from braildesk.program import StrPath
 from braildesk.protocol.asked import real_path
 from braildesk.refusals import Failed, Unopened
+from braildesk.watch import Watch
 from braildesk.workshop import (
     copy_bytes,
     create,
     give_access,
     made_beside,
+    made_for_a_while,
     open_made,
     put,
 )
@@ -66,13 +70,19 @@ class OpenFile:
         #: The most bytes that were found in it.
         self._most = 0
         self._noted: _Noted | None = None
-        #: Whether the program may have written into it since then.
-        self._is_lent = False
+        #: Whether the program may have written into it since then, and at any time.
+        self._is_lent = self._was_lent = False
         #: The log beside it, held open as well, and what it was while the program waited.
         self._log: int | None = None
         self._log_noted: _LogState | None = None
         #: Whether the program may have written into the log since then.
         self.is_log_lent = True
+        #: Whether the log isn't as the program left it.
+        self._is_log_foreign = False
+        #: What tells that another program had the file open for writing, once it is needed.
+        self._watch: Watch | None = None
+        #: Whether the log was emptied into the file since that was last known to be sound.
+        self._is_filled = False
         if os.path.isfile(self.path):
             try:
                 # a pipe that stands there by now isn't waited for
@@ -96,20 +106,29 @@ class OpenFile:
     def is_log_written_into(self) -> bool:
         """Whether others wrote into the log since it was noted, while the program waits."""
         noted = self._log_noted
-        if self._log is None or noted is None or self.is_log_lent:
-            return False
-        return _log_state(self._log, noted.last) != noted
+        if self._is_log_foreign or self._log is None or noted is None:
+            return self._is_log_foreign
+        return not self.is_log_lent and _log_state(self._log, noted.last) != noted
 
-    def note_log(self) -> None:
-        """Notes the log, unless it is noted, while the program waits and writes nothing there."""
+    def note_log(self, kept: int = 0) -> None:
+        """Notes the log, unless it is noted, while the program waits and writes nothing there.
+
+        By then so many commands were kept since it was noted before.
+        """
         if not self.is_log_lent or self._descriptor is None:
             return
         if self._log is None:
             with suppress(OSError):
                 self._log = os.open(f"{self.path}-wal", _READ)
         if self._log is not None:
-            last = _last_page(self._log, self._log_noted)
-            self._log_noted = _log_state(self._log, last)
+            before = self._log_noted
+            is_longer = before is not None and _has_part(self._log, before)
+            last, commits = _last_page(self._log, before if is_longer else None)
+            noted = self._log_noted = _log_state(self._log, last)
+            if before is not None and not (is_longer and commits >= kept):
+                # it was emptied, at most once for each command, or it is another one
+                is_emptied = 1 <= _rounds(before, noted) <= kept
+                self._is_log_foreign = not (is_emptied and 1 <= commits <= kept)
             self.is_log_lent = False
 
     @property
@@ -140,7 +159,38 @@ class OpenFile:
 
     def lend(self) -> None:
         """Says that the program gets a command, for which it may write into the file and the log."""
+        self._begin_watch()
         self._is_lent = self.is_log_lent = True
+
+    def _begin_watch(self) -> None:
+        """Has the file watched before a command by which the log may be emptied into it.
+
+        The first command of a session doesn't do that, unless something was in the log before.
+        """
+        noted = self._log_noted
+        is_first = not self._was_lent and (noted is None or not noted.last)
+        self._was_lent = True
+        if self._watch is None and self._descriptor is not None and not is_first:
+            with suppress(OSError):
+                self._watch = Watch(self._descriptor)
+
+    @property
+    def is_doubtful(self) -> bool:
+        """Whether another program may have written into the file while the log was emptied into it.
+
+        What that one wrote doesn't show in the size, the times and the sum of the file.
+        """
+        if self._watch is None or not self._is_filled or not self._watch.was_written():
+            return False
+        self._is_filled = False
+        return True
+
+    @contextmanager
+    def copied(self) -> Iterator[Path]:
+        """A copy of the file and the log, while the program writes nothing there."""
+        with made_for_a_while() as made, self.opened() as file:
+            copy_held(file, f"{self.path}-wal", made)
+            yield made
 
     @property
     def is_written_into(self) -> bool:
@@ -159,6 +209,7 @@ class OpenFile:
         front = self._front()
         self._noted, self._is_lent = _noted(descriptor, front), False
         is_emptied = front is None or front != noted.front
+        self._is_filled |= is_emptied
         was, now = (noted.state[0], noted.sum), (self._noted.state[0], self._noted.sum)
         if is_emptied or was == now:
             return False
@@ -233,7 +284,9 @@ class OpenFile:
         for each in (self._descriptor, self._log):
             if each is not None:
                 os.close(each)
-        self._descriptor = self._log = None
+        if self._watch is not None:
+            self._watch.close()
+        self._descriptor = self._log = self._watch = None
 
 
 def _is_at(path: str, descriptor: int | None) -> bool:
@@ -256,22 +309,40 @@ def _log_state(log: int, last: int) -> _LogState:
     return _LogState(os.fstat(log).st_size, front, last, summed)
 
 
-def _last_page(log: int, before: _LogState | None) -> int:
-    """Where the last page of a log begins, 0 if it has none; it is longer than what it holds.
+def _last_page(log: int, before: _LogState | None) -> tuple[int, int]:
+    """Where the last page of a log begins, 0 if it has none, and how many commands end in it.
 
-    It is looked for from the one that was the last before, if that is there still.
+    They are looked for after what was in it before, if that is said.
     """
     front = os.pread(log, _FRONT, 0)
     if len(front) < _FRONT:
-        return 0
+        return 0, 0
     # each page has the number of the log before it
     number, step = front[16:24], _BEFORE_PAGE + int.from_bytes(front[8:12], "big")
-    last, place = 0, _FRONT
-    if before is not None and before.last and _log_state(log, before.last) == before:
+    last, place, commits = 0, _FRONT, 0
+    if before is not None and before.last:
         last, place = before.last, before.last + step
-    while os.pread(log, _BEFORE_PAGE, place)[8:16] == number:
+    while (page := os.pread(log, _BEFORE_PAGE, place))[8:16] == number:
         last, place = place, place + step
-    return last
+        # the last page of a command has the size of the file
+        commits += page[4:8] != bytes(4)
+    return last, commits
+
+
+def _has_part(log: int, before: _LogState) -> bool:
+    """Whether a log has what it had before, to which more may have been added."""
+    now = _log_state(log, before.last)
+    is_same = (now.front, now.summed) == (before.front, before.summed)
+    return is_same and now.size >= before.size
+
+
+def _rounds(before: _LogState, now: _LogState) -> int:
+    """How often a log was emptied; not at all if it is another one."""
+    if len(now.front) < _FRONT or now.front[:12] != before.front[:12]:
+        return 0
+    first, last = (int.from_bytes(each.front[12:16], "big") for each in (before, now))
+    # it is counted there, from the last number on that there is
+    return (last + 1 - (first + 1) % 2**32) % (2**32 - 1)
 
 
 def _state(descriptor: int) -> tuple[int, int, int]:

@@ -6,6 +6,7 @@ import warnings
 from collections import deque
 from collections.abc import Callable, Generator, Iterable, Iterator, Sequence
 from dataclasses import replace
+from itertools import zip_longest
 from os import fspath
 from types import TracebackType
 from typing import Any, Literal, Self
@@ -93,6 +94,8 @@ class Session:
         self._is_at_stake = False
         self._strayed = ""
         self._answered = 0
+        #: How many commands were kept since the log was noted.
+        self._kept_since = 0
         #: Until which read of replies the file was looked at.
         self._judged = 0
 
@@ -350,16 +353,47 @@ class Session:
             reply = self._pipe.reply()
             self._note(request, reply)
         if _is_not_kept(reply):
-            room = opening.little_room(self._book.path)
-            self._pipe.close()
-            raise self._lose(
-                Lost, refused_as(Refusal(Code.NOT_KEPT, request, room=room)).sentence
-            )
+            raise self._not_kept(request)
+        if self._file.is_log_lent and self._is_at_rest:
+            self._file.note_log(self._kept_since)
+            self._kept_since = 0
         if reply.word == "ok" and not self._is_saving:
             self._judge_kept()
-        if self._file.is_log_lent and self._is_at_rest:
-            self._file.note_log()
         return reply
+
+    def _not_kept(self, request: Request[Any]) -> Lost:
+        """The exception of a session whose program could not keep a command, and has ended by that."""
+        room = opening.little_room(self._book.path)
+        self._pipe.close()
+        refusal = refused_as(Refusal(Code.NOT_KEPT, request, room=room))
+        if self._is_there_still():
+            return self._lose(Lost, refusal.sentence)
+        self._is_closed = True
+        kept = (
+            "What was reported as kept isn't all in the book's file and its log: another program"
+            " wrote into them while the book was open. Copy what you typed last, and look at the book"
+            " before you go on."
+        )
+        waiting = tuple(each for each in self._sent if isinstance(each, Command))
+        self._lost = self._lost_as(Displaced, refusal.sentence, kept, waiting)
+        self._file.close()
+        return self._lost
+
+    def _is_there_still(self) -> bool:
+        """Whether the file and its log have the last version, once the program has ended.
+
+        That is so as far as it can be told.
+        """
+        if self._file.is_used:
+            return True
+        try:
+            with self._file.copied() as copied:
+                return programs.check(copied, self._program) >= self._seen
+        except Refused:
+            return False
+        except (OSError, DeskError, ValueError):
+            # nobody can tell, as if no copy can be made of it, or the program answers something else
+            return True
 
     def _judge_kept(self) -> None:
         """Whether the file is there and holds what was reported as kept.
@@ -390,8 +424,35 @@ class Session:
         Once the program has ended, another session may have the book, and write into its file. Its
         end is looked for last, since it may come in between.
         """
-        is_changed = self._file.is_written_into or self._file.is_log_written_into
-        return is_changed and self._file.is_used and self._pipe.is_running
+        file = self._file
+        is_changed = file.is_written_into or file.is_log_written_into
+        if not is_changed and file.is_doubtful:
+            is_changed = not self._is_in_its_file()
+        return is_changed and file.is_used and self._pipe.is_running
+
+    def _is_in_its_file(self) -> bool:
+        """Whether all that the book has is in its file and its log; True if that can't be told."""
+        before = self._is_saving, self._is_streaming
+        self._is_saving, self._is_streaming = True, False
+        try:
+            with self._file.copied() as copied, Session(copied, self._program) as other:
+                pairs = zip_longest(self._whole(), other._whole())
+                return all(own == found for own, found in pairs)
+        except OSError:
+            return True
+        except Refused:
+            return False
+        finally:
+            self._is_saving, self._is_streaming = before
+
+    def _whole(self) -> Iterator[object]:
+        """All that the book has, piece by piece."""
+        paragraphs = self.paragraphs()
+        yield self.last_version, paragraphs
+        numbers = [each.id for each in paragraphs]
+        yield from self.each(requests.Print(number) for number in numbers)
+        yield from self.each(requests.History(number) for number in numbers)
+        yield from self.each(requests.Marks(number) for number in numbers)
 
     def _judge_file(self, request: Request[Any]) -> None:
         """Whether the file still holds what the program wrote there, which waits for a request.
@@ -415,6 +476,7 @@ class Session:
             self._seen = reply.numbers[0]
             if reply.word == "ok":
                 self._acknowledged, self._is_at_stake = request, True
+                self._kept_since += 1
 
     def _explained(self, refusal: Refused) -> Refused:
         """The refusal with what the book shows, if its sentence needs that."""

@@ -860,6 +860,130 @@ def test_another_book_that_is_copied_over_while_a_command_runs_is_noticed(
     assert Path(f"{book}-saved-1.txt").read_text().startswith("One.\n\nThree.")
 
 
+#: The text of a table by which the log gets so long that the next command empties it into the file.
+LONG = b"space \\s 0\n" + (b"# " + b"-" * 900 + b"\n") * 5_000
+
+
+def while_it_runs(
+    book: Path,
+    monkeypatch: pytest.MonkeyPatch,
+    moment: tuple[int, str],
+    put: Callable[[], object],
+) -> threading.Thread:
+    """Has something done while a command runs, which is waited for by its session."""
+    queue = book.with_name("queue")
+    os.mkfifo(queue)
+    number, far = moment
+    for name, value in standing_in(number, far, WAIT, str(queue)).items():
+        monkeypatch.setenv(name, value)
+
+    def wait() -> None:
+        queue.read_bytes()
+        put()
+        queue.write_bytes(b"")
+
+    thread = threading.Thread(target=wait)
+    thread.start()
+    return thread
+
+
+@pytest.mark.parametrize("far", [READ, KEPT])
+def test_another_book_that_is_copied_over_while_the_log_is_emptied_is_noticed(
+    book: Path, other: Path, monkeypatch: pytest.MonkeyPatch, far: str
+) -> None:
+    thread = while_it_runs(
+        book, monkeypatch, (2, far), lambda: shutil.copyfile(other, book)
+    )
+    with pytest.raises(Displaced) as caught:
+        with Session(book) as session:
+            session.put_table("long", LONG)
+            session.add_paragraph("end", "en", "Three.")
+    thread.join()
+    assert "wrote into the file of the book" in caught.value.cause
+    assert Path(f"{book}-saved-1.txt").read_text() == "One.\n\nThree.\n"
+
+
+def test_an_earlier_copy_of_the_book_that_is_copied_over_among_many_commands_is_noticed(
+    book: Path,
+) -> None:
+    line = requests.Type("end", "en", "The moon is far away. " * 40)
+    with Session(book) as session:
+        list(session.each([line] * 100))
+    earlier = Path(shutil.copyfile(book, book.with_name("earlier")))
+    with Session(book) as session:
+        session.correct(1, 0, 0, "Oh, ")
+    with pytest.raises(Displaced):
+        with Session(book) as session:
+            # the log is emptied, and has nothing of the first paragraphs by then
+            for number, _ in enumerate(session.each([line] * 400)):
+                if number == 100:
+                    shutil.copyfile(earlier, book)
+    saved = Path(f"{book}-saved-1.txt").read_text()
+    assert saved.startswith("Oh, The moon") and saved.count("\n\n") == 499
+
+
+@pytest.mark.parametrize("number", [2, 3])
+def test_a_program_that_tries_to_open_a_book_while_its_log_is_emptied_is_no_writer(
+    book: Path, program: str, monkeypatch: pytest.MonkeyPatch, number: int
+) -> None:
+    def attempt() -> None:
+        found = subprocess.run([program, "check", str(book)], capture_output=True)
+        assert found.returncode == 2
+
+    thread = while_it_runs(book, monkeypatch, (number, KEPT), attempt)
+    with Session(book) as session:
+        session.put_table("long", LONG)
+        session.add_paragraph("end", "en", "Three.")
+        session.correct(1, 0, 0, "Or ")
+    thread.join()
+    with Session(book) as session:
+        assert session.print_of(1) == "Or Three."
+
+
+@pytest.mark.parametrize("far", [READ, KEPT])
+@pytest.mark.parametrize("how", ["of a backup", "an earlier state", "emptied"])
+@pytest.mark.parametrize("is_emptied", [False, True])
+def test_a_log_that_others_write_into_while_a_command_runs_is_noticed(
+    book: Path,
+    backup: Path,
+    monkeypatch: pytest.MonkeyPatch,
+    is_emptied: bool,
+    how: str,
+    far: str,
+) -> None:
+    copied = book.with_name("copied")
+
+    def put() -> None:
+        if how == "emptied":
+            os.truncate(log_of(book), 0)
+        else:
+            earlier = copied if how == "an earlier state" else log_of(backup)
+            shutil.copyfile(earlier, log_of(book))
+
+    thread = while_it_runs(book, monkeypatch, (3, far), put)
+    with pytest.raises(Displaced) as caught:
+        with Session(book) as session:
+            session.add_paragraph("end", "en", "Kept.")
+            shutil.copyfile(log_of(book), copied)
+            if is_emptied:
+                session.put_table("long", LONG)
+            else:
+                session.strike(1)
+            session.add_paragraph("end", "en", "Three.")
+    thread.join()
+    if is_emptied and far == READ:
+        # the program could not read what it had there, and has ended
+        assert caught.value.kept == (
+            "What was reported as kept isn't all in the book's file and its log: another program"
+            " wrote into them while the book was open. Copy what you typed last, and look at the book"
+            " before you go on."
+        )
+    else:
+        assert "wrote into the log of the book" in caught.value.cause
+        saved = Path(f"{book}-saved-1.txt").read_text()
+        assert saved.startswith("Of the backup.\n\nAfter it.\n\nKept.\n")
+
+
 def test_another_book_that_is_copied_over_within_one_tick_of_the_clock_is_noticed(
     book: Path, other: Path, monkeypatch: pytest.MonkeyPatch
 ) -> None:
