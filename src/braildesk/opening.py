@@ -252,7 +252,7 @@ def _lock(kind: int) -> bytes:
 # A view and a virtual table give rows that stand nowhere in the file, perhaps without end. No table
 # of a book is one.
 #: How many steps of SQLite's machine may be taken in a file of a stranger.
-STEPS = 1_000_000
+STEPS = 100_000
 #: How many of them a byte of a row takes at most.
 _STEPS_OF_BYTE = 4
 #: A file of so many bytes is read by the program within a second or two, whatever its rows are.

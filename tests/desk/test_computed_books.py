@@ -233,6 +233,19 @@ def test_a_list_of_tables_that_can_not_be_read_is_said(book: Path) -> None:
     )
 
 
+def test_a_list_of_very_many_tables_is_not_read_to_its_end(book: Path) -> None:
+    altered(
+        book,
+        "PRAGMA writable_schema = ON;"
+        "WITH RECURSIVE n(x) AS (VALUES (1) UNION ALL SELECT x + 1 FROM n WHERE x < 150000)"
+        " INSERT INTO sqlite_schema"
+        " SELECT 'table', 't' || x, 't' || x, 2, 'CREATE TABLE t' || x || '(a)' FROM n",
+    )
+    ran = scribe("list", book.name, folder=book.parent, before=in_time)
+    assert (ran.status, ran.shown) == (2, "")
+    assert ran.said.startswith(f"The list of the tables in “{book.name}” can't be read")
+
+
 def test_what_else_stands_in_the_file_of_a_book_is_left_alone(book: Path) -> None:
     altered(
         book,
