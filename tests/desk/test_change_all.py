@@ -15,6 +15,7 @@ from braildesk import Entry, Kind, Session
 from braildesk.desk.change import Change, change_place
 from braildesk.desk.change_all import NotChanged, Replacement, change_all
 from braildesk.desk.ranges import ParagraphRange
+from braildesk.desk.tables import FOLDER
 from braildesk.text.spans import Span
 from scribe.cli import run_words
 from scribe.words.console import Console
@@ -89,6 +90,27 @@ def test_whole_words_alone(moons: Path) -> None:
 def test_other_capitals_are_changed_too_and_kept(moons: Path) -> None:
     assert changed(moons, "mooon", "sun", "--case", "--in", "1").status == 0
     assert prints(moons)[0] == "The sun and the Sun."
+
+
+def test_ss_is_no_other_capital_of_another_letter(empty_book: Path) -> None:
+    with Session(empty_book) as session:
+        session.put_table("ueb", (FOLDER / "ueb.utb").read_bytes())
+        session.add_paragraph("end", "ueb", "Die Masse, die Maße, die Straße’s")
+    ran = changed(empty_book, "masse", "menge", "--case")
+    assert ran.said.splitlines()[0] == (
+        "“masse” was replaced by “menge” in 1 place of 1 paragraph."
+    )
+    assert prints(empty_book) == ["Die Menge, die Maße, die Straße’s"]
+    for old, how in (
+        ("Strasse", "a letter written otherwise"),
+        ("Straße's", "another apostrophe"),
+    ):
+        assert changed(empty_book, old, "Wege", "--case") == Ran(
+            2,
+            "",
+            f"“{old}” isn't in the book as typed. With {how} it is there once. Nothing was"
+            " changed.\n",
+        )
 
 
 @pytest.mark.parametrize(

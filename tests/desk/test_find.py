@@ -6,6 +6,8 @@ import pytest
 from tool import Ran, scribe
 
 from braildesk import Session
+from braildesk.desk.find import alike, unlike
+from braildesk.desk.tables import FOLDER
 
 # a contraction of two letters, which has one cell, and a letter without a composed form
 TABLE = b"space \\s 0\nletter a 1\nletter n 1345\nletter q 12345\nletter \\x0307 4\nalways an 2\n"
@@ -65,6 +67,46 @@ def test_words_that_are_otherwise_in_the_book_are_said_to_be_and_shown(
     assert find(moon, "moon.", "--alike").said == ("Found “moon.” once.\n")
     assert find(moon, "Mond", "--alike").said == ("“Mond” isn't in the book.\n")
     assert find(moon, "moon", "--alike", "--braille").status == 1
+
+
+def test_letters_that_are_written_otherwise_are_not_said_to_be_capitals(
+    empty_book: Path,
+) -> None:
+    with Session(empty_book) as session:
+        session.put_table("ueb", (FOLDER / "ueb.utb").read_bytes())
+        session.add_paragraph("end", "ueb", "Die Straße, die Maße")
+    nowhere = "“{}” isn't in the book as typed. With {} it is there once; --alike shows where.\n"
+    for sought, how in (
+        ("Strasse", "a letter written otherwise"),
+        ("STRASSE", "other capitals and a letter written otherwise"),
+        ("straße", "other capitals"),
+        ("STRAẞE", "other capitals"),
+    ):
+        assert find(empty_book, sought) == Ran(0, "", nowhere.format(sought, how))
+    assert find(empty_book, "Masse", "--alike") == Ran(
+        0,
+        "Paragraph 1, character 17: Die Straße, die [Maße]\n",
+        "Found “Masse” once, with a letter written otherwise too.\n",
+    )
+
+
+@pytest.mark.parametrize(
+    "words, others, kinds",
+    [
+        ("moon", "Moon", ["CAPITALS"]),
+        ("fin", "ﬁn", ["LETTERS"]),
+        ("ΣΟΦΟΣ", "σοφος", ["CAPITALS"]),
+        ("σοφοσ", "σοφος", ["LETTERS"]),
+        ("Ꭰ", "ꭰ", ["CAPITALS"]),
+        ("ᾈ", "ᾀ", ["CAPITALS"]),
+        ("'n", "ŉ", ["LETTERS", "APOSTROPHE"]),
+    ],
+)
+def test_texts_that_are_alike_differ_by_something_that_is_named(
+    words: str, others: str, kinds: list[str]
+) -> None:
+    assert alike(words) == alike(others)
+    assert [kind.name for kind in unlike(words, others)] == kinds
 
 
 def test_cells_are_found_and_the_print_that_they_stand_for(moon: Path) -> None:

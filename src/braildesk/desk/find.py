@@ -19,6 +19,7 @@ class Variant(Enum):
     """By what words differ that are alike."""
 
     CAPITALS = auto()
+    LETTERS = auto()
     APOSTROPHE = auto()
     QUOTATION_MARKS = auto()
     DASH = auto()
@@ -32,6 +33,8 @@ _SIGNS = {
     Variant.DASH: "-‐‑‒–—―−",
     Variant.BLANK: " \t\u00a0\u2002\u2003\u2007\u2009\u202f",
 }
+# a sigma at the end of a word is another small letter, and the same capital
+_SIGMA = str.maketrans("ς", "σ")
 #: What each sign counts as where texts may differ by all kinds, or by all but one.
 _SHAPES = {
     kept: {
@@ -50,8 +53,8 @@ def alike(text: str) -> str:
 
 
 def any_case(text: str) -> str:
-    """The same text for all texts that differ by their capitals alone."""
-    return composed(text).casefold()
+    """The same text for all texts that differ by their capitals alone: ss isn't ß."""
+    return composed(text).lower().translate(_SIGMA)
 
 
 def unlike(words: str, others: str) -> tuple[Variant, ...]:
@@ -64,9 +67,22 @@ def unlike(words: str, others: str) -> tuple[Variant, ...]:
 def _folded(text: str, kept: Variant | None) -> str:
     """A text without what its sequences may differ by, but for one kind."""
     text = composed(text)
-    if kept is not Variant.CAPITALS:
-        text = text.casefold()
+    match kept:
+        case Variant.CAPITALS:
+            text = "".join(map(_with_plain_letters, text)).translate(_SIGMA)
+        case Variant.LETTERS:
+            text = text.lower()
+        case _:
+            text = text.casefold()
     return text.translate(_SHAPES[kept])
+
+
+def _with_plain_letters(character: str) -> str:
+    """The letters that are written by one that joins them, as ß and ligatures do, or that one."""
+    plain = character.casefold()
+    if any_case(plain) == any_case(character):
+        return character
+    return plain if character == character.lower() else plain.upper()
 
 
 @dataclass(frozen=True)

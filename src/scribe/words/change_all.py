@@ -6,7 +6,7 @@ from dataclasses import dataclass, field
 from braildesk import Session
 from braildesk.desk.change import Change
 from braildesk.desk.change_all import NotChanged, Passed, Proposal, Replacement
-from braildesk.desk.find import alike, find_words, tallied
+from braildesk.desk.find import Variant, alike, find_words, tallied
 from braildesk.desk.ranges import ParagraphRange
 from braildesk.text.excerpt import excerpt_lines
 
@@ -183,5 +183,6 @@ def nowhere(session: Session, wanted: Replacement, offer: str) -> str:
     if wanted.is_of_words:
         return f"{old} isn't in the book{_as_words(wanted)}. Nothing was changed."
     others = tallied(find_words(session, wanted.old, alike), wanted.old)
-    said = found_summary(wanted.old, tallied((), ""), others, offer)
+    how = offer if others.kinds == (Variant.CAPITALS,) else "."
+    said = found_summary(wanted.old, tallied((), ""), others, how)
     return f"{said} Nothing was changed."

@@ -11,6 +11,7 @@ from scribe.words.paragraph import quoted
 
 _KINDS = {
     Variant.CAPITALS: "other capitals",
+    Variant.LETTERS: "a letter written otherwise",
     Variant.APOSTROPHE: "another apostrophe",
     Variant.QUOTATION_MARKS: "other quotation marks",
     Variant.DASH: "another dash",

@@ -30,9 +30,9 @@ MORE = """\
 Each place is shown by its paragraph, its first character, counted from 1, and the words
 around it. With --braille TEXT is cells, in Braille ASCII or as Unicode characters, and
 the print that they stand for is shown after them. With --alike, words are found too that
-have other capitals, or an apostrophe, quotation mark, dash or blank of another shape.
-With --pages the volume, page and line of each place is said, on pages of --page-width
-cells and --page-lines lines."""
+have other capitals, a letter written otherwise, as ss for a sharp s, or an apostrophe,
+quotation mark, dash or blank of another shape. With --pages the volume, page and line of
+each place is said, on pages of --page-width cells and --page-lines lines."""
 EXAMPLE = """\
 scribe find moon.braildesk moon
 scribe find moon.braildesk --alike 'the moon'
