@@ -298,6 +298,26 @@ def test_a_mark_is_put_on_what_was_found(
     assert (mark.start, mark.stop, mark.note) == (*words, "so?")
 
 
+@pytest.mark.parametrize(
+    "keys, words",
+    [
+        # another print, at the front of which the cursor stays
+        (["enter", *["delete"] * 4, "enter"], "On “m”."),
+        (["enter", "s", "home", "enter"], "On “s”."),
+        # a shorter print than what was found
+        (["enter", "c-k", "S", "u", "n", "home", "enter"], "On “S”."),
+        # the print is as it was when the words were found
+        (["enter", "s", "home", "enter", "u"], "On “The moon is far”."),
+    ],
+)
+def test_no_mark_goes_on_cells_that_were_found_before_a_correction(
+    moon: Path, sit: Sit, keys: list[str], words: str
+) -> None:
+    sat = sit(moon)
+    sat.press("/", *"The moon is far", "enter", *keys, "m")
+    assert sat.state.heard == f"{words} r resolves a mark, and nothing takes it out."
+
+
 def test_a_mark_that_comes_to_end_within_a_contraction_is_on_its_cell(
     moon: Path, sit: Sit
 ) -> None:

@@ -106,5 +106,6 @@ def _at_found(session: Session, state: State, found: search.Found, count: int) -
         said = f"{what} isn't further on; this is the first in the book."
     number, span = state.book[spot.chosen].id, Span(spot.place, spot.place + count)
     cells = span if state.pane is Pane.CELLS else cells_of(session, number, span)
-    words = WordsFound(number, state.pane, spot.place, cells, count)
+    braille = session.braille_of(number)
+    words = WordsFound(number, state.pane, spot.place, cells, braille, count)
     return replace(state.at(spot.chosen, spot.place), found=words).saying(said)

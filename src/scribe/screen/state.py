@@ -133,12 +133,16 @@ class InHand:
 
 @dataclass(frozen=True)
 class WordsFound:
-    """The cells of what was found, which a mark is put on while the cursor stays at its front."""
+    """The cells of what was found, which a mark is put on while the cursor stays at its front.
+
+    The braille is that of the paragraph then: if it is another one, they may be others by now.
+    """
 
     paragraph: int
     pane: Pane
     place: int
     cells: Span
+    braille: str
     #: How many characters or cells were found.
     count: int
 
@@ -266,11 +270,11 @@ class State:
     @property
     def found_here(self) -> WordsFound | None:
         """What was found, while the cursor stays at its front."""
-        found = self.found
-        here = (self.paragraph.id if self.paragraph else 0, self.pane, self.place)
-        if found is None or (found.paragraph, found.pane, found.place) != here:
+        found, its = self.found, self.reading
+        if found is None or its is None or found.braille != its.braille:
             return None
-        return found
+        here = (its.paragraph.id, self.pane, self.place)
+        return found if (found.paragraph, found.pane, found.place) == here else None
 
     @property
     def mark_in_hand(self) -> Mark | None:
