@@ -180,6 +180,21 @@ def test_words_that_stand_side_by_side_are_taken_out_one_by_one(
         assert session.print_of(1) == "."
 
 
+def test_a_place_that_is_changed_says_by_which_keys_the_newest_change_goes(
+    tides: Path, sit: Sit
+) -> None:
+    sat = sit(tides)
+    asked(sat, "tide", "flood")
+    # the second place is changed last, and the first one is looked at
+    sat.press("down", "y", "y", "home", "down", "y")
+    assert sat.state.message == (
+        "This place is changed already. Escape, then u, takes back the newest change."
+    )
+    sat.press("escape", "u")
+    sat.desk.close()
+    assert prints(tides) == ["The flood", TIDES]
+
+
 def test_whole_words_and_other_capitals_are_chosen_in_the_list(
     tides: Path, sit: Sit
 ) -> None:

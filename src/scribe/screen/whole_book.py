@@ -57,6 +57,9 @@ _OF_PAGES = (
 )
 _NONE_LEFT = "There are no more places to change."
 _STAY = "The other places stay as they are."
+_CHANGED = (
+    "This place is changed already. Escape, then u, takes back the newest change."
+)
 
 KEYS_OF_PLACES = (
     "y: changes this place",
@@ -115,7 +118,7 @@ def _of_places(
     if nth is None or key not in ("y", "n"):
         return state, None
     if offer.places[nth].change is not None:
-        return state.saying("This place is changed already. u takes that back."), None
+        return state.saying(_CHANGED), None
     if key == "y":
         return state, replace(offer, nth=nth)
     left = replace(offer.places[nth], is_left=True)
