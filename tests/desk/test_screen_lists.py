@@ -201,6 +201,9 @@ def test_what_is_no_page_is_said_and_words_are_found(tides: Path, sit: Sit) -> N
         "page 9": "Volume 1 has 2 pages of 25 lines of 40 cells. The cursor stays where it is.",
         "volume 3 page 1": "There is no volume 3: the book has 2.",
         "volume 2 page 1 line 9": "Page 1 has nothing on line 9. The cursor stays where it is.",
+        "volume 2 page 1 line 25": "Line 25 of page 1 has only the number of the page."
+        " The cursor stays where it is.",
+        "volume 2 page 1 line 26": "Page 1 has nothing on line 26. The cursor stays where it is.",
         "page 0": "Volume 1 has 2 pages of 25 lines of 40 cells. The cursor stays where it is.",
         "9": "There is no paragraph 9. The cursor stays where it is.",
     }.items():

@@ -205,6 +205,8 @@ def start_of(
     if not 1 <= page <= pages:
         count = "1 page" if pages == 1 else f"{pages:,} pages"
         raise NotThere(f"Volume {volume.number} has {count} of {described(size)}.")
+    if line == size.lines:
+        raise NotThere(f"Line {line} of page {page} has only the number of the page.")
     wanted = (page - 1) * size.text_lines + line - 1
     found = [
         (its, lines)
