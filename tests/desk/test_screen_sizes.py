@@ -8,6 +8,7 @@ import pytest
 from braildesk import Session
 from braildesk.pipe import Pipe
 
+from scribe.screen.drawing import draw
 from scribe.screen.state import Size
 from sitting import Sit
 from terminal import Open
@@ -67,6 +68,54 @@ def test_a_paragraph_of_4000_characters_is_read_and_corrected_to_its_end(
     assert terminal.ended() == 0
     with Session(book) as session:
         assert session.print_of(1) == words[:-2] + "!."
+
+
+@pytest.mark.parametrize("lines", [3, 4, 5])
+def test_few_lines_show_the_line_of_the_cursor_and_what_matters_most(
+    moon: Path, sit: Sit, lines: int
+) -> None:
+    with Session(moon) as session:
+        session.add_paragraph(
+            "end", "en", "Twice a day the sea comes up and goes. " * 3
+        )
+        session.add_mark(4, 0, 6, "so?")
+    sat = sit(moon, size=Size(40, lines))
+    assert sat.lines[1] == "The moon is far away."
+    assert sat.lines[0] == "Paragraph 1, body, nothing kept yet"
+    sat.press("n")
+    assert "Mark 1, open, on “moon”: spelled so?" in sat.lines
+    sat.press("n")
+    assert sat.lines[0] == "Paragraph 4, body, nothing kept yet"
+    for _ in range(4):
+        line, column = draw(sat.state).cursor
+        text = sat.state.reading.text if sat.state.reading else ""
+        assert line == 1 and sat.lines[1][column] == text[sat.state.place]
+        assert sat.lines[1].startswith(("Twice a", "comes up", "the sea"))
+        sat.press("j")
+    sat.press("tab")
+    assert set(sat.lines[1]) <= {chr(0x2800 + mask) for mask in range(64)}
+    sat.press("tab", "%")
+    assert any(each.startswith("That key does nothing here.") for each in sat.lines)
+    sat.press("m", *"why?")
+    assert sat.lines[-1] == "Note of the mark: why?"
+    sat.press("enter", "enter", "!")
+    assert "!" in sat.lines[1]
+
+
+@pytest.mark.parametrize("lines", [3, 4, 5])
+def test_few_lines_show_how_a_question_is_answered_and_the_line_of_a_list(
+    moon: Path, sit: Sit, lines: int
+) -> None:
+    sat = sit(moon, size=Size(40, lines))
+    sat.press("o", *"It rose.", "escape", "U")
+    assert "y is yes, n is no." in " ".join(sat.lines)
+    assert len(draw(sat.state).lines) == lines
+    sat.press("n", "M")
+    line, _ = draw(sat.state).cursor
+    assert sat.lines[line].startswith("Mark 1, open, ")
+    sat.press("home")
+    line, _ = draw(sat.state).cursor
+    assert sat.lines[line].startswith("1 open mark. Lines 1 to ")
 
 
 def test_a_terminal_may_change_its_size_while_print_is_typed_or_a_question_waits(

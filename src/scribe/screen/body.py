@@ -75,10 +75,14 @@ def body(state: State, room: int) -> Area:
     upper, lower = _typed(state, typed) if typed else _kept(state)
     above, below = upper.rows(state.size.columns), lower.rows(state.size.columns)
     print_room = min(len(above), max(room - len(below), (room + 1) // 2))
+    in_cells = typed is None and state.pane is Pane.CELLS
+    if in_cells and room == 1:
+        # the line with the cursor
+        print_room = 0
     first = _window(above, upper.place, print_room)
     second = _window(below, lower.place, max(0, room - len(first)))
     lines = [*map(upper.line, first), *map(lower.line, second)]
-    if typed is not None or state.pane is Pane.PRINT:
+    if not in_cells:
         return Area(lines, _cursor(upper, first, 0))
     return Area(lines, _cursor(lower, second, len(first)))
 

@@ -44,6 +44,8 @@ PROMPTS = {
 # and one of the braille; beside what is said that is long, the first and the third of these
 _LEAST_OF_BOOK = 4
 _LEAST_BESIDE_SAID = 2
+# on a screen of fewer lines a line of the print is seen, and below it what matters most
+_FEW_LINES = 6
 _TOO_LONG = (
     f"A paragraph has at most {limits.PRINT_CHARACTERS:,} characters. Type on: Enter asks whether it"
     " goes on in a new one."
@@ -70,7 +72,14 @@ class _Own:
 
 
 # the rows of screens of so many lines or more
-_OWN = {40: _Own(4, 3), 20: _Own(2, 2), 12: _Own(1, 2), 0: _Own(1, 1, 0)}
+_OWN = {
+    40: _Own(4, 3),
+    20: _Own(2, 2),
+    12: _Own(1, 2),
+    5: _Own(1, 1, 0),
+    4: _Own(1, 0, 0),
+    0: _Own(0, 0, 0),
+}
 
 
 @dataclass(frozen=True)
@@ -129,6 +138,8 @@ def _title(state: State) -> Line:
     parts = [state.name, f"version {state.version:,}"]
     if table:
         parts.append(f"table {table}")
+    if paragraph and state.size.lines < _FEW_LINES:
+        parts.append(title(paragraph, False))
     # the sentence below may speak of something later
     parts.append(f"last {state.kept}" if state.kept else "nothing kept yet")
     # what was last kept stands there at any width
@@ -149,7 +160,7 @@ def _middle(state: State, room: int) -> Area:
         lines: list[Line] = [(Run(each),) for each in wrap(text, state.size.columns)]
         return Area(filled(lines, room), (0, 0))
     listed = _listed(state, min(state.list_lines, max(1, room - 3)))
-    if state.is_quiet:
+    if state.is_quiet or state.size.lines < _FEW_LINES:
         listed = []
     above = [*listed, _rule(state)] if room >= _LEAST_OF_BOOK else listed
     below = body(state, room - len(above))
@@ -200,7 +211,9 @@ def _pages(state: State, pages: Pages, room: int) -> Area:
         (Run(line, CHOSEN if place == found.cursor else PLAIN),)
         for place, line in enumerate([*found.head, *found.lines])
     ]
-    return Area(filled(lines, room), (found.cursor, 0))
+    # that of the cursor, if there is no room for what is above it
+    top = max(0, found.cursor + 1 - room)
+    return Area(filled(lines[top:], room), (found.cursor - top, 0))
 
 
 def _bottom(state: State) -> Area:
@@ -284,10 +297,15 @@ def _below(state: State, room: int, count: int) -> list[str]:
 
     There are more rows if what is said needs them, as far as the book leaves room.
     """
-    said = _said(state, room - _LEAST_BESIDE_SAID)
+    least, beside = _LEAST_OF_BOOK, _LEAST_BESIDE_SAID
+    if state.size.lines < _FEW_LINES:
+        # what is said covers the print, but not while it is typed
+        least, count = 1, min(count, room - 1)
+        beside = int(state.typed is not None and state.typed.purpose.is_print)
+    said = _said(state, room - beside)
     if state.pages:
         return [*[""] * (pager.SAID - len(said)), *said]
-    rest = max(0, room - _LEAST_OF_BOOK - len(said))
+    rest = max(0, room - least - len(said))
     # one row of the marks is seen beside whatever is said
     marks = _mark_lines(state, _marks(state), min(max(1, count - 1 - len(said)), rest))
     place = _place_lines(state)[: rest - len(marks)]
