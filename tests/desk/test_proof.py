@@ -171,8 +171,8 @@ def test_the_page_is_read_in_the_order_of_the_text(moon: Path) -> None:
     assert (ran.status, ran.shown, ran.said) == (0, "moon.html: 1 page.\n", "")
     found = read((moon.parent / "moon.html").read_text(encoding="utf-8"))
     assert " ".join(found.said) == (
-        "Proof of moon Proof of moon Volume 1, page 1 1 . The moon is far Mark 1, open: spelled"
-        " so? away. 2 . The Tides 3 . Twice a day the sea comes up. 1"
+        "Proof of moon Proof of moon Volume 1, page 1 1 . The moon is far Mark 1, open , on"
+        " “moon” : spelled so? away. 2 . The Tides 3 . Twice a day the sea comes up. 1"
     )
 
 
@@ -250,6 +250,34 @@ def test_only_pages_with_open_marks(moon: Path) -> None:
     ran = scribe(*words, "--marks-only", folder=moon.parent)
     assert (ran.status, ran.shown) == (2, "")
     assert ran.said == "No page has an open mark, so no proof was written.\n"
+
+
+def test_a_page_on_which_a_mark_goes_on_has_an_open_mark(moon: Path) -> None:
+    with Session(moon) as session:
+        session.add_mark(1, 12, 9, "which way?")
+        session.resolve_mark(1)
+    # “far” is the last word of a page, and “away” the first one of the next
+    pages = pages_of(moon, PageSize(20, 2))
+    marked = [
+        [each.text for each in words_of([page]) if each.is_marked] for page in pages
+    ]
+    assert marked == [["far"], ["away."], [], [], []]
+    assert [page.has_open_mark for page in pages] == [True, True, False, False, False]
+
+
+def test_open_marks_that_no_page_has_are_counted(moon: Path) -> None:
+    with Session(moon) as session:
+        session.add_mark(2, 0, 3, "so?")
+        session.correct(2, 0, 9, "")
+    words = ["proof", moon.name, "moon.html"]
+    assert scribe(*words, folder=moon.parent).said == (
+        "1 open mark is on no page: its paragraph is struck or has no words.\n"
+    )
+    with Session(moon) as session:
+        session.strike(1)
+    assert scribe(*words, folder=moon.parent).said == (
+        "2 open marks are on no page: their paragraphs are struck or have no words.\n"
+    )
 
 
 def test_a_proof_that_cannot_be_written_leaves_the_older_one(moon: Path) -> None:

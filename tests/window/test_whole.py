@@ -304,6 +304,20 @@ def test_page_and_line_are_said_of_what_is_gone_to(desk: Desk, given: Answers) -
     assert desk.window.message.text == "“day” stands nowhere else in the book."
 
 
+def test_a_proof_says_how_many_open_marks_are_on_none_of_its_pages(
+    desk: Desk, moon: Path, monkeypatch: pytest.MonkeyPatch
+) -> None:
+    proof = moon.with_name("moon.html")
+    monkeypatch.setattr(dialogs, "file_to_write", lambda *_: proof)
+    desk.act("proof")
+    assert desk.window.message.text == f"{proof}: 1 page."
+    desk.do(requests.Strike(2))
+    desk.act("proof")
+    assert desk.window.message.text == (
+        f"{proof}: 1 page. 1 open mark is on no page: its paragraph is struck or has no words."
+    )
+
+
 def test_a_text_that_is_too_long_goes_on_in_a_new_paragraph(
     desk: Desk, given: Answers
 ) -> None:

@@ -41,6 +41,8 @@ class ProofLine:
     words: tuple[ProofWord, ...]
     #: The marks whose first word stands on it.
     marks: tuple[Mark, ...]
+    #: The print of its paragraph.
+    print: str = ""
 
 
 @dataclass(frozen=True, slots=True)
@@ -53,8 +55,15 @@ class ProofPage:
     lines: tuple[ProofLine, ...]
 
     @property
+    def open_marks(self) -> int:
+        """How many open marks have their first word on it."""
+        return sum(not mark.resolved for line in self.lines for mark in line.marks)
+
+    @property
     def has_open_mark(self) -> bool:
-        return any(not mark.resolved for line in self.lines for mark in line.marks)
+        """Whether an open mark is on it, also if its first word stands on the page before."""
+        words = (word for line in self.lines for word in line.words)
+        return bool(self.open_marks) or any(word.is_marked for word in words)
 
 
 @dataclass(frozen=True, slots=True)
@@ -74,6 +83,12 @@ def proof_pages(session: Session, page_size: PageSize) -> Iterator[ProofPage]:
         texts = dict(zip((each.id for each in paragraphs), prints(session, paragraphs)))
         words = _words(session, its, texts)
         yield from _pages(its, texts, _marks(session, paragraphs), words)
+
+
+def open_marks(session: Session) -> int:
+    """How many open marks a book has, on its pages and elsewhere."""
+    found = _marks(session, session.paragraphs()).values()
+    return sum(not mark.resolved for marks in found for mark in marks)
 
 
 def _marks(
@@ -196,6 +211,7 @@ class _Lines:
             is_heading,
             tuple(words),
             self._marked.begun_in(front, self._shown),
+            text,
         )
 
     def _on(self, row: Row) -> Iterator[_Word]:

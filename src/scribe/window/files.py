@@ -11,7 +11,7 @@ from braildesk.desk import USUAL_WAIT
 from braildesk.desk.earlier import Undecided, Way
 from braildesk.desk.export import Job
 from braildesk.desk.import_text import Import
-from braildesk.desk.proof import proof_pages
+from braildesk.desk.proof import open_marks, proof_pages
 from braildesk.desk.whole_file import Access, write_whole
 
 from scribe.window import dialogs
@@ -23,7 +23,7 @@ from scribe.words.export import export_in_words
 from scribe.words.status import in_sentences
 from scribe.words.import_text import import_in_words, question
 from scribe.words.pages import described
-from scribe.words.proof_html import Proof
+from scribe.words.proof_html import Proof, elsewhere
 from scribe.words.status import Interrupted, Stop
 from scribe.words.typed import typed_path
 
@@ -98,22 +98,24 @@ class Files:
 
         file = path
 
-        def act(say: Say, is_stopped: IsStopped) -> int:
-            pages = []
-            for page in proof_pages(desk.book.session, page_size):
+        def act(say: Say, is_stopped: IsStopped) -> tuple[int, int]:
+            session, pages = desk.book.session, []
+            for page in proof_pages(session, page_size):
                 if is_stopped():
                     raise Stop("The proof was stopped. Nothing was written.")
                 pages.append(page)
                 say(f"{len(pages):,} pages are laid out.")
             if not pages:
                 raise Stop("The book has no page, so no proof was written.")
+            left = open_marks(session) - sum(each.open_marks for each in pages)
             text = "".join(proof.html(pages)).encode()
             with in_sentences():
                 write_whole(file, text, Access.of(desk.path))
-            return len(pages)
+            return len(pages), left
 
-        count = dialogs.long(desk.window, desk.work, "Proof", act)
-        desk.say(f"{path}: {count:,} {'page' if count == 1 else 'pages'}.")
+        count, left = dialogs.long(desk.window, desk.work, "Proof", act)
+        said = f"{path}: {count:,} {'page' if count == 1 else 'pages'}."
+        desk.say(f"{said} {elsewhere(left)}" if left else said)
 
     def imported(self, path: Path, way: Way = Way.ASK) -> None:
         """Types the paragraphs of a text after the chosen one."""

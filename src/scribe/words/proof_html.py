@@ -11,6 +11,8 @@ from braildesk.text.cells import braille_ascii
 from braildesk.text.characters import visible
 from braildesk.text.wrapping import columns
 
+from scribe.words.paragraph import marked_words
+
 #: The sizes of the print of a line, the largest first, in cells.
 _SIZES = (0.62, 0.54, 0.47, 0.41, 0.36, 0.31)
 #: The width of a character of print in its own size, and of one of a heading, which is bold.
@@ -60,7 +62,7 @@ class Proof:
         for word, shift in zip(line.words, shifts):
             yield self._word(word, size, shift)
         if line.marks:
-            notes = "<br/>".join(escape(_note(mark)) for mark in line.marks)
+            notes = "<br/>".join(_note(mark, line.print) for mark in line.marks)
             yield f'<span class="notes">{notes}</span>'
         yield "</div>\n"
 
@@ -105,10 +107,22 @@ def _shifted(line: ProofLine, width: int) -> tuple[int, list[float]]:
     return len(_SIZES) - 1, shifts
 
 
-def _note(mark: Mark) -> str:
+def _note(mark: Mark, text: str) -> str:
+    """What is said of a mark: to a screen reader also its words, which are framed for the eye."""
     state = "resolved" if mark.resolved else "open"
-    note = f": {visible(mark.note)}" if mark.note else ""
-    return f"Mark {mark.id}, {state}{note}"
+    words = f'<span class="aside">, {escape(marked_words(mark, text))}</span>'
+    note = f": {escape(visible(mark.note))}" if mark.note else ""
+    return f"Mark {mark.id}, {state}{words}{note}"
+
+
+def elsewhere(count: int) -> str:
+    """That so many open marks stand on no page, in a sentence."""
+    if count == 1:
+        return "1 open mark is on no page: its paragraph is struck or has no words."
+    return (
+        f"{count:,} open marks are on no page: their paragraphs are struck or have no"
+        " words."
+    )
 
 
 _STYLE = """\

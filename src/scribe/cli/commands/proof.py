@@ -5,14 +5,14 @@ from argparse import ArgumentParser, ArgumentTypeError, Namespace
 from collections.abc import Iterable, Iterator
 from pathlib import Path
 
-from braildesk.desk.proof import ProofPage, proof_pages
+from braildesk.desk.proof import ProofPage, open_marks, proof_pages
 from braildesk.desk.whole_file import Access, MayNotLast, write_whole
 
 from scribe.cli.book_command import looked_at
 from scribe.cli.page_size import add_page_size, page_size_of
 from scribe.cli.parser import Subparsers, add_file, command_parser
 from scribe.words.console import Console
-from scribe.words.proof_html import Proof
+from scribe.words.proof_html import Proof, elsewhere
 from scribe.words.status import Status, Stop, may_not_last
 
 MORE = """\
@@ -68,7 +68,9 @@ def run(arguments: Namespace, console: Console) -> Status:
         has_spoken_cells=arguments.speak_cells,
     )
     with looked_at(arguments, console) as (session, _):
-        pages = list(_wanted(proof_pages(session, page_size), arguments.marks_only))
+        found = list(proof_pages(session, page_size))
+        left = open_marks(session) - sum(page.open_marks for page in found)
+    pages = list(_wanted(found, arguments.marks_only))
     if not pages:
         raise Stop(_nothing(arguments.marks_only))
     text = "".join(shown.html(pages)).encode()
@@ -82,6 +84,8 @@ def run(arguments: Namespace, console: Console) -> Status:
         ) from error
     count = "1 page" if len(pages) == 1 else f"{len(pages):,} pages"
     console.show(f"{arguments.proof}: {count}.")
+    if left:
+        console.say(elsewhere(left))
     return Status.DONE
 
 
