@@ -181,6 +181,8 @@ class OfOneParagraph:
                     yield "\u2800".join("\u2801" * self._words)
                 case requests.Marks():
                     yield self._marks
+                case requests.Where(place=place):
+                    yield place
 
 
 def test_the_marks_of_a_paragraph_are_gone_through_once_for_all_its_words() -> None:

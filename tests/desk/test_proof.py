@@ -146,6 +146,35 @@ def test_a_word_that_is_cut_has_its_print_under_its_front(book: Path) -> None:
     assert shown == [["a" * 25], ["", "b"]]
 
 
+def test_a_mark_within_a_word_that_is_cut_stands_where_marks_says(book: Path) -> None:
+    with Session(book) as session:
+        session.add_paragraph("end", "en", "a" * 50 + " b")
+        for cell in (17, 18, 38, 51):
+            session.add_mark(1, cell, 1, f"cell {cell}")
+        places = PageMap(session, PageSize(20, 5))
+        text = session.print_of(1)
+        there = [places.of_character(1, n, text) for n in (17, 18, 38, 51)]
+    assert [each and each.line for each in there] == [1, 2, 3, 3]
+    (page,) = pages_of(book, PageSize(20, 5))
+    assert [[mark.note for mark in line.marks] for line in page.lines] == [
+        ["cell 17"],
+        ["cell 18"],
+        ["cell 38", "cell 51"],
+    ]
+
+
+def test_the_last_word_is_whole_if_a_sign_parts_its_cells(book: Path) -> None:
+    table = (
+        b"space \\s 0\nletter m 134\nletter n 1345\nletter o 135\nalways oo 135-0-135\n"
+    )
+    with Session(book) as session:
+        session.put_table("parting", table)
+        session.add_paragraph("end", "parting", "no moon")
+    (page,) = pages_of(book)
+    shown = [(each.cells, each.text) for each in page.lines[0].words]
+    assert shown == [("⠝⠕", "no"), ("⠍⠕", "moon"), ("⠕⠝", "")]
+
+
 def test_words_that_cells_join_are_found_by_the_book(book: Path) -> None:
     table = b"space \\s 0\nletter a 1\nletter b 12\nalways a\\sb 1-12\n"
     with Session(book) as session:
@@ -153,6 +182,28 @@ def test_words_that_cells_join_are_found_by_the_book(book: Path) -> None:
         session.add_paragraph("end", "joined", "a b a")
     (page,) = pages_of(book)
     assert [each.text for each in page.lines[0].words] == ["a b", "a"]
+
+
+def test_as_many_words_as_runs_of_cells_are_no_sign_that_these_are_theirs(
+    book: Path,
+) -> None:
+    table = (ROOT / "sample" / "plain.utb").read_bytes()
+    # of the signs one joins two words, one parts a word, one has no cells that are seen, and one
+    # begins with an empty cell
+    table += b"always a\\sb 1-12\nalways oo 135-0-135\n"
+    table += b"punctuation \\x00b7 0\npunctuation = 0-2356\n"
+    with Session(book) as session:
+        session.put_table("own", table)
+        session.add_paragraph("end", "own", "a b moon sun")
+        session.add_paragraph("end", "own", "a \u00b7 b=c so")
+        session.add_mark(1, 3, 1, "on moon")
+    (page,) = pages_of(book, PageSize(40, 10))
+    shown = [[(each.cells, each.text) for each in line.words] for line in page.lines]
+    assert shown == [
+        [("⠁⠃", "a b"), ("⠍⠕", "moon"), ("⠕⠝", ""), ("⠎⠥⠝", "sun")],
+        [("⠁", "a ·"), ("⠃", "b=c"), ("⠶⠉", ""), ("⠎⠕", "so")],
+    ]
+    assert [each.text for each in page.lines[0].words if each.is_marked] == ["moon"]
 
 
 def test_struck_paragraphs_and_empty_volumes_have_no_place(moon: Path) -> None:

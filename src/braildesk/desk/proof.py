@@ -1,7 +1,7 @@
 """A book as it will be embossed, with the print that each word of cells stands for."""
 
 import re
-from bisect import bisect_left
+from bisect import bisect_left, bisect_right
 from collections.abc import Iterator, Mapping, Sequence
 from dataclasses import dataclass
 from itertools import groupby
@@ -39,7 +39,7 @@ class ProofLine:
     begins: int | None
     is_heading: bool
     words: tuple[ProofWord, ...]
-    #: The marks whose first word stands on it.
+    #: The marks whose first cell stands on it.
     marks: tuple[Mark, ...]
     #: The print of its paragraph.
     print: str = ""
@@ -81,8 +81,10 @@ def proof_pages(session: Session, page_size: PageSize) -> Iterator[ProofPage]:
     for number, paragraphs in enumerate(parted(session.paragraphs()), 1):
         its = volume(session, number, paragraphs, page_size)
         texts = dict(zip((each.id for each in paragraphs), prints(session, paragraphs)))
+        marks = _marks(session, paragraphs)
+        on_rows = _on_rows(session, its, texts, marks)
         words = _words(session, its, texts)
-        yield from _pages(its, texts, _marks(session, paragraphs), words)
+        yield from _pages(its, _Lines(its, texts, marks, on_rows, words))
 
 
 def open_marks(session: Session) -> int:
@@ -98,45 +100,102 @@ def _marks(
     return {each.id: marks for each, marks in zip(paragraphs, found)}
 
 
+def _on_rows(
+    session: Session,
+    its: Volume,
+    texts: Mapping[int, str],
+    marks_of: Mapping[int, Sequence[Mark]],
+) -> dict[int, list[list[Mark]]]:
+    """The marks on each line of the paragraphs that have lines, in the order of the marks.
+
+    A blank at which a line is broken stands where the word before it does.
+    """
+    fronts = {
+        each.section.paragraph: [start for start, _ in each.spans]
+        for each in its.layout.placed
+        if each.spans
+    }
+    asked = (
+        Where(number, min(mark.start, len(texts[number]) - 1))
+        for number in fronts
+        for mark in marks_of[number]
+    )
+    cells = answers(session, asked)
+    found = {
+        number: [list[Mark]() for _ in starts] for number, starts in fronts.items()
+    }
+    for number, starts in fronts.items():
+        for mark in marks_of[number]:
+            row = bisect_right(starts, next(cells)) - 1
+            found[number][max(0, row)].append(mark)
+    return found
+
+
 def _words(
     session: Session, its: Volume, texts: Mapping[int, str]
 ) -> dict[int, list[_Word]]:
-    """The words of each paragraph of a volume.
+    """The words of each paragraph of a volume."""
+    runs = {
+        number: [match.span() for match in _CELLS.finditer(cells)]
+        for number, cells in its.brailles.items()
+    }
+    paired = _paired(session, runs, texts)
+    others = {number: each for number, each in runs.items() if number not in paired}
+    return paired | _told_by_the_book(session, others, texts)
 
-    If a print has as many words as its braille, they are paired; of others the book says where each
-    run of cells comes from.
+
+def _paired(
+    session: Session,
+    runs_of: Mapping[int, Sequence[tuple[int, int]]],
+    texts: Mapping[int, str],
+) -> dict[int, list[_Word]]:
+    """The words of paragraphs if each begins where a run of cells does, and there are no more runs.
+
+    As many of both are no sign of that: one sign may join words, and another one part a word.
     """
-    brailles = its.brailles
-    paired: dict[int, list[_Word]] = {}
-    others: dict[int, list[tuple[int, int]]] = {}
-    for paragraph in its.paragraphs:
-        number = paragraph.id
-        runs = [match.span() for match in _CELLS.finditer(brailles[number])]
+    found: dict[int, list[_Word]] = {}
+    for number, runs in runs_of.items():
         words = [match.span() for match in _PRINT.finditer(texts[number])]
         if len(runs) == len(words):
-            paired[number] = [_Word(*run, *word) for run, word in zip(runs, words)]
-        else:
-            others[number] = runs
+            found[number] = [_Word(*run, *word) for run, word in zip(runs, words)]
     asked = (
-        Whence(number, start) for number, runs in others.items() for start, _ in runs
+        Where(number, word.first) for number, words in found.items() for word in words
     )
-    firsts_of = _in_turn(answers(session, asked), others)
+    begun = _in_turn(answers(session, asked), found)
+    return {
+        number: words
+        for number, words in found.items()
+        if begun[number] == [word.start for word in words]
+    }
+
+
+def _told_by_the_book(
+    session: Session,
+    runs_of: Mapping[int, Sequence[tuple[int, int]]],
+    texts: Mapping[int, str],
+) -> dict[int, list[_Word]]:
+    """The words of paragraphs, of which the book says where each run of cells comes from."""
+    asked = (
+        Whence(number, start) for number, runs in runs_of.items() for start, _ in runs
+    )
+    firsts_of = _in_turn(answers(session, asked), runs_of)
     begun = (
         Where(number, place) for number, firsts in firsts_of.items() for place in firsts
     )
-    cells_of = _in_turn(answers(session, begun), others)
-    for number, runs in others.items():
+    cells_of = _in_turn(answers(session, begun), runs_of)
+    found: dict[int, list[_Word]] = {}
+    for number, runs in runs_of.items():
         text = texts[number]
-        found = zip(runs, firsts_of[number], cells_of[number])
+        places = zip(runs, firsts_of[number], cells_of[number])
         firsts = [
             # a sign may stand for the end of the word before, a blank and this one's front
             _after_blank(text, place) if cell < start else place
-            for (start, _), place, cell in found
+            for (start, _), place, cell in places
         ]
         lasts = [*firsts[1:], len(text)]
         spans = zip(runs, firsts, lasts)
-        paired[number] = [_Word(*run, first, last) for run, first, last in spans]
-    return paired
+        found[number] = [_Word(*run, first, last) for run, first, last in spans]
+    return found
 
 
 def _in_turn(
@@ -147,19 +206,13 @@ def _in_turn(
 
 
 def _after_blank(text: str, place: int) -> int:
-    """The first place after the next blank, if there is one."""
+    """The first place after the next blank, or the end of the text."""
     blank = _BLANK.search(text, place)
-    return blank.end() if blank else place
+    return blank.end() if blank else len(text)
 
 
-def _pages(
-    its: Volume,
-    texts: Mapping[int, str],
-    marks: dict[int, tuple[Mark, ...]],
-    words: dict[int, list[_Word]],
-) -> Iterator[ProofPage]:
+def _pages(its: Volume, line: "_Lines") -> Iterator[ProofPage]:
     headings = {each.id for each in its.paragraphs if each.style is Style.HEADING}
-    line = _Lines(its, texts, marks, words)
     for page, rows in groupby(its.layout.rows, lambda row: row.page):
         lines = tuple(line.of(row, row.paragraph in headings) for row in rows)
         yield ProofPage(its.number, page, lines)
@@ -172,27 +225,28 @@ class _Lines:
         self,
         its: Volume,
         texts: Mapping[int, str],
-        marks: dict[int, tuple[Mark, ...]],
-        words: dict[int, list[_Word]],
+        marks: Mapping[int, Sequence[Mark]],
+        on_rows: Mapping[int, Sequence[Sequence[Mark]]],
+        words: Mapping[int, Sequence[_Word]],
     ) -> None:
         self._brailles = its.brailles
         self._texts = texts
         self._marks = marks
+        self._on_rows = on_rows
         self._words = words
         self._paragraph = 0
         self._marked = _Marked(())
-        #: The word of the paragraph that comes next, and the place up to which marks were shown.
-        self._next = self._shown = 0
+        #: The word of the paragraph that comes next, and the row, counted from 0.
+        self._next = self._row = 0
 
     def of(self, row: Row, is_heading: bool) -> ProofLine:
         """The line of a row, which comes after those of the rows before."""
         is_new = row.paragraph != self._paragraph
         if is_new:
-            self._paragraph, self._next, self._shown = row.paragraph, 0, 0
+            self._paragraph, self._next, self._row = row.paragraph, 0, 0
             self._marked = _Marked(self._marks[row.paragraph])
         text, braille = self._texts[row.paragraph], self._brailles[row.paragraph]
         words: list[ProofWord] = []
-        front = self._shown
         column = len(row.shown) - len(row.shown.lstrip(" "))
         for word in self._on(row):
             start, stop = max(word.start, row.start), min(word.stop, row.stop)
@@ -201,16 +255,14 @@ class _Lines:
             is_marked = self._marked.is_on(word.first, word.last)
             words.append(ProofWord(column, braille[start:stop], shown, is_marked))
             column += stop - start + 1
-        # a blank stands where the word before it does, and so does what is after the last word
-        words_left = self._words[row.paragraph][self._next : self._next + 2]
-        firsts = [word.first for word in words_left if word.start >= row.stop]
-        self._shown = firsts[0] if firsts else len(text) + 1
+        marks = self._on_rows[row.paragraph][self._row]
+        self._row += 1
         return ProofLine(
             row.line,
             row.paragraph if is_new else None,
             is_heading,
             tuple(words),
-            self._marked.begun_in(front, self._shown),
+            tuple(marks),
             text,
         )
 
@@ -225,29 +277,22 @@ class _Lines:
 
 
 class _Marked:
-    """The marks of a paragraph, of which there may be very many, found by places of its print."""
+    """The open marks of a paragraph, of which there may be very many, found by places of its print."""
 
     def __init__(self, marks: Sequence[Mark]) -> None:
-        self._marks = marks
-        order = sorted(range(len(marks)), key=lambda at: marks[at].start)
-        self._order = order
-        self._starts = [marks[at].start for at in order]
-        opened = [marks[at] for at in order if not marks[at].resolved]
-        self._opened = [mark.start for mark in opened]
+        opened = sorted(
+            (mark for mark in marks if not mark.resolved), key=lambda mark: mark.start
+        )
+        self._starts = [mark.start for mark in opened]
         # how far the marks reach that begin no later than each
         self._reach: list[int] = []
         for mark in opened:
             self._reach.append(max(_stop(mark), (self._reach or [0])[-1]))
 
     def is_on(self, first: int, last: int) -> bool:
-        """Whether an open mark is on any of some places."""
-        before = bisect_left(self._opened, last)
+        """Whether a mark is on any of some places."""
+        before = bisect_left(self._starts, last)
         return before > 0 and first < self._reach[before - 1]
-
-    def begun_in(self, first: int, last: int) -> tuple[Mark, ...]:
-        """The marks that begin at any of some places, in the order of the marks."""
-        start, stop = bisect_left(self._starts, first), bisect_left(self._starts, last)
-        return tuple(self._marks[at] for at in sorted(self._order[start:stop]))
 
 
 def _stop(mark: Mark) -> int:
