@@ -153,7 +153,15 @@ def test_the_book_is_parted_into_volumes(desk: Desk, given: Answers) -> None:
     assert desk.window.message.text == "Taken back: 1 beginning of volumes set."
 
 
-@pytest.mark.parametrize("typed", ["", "0", "many", "-1"])
+def test_volumes_of_a_count_of_pages_with_very_many_digits(
+    desk: Desk, given: Answers
+) -> None:
+    given["text"] = "1" * 5000
+    desk.act("part")
+    assert desk.window.message.text.startswith("The volumes begin there already: 1 vol")
+
+
+@pytest.mark.parametrize("typed", ["", "0", "00", "many", "-1"])
 def test_what_is_no_count_of_pages_is_said(
     desk: Desk, given: Answers, typed: str
 ) -> None:
@@ -178,6 +186,7 @@ def test_a_volume_that_cannot_be_so_short_is_said(desk: Desk, given: Answers) ->
         ("v1 p1 l3", 2, 0, ""),
         ("sea", 3, 16, "Paragraph 3, character 17."),
         ("9", 1, 0, "There is no paragraph 9 in the book."),
+        ("1" * 5000, 1, 0, f"There is no paragraph {'1' * 59}… in the book."),
         (
             "page 9",
             1,

@@ -43,11 +43,19 @@ class Going:
         if not typed or not word:
             return
         if word.isascii() and word.isdigit():
-            self._to(int(word), 0, desk.window.table)
+            self._to_number(word.lstrip("0") or "0")
         elif wanted is not None:
             self._to_line(wanted)
         else:
             self._finding.look_for(typed, False)
+
+    def _to_number(self, word: str) -> None:
+        """Goes to the paragraph whose number was typed, which may be longer than any is."""
+        book = self.desk.contents.paragraphs
+        number = next((each.id for each in book if str(each.id) == word), None)
+        if number is None:
+            raise Stop(f"There is no paragraph {opening(word, _WORDS)} in the book.")
+        self._to(number, 0, self.desk.window.table)
 
     def _to(self, number: int, place: int, part: QWidget) -> None:
         """Goes to a character of a paragraph, in a part of the window."""

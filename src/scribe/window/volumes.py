@@ -50,8 +50,8 @@ class Volumes:
         typed = dialogs.text(desk.window, "Part into volumes", _ASKED)
         if typed is None:
             return
-        word = typed.strip()
-        if not (word.isascii() and word.isdigit() and int(word)):
+        word = typed.strip().lstrip("0")
+        if not (word.isascii() and word.isdigit()):
             raise Stop("A volume has at least 1 page: type how many, as in 80.")
         most = int(word[:9])
         book, volumes, lines = self._looked_at("Part into volumes", most)
