@@ -207,6 +207,20 @@ def test_a_place_is_gone_to(
     assert desk.window.message.text.startswith(said)
 
 
+def test_words_that_are_there_otherwise_are_said_to_be_also_around_the_book(
+    desk: Desk, given: Answers
+) -> None:
+    there = "Paragraph 3, character 17. It stands there otherwise than as it was typed."
+    given["text"] = "SEA"
+    desk.act("find")
+    assert desk.window.message.text == there
+    desk.choose(2, 20)
+    desk.act("find")
+    assert desk.window.message.text == (
+        f"{there} This is the first in the book: there is none further on."
+    )
+
+
 def test_headings_and_marks_are_gone_to_by_their_lists(
     desk: Desk, given: Answers
 ) -> None:

@@ -96,12 +96,12 @@ class Finding:
             if (words := self.found_here()) is not None:
                 desk.window.print.select(words)
         said = f"Paragraph {desk.number}, {'cell' if is_cells else 'character'} {spot.place + 1}."
+        if self._finds_alike and not is_cells:
+            said = f"{said} It stands there otherwise than as it was typed."
         if found.is_same:
             said = f"{quoted(self.sought)} stands nowhere else in the book."
         elif found.is_around:
             said = f"{said} This is the first in the book: there is none further on."
-        elif self._finds_alike and not is_cells:
-            said = f"{said} It stands there otherwise than as it was typed."
         say_there(desk, said)
 
     def found_here(self) -> Span | None:
