@@ -10,7 +10,7 @@ from braildesk.pipe import Pipe
 
 from scribe.screen.drawing import draw
 from scribe.screen.state import Size
-from sitting import Sit
+from sitting import Sat, Sit
 from terminal import Open
 
 #: How many requests show the screen of 80 by 24: two for each listed paragraph, and for the chosen
@@ -70,7 +70,13 @@ def test_a_paragraph_of_4000_characters_is_read_and_corrected_to_its_end(
         assert session.print_of(1) == words[:-2] + "!."
 
 
-@pytest.mark.parametrize("lines", [3, 4, 5])
+def of_cursor(sat: Sat) -> tuple[str, int]:
+    """The line of the cursor, and its place there."""
+    line, place = draw(sat.state).cursor
+    return sat.lines[line], place
+
+
+@pytest.mark.parametrize("lines", range(3, 8))
 def test_few_lines_show_the_line_of_the_cursor_and_what_matters_most(
     moon: Path, sit: Sit, lines: int
 ) -> None:
@@ -80,29 +86,28 @@ def test_few_lines_show_the_line_of_the_cursor_and_what_matters_most(
         )
         session.add_mark(4, 0, 6, "so?")
     sat = sit(moon, size=Size(40, lines))
-    assert sat.lines[1] == "The moon is far away."
     assert sat.lines[0] == "Paragraph 1, body, nothing kept yet"
+    assert of_cursor(sat) == ("The moon is far away.", 0)
     sat.press("n")
     assert "Mark 1, open, on “moon”: spelled so?" in sat.lines
     sat.press("n")
     assert sat.lines[0] == "Paragraph 4, body, nothing kept yet"
-    for _ in range(4):
-        line, column = draw(sat.state).cursor
-        text = sat.state.reading.text if sat.state.reading else ""
-        assert line == 1 and sat.lines[1][column] == text[sat.state.place]
-        assert sat.lines[1].startswith(("Twice a", "comes up", "the sea"))
+    for front in ("Twice a day the sea", "Twice a day the sea", "Twice a day the sea"):
+        line, place = of_cursor(sat)
+        assert line.startswith(front) and place == 0
         sat.press("j")
     sat.press("tab")
-    assert set(sat.lines[1]) <= {chr(0x2800 + mask) for mask in range(64)}
+    assert of_cursor(sat)[0].startswith("⠠⠞⠺⠊⠉⠑")
     sat.press("tab", "%")
-    assert any(each.startswith("That key does nothing here.") for each in sat.lines)
+    said = "That key does nothing here. ? shows the keys."
+    assert said in " ".join(sat.lines)
     sat.press("m", *"why?")
     assert sat.lines[-1] == "Note of the mark: why?"
     sat.press("enter", "enter", "!")
-    assert "!" in sat.lines[1]
+    assert of_cursor(sat)[0].startswith("!Twice")
 
 
-@pytest.mark.parametrize("lines", [3, 4, 5])
+@pytest.mark.parametrize("lines", range(3, 8))
 def test_few_lines_show_how_a_question_is_answered_and_the_line_of_a_list(
     moon: Path, sit: Sit, lines: int
 ) -> None:
@@ -111,11 +116,20 @@ def test_few_lines_show_how_a_question_is_answered_and_the_line_of_a_list(
     assert "y is yes, n is no." in " ".join(sat.lines)
     assert len(draw(sat.state).lines) == lines
     sat.press("n", "M")
-    line, _ = draw(sat.state).cursor
-    assert sat.lines[line].startswith("Mark 1, open, ")
+    assert of_cursor(sat)[0].startswith("Mark 1, open, ")
     sat.press("home")
-    line, _ = draw(sat.state).cursor
-    assert sat.lines[line].startswith("1 open mark. Lines 1 to ")
+    assert of_cursor(sat)[0].startswith("1 open mark. Lines 1 to ")
+
+
+def test_a_terminal_of_three_lines_shows_what_is_said(moon: Path, at: Open) -> None:
+    terminal = at(moon, 40, 3)
+    terminal.wait("The moon is far away.")
+    terminal.keys("n")
+    terminal.wait("Mark 1, open, on “moon”: spelled so?")
+    terminal.keys("%")
+    terminal.wait("That key does nothing here. ? shows the")
+    terminal.keys("q")
+    assert terminal.ended() == 0
 
 
 def test_a_terminal_may_change_its_size_while_print_is_typed_or_a_question_waits(

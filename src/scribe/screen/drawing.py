@@ -45,7 +45,7 @@ PROMPTS = {
 _LEAST_OF_BOOK = 4
 _LEAST_BESIDE_SAID = 2
 # on a screen of fewer lines a line of the print is seen, and below it what matters most
-_FEW_LINES = 6
+_FEW_LINES = 8
 _TOO_LONG = (
     f"A paragraph has at most {limits.PRINT_CHARACTERS:,} characters. Type on: Enter asks whether it"
     " goes on in a new one."

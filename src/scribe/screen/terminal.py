@@ -291,7 +291,7 @@ class Screen:
         """Takes the size of the terminal, which may have changed."""
         self._begin_work()
         found = self._app.output.get_size()
-        size = Size(max(10, found.columns), max(8, found.rows))
+        size = Size(max(10, found.columns), max(2, found.rows))
         if size == self.state.size:
             return
         if self.state.away or self.state.is_lost:
