@@ -373,6 +373,31 @@ def test_items_are_numbered_as_they_are_in_print(tmp_path: Path) -> None:
     assert read_manuscript(path).texts == ["iv) a", "v) b", "z", "(B) c", "1. d"]
 
 
+def test_notes_of_markdown_that_nothing_leads_to_are_words_that_are_missing(
+    tmp_path: Path,
+) -> None:
+    path = tmp_path / "notes.md"
+    path.write_text(
+        "One[^a] and `[^b]`.\n\n[^a]: First *one*.\n\n[^a]: Second by_name.\n\n"
+        "[^b]: Nobody _leads_ here,\nnor [there](http://x.y).\n\n    Nor so.\n\nThe end.\n\n"
+        "> [^ç]: A quiet note.\n\n[^d]: It goes.\n\nIt[^d] goes.\n",
+        encoding="utf-8",
+    )
+    found = read_manuscript(path)
+    assert found.texts == [
+        "One[1] and [^b].",
+        "[1: Second by_name.]",
+        "The end.",
+        "It[2] goes.",
+        "[2: It goes.]",
+    ]
+    assert found.missing == (
+        Missing("First one", "", ""),
+        Missing("Nobody leads here nor there Nor so", "", ""),
+        Missing("A quiet note", "", ""),
+    )
+
+
 def test_a_long_document_is_read_whole(tmp_path: Path) -> None:
     body = "".join(
         paragraph(run(" ".join(f"word{number} of" for number in range(50))))

@@ -7,7 +7,7 @@ import re
 import unicodedata
 import zipfile
 from collections import Counter
-from collections.abc import Iterable, Iterator, Sequence
+from collections.abc import Collection, Iterable, Iterator, Sequence
 from dataclasses import dataclass, field
 from html.parser import HTMLParser
 from pathlib import PurePosixPath
@@ -44,6 +44,10 @@ _DELETED = (f"{_W}del", f"{_W}moveFrom")
 _ODT_DELETED = f"{_TEXT}deletion"
 _ANNOTATION = f"{_OFFICE}annotation"
 _NUMBER = re.compile(r"[\W\d_]*")
+#: The key of a note in Markdown and its first line, and what of a text there is no print: where links
+#: lead, and marks of emphasis and of code.
+_NOTE = re.compile(r"[ >]*\[\^([^]\s]+)\]:(.*)")
+_MARKUP = re.compile(r"\]\([^)\s]*\)|(?<!\w)_+|_+(?!\w)|[*`\\]")
 
 
 @dataclass
@@ -73,6 +77,24 @@ def contents_of(data: bytes, kind: ManuscriptKind) -> Contents:
         with unpacked(data) as container:
             _READERS[kind](container, found)
     return found
+
+
+def notes_of(text: str, keys: Collection[str]) -> list[str]:
+    """The notes of some keys that a text in Markdown has, wherever their numbers are."""
+    found: list[str] = []
+    is_in = is_after_blank = False
+    for line in text.split("\n"):
+        begun = _NOTE.match(line)
+        if begun:
+            is_in = begun[1] in keys
+            found += [begun[2]] if is_in else []
+        elif is_in and is_after_blank and line.strip():
+            # the paragraphs of a note after its first one are indented
+            is_in = line.startswith(("    ", "\t"))
+        if is_in and not begun:
+            found[-1] += f" {line}"
+        is_after_blank = not line.strip()
+    return [_MARKUP.sub(" ", each) for each in found]
 
 
 def missing(passages: Iterable[str], texts: Iterable[str]) -> list[Missing]:

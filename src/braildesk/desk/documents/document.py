@@ -73,13 +73,16 @@ def _read(
     data: bytes, kind: ManuscriptKind, own: Contents, reading: ReadingOptions
 ) -> Manuscript:
     """What pandoc reads, compared with what the file has."""
-    tree = pandoc.tree(_readable(data, kind), kind)
+    tree, left_out = pandoc.tree(_readable(data, kind), kind)
     try:
         noted = with_notes(tree)
     except FAULTS as fault:
         raise NotRead from fault
     found = document(noted, reading, with_front=kind in _WITH_FRONT)
-    missing = contents.missing(own.passages, [part.text for part in found.parts])
+    passages = own.passages
+    if kind is ManuscriptKind.MARKDOWN:
+        passages = [*passages, *contents.notes_of(data.decode(), left_out)]
+    missing = contents.missing(passages, [part.text for part in found.parts])
     parts = tuple(each for part in found.parts for each in short_enough(part))
     losses = (*found.losses, *_too_long(found.parts), *own.losses)
     return Manuscript(kind, parts, losses, tuple(missing))

@@ -6,6 +6,7 @@ Both are processes of their own with limits on time and memory. pandoc opens no 
 
 import json
 import os
+import re
 import shutil
 import signal
 import subprocess
@@ -34,10 +35,16 @@ _LIMITS = Limits(memory=4 << 30, seconds=_SECONDS, written=_TREE_BYTES)
 #: and elements that it doesn't know would be no more than their tags.
 _FROM = {ManuscriptKind.EPUB: "epub-epub_html_exts-raw_html"}
 _OFFICE = ("soffice", "libreoffice")
+#: What pandoc says of the key of a note that it leaves out, or of one that two notes have.
+_LEFT_OUT = re.compile(
+    r"(?:Note with key|Duplicate note reference) '(.+?)' (?:defined )?at "
+)
+#: How much of what a program says beside its answer is read.
+_SAID_BYTES = 1 << 20
 
 
-def tree(data: bytes, kind: ManuscriptKind) -> dict[str, Any]:
-    """The tree that pandoc makes of the bytes of a file."""
+def tree(data: bytes, kind: ManuscriptKind) -> tuple[dict[str, Any], frozenset[str]]:
+    """The tree that pandoc makes of the bytes of a file, and the keys of notes that it may lack."""
     pandoc = shutil.which("pandoc")
     if pandoc is None:
         raise NoConverter(kind, "pandoc", "pandoc")
@@ -45,14 +52,14 @@ def tree(data: bytes, kind: ManuscriptKind) -> dict[str, Any]:
     with tempfile.TemporaryFile() as source:
         source.write(data)
         source.seek(0)
-        answered = _run("pandoc", words, source)
+        answered, said = _run("pandoc", words, source)
     try:
         found = json.loads(answered)
     except (ValueError, RecursionError) as fault:
         raise NotConverted("pandoc", "") from fault
     if not isinstance(found, dict):
         raise NotConverted("pandoc", "")
-    return found
+    return found, frozenset(_LEFT_OUT.findall(said.decode(errors="replace")))
 
 
 def office() -> str | None:
@@ -78,8 +85,13 @@ def as_docx(data: bytes, kind: ManuscriptKind) -> bytes:
             raise NotConverted("LibreOffice", "") from fault
 
 
-def _run(name: str, words: Sequence[str], source: IO[bytes] | None) -> bytes:
-    """What a program answers; ``UnreadableText`` if it fails, or is too slow or too large."""
+def _run(
+    name: str, words: Sequence[str], source: IO[bytes] | None
+) -> tuple[bytes, bytes]:
+    """What a program answers, and says beside it.
+
+    ``UnreadableText`` if it fails, or is too slow or too large.
+    """
     try:
         with tempfile.TemporaryFile() as output, tempfile.TemporaryFile() as errors:
             with subprocess.Popen(
@@ -94,7 +106,7 @@ def _run(name: str, words: Sequence[str], source: IO[bytes] | None) -> bytes:
             errors.seek(0)
             if process.returncode:
                 raise _failure(name, process.returncode, errors.read(2000))
-            return output.read()
+            return output.read(), errors.read(_SAID_BYTES)
     except OSError as fault:
         raise NotConverted(name, fault.strerror or str(fault)) from fault
 
