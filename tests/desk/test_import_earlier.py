@@ -121,6 +121,26 @@ def test_show_says_where_an_import_was_cut_short_and_how_it_goes_on(
     assert ran("show", killed, "--paragraphs", "1").said == ""
 
 
+def test_an_import_that_another_scribe_is_at_is_neither_called_cut_short_nor_forgotten(
+    front: Path,
+) -> None:
+    note = begun(front)
+    Drafts(front).begin_import(note)
+    with Session(front) as session:
+        for number, line in enumerate(["", *LINES[:2]], 1):
+            if line:
+                session.add_paragraph(1 if number == 2 else number, "en", line)
+            found = ran("show", front, "--paragraphs", "1", "--print")
+            assert found == Ran(
+                0,
+                "Paragraph 1, body\nfront\n",
+                f"Another program has {front} open. This is what it had kept a moment ago, at"
+                f" version {session.last_version}.\n",
+            )
+            assert Drafts(front).imports() == (note,)
+    assert ran("show", front, "--paragraphs", "1").said.startswith(where(2))
+
+
 def test_the_same_import_is_refused_where_it_was_cut_short(killed: Path) -> None:
     asked = (
         f"{where(5)}\n--continue goes on with line 6, --again types all of it once more,"

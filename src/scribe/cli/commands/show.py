@@ -18,7 +18,8 @@ MORE = """\
 Print and braille stand under one another, and after them the marks with their notes.
 With PARAS as in 3-9 this is what the book has from paragraph 3 to paragraph 9, in its
 own order; 3- goes on to its end, -9 begins at its front, and 3-9,12 shows both. An import
-that was cut short, so that the book has a part of its text, is named at the end."""
+that was cut short, so that the book has a part of its text, is named at the end, unless
+another program has the book open."""
 EXAMPLE = "scribe show moon.braildesk 1-2"
 
 
@@ -46,7 +47,9 @@ def answer(session: Session, arguments: Namespace, console: Console) -> None:
         console.show(*([""] if count else []), *view.lines(reading))
     if not book:
         console.say("The book has no paragraphs.")
-    console.say(*_cut_short(session, book, arguments.file))
+    if arguments.read_at == arguments.file:
+        # another program that has the book open may still be at an import
+        console.say(*_cut_short(session, book, arguments.file))
 
 
 def _cut_short(
