@@ -2,7 +2,9 @@
 
 import os
 import re
+import shutil
 import signal
+from collections.abc import Callable
 from io import BytesIO, StringIO
 from pathlib import Path
 
@@ -242,6 +244,67 @@ def test_where_it_is_stopped_it_is_said_what_is_in_the_book(
         " version 7.\n"
     )
     assert prints(moons) == ["The moon and the Mooon.", "A moonlit mooon", "No mooon"]
+
+
+def stopped_after_two(
+    monkeypatch: pytest.MonkeyPatch, book: Path, deed: Callable[[], object]
+) -> str:
+    """What is said where Ctrl-C comes after two changes, once something else was done."""
+    left = [2]
+
+    def stopped(
+        session: Session, number: int, text: str, place: Span, new: str, by: str | None
+    ) -> Change:
+        if not left[0]:
+            deed()
+            raise KeyboardInterrupt
+        left[0] -= 1
+        return change_place(session, number, text, place, new, by)
+
+    monkeypatch.setattr("braildesk.desk.change_all.change_place", stopped)
+    said = StringIO()
+    with pytest.raises(Interrupted):
+        run_words(
+            ["change-all", str(book), "mooon", "moon"],
+            Console(BytesIO(), StringIO(), said),
+        )
+    return said.getvalue()
+
+
+def test_where_it_is_stopped_and_others_take_the_book_it_is_said_what_was_changed(
+    moons: Path, monkeypatch: pytest.MonkeyPatch
+) -> None:
+    others: list[Session] = []
+    close = Session.close
+
+    def taken(session: Session) -> None:
+        close(session)
+        if not others:
+            others.append(Session(moons))
+
+    said = stopped_after_two(
+        monkeypatch, moons, lambda: monkeypatch.setattr(Session, "close", taken)
+    )
+    close(others[0])
+    assert said == (
+        "Stopped. Of 4 places 2 are changed in the book, from its front on. The book is at"
+        " version 7.\n"
+    )
+
+
+def test_where_it_is_stopped_and_another_book_is_there_it_is_said_where_the_changes_are(
+    moons: Path, monkeypatch: pytest.MonkeyPatch
+) -> None:
+    earlier = moons.with_name("earlier")
+    shutil.copyfile(moons, earlier)
+    said = stopped_after_two(monkeypatch, moons, lambda: earlier.replace(moons))
+    saved = moons.with_name(f"{moons.name}-saved-1")
+    assert said == (
+        f"Stopped. The file of the book is no longer at “{moons}”: another one was put there while"
+        " it was open. All of the book, with what was kept last, is in the new file"
+        f" “{saved}”. Go on with that one, or look first what is at the old path by now.\n"
+    )
+    assert prints(saved) == ["The moon and the Mooon.", "A moonlit mooon", "No mooon"]
 
 
 def test_where_the_session_ends_it_is_said_how_many_places_are_changed(

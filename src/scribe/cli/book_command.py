@@ -113,21 +113,34 @@ def said_where_stopped(
     try:
         yield
     except KeyboardInterrupt as cause:
-        with suppress(Lost):
+        try:
             session.close()
-        # what the session was just doing is in the book or isn't
-        now = check(arguments.file, timeout=getattr(arguments, "wait", USUAL_WAIT))
-        console.say(f"{stopped_by(cause)} {so_far(now - first, now)}")
+            now: int | None = session.last_version
+            lost_as = ""
+        except Lost as lost:
+            # what the session was just doing is in the book or isn't
+            now, lost_as = _version_after(lost, arguments, first), lost.sentence
+        what = lost_as if now is None else so_far(now - first, now)
+        console.say(f"{stopped_by(cause)} {what}")
         raise Interrupted.after(cause) from cause
-    except Displaced:
-        # another file may stand at the path, which doesn't say what was changed
-        raise
     except Lost as lost:
-        with suppress(DeskError):
-            now = check(arguments.file, timeout=getattr(arguments, "wait", USUAL_WAIT))
-            if first < now <= lost.version + len(lost.unanswered):
-                console.say(so_far(now - first, now))
+        now = _version_after(lost, arguments, first)
+        if now is not None and now > first:
+            console.say(so_far(now - first, now))
         raise
+
+
+def _version_after(lost: Lost, arguments: Namespace, first: int) -> int | None:
+    """The version to which the changes of a lost session brought the book, if that is seen."""
+    if isinstance(lost, Displaced):
+        # another file may stand at the path, which doesn't say what was changed
+        return None
+    with suppress(DeskError):
+        now = check(arguments.file, timeout=getattr(arguments, "wait", USUAL_WAIT))
+        # others may have changed the book since
+        if first <= now <= lost.version + len(lost.unanswered):
+            return now
+    return None
 
 
 @contextmanager
