@@ -3,6 +3,7 @@
 import os
 import re
 import resource
+import shutil
 import signal
 import stat
 import subprocess
@@ -164,6 +165,34 @@ def test_a_signal_ends_scribe_after_a_sentence_by_the_same_signal(
     assert (running.returncode, shown) == (-number, b"")
     assert said.decode() == f"Stopped{by}. {IN_THE_BOOK}\n"
     assert braildesk.check(moon) == 8
+
+
+@pytest.mark.parametrize("is_by_signal", [True, False])
+def test_an_end_after_the_book_was_replaced_says_where_what_was_kept_is(
+    running: "subprocess.Popen[bytes]", moon: Path, is_by_signal: bool
+) -> None:
+    assert running.stdin is not None and running.stdout is not None
+    other = moon.with_name("other")
+    shutil.copyfile(moon, other)
+    other.replace(moon)
+    if is_by_signal:
+        running.send_signal(signal.SIGTERM)
+    else:
+        # nobody reads what is shown any more
+        running.stdout.close()
+        running.stdin.write(b"version\n")
+    running.stdin.close()
+    assert running.stderr is not None
+    said = running.stderr.read().decode()
+    saved = f"{moon}-saved-1"
+    assert said == (
+        f"{'Stopped by SIGTERM. ' if is_by_signal else ''}The file of the book is no longer at"
+        f" “{moon.name}”: another one was put there while it was open. All of the book, with what"
+        f" was kept last, is in the new file “{saved}”. Go on with that one, or look first what is at the"
+        " old path by now.\n"
+    )
+    assert running.wait() == (-signal.SIGTERM if is_by_signal else 3)
+    assert braildesk.check(saved) == 8
 
 
 def test_the_limit_on_processor_time_stops_scribe_in_a_sentence(

@@ -6,7 +6,7 @@ from collections.abc import Collection, Sequence
 from contextlib import suppress
 
 from scribe.cli.commands import COMMANDS, command, may_change
-from scribe.cli.endings import ended, said_of
+from scribe.cli.endings import ended, lost_besides, said_of
 from scribe.cli.parser import Parser, TextAsked, WordsRefused, as_asked, unknown_command
 from scribe.words.console import Console, InputFailed, OutputFailed
 from scribe.words.status import Status, Stop, in_sentences
@@ -58,17 +58,17 @@ def run_words(words: Sequence[str], console: Console) -> Status:
         console.say(refused.sentence, *refused.usage.split("\n"))
         return Status.WORDS_REFUSED
     except Stop as stop:
-        console.say(*stop.lines)
+        console.say(*stop.lines, *lost_besides(stop))
         return stop.status
     except InputFailed as failed:
-        console.say(failed.sentence)
+        console.say(failed.sentence, *lost_besides(failed))
         return Status.FAILED
     except Exception as failure:
         said = said_of(failure, arguments)
         if said is None:
             raise
         status, sentences = said
-        console.say(*sentences)
+        console.say(*sentences, *lost_besides(failure))
         return status
 
 

@@ -44,11 +44,24 @@ def _status(run: Callable[[], int], may_change: Callable[[], bool]) -> int:
     try:
         return run()
     except OutputFailed as failed:
-        if not failed.reader_left:
-            say_last(failed.sentence)
+        for sentence in (
+            *(() if failed.reader_left else (failed.sentence,)),
+            *lost_besides(failed),
+        ):
+            say_last(sentence)
     except Exception as fault:
-        say_last(of_fault(fault, _in_the_book(may_change)))
+        say_last(of_fault(fault, _kept_at(fault, may_change)))
     return Status.FAILED
+
+
+def lost_besides(failure: BaseException) -> tuple[str, ...]:
+    """What is said of a session that was lost as something else ended it, if one was."""
+    return tuple(getattr(failure, "__notes__", ()))
+
+
+def _kept_at(failure: BaseException, may_change: Callable[[], bool]) -> str:
+    """What is in the book after an end that nobody foresaw, or where it is if it was lost."""
+    return " ".join(lost_besides(failure)) or _in_the_book(may_change)
 
 
 def _in_the_book(may_change: Callable[[], bool]) -> str:
@@ -166,7 +179,7 @@ def _nothing(number: int, frame: FrameType | None) -> None:
 def _end_by_signal(cause: KeyboardInterrupt, may_change: Callable[[], bool]) -> None:
     """Says what is so, unless it was said, and ends the process by the signal that stopped it."""
     if not (isinstance(cause, Interrupted) and cause.is_said):
-        say_last(f"{stopped_by(cause)} {_in_the_book(may_change)}")
+        say_last(f"{stopped_by(cause)} {_kept_at(cause, may_change)}")
     number = number_of(cause)
     signal.signal(number, signal.SIG_DFL)
     os.kill(os.getpid(), number)
