@@ -2,6 +2,7 @@
 
 import os
 import re
+import shutil
 import signal
 import sys
 import threading
@@ -554,6 +555,20 @@ def test_a_talk_whose_book_is_gone_says_no_version_of_it(
     assert "while it was open." in said and "at version" not in said
     saved = moon.with_name("moon.braildesk-saved-1")
     assert saved.exists() is kept
+
+
+def test_a_talk_goes_on_where_the_mark_in_hand_is_no_more(
+    talk: Talk, moon: Path, made_once: Path
+) -> None:
+    talk.type("next")
+    os.kill(talk.program(), signal.SIGKILL)
+    Path(f"{moon}-wal").unlink()
+    shutil.copyfile(made_once / "supplied.braildesk", moon.with_name("earlier"))
+    moon.with_name("earlier").replace(moon)
+    said = " ".join(" ".join(talk.type("list")).split())
+    assert "another program changed it meanwhile" in said
+    assert talk.type("type end en The sun")[-1] == "The book is at version 2."
+    assert talk.type("heading 1")[-1] == "The book is at version 3."
 
 
 @pytest.mark.parametrize("is_gone", [True, False])

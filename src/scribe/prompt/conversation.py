@@ -4,7 +4,7 @@ from collections.abc import Callable, Collection
 from dataclasses import dataclass, field
 from typing import Any, TypeVar
 
-from braildesk import Refused, Session, limits
+from braildesk import NotFound, Refused, Session, limits
 from braildesk.desk.marks import MarkOfBook
 from braildesk.protocol.requests import Command, Request, TableHead
 from braildesk.text.characters import control_refused
@@ -91,8 +91,15 @@ class Conversation:
         if was is None:
             return
         number = was.paragraph
-        marks = self.session.marks_of(number)
-        (mark,) = (each for each in marks if each.id == was.mark.id)
+        try:
+            marks = self.session.marks_of(number)
+        except NotFound:
+            marks = ()
+        mark = next((each for each in marks if each.id == was.mark.id), None)
+        if mark is None:
+            # an earlier copy, or another book, is open by now
+            self.hand = None
+            return
         text = self.session.print_of(number)
         self.hand = MarkOfBook(mark, number, text)
         # a mark that was touched just now is shown with the change
