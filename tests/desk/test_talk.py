@@ -505,6 +505,34 @@ def test_ctrl_c_gives_up_the_line_and_not_the_talk(talk: Talk) -> None:
     assert talk.type("version") == ["The book is at version 7."]
 
 
+def test_a_line_that_ctrl_z_interrupts_is_not_cut_and_goes_on_after_it(
+    moon: Path,
+) -> None:
+    settings = environment(PS1="$ ", TERM="xterm-256color", INPUTRC="/dev/null")
+    words = ["--norc", "--noprofile", "-i"]
+    shell = pexpect.spawn("bash", words, env=settings, encoding="utf-8", timeout=60)
+    shell.expect_exact("$ ")
+    shell.sendline(f"'{sys.executable}' -m scribe talk '{moon}'")
+    shell.expect_exact("> ")
+    shell.send("type end en It is ")
+    shell.expect_exact("type end en It is ")
+    shell.send("\x1a")
+    shell.expect_exact("Stopped")
+    shell.expect_exact("$ ")
+    shell.sendline("fg")
+    shell.expect_exact("> type end en It is ")
+    # more bytes than a terminal that collects lines lets through
+    shell.send(2000 * "\N{RIGHT SINGLE QUOTATION MARK}" + "\r")
+    shell.expect_exact("The book is at version 8.")
+    shell.send("quit\r")
+    shell.expect_exact("$ ")
+    shell.close()
+    with braildesk.Session(moon) as session:
+        assert (
+            session.print_of(4) == "It is " + 2000 * "\N{RIGHT SINGLE QUOTATION MARK}"
+        )
+
+
 def test_the_end_of_the_input_ends_the_talk(talk: Talk, moon: Path) -> None:
     ran = talk.end("\x04")
     assert ran.status == 0

@@ -113,9 +113,14 @@ class TypedLines(AbstractContextManager["TypedLines"]):
             readline.parse_and_bind(setting)
         readline.set_auto_history(False)
         self._before = termios.tcgetattr(0)
+        #: The prompt of the line that is typed, if one is.
+        self._prompt: str | None = None
 
     def __enter__(self) -> Self:
         self._interrupted = signal.signal(signal.SIGINT, _nothing)
+        # a process that was begun to be stopped by no key isn't
+        if signal.getsignal(signal.SIGTSTP) is signal.SIG_DFL:
+            signal.signal(signal.SIGTSTP, self._stop)
         self._set(echoes=False)
         return self
 
@@ -129,6 +134,8 @@ class TypedLines(AbstractContextManager["TypedLines"]):
         with suppress(termios.error):
             termios.tcsetattr(0, termios.TCSADRAIN, self._before)
         signal.signal(signal.SIGINT, self._interrupted)
+        if signal.getsignal(signal.SIGTSTP) == self._stop:
+            signal.signal(signal.SIGTSTP, signal.SIG_DFL)
 
     def line(
         self,
@@ -138,7 +145,7 @@ class TypedLines(AbstractContextManager["TypedLines"]):
     ) -> bytes | None:
         """The next line, edited by readline."""
         try:
-            with self._typing(), self._asking(is_due):
+            with self._typing(prompt), self._asking(is_due):
                 line = input(prompt)
         except EOFError:
             print()
@@ -159,15 +166,33 @@ class TypedLines(AbstractContextManager["TypedLines"]):
         return line.encode("utf-8", "surrogateescape")
 
     @contextmanager
-    def _typing(self) -> Iterator[None]:
+    def _typing(self, prompt: str) -> Iterator[None]:
         """While a line is typed it is shown, and Ctrl-C gives it up."""
         self._set(echoes=True)
         signal.signal(signal.SIGINT, signal.default_int_handler)
+        self._prompt = prompt
         try:
             yield
         finally:
+            self._prompt = None
             signal.signal(signal.SIGINT, _nothing)
             self._set(echoes=False)
+
+    def _stop(self, number: int, frame: FrameType | None) -> None:
+        """What Ctrl-Z does: the shell has the terminal, which is here as it was before once it is back.
+
+        A shell leaves it so that it collects lines, and would cut the one that is being typed.
+        """
+        mode = termios.tcgetattr(0)
+        termios.tcsetattr(0, termios.TCSADRAIN, self._before)
+        signal.signal(signal.SIGTSTP, signal.SIG_DFL)
+        os.kill(os.getpid(), signal.SIGTSTP)
+        signal.signal(signal.SIGTSTP, self._stop)
+        # a terminal that was closed needs no care
+        with suppress(termios.error):
+            termios.tcsetattr(0, termios.TCSADRAIN, mode)
+        if self._prompt is not None:
+            print(self._prompt + self._readline.get_line_buffer(), end="", flush=True)
 
     @contextmanager
     def _asking(self, is_due: Callable[[], bool]) -> Iterator[None]:
