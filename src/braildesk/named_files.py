@@ -47,6 +47,14 @@ class TooLarge(OSError):
         return type(self), (self.most,)
 
 
+def is_same_file(path: StrPath, other: StrPath) -> bool:
+    """Whether two names lead to one file."""
+    try:
+        return os.path.samefile(path, other)
+    except OSError:
+        return False
+
+
 def is_handed_over(path: StrPath) -> bool:
     """Whether a name means what this process has open already, and something else to another."""
     return _HANDED_OVER.fullmatch(fspath(path)) is not None

@@ -163,6 +163,28 @@ def test_a_file_that_cannot_be_written_is_said(tmp_path: Path) -> None:
     )
 
 
+@pytest.mark.parametrize(
+    "words",
+    [
+        ("small.utb", "small.utb"),
+        ("small.utb", "text", "--for", "text"),
+        ("small.utb", "text", "--words", "./text"),
+        ("small.utb", "link", "--add", "text"),
+    ],
+)
+def test_a_table_takes_the_place_of_no_file_that_it_is_made_from(
+    tmp_path: Path, words: tuple[str, ...]
+) -> None:
+    small(tmp_path)
+    (tmp_path / "text").write_text("Ax.\n")
+    (tmp_path / "link").symlink_to("text")
+    assert refused(tmp_path, *words) == (
+        f"The table would take the place of {words[1]}, from which it is made. Nothing was written."
+    )
+    assert (tmp_path / "small.utb").read_text() == SMALL
+    assert (tmp_path / "text").read_text() == "Ax.\n"
+
+
 def refused(folder: Path, *words: str | Path) -> str:
     ran = scribe("bring", *words, folder=folder)
     assert (ran.status, ran.shown) == (2, "")

@@ -54,6 +54,7 @@ from braildesk.desk.typist import ChangedMeanwhile, CutShort
 from braildesk.desk.unfinished import NotSeen, Unfinished
 from braildesk.desk.validation import Barred, Lacking, TextFault, TooLongPassage
 from braildesk.desk.whole_file import write_whole
+from braildesk.named_files import is_same_file
 from braildesk.text import characters, limits
 from braildesk.text.characters import visible
 from braildesk.text.excerpt import excerpt
@@ -157,7 +158,7 @@ def _report(importer: Importer, show: Callable[..., None], report: Path | None) 
 
 def _write_report(job: Import, report: Path, lines: Sequence[str]) -> None:
     own = (job.book, job.text, job.replacements)
-    if any(each is not None and _is_same(report, each) for each in own):
+    if any(each is not None and is_same_file(report, each) for each in own):
         raise Stop(f"The report would take the place of {report}. Nothing was typed.")
     try:
         write_whole(report, "".join(f"{line}\n" for line in lines).encode())
@@ -165,13 +166,6 @@ def _write_report(job: Import, report: Path, lines: Sequence[str]) -> None:
         raise Stop(
             f"The report can't be written to {report}: {cause.strerror}. Nothing was typed."
         ) from cause
-
-
-def _is_same(path: Path, other: Path) -> bool:
-    try:
-        return path.samefile(other)
-    except OSError:
-        return False
 
 
 def _left(job: Import, intake: Intake, cut: CutShort, again: str) -> Iterator[str]:

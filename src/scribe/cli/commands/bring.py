@@ -7,6 +7,7 @@ from braildesk.desk.contracted import means_for
 from braildesk.desk.manuscript import UnreadableText
 from braildesk.desk.manuscripts import read_manuscript
 from braildesk.desk.whole_file import MayNotLast, write_whole
+from braildesk.named_files import is_same_file
 from braildesk.tables.convert import manuscript_report, report
 from braildesk.tables.convert.addition import BadAddition
 from braildesk.tables.convert.conversion import (
@@ -133,6 +134,7 @@ def run(arguments: Namespace, console: Console) -> Status:
         )
     try:
         table = named_table(arguments.table)
+        _judge_file(table, arguments)
         if arguments.manuscript is not None:
             return _for_manuscript(table, arguments, console)
         brought = convert(table, Options(arguments.words, add=arguments.add))
@@ -144,6 +146,17 @@ def run(arguments: Namespace, console: Console) -> Status:
     if not brought.is_good and not arguments.anyway:
         raise Stop(_why_not(brought))
     return _written(brought.text, arguments.file, console)
+
+
+def _judge_file(table: Path, arguments: Namespace) -> None:
+    """Refuses to write the text over a file from which it is made."""
+    file = arguments.file
+    sources = (table, arguments.manuscript, arguments.words, arguments.add)
+    its = [] if file is None else [each for each in sources if each is not None]
+    if any(is_same_file(file, each) for each in its):
+        raise Stop(
+            f"The table would take the place of {file}, from which it is made. Nothing was written."
+        )
 
 
 def _for_manuscript(table: Path, arguments: Namespace, console: Console) -> Status:

@@ -1,11 +1,11 @@
 """`scribe copy`: a copy of a book that opens as the same book."""
 
-import os
 from argparse import ArgumentParser, Namespace
 from pathlib import Path
 
 from braildesk import CannotOpen, Why, copy
 from braildesk.making import FileIsThere
+from braildesk.named_files import is_same_file
 from braildesk.opening import may_be_book
 from braildesk.protocol.asked import BookFile
 from braildesk.snapshot import snapshot
@@ -64,18 +64,11 @@ def _copied(arguments: Namespace) -> tuple[int, bool]:
         return version, False
     except CannotOpen as refusal:
         # of the book itself no older copy takes its place, should the other program end by now
-        if refusal.why is not Why.IN_USE or _is_of(refusal, to) or _is_book(arguments):
+        is_book = is_same_file(arguments.file, to)
+        if refusal.why is not Why.IN_USE or _is_of(refusal, to) or is_book:
             raise
     with snapshot(arguments.file) as copied:
         return copy(copied, to, overwrite=replaces), True
-
-
-def _is_book(arguments: Namespace) -> bool:
-    """Whether the path of the copy leads to the book."""
-    try:
-        return os.path.samefile(arguments.file, arguments.to)
-    except OSError:
-        return False
 
 
 def _is_of(refusal: CannotOpen, path: Path) -> bool:
