@@ -164,6 +164,9 @@ class Displaced(Lost):
     saved, or of a file that was overwritten the print.
     """
 
+    #: The path of the new file that has all of the book, if there is one.
+    saved: str | None = None
+
 
 _KINDS: Mapping[int, type[Refused]] = {
     Code.NO_PARAGRAPH: NotFound,

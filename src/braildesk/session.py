@@ -9,7 +9,7 @@ from dataclasses import replace
 from itertools import zip_longest
 from os import fspath
 from types import TracebackType
-from typing import Any, Literal, Self
+from typing import Any, Literal, Self, TypeVar
 
 from braildesk import opening, program as programs
 from braildesk.openfile import OpenFile
@@ -53,6 +53,8 @@ _AHEAD = 512
 _AHEAD_BYTES = 1 << 16
 #: How many are written at once if nothing has to be waited for.
 _GROUP = 128
+
+_Lost = TypeVar("_Lost", bound=Lost)
 
 
 class Session:
@@ -506,11 +508,11 @@ class Session:
 
     def _lost_as(
         self,
-        kind: type[Lost],
+        kind: type[_Lost],
         cause: str,
         kept: str,
         waiting: tuple[Command[Any], ...] = (),
-    ) -> Lost:
+    ) -> _Lost:
         return kind(
             cause, kept, self._acknowledged, self._answered, self._seen, waiting
         )
@@ -520,7 +522,7 @@ class Session:
         self._is_closed = True
         self._pipe.drop()
         self._pipe.close()
-        cause = self._gone()
+        cause, saved = self._gone(), None
         try:
             saved = self._file.save(self._program, self._seen)
             kept = (
@@ -534,8 +536,9 @@ class Session:
                 f" {failed.sentence} Copy what you typed last."
             )
         self._file.close()
-        self._lost = self._lost_as(Displaced, cause, kept)
-        return self._lost
+        self._lost = lost = self._lost_as(Displaced, cause, kept)
+        lost.saved = saved
+        return lost
 
     def _overwritten(self) -> Lost:
         """The exception of a session whose file was written into by others, with the print saved.

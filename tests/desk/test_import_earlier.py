@@ -4,15 +4,18 @@ import hashlib
 import os
 import shutil
 import signal
-from collections.abc import Callable
+from collections.abc import Callable, Iterator
 from io import BytesIO, StringIO
 from pathlib import Path
+from typing import Any
 
 import pytest
 
 from braildesk import After, Session
 from braildesk.desk.drafts import Drafts
 from braildesk.desk.import_note import ImportNote
+from braildesk.desk.readings import answers
+from braildesk.protocol.requests import Command
 
 from scribe.cli import run_words
 from scribe.words.console import Console
@@ -151,6 +154,46 @@ def test_the_same_import_is_refused_where_it_was_cut_short(killed: Path) -> None
     shutil.copyfile(killed.parent / "text.txt", killed.parent / "copy.txt")
     assert ran("import", killed, "copy.txt").said == asked
     assert prints(killed) == ["front", *LINES[:5], "end"]
+
+
+def test_an_import_whose_book_is_replaced_goes_on_where_that_is_saved(
+    front: Path, monkeypatch: pytest.MonkeyPatch
+) -> None:
+    monkeypatch.setattr("braildesk.session._AHEAD", 8)
+    monkeypatch.setattr("braildesk.session._GROUP", 4)
+    earlier = Path(shutil.copyfile(front, front.with_name("earlier")))
+
+    def replacing(
+        session: Session, asked: Iterator[Command[Any]], progress: Callable[[int], None]
+    ) -> Iterator[Any]:
+        def passed() -> Iterator[Command[Any]]:
+            for number, request in enumerate(asked):
+                if number == 6:
+                    earlier.replace(front)
+                yield request
+
+        return answers(session, passed(), progress)
+
+    with monkeypatch.context() as patched:
+        patched.setattr("braildesk.desk.typist.answers", replacing)
+        cut = again(front, "--lines")
+    saved = front.with_name(f"{front.name}-saved-1")
+    kept = len(prints(saved)) - 2
+    assert 0 < kept < 12
+    assert cut == Ran(
+        3,
+        "",
+        f"The file of the book is no longer at “{front}”: another one was put there while it was"
+        " open. All of the book, with what was kept last, is in the new file"
+        f" “{saved}”. Go on with that one, or look first what is at the old path by now.\n"
+        f"text.txt is in the book up to line {kept}, which is the end of paragraph {kept + 2} of"
+        " the book.\n"
+        "When nothing stands in the way any more, go on by: scribe import"
+        f" {saved} text.txt --lines --from {kept + 1}\n",
+    )
+    assert ran(*cut.said.splitlines()[-1].split()[-6:]).status == 0
+    assert prints(saved) == ["front", "end", *LINES]
+    assert prints(front) == ["front", "end"]
 
 
 def test_an_import_that_goes_on_from_a_line_is_done(killed: Path) -> None:

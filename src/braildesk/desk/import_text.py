@@ -191,11 +191,14 @@ class Importer:
                 while_waiting=job.while_waiting,
             )
         except CutShort as cut:
-            look_for(job.book, intake, job.wait, cut)
+            its = cut.saved if cut.is_displaced else job.book
+            if its is not None:
+                look_for(its, intake, job.wait, cut)
             if cut.kept == 0 and not job.line:
                 self._end(note)
                 self._put_back()
-            cut.is_noted = self._is_noted and not is_handed_over(job.text)
+            is_known = not (cut.is_displaced or is_handed_over(job.text))
+            cut.is_noted = self._is_noted and is_known
             raise
         self._end(note)
         return TypedText(intake.there + 1, count, intake.table.name)

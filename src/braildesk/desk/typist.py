@@ -3,7 +3,7 @@
 from collections.abc import Callable
 from pathlib import Path
 
-from braildesk import DeskError, Session, Typed
+from braildesk import DeskError, Displaced, Session, Typed
 from braildesk.desk import Problem
 from braildesk.desk.intake import Intake, NotImported, settings
 from braildesk.desk.readings import answers
@@ -30,6 +30,17 @@ class CutShort(Problem):
         self.is_lacking = False
         #: Whether the import is noted, so that the text is known again by its path.
         self.is_noted = False
+
+    @property
+    def is_displaced(self) -> bool:
+        """Whether what was typed isn't in what stands at the path of the book."""
+        return isinstance(self.cause, Displaced)
+
+    @property
+    def saved(self) -> Path | None:
+        """The new file that has all of a book that was displaced, if there is one."""
+        its = self.cause.saved if isinstance(self.cause, Displaced) else None
+        return None if its is None else Path(its)
 
 
 def type_all(

@@ -170,6 +170,10 @@ def _write_report(job: Import, report: Path, lines: Sequence[str]) -> None:
 
 def _left(job: Import, intake: Intake, cut: CutShort, again: str) -> Iterator[str]:
     """What of the text is in the book, and how the rest gets there."""
+    if cut.is_displaced and cut.saved is None:
+        # it was said where the print is
+        return
+    job = replace(job, book=cut.saved or job.book)
     kept = cut.done if cut.kept is None else cut.kept
     least = "at least " if cut.kept is None else ""
     if kept:
