@@ -19,7 +19,7 @@ from braildesk.text.cells import braille_patterns
 from scribe.screen.background import ActionResult
 from scribe.screen.desk import Desk
 from scribe.screen.field import Field, Purpose
-from scribe.screen.state import Size
+from scribe.screen.state import Pages, Size
 from scribe.words.preview import Preview, Tables
 from sitting import Sat, Sit
 from tool import ROOT
@@ -443,6 +443,34 @@ def test_an_import_that_is_cut_short_is_kept_as_far_as_it_came(
     sat.state = sat.desk.away(sat.state, lambda line: None)
     assert sat.lines[0].endswith(
         "version 9, table en, last kept: 1 paragraph of the import"
+    )
+
+
+def test_what_an_import_did_is_said_also_if_another_program_takes_the_book_then(
+    moon: Path, sit: Sit, monkeypatch: pytest.MonkeyPatch
+) -> None:
+    typed = "1 paragraph typed, number 4, by the table en."
+    others: list[Session] = []
+
+    def taken(path: Path, *_: object) -> ActionResult:
+        with Session(path) as session:
+            session.add_paragraph("end", "en", "The sun")
+        others.append(Session(path))
+        return ActionResult("Import.", (typed,), typed)
+
+    monkeypatch.setattr("scribe.screen.desk.done_in_background", taken)
+    monkeypatch.setattr("braildesk.desk.aftermath.PATIENCE", 0.0)
+    sat = sit(moon)
+    sat.press("i", "x", "enter")
+    sat.state = sat.desk.away(sat.state, lambda line: None)
+    others[0].close()
+    assert sat.state.pages == Pages(
+        "The book is closed.",
+        (typed, f"Another program has “{moon}” open. End that one first."),
+    )
+    sat.press("enter")
+    assert sat.state.message == (
+        "The book is open again. It is at version 8 now; the screen said 7 last."
     )
 
 

@@ -266,18 +266,29 @@ class Desk:
             return self._laid_out(state, action, report)
         if isinstance(action, FindPlaces | ChangePlaces | ListVolumes | SetVolumes):
             return self._done_in_whole(state, action, report)
+        return self._done_while_closed(state, action, report)
+
+    def _done_while_closed(
+        self,
+        state: State,
+        action: ExportTo | ImportFrom,
+        report: Callable[[str], None],
+    ) -> State:
+        """Exports or imports, for which others may have the book, and opens it again."""
+        done: tuple[str, ...] = ()
         try:
             self._session.close()
             ending = done_in_background(self.path, action, report, self._check)
+            done = ending.lines
             self._open_further()
             before = state
             state = self._opened_again(state)
         except Lost as lost:
             return self._after_loss(state, lost)
         except (DeskError, Stop) as failed:
-            return _closed(state, failed.sentence)
+            return _closed(state, failed.sentence, done)
         except OSError as failure:
-            return _closed(state, of_system(failure))
+            return _closed(state, of_system(failure), done)
         if ending.kept:
             state = replace(state, kept=f"kept: {ending.kept}")
         elif len(state.book) > len(before.book):
@@ -883,11 +894,14 @@ def _displaced_by(lost: Lost, state: State) -> State:
     return replace(state, is_displaced=is_displaced)
 
 
-def _closed(state: State, sentence: str) -> State:
-    """The state if the book could not be opened again."""
+def _closed(state: State, sentence: str, done: Sequence[str] = ()) -> State:
+    """The state if the book could not be opened again, after what was done before that."""
     before = state.pages.lines if state.is_lost and state.pages else ()
+    if done:
+        # the sentence is of the opening alone
+        sentence = sentence.replace(" Nothing was changed.", "")
     # what was said before is still true, and is said once
-    lines = dict.fromkeys((*sentence.split("\n"), *before))
+    lines = dict.fromkeys((*done, *sentence.split("\n"), *before))
     return replace(
         state, is_lost=True, pages=Pages("The book is closed.", tuple(lines))
     )
