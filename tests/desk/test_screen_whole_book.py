@@ -1,5 +1,7 @@
 """What concerns the whole book on the screen: words that are changed everywhere, and its volumes."""
 
+import os
+import signal
 from dataclasses import replace
 from pathlib import Path
 
@@ -7,13 +9,15 @@ import pytest
 
 import braildesk
 from braildesk import Session
+from braildesk.desk.drafts import Drafts
 from braildesk.desk.layout import PageSize
 
 from scribe.screen import whole_book
+from scribe.screen.field import Field, Purpose
 from scribe.screen.state import HEAD_LINE, Size
 from sitting import Sat, Sit
-from stand_in import KILL_PROGRAM, READ
-from terminal import Open, standing_in
+from stand_in import KEPT, KILL_PROGRAM, READ, WAIT
+from terminal import Open, once_free, standing_in
 
 TIDES = "The tide comes, and the Tide goes; no tideway is as it was."
 
@@ -273,6 +277,72 @@ def chapters(book: Path) -> Path:
             session.set_style(number, "heading")
             session.add_paragraph("end", "en", "The sea comes up and goes. " * 20)
     return book
+
+
+def test_many_pasted_lines_are_typed_beside_the_screen_up_to_a_signal(
+    tides: Path, sit: Sit
+) -> None:
+    sat, heard = sit(tides), list[str]()
+    lines = [f"Line {number}." for number in range(1, 31)]
+    sat.press("c-end", "o")
+    sat.state = sat.desk.paste(sat.state, "\n".join(lines))
+    sat.press("y")
+    count, version = len(sat.state.book), sat.state.version
+    assert sat.state.away and sat.state.message == "Please wait."
+
+    def report(line: str) -> None:
+        heard.append(line)
+        if line == "11 of 30 done.":
+            sat.desk.stop(signal.SIGTERM)
+
+    sat.state = sat.desk.away(sat.state, report)
+    assert heard[-1] == "11 of 30 done."
+    assert (len(sat.state.book), sat.state.version) == (count + 12, version + 12)
+    sat.state = sat.desk.saved(sat.state)
+    sat.desk.close()
+    sat = sit(tides)
+    sat.press("y", "y")
+    # so few are typed at once
+    assert sat.state.away is None and sat.state.typed == Field(Purpose.AFTER)
+    sat.desk.close()
+    with Session(tides) as session:
+        assert [session.print_of(number) for number in range(5, 35)] == lines
+
+
+@pytest.mark.parametrize("is_ended", [False, True])
+def test_what_is_typed_while_pasted_lines_are_typed_is_kept(
+    tides: Path, at: Open, is_ended: bool
+) -> None:
+    queue = tides.with_name("queue")
+    os.mkfifo(queue)
+    lines = [f"Line {number}." for number in range(1, 31)]
+    terminal = at(tides, **standing_in(3, KEPT, WAIT, str(queue)))
+    terminal.wait("? shows the keys.")
+    terminal.keys("o", "\n".join(lines))
+    terminal.wait("Are they 30 paragraphs?")
+    terminal.answer("y")
+    queue.read_bytes()
+    # so few letters at once are no paste
+    terminal.send("Go")
+    terminal.await_read()
+    if is_ended:
+        terminal.send_signal(signal.SIGTERM)
+        terminal.wait_left()
+    queue.write_bytes(b"")
+    if is_ended:
+        assert terminal.ended() == -signal.SIGTERM
+    else:
+        terminal.wait("New paragraph after paragraph 34")
+        terminal.wait("Go")
+        terminal.keys("enter", "escape", "q")
+        assert terminal.ended() == 0
+    with once_free(tides) as session:
+        count = len(session.paragraphs())
+        there = [session.print_of(number) for number in range(5, count + 1)]
+    waiting = Drafts(tides).waiting()
+    left = waiting.text.split("\n") if waiting else []
+    assert [*there, *left] == [*lines, "Go"]
+    assert bool(left) is is_ended
 
 
 def test_volumes_are_listed_with_their_pages_and_gone_to(

@@ -93,6 +93,7 @@ from scribe.words.paragraph import quoted
 from scribe.words.preview import Tables
 from scribe.words.status import Interrupted, Stop, in_sentences, of_system
 
+_OPEN_AGAIN = "The book is open again."
 _OPEN_INSTEAD = "The file that is at the path now is open."
 _TYPE_ON = "What is typed is still here: type on."
 
@@ -266,6 +267,8 @@ class Desk:
             return self._laid_out(state, action, report)
         if isinstance(action, FindPlaces | ChangePlaces | ListVolumes | SetVolumes):
             return self._done_in_whole(state, action, report)
+        if isinstance(action, TypeAll):
+            return self._taken(Step(state, action), self._told(report))
         return self._done_while_closed(state, action, report)
 
     def _done_while_closed(
@@ -402,12 +405,15 @@ class Desk:
         moved = where_typed(self._unsent.typed_at)
         return asked_about(self._session, state, saved, moved=moved)
 
-    def _taken(self, step: Step) -> State:
-        """The state after a step: what it asks for is sent, and what is drawn is asked for."""
+    def _taken(self, step: Step, tell: whole_book.Report | None = None) -> State:
+        """The state after a step: what it asks for is sent, and what is drawn is asked for.
+
+        If that is done beside the screen, it is told how far it has come.
+        """
         state = step.state
         try:
             with in_sentences():
-                state = self._done(state, step.asked)
+                state = self._done(state, step.asked, tell)
         except _Interrupted as interrupted:
             state = self._after_failure(interrupted.state, interrupted.cause)
             if _is_gone_on_from(step.asked):
@@ -420,7 +426,12 @@ class Desk:
             state = self._drawn(state)
         return state if state.typed else self.save_draft(state)
 
-    def _done(self, state: State, asked: Command[Any] | Action | None) -> State:
+    def _done(
+        self,
+        state: State,
+        asked: Command[Any] | Action | None,
+        tell: whole_book.Report | None,
+    ) -> State:
         if isinstance(asked, requests.Undo):
             taken = f"Taken back: the newest correction of paragraph {asked.paragraph}."
             return saying_first(taken, self._sent(state, asked))
@@ -431,7 +442,7 @@ class Desk:
         if isinstance(asked, Command):
             sent = self._sent(state, asked)
             return self._begun(sent) if _is_gone_on_from(asked) else sent
-        return state if asked is None else self._run(state, asked)
+        return state if asked is None else self._run(state, asked, tell)
 
     def _begun(self, state: State, text: str = "") -> State:
         """The state in which another paragraph is typed after the one that was kept."""
@@ -663,7 +674,9 @@ class Desk:
         state = refreshed(self._session, state.at(chosen, place))
         return with_mark_in_hand(state, before)
 
-    def _run(self, state: State, action: Action) -> State:
+    def _run(
+        self, state: State, action: Action, tell: whole_book.Report | None
+    ) -> State:
         match action:
             case Quit():
                 return replace(state, is_over=True)
@@ -683,10 +696,10 @@ class Desk:
                 if whole_book.takes_long(state, action):
                     return replace(state, away=action, message="Please wait.")
                 return self._done_or_lost(state, action, lambda *_: None)
+            case TypeAll():
+                return self._lines_typed(state, action, tell)
             case GiveTable():
                 return self._with_table(state, action.name)
-            case TypeAll():
-                return self._typed_all(state, action)
             case GoOn():
                 return self._gone_on(state, action)
             case ExportTo() | ImportFrom():
@@ -698,9 +711,7 @@ class Desk:
             case GiveUp() | PutOff() | BringBack() | PutBy():
                 return with_text(self._session, self._unsent, state, action)
             case OpenAgain():
-                said = (
-                    _OPEN_INSTEAD if state.is_displaced else "The book is open again."
-                )
+                said = _OPEN_INSTEAD if state.is_displaced else _OPEN_AGAIN
                 return self._opened_anew(state, said)
 
     def _left_out(self, state: State, action: LeaveImport) -> State:
@@ -758,18 +769,22 @@ class Desk:
         except Interrupted:
             return state
 
-    def _done_in_whole(
-        self, state: State, action: OfWholeBook, report: Callable[[str], None]
-    ) -> State:
-        """Does what concerns the whole book, and takes long."""
+    def _told(self, report: Callable[[str], None]) -> whole_book.Report:
+        """What tells how far the work beside the screen has come, unless it is to end."""
 
         def tell(done: int, count: int) -> None:
             self._check()
             report(f"{done:,} of {count:,} done.")
 
+        return tell
+
+    def _done_in_whole(
+        self, state: State, action: OfWholeBook, report: Callable[[str], None]
+    ) -> State:
+        """Does what concerns the whole book, and takes long."""
         try:
             with in_sentences():
-                state = self._done_or_lost(state, action, tell)
+                state = self._done_or_lost(state, action, self._told(report))
         except Stop as stop:
             state = state.saying(stop.sentence)
         except Refused as refused:
@@ -816,7 +831,17 @@ class Desk:
             said = not_given(name, number, interrupted.cause)
             return interrupted.state.saying(said)
 
-    def _typed_all(self, state: State, action: TypeAll) -> State:
+    def _lines_typed(
+        self, state: State, action: TypeAll, tell: whole_book.Report | None
+    ) -> State:
+        """Types paragraphs at once, or beside the screen if they are many."""
+        if tell is None and whole_book.takes_long(state, action):
+            return replace(state, away=action, message="Please wait.")
+        return self._typed_all(state, action, tell or (lambda *_: None))
+
+    def _typed_all(
+        self, state: State, action: TypeAll, tell: whole_book.Report
+    ) -> State:
         """Types paragraphs until one is refused, which stays typed; U brings back those after it."""
         before, sent = len(state.deeds), 0
         for count, line in enumerate(action.lines):
@@ -830,8 +855,12 @@ class Desk:
             about = pasted_lines.about_lines(field.purpose, lines)
             waiting = replace(state, typed=field, question=about)
             try:
+                tell(sent, len(action.lines))
                 state = replace(self._sent(waiting, asked), question=None)
                 sent += 1
+            except Interrupted:
+                # the others wait
+                return done_by_one_key(waiting, before)
             except _Interrupted as interrupted:
                 if isinstance(interrupted.cause, Lost) or not interrupted.state.typed:
                     raise

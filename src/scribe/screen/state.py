@@ -23,6 +23,7 @@ from scribe.screen.actions import (
     OfWholeBook,
     SetVolumes,
     TakeBack,
+    TypeAll,
 )
 from scribe.screen.field import Cut, Field, Purpose
 from scribe.words.deeds import Deed, imported, together
@@ -209,7 +210,9 @@ class State:
     #: What was kept isn't in the file that stands at the path now.
     is_displaced: bool = False
     #: What is going on beside the screen.
-    away: (ExportTo | ImportFrom | ByPages | TakeBack | OfWholeBook | None) = None
+    away: (
+        ExportTo | ImportFrom | ByPages | TakeBack | OfWholeBook | TypeAll | None
+    ) = None
     is_over: bool = False
 
     @property

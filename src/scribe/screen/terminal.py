@@ -27,7 +27,7 @@ from prompt_toolkit.styles import Style
 from braildesk.text.characters import visible
 from braildesk.text.sequences import JOINING_JAMO
 
-from scribe.screen.actions import ExportTo, ImportFrom
+from scribe.screen.actions import ExportTo, ImportFrom, TypeAll
 from scribe.screen.arrivals import UNREAD, Arrivals, Lull, ToBeRead, is_text
 from scribe.screen.desk import Desk, preview_of
 from scribe.screen.drawing import Drawing, draw
@@ -149,6 +149,8 @@ class Screen:
         self.is_hung_up = False
         #: The signal that ended scribe, if one did.
         self.ended_by: signal.Signals | None = None
+        #: Whether that was while pasted lines were typed, of which some wait.
+        self._ends_among_lines = False
         #: What has to be said after the screen is left.
         self.unseen: tuple[str, ...] = ()
         self._worker = ThreadPoolExecutor(max_workers=1)
@@ -199,6 +201,10 @@ class Screen:
         came = [*self._waiting, *self._arrivals.rest()]
         came += [*self._keyboard.strokes(self._unread), *self._keyboard.rest()]
         is_of_line = self.state.typed is not None and self.state.question is None
+        letters = (each for each in came if isinstance(each, str) and len(each) == 1)
+        typed_on = "".join(letters) if self._ends_among_lines else ""
+        if typed_on:
+            self.state = self._desk.paste(self.state, f"\n{typed_on}")
         for stroke in came:
             if isinstance(stroke, Pasted):
                 text, is_keys = stroke.text, stroke.is_keys
@@ -226,8 +232,11 @@ class Screen:
     def _settle(self) -> None:
         """Waits for what is done with the session closed, which ends soon once it is to end."""
         if self.state.away and self._aside is not None:
+            is_of_lines = isinstance(self.state.away, TypeAll)
             self._stop_aside()
             self.state = self._aside.result()
+            asked = self.state.question
+            self._ends_among_lines = bool(is_of_lines and asked and asked.lines)
             self._desk.take_over()
             pages, message = self.state.pages, self.state.message
             said = pages.lines if pages else (message,)
@@ -359,8 +368,10 @@ class Screen:
 
     def _carry_out(self, stroke: Stroke) -> None:
         if self.state.away or self.state.is_over:
-            # what is pasted meanwhile is no key that does nothing, nor what is typed to the end
-            if isinstance(stroke, Pasted) or self.state.is_over:
+            # what is pasted meanwhile is no key that does nothing, nor what is typed to the end, nor
+            # after pasted lines
+            is_typed_on = self.state.is_over or isinstance(self.state.away, TypeAll)
+            if isinstance(stroke, Pasted) or is_typed_on:
                 self._waiting.append(stroke)
         elif isinstance(stroke, Pasted):
             state = self._desk.paste(self.state, stroke.text, stroke.is_keys)
@@ -485,7 +496,8 @@ class Screen:
         while True:
             await asyncio.sleep(_SAVE_SECONDS)
             state = self.state
-            if state.typed:
+            # lines that are typed beside the screen are kept there
+            if state.typed and not state.away:
                 self._begin_work()
                 kept = self._desk.save_draft(state)
                 if kept.message != state.message:
@@ -528,7 +540,8 @@ class Screen:
         """What ends scribe from outside: what is typed is kept."""
         self._stop_aside()
         self._unread += self._input.rest()
-        self.state = self._desk.saved(self.state)
+        if not self.state.away:
+            self.state = self._desk.saved(self.state)
         # a terminal that is closed and a shell that ends may both send a signal
         if not self.state.is_over:
             self.state = replace(self.state, is_over=True)

@@ -34,6 +34,7 @@ from scribe.screen.actions import (
     OfWholeBook,
     Place,
     SetVolumes,
+    TypeAll,
 )
 from scribe.screen.field import Field, Purpose
 from scribe.screen.in_hand import touched
@@ -138,9 +139,11 @@ def pages_typed(state: State, text: str) -> tuple[State, OfWholeBook | None]:
     return state, ListVolumes(int(word))
 
 
-def takes_long(state: State, action: OfWholeBook) -> bool:
+def takes_long(state: State, action: OfWholeBook | TypeAll) -> bool:
     """Whether something isn't done in a moment."""
     match action:
+        case TypeAll(lines=lines):
+            return len(lines) > _FEW
         case ChangePlaces(nth=nth):
             return nth is None and len(action.open_places) > _FEW
         case SetVolumes(changed=changed) if len(changed) > _FEW:
