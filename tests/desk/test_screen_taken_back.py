@@ -207,6 +207,26 @@ def test_a_mark_that_could_not_be_put_again_is_resolved_once_that_is_asked(
     )
 
 
+def test_a_mark_of_a_struck_paragraph_is_resolved_once_that_is_asked(
+    moon: Path, sit: Sit
+) -> None:
+    sat = sit(moon)
+    sat.press("n", "s", "r")
+    assert sat.state.question and sat.state.question.sentence == (
+        "Paragraph 1 is struck, so mark 1 can't be put on it again unless it is restored. Shall it"
+        " be resolved?"
+    )
+    sat.press("y")
+    assert sat.state.kept == "kept: mark 1 resolved"
+    sat.press("u")
+    assert sat.state.message == (
+        "The book has no way back from this: mark 1 was resolved. u again takes back that"
+        " paragraph 1 was struck."
+    )
+    sat.press("u")
+    assert sat.state.message == "Taken back: paragraph 1 was struck."
+
+
 def test_a_table_that_was_put_into_the_book_stays_there_which_is_said_before(
     moon: Path, sit: Sit
 ) -> None:

@@ -23,6 +23,7 @@ from braildesk.desk.highlighting import cells_of_marks
 from braildesk.desk.tables import table_request
 from braildesk.protocol.requests import Command
 from braildesk.text.characters import visible
+from braildesk.text.spans import Span
 
 from scribe.screen import (
     by_pages,
@@ -612,8 +613,10 @@ class Desk:
             return None
         for mark in its.marks:
             if mark.id == command.mark and not mark.resolved:
-                marks = (deeds.on_a_character(mark, len(its.text)),)
-                (cells,) = cells_of_marks(self._session, replace(its, marks=marks))
+                cells = Span(0, 0)
+                if not its.paragraph.struck:
+                    marks = (deeds.on_a_character(mark, len(its.text)),)
+                    (cells,) = cells_of_marks(self._session, replace(its, marks=marks))
                 return deeds.resolved(mark, its.paragraph.id, cells)
         return None
 

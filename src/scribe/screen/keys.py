@@ -233,10 +233,15 @@ def _resolve(state: State) -> Step:
     for mark in state.marks_here:
         if not mark.resolved:
             asked = requests.Resolve(mark.id, expect=state.version)
-            if state.reading is None or state.reading.braille:
+            its = _chosen(state)
+            is_empty = state.reading is not None and not state.reading.braille
+            if not (is_empty or its.struck):
                 return Step(state, asked)
+            what, unless = (
+                ("struck", " unless it is restored") if its.struck else ("empty", "")
+            )
             sentence = (
-                f"Paragraph {_chosen(state).id} is empty, so mark {mark.id} can't be put on it again."
+                f"Paragraph {its.id} is {what}, so mark {mark.id} can't be put on it again{unless}."
                 " Shall it be resolved?"
             )
             return Step(replace(state, question=Question(sentence, yes=asked)))

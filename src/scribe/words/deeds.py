@@ -91,7 +91,7 @@ def on_a_character(mark: Mark, length: int) -> Mark:
 
 
 def resolved(mark: Mark, paragraph: int, cells: Span) -> Deed:
-    """A mark on cells that was resolved; in a paragraph without any it can't be put again."""
+    """A mark on cells that was resolved; without any, as in an empty paragraph, it can't be put again."""
     what, count = f"mark {mark.id} was resolved", cells.stop - cells.start
     if count < 1:
         return Deed(what)
