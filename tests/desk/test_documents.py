@@ -490,6 +490,7 @@ def test_blanks_of_all_widths_are_one_blank(tmp_path: Path) -> None:
             "latin2",
         ),
         ("<meta charset=none>", "utf-8"),
+        ("<meta charset=utf-8>", "cp1252"),
         ("", "cp1252"),
         ("", "utf-8-sig"),
     ],
@@ -497,6 +498,24 @@ def test_blanks_of_all_widths_are_one_blank(tmp_path: Path) -> None:
 def test_pages_are_read_in_what_they_are_encoded(said: str, encoding: str) -> None:
     page = f"<html><head>{said}</head><p>Größe</p></html>".encode(encoding)
     assert read_document(page, ManuscriptKind.HTML).texts == ["Größe"]
+
+
+@pytest.mark.parametrize(
+    "said, page, text",
+    [
+        ("utf-8", "Größe ".encode() + b"\xa9", "Größe \ufffd"),
+        ("none", "Größe ".encode() + b"\xa9", "Größe \ufffd"),
+        ("windows-1251", "Луна ".encode("cp1251") + b"\x98", "Луна \ufffd"),
+        # what says GB 2312 mostly is GBK
+        ("gb2312", "月\N{EURO SIGN}镕".encode("gb18030"), "月\N{EURO SIGN}镕"),
+        ("Shift_JIS", "月①".encode("cp932"), "月①"),
+    ],
+)
+def test_a_byte_that_is_not_so_encoded_is_seen_and_changes_no_other_character(
+    said: str, page: bytes, text: str
+) -> None:
+    head = f"<html><head><meta charset={said}></head><p>".encode()
+    assert read_document(head + page, ManuscriptKind.HTML).texts == [text]
 
 
 def test_a_large_first_letter_belongs_to_its_paragraph(tmp_path: Path) -> None:

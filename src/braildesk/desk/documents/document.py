@@ -9,6 +9,8 @@ lost so: the text boxes that LibreOffice makes of frames are lost in their turn.
 """
 
 import re
+from collections.abc import Iterable
+from contextlib import suppress
 from dataclasses import replace
 
 from braildesk.desk.documents import contents, pages, pandoc
@@ -30,6 +32,13 @@ from braildesk.text import limits
 #: Where a page of HTML says in what it is encoded; else its front does, or it is of an older system.
 _CHARSET = re.compile(rb"(?:charset|encoding)\s*=\s*[\"']?([A-Za-z0-9_.-]+)")
 _FRONT = 1024
+#: Encodings with more characters than those by whose names pages call them.
+_WIDER = {
+    "gb2312": "gb18030",
+    "gbk": "gb18030",
+    "shift_jis": "cp932",
+    "euc-kr": "cp949",
+}
 _MARKS = ((b"\xff\xfe", "utf-16"), (b"\xfe\xff", "utf-16"), (b"", "utf-8-sig"))
 #: The kinds whose title, and what else is said about the whole, is a part of the print.
 _WITH_FRONT = (ManuscriptKind.DOCX, ManuscriptKind.ODT, ManuscriptKind.MARKDOWN)
@@ -101,15 +110,35 @@ def _characters(data: bytes, kind: ManuscriptKind) -> str:
     pandoc takes what isn't UTF-8 for Latin 1, with a warning.
     """
     names = [next(name for mark, name in _MARKS if data.startswith(mark))]
-    if kind is ManuscriptKind.HTML:
-        said = _CHARSET.search(data[:_FRONT])
-        names = [*([said[1].decode()] if said else []), *names, "cp1252"]
+    if kind is not ManuscriptKind.HTML:
+        return _strictly(data, names) or decoded(data)
+    if said := _CHARSET.search(data[:_FRONT]):
+        named = said[1].decode().lower()
+        names.insert(0, _WIDER.get(named, named))
+    found = _strictly(data, names) or _mostly(data, names)
+    return found or _strictly(data, ["cp1252"]) or decoded(data)
+
+
+def _strictly(data: bytes, names: Iterable[str]) -> str | None:
+    """The characters by the first of some encodings in which all of them are."""
     for name in names:
-        try:
+        with suppress(UnicodeDecodeError, LookupError):
             return data.decode(name)
-        except (UnicodeDecodeError, LookupError):
-            continue
-    return decoded(data)
+    return None
+
+
+def _mostly(data: bytes, names: Iterable[str]) -> str | None:
+    """The characters by the first of some encodings in which most are that aren't ASCII.
+
+    What stands for the others has no cells, so that their places are said.
+    """
+    for name in names:
+        with suppress(LookupError):
+            found = data.decode(name, errors="replace")
+            bad = found.count("\N{REPLACEMENT CHARACTER}")
+            if sum(character > "\x7f" for character in found) > 2 * bad:
+                return found
+    return None
 
 
 def _too_long(parts: tuple[Part, ...]) -> list[Loss]:
