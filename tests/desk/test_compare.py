@@ -117,6 +117,13 @@ def test_a_book_that_another_program_has_open_is_compared_as_it_was_kept(
     )
 
 
+def test_a_book_that_is_compared_with_itself_is_open_in_no_other_program(
+    moon: Path,
+) -> None:
+    ran = scribe("compare", moon, moon.name, folder=moon.parent)
+    assert ran == Ran(0, "", "The book and the manuscript have the same words.\n")
+
+
 def test_a_talk_compares_by_the_same_word(moon: Path) -> None:
     (moon.parent / "text.txt").write_text("The moon is far away.\n\nThe Tide\n")
     given = f"compare {moon.parent / 'text.txt'}\n"

@@ -7,6 +7,7 @@ from braildesk.desk.compare import compare
 from braildesk.desk.documents.reading import ReadingOptions
 from braildesk.desk.manuscript import UnreadableText
 from braildesk.desk.manuscripts import read_manuscript
+from braildesk.named_files import is_same_file
 
 from scribe.cli.book_command import BookCommand, as_kept
 from scribe.cli.parser import Parser, add_width
@@ -45,7 +46,8 @@ def answer(session: Session, arguments: Namespace, console: Console) -> None:
     except UnreadableText as fault:
         why = unreadable(fault).replace(", and import it again", "")
         raise Stop(f"{path} {why}. Nothing was compared.") from fault
-    if manuscript.kept_at is not None:
+    # this program has the book open by itself
+    if manuscript.kept_at is not None and not is_same_file(path, arguments.file):
         console.say(as_kept(path, manuscript.kept_at))
     count = Count()
     for lines in count.lines(compare(session, manuscript.texts), console.columns):
