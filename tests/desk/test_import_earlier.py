@@ -144,6 +144,18 @@ def test_an_import_that_another_scribe_is_at_is_neither_called_cut_short_nor_for
     assert ran("show", front, "--paragraphs", "1").said.startswith(where(2))
 
 
+def test_the_rest_of_an_import_that_may_go_on_is_not_left_out(killed: Path) -> None:
+    with Session(killed):
+        assert again(killed, "--leave", "--wait", "0") == Ran(
+            2,
+            "",
+            f"Another program has “{killed}” open. Nothing was changed. End that one first.\n",
+        )
+    assert Drafts(killed).imports() == (begun(killed),)
+    killed.rename(killed.with_name("elsewhere"))
+    assert again(killed, "--leave").status == 0
+
+
 def test_the_same_import_is_refused_where_it_was_cut_short(killed: Path) -> None:
     asked = (
         f"{where(5)}\n--continue goes on with line 6, --again types all of it once more,"

@@ -3,6 +3,7 @@
 from argparse import ArgumentParser, Namespace
 from pathlib import Path
 
+from braildesk import CannotOpen, DeskError, Session, Why
 from braildesk.desk.documents.kinds import ManuscriptKind
 from braildesk.desk.documents.reading import ReadingOptions
 from braildesk.desk.earlier import NoneCutShort, Way, leave
@@ -131,6 +132,7 @@ def run(arguments: Namespace, console: Console) -> Status:
     """Imports the text, or judges it, or leaves out what an earlier import of it didn't type."""
     path = arguments.text
     if arguments.way is Way.LEAVE:
+        _judge_free(arguments)
         return _left_out(arguments.file, path, console)
     job = Import(
         arguments.file,
@@ -154,6 +156,20 @@ def _how(arguments: Namespace) -> How:
     kind = ManuscriptKind(arguments.format) if arguments.format else None
     reading = ReadingOptions(kind, notes_at_end=arguments.notes == "end")
     return How(reading, volumes=arguments.volumes)
+
+
+def _judge_free(arguments: Namespace) -> None:
+    """Refuses to leave out what another program may be typing just now.
+
+    What else keeps the book from being opened is no matter.
+    """
+    try:
+        Session(arguments.file, timeout=arguments.wait).close()
+    except CannotOpen as refusal:
+        if refusal.why is Why.IN_USE:
+            raise
+    except DeskError:
+        pass
 
 
 def _left_out(book: Path, path: Path, console: Console) -> Status:
