@@ -75,6 +75,23 @@ punctuation . 256
 LEARNED = SMALL + "match - th %a 1456\nword be 23\n"
 """A table with a contraction that no rule of it says plainly: th is one cell before a letter."""
 
+STANDING = (
+    SMALL
+    + """\
+punctuation - 36
+punctuation % 46-356
+punctuation / 456-34
+nocontractsign 56
+seqdelimiter -
+seqafterchars .
+contraction b
+contraction q
+contraction x
+match %[^_~]%<* hab %>*%[^_~] 125-1
+"""
+)
+"""A table with letters that have a sign where they stand alone, and a word that has a contraction there."""
+
 SMALL_LETTERS = b"space \\s 0\nletter a 1\nletter b 12\n"
 
 TEXT = "That bat hath bathe the hat.\n\nBath the eth. The tab be that.\n"
@@ -315,6 +332,24 @@ def spelled(character: str) -> tuple[str, str]:
     return character, {"a": "⠁", "b": "⠃", " ": "⠀"}[character]
 
 
+def test_a_mark_beside_which_no_letter_stands_alone_is_a_letter_to_its_neighbours(
+    tmp_path: Path,
+) -> None:
+    means = Means(None, None, lambda what: lambda done, total: None)
+    text = Manuscript("text", ["b"])
+    draft = tailor(small(tmp_path, STANDING), text, means).made.draft
+    assert (draft.classes["%"], draft.classes["/"]) == ("letter", "punctuation")
+    chooser = Chooser(read(draft.text().encode()).table)
+    for line, wanted in (
+        ("b", "⠰⠃"),
+        ("%b", "⠨⠴⠃"),
+        ("%B", "⠨⠴⠠⠃"),
+        ("%b.", "⠨⠴⠃⠲"),
+        ("BB/a", "⠠⠠⠃⠃⠸⠌⠁"),
+    ):
+        assert chooser.cells(chooser.printed(line)) == cells_of(wanted), line
+
+
 def test_words_of_one_cell_are_learned_from_with_marks_and_keep_it_alone() -> None:
     marks = ".,;:!?"
     defined = "".join(f"punctuation {one} 256\n" for one in marks)
@@ -359,6 +394,12 @@ class Spelling:
         self._table = table
         self._words = words
 
+    def ask(self, texts: Sequence[str]) -> list[tuple[int, ...]]:
+        return [
+            tuple(cell for _, cells in self._pieces(text) for cell in cells)
+            for text in texts
+        ]
+
     def pieces(self, texts: Sequence[str]) -> list[list[tuple[str, tuple[int, ...]]]]:
         return [[*self._pieces(text)] for text in texts]
 
@@ -373,7 +414,7 @@ def test_tokens_of_a_list_leave_no_word_of_it_wrong() -> None:
     chooser = Chooser(read(text).table)
     words = WordList(Path("words"), {"ab": 1}, {"b.ab": 1, "a.ab": 1, "ab.b": 1})
     pieces = {
-        "ab": [("ab", "⠆")],
+        "ab": [("ab", "⠆⠆")],
         **{
             token: [(one, {"a": "⠁", "b": "⠃", ".": "⠲"}[one]) for one in token]
             for token in words.joined
@@ -382,7 +423,7 @@ def test_tokens_of_a_list_leave_no_word_of_it_wrong() -> None:
     answers = cast(Liblouis, Answers(pieces))
     found = list_examples(words, answers, chooser, "b", nothing)
     learned = learned_from_list(words, chooser, found, 100, nothing)
-    assert learned["word", "ab"] == cells_of("⠆")
+    assert learned["word", "ab"] == cells_of("⠆⠆")
     assert all(example.is_right for example in found)
 
 

@@ -34,6 +34,7 @@ from braildesk.tables.convert.marks import (
     USUAL,
     WITH_BLANKS,
     WITH_LETTERS,
+    join_to_letters,
 )
 from braildesk.tables.convert.numbers import ask_digits, ask_mode, ask_signed_letters
 from braildesk.tables.convert.probes import CLOSING, Place, Side
@@ -67,21 +68,22 @@ class Made:
 
 def make(subject: Subject, trial: ProgramTrial) -> Made:
     """Makes a table of the profile."""
-    return _make(subject, trial, settle_syllables)
+    return _make(subject, trial, lambda *_: None, settle_syllables)
 
 
 def make_to_learn(subject: Subject, trial: ProgramTrial) -> Made:
     """Makes a table to which rules are added that are learned from texts.
 
     It has no rules for syllables. Those of German would fill it, and the few that a text needs are
-    learned from the text.
+    learned from the text. Some marks of technical text are letters to their neighbours in it.
     """
-    return _make(subject, trial, lambda *_: None)
+    return _make(subject, trial, join_to_letters, lambda *_: None)
 
 
 def _make(
     subject: Subject,
     trial: ProgramTrial,
+    settle_marks: Callable[[Subject, TableDraft], None],
     settle_rules: Callable[[Subject, TableDraft, ProgramTrial], None],
 ) -> Made:
     draft = TableDraft()
@@ -94,6 +96,7 @@ def _make(
         script.settle_letters()
     marks = Marks(subject, draft, trial)
     missing += marks.define(alphabet.of("punctuation"))
+    settle_marks(subject, draft)
     uncarried = read_rules(subject, draft)
     settle_rules(subject, draft, trial)
     settle_lone_capitals(subject, draft)

@@ -13,7 +13,7 @@ from typing import Final
 
 from braildesk.tables.convert.draft import Origin, ProgramTrial, TableDraft
 from braildesk.tables.convert.numbers import usual_digits
-from braildesk.tables.convert.oracle import most_common, stripped
+from braildesk.tables.convert.oracle import Frame, between, most_common, stripped
 from braildesk.tables.convert.probes import (
     CLOSING,
     OPENING,
@@ -62,6 +62,9 @@ BEFORE_EQUALS: Final = "+-*/<>!:"
 ENDING: Final = ",;:.?!"
 """The marks that are asked for after a closing one with a blank after them."""
 
+BEFORE_WORDS: Final = "%~^\\$@#<"
+"""The marks before a word or a letter, and hardly ever after capitals, that may be letters to their neighbours."""
+
 _BEFORE_DIGIT: Final = ((Side.EDGE, Side.DIGIT), (Side.LETTER, Side.DIGIT))
 
 _AFTER_WORD: Final = ((Side.LETTER, Side.LETTER), (Side.LETTER, Side.EDGE))
@@ -72,6 +75,27 @@ KIND_OF: Final = {
     (Side.LETTER, Side.LETTER): "midword",
     (Side.LETTER, Side.EDGE): "endword",
 }
+
+
+def join_to_letters(subject: Subject, draft: TableDraft) -> None:
+    """Makes letters of the marks beside which no letter has the sign that it has where it stands alone.
+
+    So no rule for a word that stands alone is chosen beside them, whether it has capitals or not, as
+    in `%so` and `~N`. After a mark like `/` no letter stands alone either, but before one of class
+    letter each capital has a sign of its own, as in `TCP/IP`.
+    """
+    asked = [one for one in subject.alphabet.carriers() if one in draft.cells]
+    ask = subject.liblouis.cells
+    signed = [one for one in asked if ask(one) not in (None, draft.cells[one])]
+    for mark in BEFORE_WORDS:
+        if draft.classes.get(mark) == "punctuation" and signed:
+            beside = [
+                between(subject.liblouis, frame) == draft.cells[one]
+                for one in signed
+                for frame in (Frame(mark, one, ""), Frame("", one, mark))
+            ]
+            if all(beside):
+                draft.classes[mark] = "letter"
 
 
 class Marks:
