@@ -350,6 +350,28 @@ def test_a_mark_beside_which_no_letter_stands_alone_is_a_letter_to_its_neighbour
         assert chooser.cells(chooser.printed(line)) == cells_of(wanted), line
 
 
+def test_a_word_that_a_table_names_is_learned_with_those_of_a_list(
+    tmp_path: Path,
+) -> None:
+    (tmp_path / "words").write_text("abb\nbaa\n")
+    words = WordList.of(tmp_path / "words")
+    means = Means(words, None, lambda what: lambda done, total: None)
+    text = Manuscript("text", ["abb"])
+    draft = tailor(small(tmp_path, STANDING), text, means).made.draft
+    assert draft.rules["word", "hab"][0] == cells_of("⠓⠁")
+
+
+def test_a_word_with_a_mark_within_is_learned_where_no_other_needs_its_rule() -> None:
+    table = read(SMALL_LETTERS + b"punctuation ' 3\n").table
+    chooser = Chooser(table)
+    words = WordList(Path("words"), {"ab": 1, "a'b": 0.3}, {})
+    liblouis = cast(Liblouis, Spelling(table, {"a'b": cells_of("⠆")}))
+    found = list_examples(words, liblouis, chooser, "b", nothing)
+    assert learned_from_list(words, chooser, found, 100, nothing) == {
+        ("word", "a'b"): cells_of("⠆")
+    }
+
+
 def test_words_of_one_cell_are_learned_from_with_marks_and_keep_it_alone() -> None:
     marks = ".,;:!?"
     defined = "".join(f"punctuation {one} 256\n" for one in marks)
@@ -364,6 +386,31 @@ def test_words_of_one_cell_are_learned_from_with_marks_and_keep_it_alone() -> No
     learned_from_list(words, chooser, found, 100, nothing)
     wrong = {one.token.strip(" ") for one in found if not one.is_right}
     assert wrong.isdisjoint(beside_one)
+
+
+def test_words_that_have_one_cell_without_a_rule_are_learned_from_with_marks_too() -> (
+    None
+):
+    table = read(SMALL_LETTERS + b"punctuation . 256\npunctuation , 2\n").table
+    chooser = Chooser(table)
+    words = WordList(Path("words"), {"ab": 1}, {"b": LONE})
+    liblouis = cast(Liblouis, Spelling(table, {"ab": cells_of("⠆")}))
+    found = list_examples(words, liblouis, chooser, "b", nothing)
+    learned_from_list(words, chooser, found, 100, nothing)
+    for token, wanted in (("ab", "⠆"), ("ab.", "⠁⠃⠲"), ("ab,", "⠁⠃⠂")):
+        assert chooser.cells(chooser.printed(token)) == cells_of(wanted), token
+
+
+def test_tokens_are_learned_from_by_what_the_words_of_the_list_taught() -> None:
+    table = read(SMALL_LETTERS + b"punctuation . 256\n").table
+    chooser = Chooser(table)
+    words = WordList(Path("words"), {"ab": 1}, {"ab.": 1})
+    liblouis = cast(Liblouis, Spelling(table, {"ab": cells_of("⠆⠆")}))
+    found = list_examples(words, liblouis, chooser, "b", nothing)
+    assert learned_from_list(words, chooser, found, 100, nothing) == {
+        ("word", "ab"): cells_of("⠆⠆"),
+        ("word", "ab."): cells_of("⠁⠃⠲"),
+    }
 
 
 def test_tokens_that_are_made_of_a_list_count_less_beside_a_manuscript(

@@ -2,17 +2,29 @@
 
 from __future__ import annotations
 
+from collections.abc import Iterator
 from typing import Final
 
 from braildesk.tables.convert.draft import Origin, TableDraft
 from braildesk.tables.convert.operands import read_dots
 from braildesk.tables.convert.oracle import Frame, between
-from braildesk.tables.convert.source import TableLine
+from braildesk.tables.convert.source import Source, TableLine
 from braildesk.tables.convert.subject import Subject
 from braildesk.tables.convert.table import INEXACT, KINDS, SourceRule
 from braildesk.tables.operands import BadOperand, Cells
 
 READ: Final = Origin("Rules of the table.")
+
+
+def named_words(source: Source) -> Iterator[str]:
+    """The words that have a contraction where they stand alone, by lines that are no rules of the profile."""
+    for line in source.lines:
+        if line.opcode == "match" and line.is_for_print and len(line.operands) > 2:
+            before, word, *_ = line.operands
+            # what may stand before is a blank or a mark, and no letter
+            is_word = word.isalpha() and word.islower() and len(word) > 2
+            if before.startswith("%[") and is_word:
+                yield word
 
 
 def read_rules(subject: Subject, draft: TableDraft) -> list[tuple[str, TableLine]]:

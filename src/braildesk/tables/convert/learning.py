@@ -25,7 +25,7 @@ PENALTY: Final = 1.5
 IN_PART: Final = 0.5
 """The share of an example's weight that counts if another mistake is left in it."""
 
-LIST_ROUNDS: Final = (100, 50, 20, 10, 5, 3, 2, 1, 1)
+LIST_ROUNDS: Final = (100, 50, 20, 10, 5, 3, 2, 1, 1, 0.3)
 JOINED_ROUNDS: Final = (20, 5, 2, 1)
 BOOK_ROUNDS: Final = (20, 5, 2, 1, 1, 0.6, 0.6)
 """The least gain of a rule in each round: with a list of words, with tokens made of them, and with a book."""

@@ -11,7 +11,7 @@ import string
 import zlib
 from collections import Counter
 from collections.abc import Iterable, Sequence
-from dataclasses import dataclass
+from dataclasses import dataclass, replace
 from itertools import cycle
 from pathlib import Path
 from typing import Final, Protocol
@@ -31,7 +31,7 @@ from braildesk.tables.convert.oracle import Liblouis
 from braildesk.tables.convert.shapes import ENCLOSED, JOINED, Material, lines_of
 from braildesk.tables.convert.words import forms_in
 
-METHOD: Final = 3
+METHOD: Final = 4
 """Counted up with each change of what is learned from a list."""
 
 MOST_FORMS: Final = 120_000
@@ -42,6 +42,9 @@ LESS: Final = 0.3
 
 LONE: Final = 100.0
 """What a letter or a word of one cell counts that stands alone, which tokens with marks are to leave as it is."""
+
+USUALLY: Final = 5.0
+"""What a word of one cell counts with the marks that texts have beside it, as `in,`."""
 
 BESIDE: Final = 0.1
 """What a token with a mark or a number within counts at most beside a manuscript, whose words go before it."""
@@ -113,6 +116,10 @@ class WordList:
         weights = {form: 1 if form.isalpha() else LESS for form in taken}
         return cls(path, weights, _made_of(taken))
 
+    def naming(self, named: Iterable[str]) -> WordList:
+        """The list with the words that a table names."""
+        return replace(self, weights=dict.fromkeys(named, 1.0) | self.weights)
+
     @property
     def digest(self) -> str:
         return _digest("\n".join([*self.weights, "", *self.joined]))
@@ -127,14 +134,23 @@ def list_examples(
 ) -> list[Example]:
     """The words of a list as examples, and the tokens that are made of them."""
     weights = words.weights | words.joined
-    short = [one for one in chooser.whole_words() if len(one) > 1]
-    if words.joined and short:
-        letters = sorted({one for word in short for one in word})
+    known = [one for one in chooser.whole_words() if len(one) > 1]
+    if words.joined:
+        short = dict.fromkeys([*known, *_short(liblouis, words)])
         marked = (form.format(one) for one in short for form in ENCLOSED)
-        weights = _joined(short, letters, 2 * len(short)) | weights
+        if known:
+            letters = sorted({one for word in known for one in word})
+            weights = _joined(known, letters, 2 * len(known)) | weights
         # words of one cell have it alone before all, and beside few marks
-        weights |= dict.fromkeys(marked, 1) | dict.fromkeys(short, LONE)
+        weights |= dict.fromkeys(marked, USUALLY) | dict.fromkeys(short, LONE)
     return examples(liblouis, chooser, weights, frame, progress)
+
+
+def _short(liblouis: Liblouis, words: WordList) -> list[str]:
+    """The words of a list that have one cell where they stand alone."""
+    asked = [one for one in words.weights if len(one) > 1 and one.islower()]
+    cells = zip(asked, liblouis.ask(asked), strict=True)
+    return [word for word, its in cells if its is not None and len(its) == 1]
 
 
 def name_of(words: WordList, draft: TableDraft, version: str) -> str:
@@ -159,6 +175,8 @@ def learned_from_list(
     )
     if len(alone) == len(found):
         return learned
+    for example in found:
+        example.choose(chooser)
     return learned | Learner(chooser, found, most, of_list=True).learn(
         JOINED_ROUNDS, lambda done, _: progress(len(LIST_ROUNDS) + done, rounds)
     )
