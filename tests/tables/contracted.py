@@ -58,6 +58,8 @@ REFERENCE = "debian-reference/*.{}.html"
 DEVELOPERS = "developers-reference/{}*.html"
 PICTURES = "gimp/2.0/help/{}/*.html"
 PACKAGES = "doc/aptitude/html/{}/*.html"
+ACCOUNTS = "doc/gnucash-docs/gnucash-guide-{}/*.html"
+DATABASE = "doc/postgresql-doc-15/html/*.html"
 KEPT = Path(__file__).with_suffix(".tsv")
 COLUMNS = "made_for text words right within paragraphs held_back lines seconds".split()
 PAGE = (
@@ -88,6 +90,8 @@ TEXTS = (
     Text("developers.en", DEVELOPERS.format("")),
     Text("pictures.en", PICTURES.format("en"), MOST_WORDS),
     Text("packages.en", PACKAGES.format("en")),
+    Text("accounts.en", ACCOUNTS.format("en"), MOST_WORDS),
+    Text("database.en", DATABASE, MOST_WORDS),
     Text("handbook.de", HANDBOOK.format("de-DE"), MOST_WORDS),
     Text("install.de", GUIDE.format("de")),
     Text("story.de", STORY.format("de")),
@@ -120,6 +124,8 @@ TITLES = {
     "developers": "*Debian Developer's Reference*",
     "pictures": "the manual of GIMP",
     "packages": "the manual of aptitude",
+    "accounts": "the guide to GnuCash",
+    "database": "the manual of PostgreSQL",
 }
 LISTS = {"en": "british-english", "de": "ngerman", "fr": "french"}
 
