@@ -1,11 +1,11 @@
 -- Which rows a change may lend: those of what its command changes, and no others.
 use Rattle.std.specs.Prelude.{◌≡◌, ◌⊎◌, ℕ, ℤ, ◌+◌, true, IsSome, List, [], ◌∷◌, ◌++◌, Some, encode_utf8_all, pos, min}
-use Rattle.std.specs.Prelude.{length, map, option_map, slice_get, unwrap_or, All, Contains}
+use Rattle.std.specs.Prelude.{map, slice_get, unwrap_or, All, Contains}
 use Rattle.desk_model.specs.declared.command.Command.{Command}
 use Rattle.desk_model.specs.Book.{Book, Mark, Paragraph, paragraph_of}
 use Rattle.desk_parts.specs.Puts.{Flags, Place, Print, PutRow, Resolved, RowPut}
 use Rattle.desk_parts.specs.Puts.{SetColumns, Span, Table, Version, with_puts}
-use Rattle.desk_model.specs.Named.{Retabled, named_by}
+use Rattle.desk_model.specs.Named.{Retabled, named_by, next_entry}
 use Rattle.desk_model.specs.Step.{next_id}
 use Rattle.desk_parts.specs.declared.file_table.FileTable.TheVariants as tables
 use Rattle.desk_parts.specs.FileRows.{FileRows, table_of}
@@ -18,11 +18,11 @@ row_number n = pos (min n 9223372036854775807)
 
 -- the number of the next entry in the history of the paragraph with this id
 abbrev pub next_entry_number : Book → ℕ → ℕ
-next_entry_number book id = unwrap_or (option_map (λ paragraph. length paragraph.history + 1) (paragraph_of book id)) 1
+next_entry_number book id = unwrap_or (next_entry id book) 1
 
 -- the paragraph with this id is new
-abbrev pub Comes : Book → Command → ℕ → Type 0
-Comes book command id = (id ≡ next_id book) × ((named_by command).adds_paragraph ≡ true)
+abbrev pub IsAdded : Book → Command → ℕ → Type 0
+IsAdded book command id = (id ≡ next_id book) × ((named_by command).adds_paragraph ≡ true)
 
 -- the mark is new: the next book has it after those of this one
 abbrev pub GetsMark : (book next : Book) → Mark → Type 0
@@ -54,7 +54,7 @@ UsesReplaced book command id =
 -- table, or its table another text
 abbrev pub GetsCells : Book → Command → ℕ → Type 0
 GetsCells book command id =
-    Comes book command id ⊎ (GetsEntry command id
+    IsAdded book command id ⊎ (GetsEntry command id
     ⊎ (((table : List ℕ) × GetsTable command id table) ⊎ UsesReplaced book command id))
 
 -- paragraphs stand at other places: one is added or moved
@@ -66,17 +66,18 @@ abbrev pub StandsAt : Book → (id index : ℕ) → Type 0
 StandsAt book id index = slice_get (map (λ paragraph. paragraph.id) book.paragraphs) index ≡ Some id
 
 -- the paragraph with this id stands at this index of the next book, and didn't in this one
-abbrev pub ComesTo : (book next : Book) → (id index : ℕ) → Type 0
-ComesTo book next id index = StandsAt next id index × ¬ StandsAt book id index
+abbrev pub GetsIndex : (book next : Book) → (id index : ℕ) → Type 0
+GetsIndex book next id index = StandsAt next id index × ¬ StandsAt book id index
 
--- This is put for what the command changes, which makes the next book of this one. No whole row of
--- `book` or `corr` is lent, and columns are set in rows of `book`, `para` and `mark` alone.
+-- The command makes the next book of this one, and this is put for something that it changes. No
+-- whole row of `book` or `corr` is lent, and columns are set in rows of `book`, `para` and `mark`
+-- alone.
 abbrev pub IsLent : (book next : Book) → Command → RowPut → Type 0
 IsLent book next command (PutRow tables.Book row) = ⊥
 IsLent book next command (PutRow tables.Tab row) =
     (name : List ℕ) × (text : List ℕ) × ((named_by command).table_given ≡ Some (name, text))
     × (row.name ≡ encode_utf8_all name) × (row.body ≡ text)
-IsLent book next command (PutRow tables.Para row) = (id : ℕ) × (row.id ≡ row_number id) × Comes book command id
+IsLent book next command (PutRow tables.Para row) = (id : ℕ) × (row.id ≡ row_number id) × IsAdded book command id
 IsLent book next command (PutRow tables.Corr row) = ⊥
 IsLent book next command (PutRow tables.Mark row) =
     (mark : Mark) × (row.id ≡ row_number mark.id) × GetsMark book next mark
@@ -88,7 +89,7 @@ IsLent book next command (SetColumns tables.Book id (Version version)) =
     (id ≡ pos 1) × (version ≡ row_number next.version)
 IsLent book next command (SetColumns tables.Para id (Place place)) =
     (named : ℕ) × (index : ℕ) × (id ≡ row_number named) × (place ≡ row_number (index + 1)) × Reorders command
-    × ComesTo book next named index
+    × GetsIndex book next named index
 IsLent book next command (SetColumns tables.Para id (Flags style volume struck)) =
     (named : ℕ) × (id ≡ row_number named) × GetsFlags command named
 IsLent book next command (SetColumns tables.Para id (Table tab)) =

@@ -19,7 +19,7 @@ use Rattle.desk_model.specs.declared.command.Command.{Command}
 use Rattle.desk_parts.specs.Puts.{RowPut}
 use Rattle.desk_model.specs.Book.{Book, Mark, Paragraph}
 use Rattle.desk_book.specs.ChangePuts.{cache_put, cells_from, cells_put, effect_puts, elsewhere_from, elsewhere_put, entry_row, further_from, further_put, place_put, print_put, span_put, stays_in, tab_put, version_put}
-use Rattle.desk_model.specs.Loans.{AreLent, Comes, GetsEntry, IsLent, Reorders, StandsAt, next_entry_number, row_number}
+use Rattle.desk_model.specs.Loans.{AreLent, IsAdded, GetsEntry, IsLent, Reorders, StandsAt, next_entry_number, row_number}
 use Rattle.desk_book.specs.Changes.{Carries, Change, Does, change_puts, puts-change_by, has-effect}
 use Rattle.desk_memory.specs.Kept.{mark_kept}
 use Rattle.desk_model.specs.ParagraphMarks.{marks_on}
@@ -139,14 +139,14 @@ module _ (book next : Book) (command : Command) where
       (renews-all book name table.text table.rules sound does.2 cells.items does.3))
   effect-lent sound (effect.AddParagraph kept room order_room place) does =
       let adds : (named_by command).adds_paragraph ≡ true = ap (λ (c : Command). (named_by c).adds_paragraph) does.command_is in
-      let comes : Comes book command (next_id book) = (refl, adds) in
+      let added : IsAdded book command (next_id book) = (refl, adds) in
       let reorders : Reorders command = ap (λ (c : Command). is_some (named_by c).place_given) does.command_is in
       let ids : List ℕ = ids_of book.paragraphs in
       let count : length ids ≡ length book.paragraphs = length-map book.paragraphs (λ (other : Paragraph). other.id) in
       let within = does.within in
       let places = further-lent reorders place (next_id book) ids refl (paragraphs-apart book sound) (omega arith) does.order in
-      All-cons P _ (cache_put (next_id book) kept.cells ∷ further_from place ids) (next_id book, refl, comes)
-      (All-cons P (cache_put (next_id book) kept.cells) (further_from place ids) (next_id book, refl, inl comes) places)
+      All-cons P _ (cache_put (next_id book) kept.cells ∷ further_from place ids) (next_id book, refl, added)
+      (All-cons P (cache_put (next_id book) kept.cells) (further_from place ids) (next_id book, refl, inl added) places)
   effect-lent sound (effect.ChangePrint id change) does =
       let grows : GetsEntry command id = does.0 in
       let row = entry-row id (next_entry_number book id) change.entry in
