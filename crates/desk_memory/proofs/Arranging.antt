@@ -24,8 +24,7 @@ IsUpTo count id = (0 < id) × (id ≤ count)
 -- each id of an order of 1, 2, .., count is one of these
 pub AreUpTo-order : (count : ℕ) (order : List ℕ) → IsPermutation (range_with_len 1 count) order → All (IsUpTo count) order
 AreUpTo-order count order permutes =
-    All-permutation (IsUpTo count) (range_with_len 1 count) order permutes
-    (λ k d within.
+    All-permutation (IsUpTo count) _ _ permutes (λ k d within.
     let below : k < count = omega (arith, length-range_with_len 1 count) in
     let is : get_or (range_with_len 1 count) k d ≡ 1 + k = get_or-range_with_len 1 count k d below in
     omega (arith, is))
@@ -33,15 +32,14 @@ AreUpTo-order count order permutes =
 -- and each of these is in the order
 pub list_any-order : (count : ℕ) (order : List ℕ) (id : ℕ) → IsPermutation (range_with_len 1 count) order → IsUpTo count id → list_any (nat_eq id) order ≡ true
 list_any-order count order id permutes up =
-    list_any-from_Contains nat_eq_equiv id order
-    (Contains-permutation (range_with_len 1 count) order id permutes (
+    list_any-from_Contains nat_eq_equiv id order (Contains-permutation _ _ id permutes (
       id - 1,
       omega (arith, length-range_with_len 1 count, up.0, up.1),
       get_or-range_with_len 1 count (id - 1) id (omega (arith, up.0, up.1)) ∙ omega (arith, up.0),
     ))
 
 pub length-order : (count : ℕ) (order : List ℕ) → IsPermutation (range_with_len 1 count) order → length order ≡ count
-length-order count order permutes = length_permutation (range_with_len 1 count) order permutes ∙ length-range_with_len 1 count
+length-order count order permutes = length_permutation _ _ permutes ∙ length-range_with_len 1 count
 
 -- ---- paragraphs in an order of their ids
 
@@ -72,8 +70,7 @@ module _ (items : List KeptParagraph) where
   slice_get-in_order [] place up = refl
   slice_get-in_order (id ∷ order) zero up =
       let found = paragraph_with_id-there items id (All-head (IsUpTo (length items)) id order up) in
-      ap (λ list. slice_get list 0) (paragraph_with_id-cons id order found.0 found.1)
-      ∙ sym (ap (option_map (λ kept. (id, kept))) found.1)
+      ap (λ list. slice_get list 0) (paragraph_with_id-cons id order found.0 found.1) ∙ sym (ap (option_map (λ kept. (id, kept))) found.1)
   slice_get-in_order (id ∷ order) (suc place) up =
       let found = paragraph_with_id-there items id (All-head (IsUpTo (length items)) id order up) in
       ap (λ list. slice_get list (suc place)) (paragraph_with_id-cons id order found.0 found.1)
@@ -198,8 +195,7 @@ module _ (items : List KeptParagraph) where
     -- these paragraphs and one more
     pub pushed-in_order : (new : KeptParagraph) → flat_map (paragraph_with_id items) order ++ (length items + 1, new) ∷ [] ≡ flat_map (paragraph_with_id (items ++ new ∷ [])) (order ++ (length items + 1) ∷ [])
     pushed-in_order new =
-        sym (flat_map-append (paragraph_with_id (items ++ new ∷ [])) order ((length items + 1) ∷ [])
-        ∙ ap₂ (λ front back. front ++ back)
+        sym (flat_map-append (paragraph_with_id (items ++ new ∷ [])) order ((length items + 1) ∷ []) ∙ ap₂ (λ front back. front ++ back)
         (sym (flat_map-agree (paragraph_with_id items) (paragraph_with_id (items ++ new ∷ [])) order
         (All-weaker (IsUpTo (length items)) (λ id. paragraph_with_id items id ≡ paragraph_with_id (items ++ new ∷ []) id)
         (λ id up. ap (entry_of id) (sym (slice_get-append_left items (new ∷ []) (id - 1) (omega (arith, up.0, up.1)))))
@@ -209,7 +205,7 @@ module _ (items : List KeptParagraph) where
     pub IsPermutation-pushed : IsPermutation (range_with_len 1 (length items + 1)) (order ++ (length items + 1) ∷ [])
     IsPermutation-pushed =
         subst (λ list. IsPermutation list (order ++ (length items + 1) ∷ [])) (sym (range_with_len-push 1 (length items) ∙ ap (λ n. range_with_len 1 (length items) ++ n ∷ []) (add_comm 1 (length items))))
-        (IsPermutation-append_left ((length items + 1) ∷ []) (range_with_len 1 (length items)) order permutes)
+        (IsPermutation-append_left ((length items + 1) ∷ []) _ _ permutes)
 
 -- how many paragraphs a value has
 pub length-shown : (items : List KeptParagraph) (order : List ℕ) (value : KeptParagraphs)
@@ -231,8 +227,7 @@ in_order_of-pushed items order other new permutes others =
     ap (in_order_of other) (pushed-in_order items order permutes new)
     ∙ in_order_of-in_order (items ++ new ∷ []) (order ++ (length items + 1) ∷ [])
     (subst (λ n. IsPermutation (range_with_len 1 n) (order ++ (length items + 1) ∷ [])) (sym count) (IsPermutation-pushed items order permutes))
-    other
-    (subst (λ n. All (IsUpTo n) other) (sym count) (AreUpTo-order (length items + 1) other others))
+    other (subst (λ n. All (IsUpTo n) other) (sym count) (AreUpTo-order (length items + 1) other others))
 
 -- a change of a paragraph that is not there changes nothing
 pub with_kept_change-missing : (id : ℕ) (change : KeptParagraph → KeptParagraph) (kept : KeptParagraphs) → lookup (nat_eq id) kept ≡ None → with_kept_change id change kept ≡ kept

@@ -1,5 +1,5 @@
 -- Entries sorted by their names.
-use Rattle.std.proofs.Common.{◌≡◌, ℕ, ◌+◌, Bool, true, false, cond, nat_eq, List, [], ◌∷◌, ◌++◌, map, length, String, string_bytes, string_eq, chars, IsUtf8, bytes_eq, Option, Some, None, IsSome, is_some, Ordering, Less, Equal, Greater, nat_cmp, is_eq, fold, refl, sym, ap, ap₂, ◌∙◌, subst, inl, inr, arith, true≢false, T}
+use Rattle.std.proofs.Common.{◌≡◌, ℕ, ◌+◌, Bool, true, false, cond, nat_eq, List, [], ◌∷◌, ◌++◌, map, length, String, string_bytes, string_eq, chars, IsUtf8, bytes_eq, Option, Some, None, IsSome, is_some, Ordering, Equal, nat_cmp, is_eq, fold, refl, sym, ap, ap₂, ◌∙◌, subst, inl, inr, arith, true≢false, T}
 use Rattle.std.specs.Map.{keys_of, lookup, set_value}
 use Rattle.std.specs.List.{AllByRecursion, IsDistinct}
 use Rattle.std.specs.Ordering.{eq_by_cmp}
@@ -23,9 +23,8 @@ abbrev pub names : List ℕ → List ℕ → Ordering
 names = slice_cmp nat_cmp
 
 Equal-from_test : (o : Ordering) → is_eq o ≡ true → o ≡ Equal
-Equal-from_test Less e = absurd (true≢false (sym e))
 Equal-from_test Equal e = refl
-Equal-from_test Greater e = absurd (true≢false (sym e))
+Equal-from_test o e = absurd (true≢false (sym e))
 
 -- names that tie are the same
 same_name : (x y : List ℕ) → eq_by_cmp names x y ≡ true → x ≡ y
@@ -108,8 +107,7 @@ or_none (Some table) = refl
 
 swapped : (a b : Bool) (x y z : Option BookTable) → (a ≡ true → b ≡ true → ⊥) → cond a x (cond b y z) ≡ cond b y (cond a x z)
 swapped true true x y z apart = absurd (apart refl refl)
-swapped true false x y z apart = refl
-swapped false b x y z apart = refl
+swapped a b x y z apart = refl
 
 repeated : (b : Bool) (x y z : Option BookTable) → cond b x z ≡ cond b x (cond b y z)
 repeated true x y z = refl
@@ -188,8 +186,7 @@ module _ {Z : Type 0} where
   find-set_value name q table [] utf8 there = absurd (true≢false (sym there))
   find-set_value name q table (entry ∷ entries) utf8 there = by (bytes_eq name (string_bytes entry.0)) refl (λ still. find-set_value name q table entries utf8 still)
     where
-      by : (same : Bool) → bytes_eq name (string_bytes entry.0) ≡ same
-          → (IsSome (lookup (λ key. bytes_eq name (string_bytes key)) entries)
+      by : (same : Bool) → bytes_eq name (string_bytes entry.0) ≡ same → (IsSome (lookup (λ key. bytes_eq name (string_bytes key)) entries)
           → find names q (map shown (set_value (λ key. bytes_eq name (string_bytes key)) entries table)) ≡ cond (eq_by_cmp names q (chars name)) (Some table) (find names q (map shown entries)))
           → find names q (map shown (cond same ((entry.0, table) ∷ entries) (entry ∷ set_value (λ key. bytes_eq name (string_bytes key)) entries table)))
           ≡ cond (eq_by_cmp names q (chars name)) (Some table) (cond (eq_by_cmp names q (chars (string_bytes entry.0))) (Some entry.1) (find names q (map shown entries)))

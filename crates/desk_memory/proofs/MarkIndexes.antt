@@ -1,11 +1,11 @@
 -- The indexes of a paragraph's marks.
-use Rattle.std.proofs.Common.{◌≡◌, ℕ, zero, suc, ◌+◌, ◌-◌, ◌<◌, ◌≤◌, Bool, true, false, cond, List, [], ◌∷◌, ◌++◌, length, map, set, drop, slice_get, Option, Some, None, refl, sym, ap, subst, ◌∙◌, arith, inl, inr, nat_eq, option_map, option_to_list}
+use Rattle.std.proofs.Common.{◌≡◌, ℕ, zero, suc, ◌+◌, ◌-◌, ◌<◌, ◌≤◌, true, false, cond, List, [], ◌∷◌, ◌++◌, length, map, set, drop, slice_get, Option, Some, None, refl, sym, ap, subst, ◌∙◌, arith, inl, inr, nat_eq, option_map, option_to_list, ◌==◌, not}
 use Rattle.std.specs.List.{All, enumerate_from, flat_map}
 use Rattle.std.specs.Option.{option_map_or}
 use Rattle.std.proofs.lemmas.Bool.{cases_Bool, cond-false, cond-true, cond_both, eq-eqb}
-use Rattle.std.proofs.lemmas.List.{append-nil, length-drop, length-map}
+use Rattle.std.proofs.lemmas.List.{append-nil, length-drop, length-map, set-get_or}
 use Rattle.std.proofs.lemmas.List.Elements.{All-cons, All-head, All-nil, All-tail}
-use Rattle.std.proofs.lemmas.Option.{slice_get-map}
+use Rattle.std.proofs.lemmas.Option.{slice_get-map, get_or_from_slice_get}
 use Rattle.desk_memory.specs.declared.marks.KeptMark.{KeptMark}
 use Rattle.desk_model.specs.Book.{Mark}
 use Rattle.desk_memory.specs.Kept.{mark_kept, marks_kept}
@@ -13,13 +13,12 @@ use Rattle.desk_memory.specs.KeptMarks.{indexes_from, indexes_on, moved_kept, mo
 use Rattle.desk_memory.specs.ItemsLeft.{AreMarks, mark_at, marks_at}
 use Rattle.desk_model.specs.ParagraphMarks.{marks_on}
 use Rattle.desk_memory.proofs.Renewing.{reached, reached_all, set-reached, slice_get-reached}
+use Rattle.std.proofs.lemmas.List.Filters.{length-filter_both}
 
 -- ---- lists
 
 set-same : {X : Type 0} (xs : List X) (i : ℕ) (x : X) → slice_get xs i ≡ Some x → set xs i x ≡ xs
-set-same [] i x at = refl
-set-same (y ∷ xs) zero x at = let same : y ≡ x = cc in ap (λ z. z ∷ xs) (sym same)
-set-same (y ∷ xs) (suc i) x at = ap (λ rest. y ∷ rest) (set-same xs i x at)
+set-same xs i x at = ap (set xs i) (sym (get_or_from_slice_get xs i x x at)) ∙ set-get_or xs i x
 
 pub drop-cons : {X : Type 0} (xs : List X) (i : ℕ) (x : X) (rest : List X) → drop i xs ≡ x ∷ rest → (slice_get xs i ≡ Some x) × (drop (i + 1) xs ≡ rest)
 drop-cons {X} xs i x rest at =
@@ -49,11 +48,8 @@ indexes-set id n zero (k ∷ ms) m new at same =
 indexes-set id n (suc i) (k ∷ ms) m new at same = ap (λ (rest : List ℕ). cond (nat_eq k.paragraph id) (n ∷ rest) rest) (indexes-set id (n + 1) i ms m new at same)
 
 moved-keeps : (id start removed added : ℕ) (m : KeptMark) → (moved_kept_of id start removed added m).paragraph ≡ m.paragraph
-moved-keeps id start removed added m = by (nat_eq m.paragraph id)
-  where
-    by : (b : Bool) → (cond b (moved_kept start removed added m) m).paragraph ≡ m.paragraph
-    by true = refl
-    by false = refl
+moved-keeps id start removed added m =
+    cond_both (nat_eq m.paragraph id) (moved_kept start removed added m) m (λ k. k.paragraph ≡ m.paragraph) (λ e. refl) (λ e. refl)
 
 pub indexes-moved : (id start removed added other : ℕ) (ms : List KeptMark) → indexes_on other (with_kept_moved id start removed added ms) ≡ indexes_on other ms
 indexes-moved id start removed added other ms = indexes-map (moved_kept_of id start removed added) (moved-keeps id start removed added) other 0 ms
@@ -112,13 +108,7 @@ count-indexes id i n (m ∷ ms) =
 
 -- a paragraph has no more marks than the book
 pub few-on : (id : ℕ) (ms : List Mark) → length (marks_on id ms) ≤ length ms
-few-on id [] = omega arith
-few-on id (m ∷ ms) =
-    let rest = few-on id ms in
-    elim (cases_Bool (nat_eq m.paragraph id)) [
-      | inl e ↦ rw e (omega arith)
-      | inr e ↦ rw e (omega arith)
-    ]
+few-on id ms = omega (arith, length-filter_both (λ (m : Mark). m.paragraph == id) (λ m. not (m.paragraph == id)) (λ m. refl) ms)
 
 within-indexes : (id i : ℕ) (ms : List KeptMark) → All (λ index. index < i + length ms) (indexes_from id i ms)
 within-indexes id i [] = All-nil (λ index. index < i + 0)
@@ -168,9 +158,6 @@ module _ (id start removed added : ℕ) (old : List KeptMark) where
   -- the indexes that are left are those of the marks from a place on, and those before it have moved
   abbrev pub HaveMoved : List ℕ → List KeptMark → Type 0
   HaveMoved left marks = (n : ℕ) × (left ≡ indexes_from id n (drop n old)) × (marks ≡ so_far n)
-
-  pub HaveMoved-first : (indexes : List ℕ) → indexes ≡ indexes_on id old → HaveMoved indexes old
-  HaveMoved-first indexes is = (0, is, refl)
 
   pass : (n : ℕ) (m : KeptMark) → slice_get old n ≡ Some m → f m ≡ m → so_far n ≡ so_far (n + 1)
   pass n m at same =

@@ -38,8 +38,7 @@ pub ids_of-with_move : (book : Book) (id : ℕ) (anchor : Anchor) (p : Paragraph
 ids_of-with_move book id anchor p found same =
     elim (cases_Bool (is_after id anchor)) [
       | inl e ↦ rw e refl
-      | inr e ↦ rw (e, found)
-          (ids_of-with_paragraph anchor p (without_paragraph id book.paragraphs)
+      | inr e ↦ rw (e, found) (ids_of-with_paragraph anchor p (without_paragraph id book.paragraphs)
           ∙ (ap (λ (n : ℕ). with_id anchor n (ids_of (without_paragraph id book.paragraphs))) same
           ∙ ap (with_id anchor id) (ids_of-without id book.paragraphs)))
     ]

@@ -21,10 +21,9 @@ option_map-with_none (Some kept) = refl
 
 pub slice_get-renewed_items : (cells : List (Option (List ℕ))) (items : List KeptParagraph) (i : ℕ)
     → slice_get (renewed_items cells items) i ≡ option_map (with_cells (option_flatten (slice_get cells i))) (slice_get items i)
-slice_get-renewed_items cells [] i = refl
 slice_get-renewed_items [] (kept ∷ items) i = option_map-with_none (slice_get (kept ∷ items) i)
-slice_get-renewed_items (new ∷ cells) (kept ∷ items) zero = refl
 slice_get-renewed_items (new ∷ cells) (kept ∷ items) (suc i) = slice_get-renewed_items cells items i
+slice_get-renewed_items cells items i = refl
 
 flatten_is : (found : Option (Option (List ℕ))) → option_flatten found ≡ option_and_then (λ new. new) found
 flatten_is None = refl
@@ -49,11 +48,10 @@ abbrev pub reached : {X : Type 0} → ℕ → (new old : List X) → List X
 reached i new old = take i new ++ drop i old
 
 pub slice_get-reached : {X : Type 0} (i : ℕ) (new old : List X) → length new ≡ length old → slice_get (reached i new old) i ≡ slice_get old i
-slice_get-reached zero new old long = refl
-slice_get-reached (suc i) [] [] long = refl
 slice_get-reached (suc i) [] (x ∷ old) long = absurd (omega arith)
 slice_get-reached (suc i) (y ∷ new) [] long = absurd (omega arith)
 slice_get-reached (suc i) (y ∷ new) (x ∷ old) long = slice_get-reached i new old (omega arith)
+slice_get-reached i new old long = refl
 
 pub set-reached : {X : Type 0} (i : ℕ) (new old : List X) (y : X) → slice_get new i ≡ Some y → length new ≡ length old → set (reached i new old) i y ≡ reached (i + 1) new old
 set-reached {X} i new old y at long =
@@ -62,10 +60,9 @@ set-reached {X} i new old y at long =
   where
     step : (i : ℕ) (new old : List X) → slice_get new i ≡ Some y → length new ≡ length old → set (reached i new old) i y ≡ reached (suc i) new old
     step i [] [] at long = absurd (none-some y at)
-    step i [] (x ∷ old) at long = absurd (omega arith)
-    step i (z ∷ new) [] at long = absurd (omega arith)
     step zero (z ∷ new) (x ∷ old) at long = ap (λ w. w ∷ old) (sym (same_Some z y at))
     step (suc i) (z ∷ new) (x ∷ old) at long = ap (λ rest. z ∷ rest) (step i new old at (omega arith))
+    step i new old at long = absurd (omega arith)
 
 pub reached_all : {X : Type 0} (i : ℕ) (new old : List X) → length new ≡ length old → length old ≤ i → reached i new old ≡ new
 reached_all i [] [] long past = drop-nil i
@@ -73,10 +70,8 @@ reached_all i [] [] long past = drop-nil i
     drop-nil : {X : Type 0} (i : ℕ) → take {A = X} i [] ++ drop i [] ≡ []
     drop-nil zero = refl
     drop-nil (suc i) = refl
-reached_all i [] (x ∷ old) long past = absurd (omega arith)
-reached_all i (y ∷ new) [] long past = absurd (omega arith)
-reached_all zero (y ∷ new) (x ∷ old) long past = absurd (omega arith)
 reached_all (suc i) (y ∷ new) (x ∷ old) long past = ap (λ rest. y ∷ rest) (reached_all i new old (omega arith) (omega arith))
+reached_all i new old long past = absurd (omega arith)
 
 -- what the next item of a list is, and what is left
 pub drop_next : {X : Type 0} (xs : List X) (i : ℕ) (r : Option X) (rest : List X)
@@ -87,8 +82,6 @@ drop_next {X} xs i r rest next =
     (p.0, p.1 ∙ ap (λ n. drop n xs) one)
   where
     step : (xs : List X) (i : ℕ) (r : Option X) → MatchOption r ((drop i xs ≡ []) × (rest ≡ [])) (λ x. drop i xs ≡ x ∷ rest) → (slice_get xs i ≡ r) × (rest ≡ drop (suc i) xs)
-    step [] zero None next = (refl, next.1)
-    step [] (suc i) None next = (refl, next.1)
     step [] zero (Some x) next = absurd (cc)
     step [] (suc i) (Some x) next = absurd (cc)
     step (y ∷ xs) zero None next = let none : y ∷ xs ≡ [] = next.0 in absurd (cc)
@@ -98,6 +91,7 @@ drop_next {X} xs i r rest next =
         (ap (λ z. Some z) head, sym tail)
     step (y ∷ xs) (suc i) None next = step xs i None next
     step (y ∷ xs) (suc i) (Some x) next = step xs i (Some x) next
+    step xs i r next = (refl, next.1)
 
 -- what an iterator over a vector gives next, and what it has left
 pub next_cases : {X Z : Type 0} (old new : IntoIter X Z) (r : Option X) → into_iter_steps old r new

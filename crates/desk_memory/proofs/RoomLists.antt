@@ -18,8 +18,7 @@ room_of-stays n zero fits = ap room_of (let same : n + 0 ≡ n = omega arith in 
 room_of-stays n (suc more) fits =
     let rest = room_of-stays n more (omega (arith, fits)) in
     let next : n + suc more ≡ (n + more) + 1 = omega arith in
-    ap room_of next
-    ∙ (room_of-more (n + more) ∙ (grown-within (room_of (n + more)) (n + more + 1) (omega (arith, rest, fits)) ∙ rest))
+    ap room_of next ∙ (room_of-more (n + more) ∙ (grown-within (room_of (n + more)) (n + more + 1) (omega (arith, rest, fits)) ∙ rest))
 
 -- a list that is longer than its room gets twice one more, which is the room of the lists up to that length
 pub room_of-past : (room count : ℕ) → room < count → room_of room ≡ room

@@ -1,58 +1,40 @@
 -- The rows of `cache` in the order of their ids, against the paragraphs that are kept: the first that doesn't fit is the
 -- smallest id of the damage.
-use Rattle.std.proofs.Common.{◌≡◌, ◌⊎◌, ℕ, zero, suc, ◌+◌, ◌-◌, ◌<◌, ◌≤◌, ℤ, pos, negsuc, ◌≤ℤ◌, ◌<ℤ◌, nat_abs, Bool, true, false, List, [], ◌∷◌, ◌++◌, map, filter, length, take, drop, get_or, slice_get, Option, Some, None, option_map, Contains, refl, sym, ap, ap₂, subst, ◌∙◌, arith, inl, inr, IsPermutation, IsSortedByKey, int_cmp, int_eq, is_lt, nat_cmp, nat_eq, chars}
-use Rattle.std.specs.Cmp.{signed_Decides, unsigned_ties}
-use Rattle.std.specs.Cmp.Lexicographic.{lists_ties, pointwise, slice_cmp}
+use Rattle.std.proofs.Common.{◌≡◌, ◌⊎◌, ℕ, zero, suc, ◌+◌, ◌-◌, ◌<◌, ◌≤◌, ℤ, pos, negsuc, ◌≤ℤ◌, nat_abs, Bool, List, [], ◌∷◌, map, filter, length, take, drop, get_or, slice_get, Option, Some, None, option_map, Contains, refl, sym, ap, subst, ◌∙◌, arith, inl, inr, IsPermutation, IsSortedByKey, int_cmp, int_eq, nat_eq, chars, take-append-drop}
+use Rattle.std.specs.Cmp.Lexicographic.{pointwise}
 use Rattle.std.specs.List.{All, range_with_len}
 use Rattle.std.specs.Map.{lookup}
 use Rattle.std.specs.Option.{option_flatten}
-use Rattle.std.proofs.lemmas.Bool.{cases_lt, cond-false, cond-true, false_from_ne_true}
-use Rattle.std.proofs.lemmas.Cmp.{by_ranked, eq_by_cmp_equiv, int_cmp_total, int_ranked, nat_list_cmp_total}
+use Rattle.std.proofs.lemmas.Bool.{cases_lt}
 use Rattle.std.proofs.lemmas.Int.{ints}
 use Rattle.std.proofs.lemmas.List.{length-append, length-map}
 use Rattle.std.proofs.lemmas.List.Elements.{All-contains, Contains-get_or, filter-append}
 use Rattle.std.proofs.lemmas.List.FromFn.{length-range_with_len}
-use Rattle.std.proofs.lemmas.List.Sorted.{Contains-permutation, IsPermutation-sym, length_permutation, ranks_by, sorted_far}
-use Rattle.std.proofs.lemmas.Map.Keys.{IsDistinct-from_sorted}
-use Rattle.std.proofs.lemmas.Map.Views.{lookup-from_Contains}
-use Rattle.std.proofs.lemmas.Option.{get_or_from_slice_get, same_Some, slice_get-get_or, slice_get-map, slice_get_within}
+use Rattle.std.proofs.lemmas.List.Sorted.{Contains-permutation, IsPermutation-sym, length_permutation}
+use Rattle.std.proofs.lemmas.Option.{same_Some, slice_get-get_or, slice_get-map, slice_get_within}
 use Rattle.louis_table.specs.Meaning.{Meaning}
-use Rattle.louis_table.specs.Table.{Means}
-use Rattle.louis_table.proofs.OneMeaning.{one_meaning}
 use Rattle.louis_translate.specs.Position.{AreDefined}
 use Rattle.desk_memory.specs.declared.paragraphs.Paragraph.{Paragraph as KeptParagraph}
 use Rattle.desk_memory.specs.declared.tables.BookTable.{BookTable}
 use Rattle.desk_memory.specs.Braille.{AreCellsOf}
 use Rattle.desk_model.specs.Damage.{IsDamagedCache, IsDamagedPara, IsItsTable, IsSoundCacheRow, IsSoundParaRow, rows_with}
 use Rattle.desk_parts.specs.declared.file_table.FileTable.TheVariants as file
-use Rattle.desk_parts.specs.FileRows.{spelled}
 use Rattle.desk_rebuild.specs.Rows.{AreOf, AreTables, HasCells, HasKept, IsFirstId, IsOf, IsWhole, without_cells}
 use Rattle.desk_rebuild.specs.Caches.{AreAllRight, AreRight, AreTheirCells, IsItsBraille, IsLacking, IsMisfit, IsSurplus, IsTranslatable, IsWrong}
 use Rattle.desk_memory.specs.Kept.{KeptTables, renewed_items, with_cells}
 use Rattle.desk_model.specs.Limits.{most_paragraphs}
 use Rattle.desk_parts.specs.Rows.{Para, ParaCells, Tab}
-use Rattle.desk_model.specs.Shows.{tab_of}
 use Rattle.desk_model.proofs.Lists.Items.{Contains-there, slice_get-there}
-use Rattle.desk_model.proofs.Lists.Members.{Contains-cases, Contains-map, Contains-none}
 use Rattle.desk_model.proofs.Lists.NumberedRows.{few-rows}
 use Rattle.desk_model.proofs.Lists.Permutations.{IsPermutation-filter, IsPermutation-same}
 use Rattle.desk_memory.proofs.Callers.{slice_get-renewed_items}
-use Rattle.desk_model.proofs.Lists.RowNumbers.{Contains-from_map, key-number, key-once, number-key, numbers, pos_le, same_number}
+use Rattle.desk_model.proofs.Lists.RowNumbers.{key-number, key-once, number-key, numbers, pos_le, same_number}
 use Rattle.desk_model.proofs.Lists.Stable.{is_le, le_from, not_below, same_int}
 use Rattle.desk_model.proofs.Damage.UndamagedRows.{none-with, place-of, sound-para}
+use Rattle.desk_rebuild.proofs.OrderedRows.{from-drop, rising, some-with}
+use Rattle.desk_rebuild.proofs.ParaRows.{table-found}
 
 -- ---- lists
-
-parted : {X : Type 0} (i : ℕ) (xs : List X) → take i xs ++ drop i xs ≡ xs
-parted zero xs = refl
-parted (suc i) [] = refl
-parted {X} (suc i) (x ∷ xs) = ap (λ (rest : List X). x ∷ rest) (parted i xs)
-
--- what stands after so many stands there at a later place
-from-drop : {X : Type 0} (i : ℕ) (xs : List X) (x : X) → Contains (drop i xs) x → (j : ℕ) × (i ≤ j) × (slice_get xs j ≡ Some x)
-from-drop zero xs x c = let at = place-of xs x c in (at.0, omega arith, at.1)
-from-drop (suc i) [] x c = absurd (Contains-none x c)
-from-drop (suc i) (y ∷ xs) x c = let rest = from-drop i xs x c in let low = rest.1 in (suc rest.0, omega (arith, low), rest.2)
 
 to-drop : {X : Type 0} (i : ℕ) (xs : List X) (x : X) → slice_get xs i ≡ Some x → Contains (drop i xs) x
 to-drop zero xs x at = Contains-there xs 0 x at
@@ -60,22 +42,6 @@ to-drop (suc i) [] x at = absurd (cc)
 to-drop (suc i) (y ∷ xs) x at = to-drop i xs x at
 
 module _ {X : Type 0} (key : X → ℤ) where
-  -- a key that is there is counted
-  some-with : (id : ℤ) (xs : List X) (x : X) → Contains xs x → key x ≡ id → 1 ≤ rows_with key id xs
-  some-with id [] x c same = absurd (Contains-none x c)
-  some-with id (y ∷ xs) x c same =
-      let rest = filter (λ other. int_eq (key other) id) xs in
-      elim (same_int (key y) id) [
-        | inl is ↦ let one = ap length (cond-true (int_eq (key y) id) (y ∷ rest) rest ((signed_Decides (key y) id).1 is)) in omega (arith, one)
-        | inr other ↦ elim (Contains-cases y x xs c) [
-          | inl first ↦ absurd (other (ap key first ∙ same))
-          | inr later ↦
-              let none = ap length (cond-false (int_eq (key y) id) (y ∷ rest) rest (false_from_ne_true (int_eq (key y) id) (λ is. other ((signed_Decides (key y) id).0 is)))) in
-              let more = some-with id xs x later same in
-              omega (arith, none, more)
-        ]
-      ]
-
   -- the first of them have the numbers in order
   front-keys : (n i : ℕ) (xs : List X) → ((k : ℕ) → k < i → (x : X) × (slice_get xs k ≡ Some x) × (key x ≡ pos (n + k))) → map key (take i xs) ≡ numbers n i
   front-keys n zero xs each = refl
@@ -89,13 +55,6 @@ module _ {X : Type 0} (key : X → ℤ) where
       let next : n + suc k ≡ n + 1 + k = omega arith in
       (later.0, later.1, later.2 ∙ ap pos next)) in
       λ j. (ap key own ∙ (first.2 ∙ ap pos here)) j ∷ rest j
-
-not-less : (x y : ℤ) → is_lt (int_cmp y x) ≡ false → x ≤ℤ y
-not-less x y other =
-    by_ranked (y <ℤ x) (y ≡ x) (x <ℤ y) (int_cmp y x) (int_ranked y x (int_cmp y x) refl)
-    (λ is less. absurd (let lt : is_lt (int_cmp y x) ≡ true = ap is_lt is in cc))
-    (λ is same. omega (arith, ints, same))
-    (λ is more. omega (arith, ints, more))
 
 -- ---- paragraphs with new cells
 
@@ -114,11 +73,8 @@ module _ (tabs : List Tab) (paras : List Para) (tables : KeptTables) (items : Li
 
   count : length paras ≡ length items
   count =
-      let moved = length_permutation (map (λ (row : Para). row.id) paras) (map pos (range_with_len 1 (length items))) of.ids in
-      let rows = length-map paras (λ (row : Para). row.id) in
-      let ids = length-map (range_with_len 1 (length items)) pos in
       let long = length-range_with_len 1 (length items) in
-      omega (arith, moved, rows, ids, long)
+      omega (arith, length_permutation _ _ of.ids, length-map paras (λ (row : Para). row.id), length-map (range_with_len 1 (length items)) pos, long)
 
   pub few-items : length items ≤ most_paragraphs
   few-items = subst (λ n. n ≤ most_paragraphs) count (few-rows (λ (row : Para). row.id) most_paragraphs paras (λ row c. (sound row c).number))
@@ -127,8 +83,7 @@ module _ (tabs : List Tab) (paras : List Para) (tables : KeptTables) (items : Li
   its-place row c =
       let k = key-number (λ (row : Para). row.id) paras (length items) of.ids row c in
       let has = All-contains (HasKept items) paras row of.each c in
-      let low = k.2 in
-      let back : k.0 - 1 + 1 ≡ k.0 = omega (arith, low) in
+      let back : k.0 - 1 + 1 ≡ k.0 = omega (arith, k.2) in
       (k.0 - 1, has.kept, subst (λ z. slice_get items (nat_abs z - 1) ≡ Some has.kept) k.1 has.at, k.1 ∙ ap pos (sym back), has.of)
 
   row-for : (index : ℕ) (kept : KeptParagraph) → slice_get items index ≡ Some kept → (row : Para) × Contains paras row × (row.id ≡ pos (index + 1)) × IsOf row kept
@@ -136,8 +91,7 @@ module _ (tabs : List Tab) (paras : List Para) (tables : KeptTables) (items : Li
       let less = slice_get_within items index kept at in
       let found = number-key (λ (row : Para). row.id) paras (length items) of.ids (index + 1) (omega arith) (omega (arith, less)) in
       let own = its-place found.0 found.1 in
-      let same = same_number (own.0 + 1) (index + 1) (sym own.3 ∙ found.2) in
-      let place : own.0 ≡ index = omega (arith, same) in
+      let place : own.0 ≡ index = omega (arith, same_number (own.0 + 1) (index + 1) (sym own.3 ∙ found.2)) in
       let one : own.1 ≡ kept = same_Some own.1 kept (sym own.2 ∙ (ap (slice_get items) place ∙ at)) in
       (found.0, found.1, found.2, subst (IsOf found.0) one own.4)
 
@@ -145,20 +99,8 @@ module _ (tabs : List Tab) (paras : List Para) (tables : KeptTables) (items : Li
   table-of : (row : Para) (kept : KeptParagraph) (meaning : Meaning) → IsOf row kept → IsItsTable tabs row meaning
       → (table : BookTable) × (lookup (pointwise nat_eq kept.table) tables ≡ Some table) × (meaning ≡ table.rules)
   table-of row kept meaning own its =
-      let t = its.table in
-      let to : List ℕ × BookTable → Tab = λ entry. tab_of (entry.0, entry.1.text) in
-      let among = Contains-permutation (map (spelled file.Tab) tabs) (map to tables) (spelled file.Tab t) are.rows (Contains-map (spelled file.Tab) tabs t its.there) in
-      let found = Contains-from_map to tables (spelled file.Tab t) among in
-      let name : found.0.0 ≡ kept.table = ap (λ (t : Tab). t.name) found.2 ∙ (ap chars its.named ∙ sym own.table) in
-      let body : found.0.1.text ≡ t.body = ap (λ (t : Tab). t.body) found.2 in
-      let means = All-contains (λ (entry : List ℕ × BookTable). Means entry.1.text entry.1.rules) tables found.0 are.means found.1 in (
-        found.0.1,
-        (λ i. lookup (λ other. lists_ties nat_cmp unsigned_ties kept.table other i) tables)
-            ∙ lookup-from_Contains (eq_by_cmp_equiv nat_list_cmp_total) kept.table found.0.1 tables
-            (IsDistinct-from_sorted (slice_cmp nat_cmp) (map (λ entry. entry.0) tables) are.sorted)
-            (subst (λ (n : List ℕ). Contains tables (n, found.0.1)) name found.1),
-        one_meaning t.body meaning found.0.1.rules its.means (subst (λ (text : List ℕ). Means text found.0.1.rules) body means),
-      )
+      let t = table-found tabs tables are row meaning its in
+      (t.0, ap (λ name. lookup (pointwise nat_eq name) tables) own.table ∙ t.1, sym t.2)
 
   pub translatable : All (IsTranslatable tables) items
   translatable k d within =
@@ -214,27 +156,22 @@ module _ (tabs : List Tab) (paras : List Para) (tables : KeptTables) (items : Li
     para_of row = row.para
 
     rises : (i j : ℕ) (a b : ParaCells) → i ≤ j → slice_get rows i ≡ Some a → slice_get rows j ≡ Some b → a.para ≤ℤ b.para
-    rises i j a b low at_a at_b =
-        let far = sorted_far (λ (x y : ParaCells). is_lt (int_cmp x.para y.para)) (ranks_by int_cmp_total para_of) rows sorted i j a low (slice_get_within rows j b at_b) in
-        not-less a.para b.para
-        (ap₂ (λ (x y : ParaCells). is_lt (int_cmp x.para y.para)) (sym (get_or_from_slice_get rows j b a at_b)) (sym (get_or_from_slice_get rows i a a at_a)) ∙ far)
+    rises = rising para_of rows sorted
 
     there-to : (i : ℕ) (row : ParaCells) → slice_get rows i ≡ Some row → Contains caches row
-    there-to i row at = Contains-permutation rows caches row (IsPermutation-sym caches rows moved) (Contains-there rows i row at)
+    there-to i row at = Contains-permutation _ _ row (IsPermutation-sym _ _ moved) (Contains-there rows i row at)
 
     counted : (i : ℕ) (id : ℤ) → rows_with para_of id caches ≡ rows_with para_of id (take i rows) + rows_with para_of id (drop i rows)
     counted i id =
         let test : ParaCells → Bool = λ row. int_eq row.para id in
-        let all = length_permutation (filter test caches) (filter test rows) (IsPermutation-filter test caches rows moved) in
-        let parts = ap length (ap (filter test) (sym (parted i rows)) ∙ filter-append test (take i rows) (drop i rows)) in
+        let parts = ap length (ap (filter test) (sym (take-append-drop i rows)) ∙ filter-append test (take i rows) (drop i rows)) in
         let long = length-append (filter test (take i rows)) (filter test (drop i rows)) in
-        omega (arith, all, parts, long)
+        omega (arith, length_permutation _ _ (IsPermutation-filter test _ _ moved), parts, long)
 
     module _ (i : ℕ) (right : AreRight tables items rows i) where
       keys : IsPermutation (map para_of (take i rows)) (numbers 1 i)
       keys =
-          IsPermutation-same (map para_of (take i rows)) (numbers 1 i)
-          (front-keys para_of 1 i rows (λ k less.
+          IsPermutation-same (map para_of (take i rows)) (numbers 1 i) (front-keys para_of 1 i rows (λ k less.
           let r = right k less in
           let up : k + 1 ≡ 1 + k = omega arith in
           (r.row, r.row_at, r.para ∙ ap pos up)))
@@ -246,9 +183,7 @@ module _ (tabs : List Tab) (paras : List Para) (tables : KeptTables) (items : Li
       none-before m more =
           none-with para_of (pos m) (take i rows) (λ (row, c, same).
           let k = key-number para_of (take i rows) i keys row c in
-          let one = same_number k.0 m (sym k.1 ∙ same) in
-          let high = k.3 in
-          omega (arith, more, one, high))
+          omega (arith, more, same_number k.0 m (sym k.1 ∙ same), k.3))
 
       none-after : (id : ℤ) → ((j : ℕ) (row : ParaCells) → i ≤ j → slice_get rows j ≡ Some row → ¬ (row.para ≡ id)) → rows_with para_of id (drop i rows) ≡ 0
       none-after id apart = none-with para_of id (drop i rows) (λ (row, c, same). let at = from-drop i rows row c in apart at.0 row at.1 at.2 same)
@@ -264,10 +199,9 @@ module _ (tabs : List Tab) (paras : List Para) (tables : KeptTables) (items : Li
           let b = braille-from own.0 r.kept s.meaning own.3 s.table r.row.cells r.cells in
           let c = subst (λ (cells : List ℕ). AreCellsOf s.meaning (chars own.0.print) cells) (ap (λ (row : ParaCells). row.cells) same)
           (subst (λ (print : List ℕ). AreCellsOf s.meaning print r.row.cells) own.3.print b) in
-          let all = counted i row.para in
           let before = ap (λ z. rows_with para_of z (take i rows)) id ∙ one-before (k + 1) (omega arith) (omega (arith, less)) in
           record {
-            once = omega (arith, all, alone, before);
+            once = omega (arith, counted i row.para, alone, before);
             paragraph = own.0;
             there = own.1;
             named = own.2 ∙ sym id;
@@ -286,10 +220,9 @@ module _ (tabs : List Tab) (paras : List Para) (tables : KeptTables) (items : Li
             | inl low ↦ low
             | inr less ↦ elim damage [
               | inl (row, c, same, unsound) ↦
-                  let at = place-of rows row (Contains-permutation caches rows row moved c) in
+                  let at = place-of rows row (Contains-permutation _ _ row moved c) in
                   elim (cases_lt at.0 i) [
-                    | inl front ↦ absurd
-                        (unsound (right-sound at.0 front row at.1 (none-after row.para (λ j later from is same_id.
+                    | inl front ↦ absurd (unsound (right-sound at.0 front row at.1 (none-after row.para (λ j later from is same_id.
                         less (subst (λ z. told ≤ℤ z) (same_id ∙ same) (above j later from is))))))
                     | inr behind ↦ subst (λ z. told ≤ℤ z) same (above at.0 row behind at.1)
                   ]
@@ -319,8 +252,7 @@ module _ (tabs : List Tab) (paras : List Para) (tables : KeptTables) (items : Li
 
         past : (j : ℕ) (row : ParaCells) → length items ≤ j → slice_get rows j ≡ Some row → ⊥
         past j row low at =
-            let within = slice_get_within rows j row at in
-            let found = slice_get-there rows (length items) (omega (arith, low, within)) in
+            let found = slice_get-there rows (length items) (omega (arith, low, slice_get_within rows j row at)) in
             let some = found.1 in
             let none = all.none in
             cc
@@ -344,8 +276,7 @@ module _ (tabs : List Tab) (paras : List Para) (tables : KeptTables) (items : Li
       where
         past : (j : ℕ) (row : ParaCells) → i ≤ j → slice_get rows j ≡ Some row → ⊥
         past j row low at =
-            let within = slice_get_within rows j row at in
-            let found = slice_get-there rows i (omega (arith, low, within)) in
+            let found = slice_get-there rows i (omega (arith, low, slice_get_within rows j row at)) in
             let some = found.1 in
             let none = l.none in
             cc
@@ -358,10 +289,7 @@ module _ (tabs : List Tab) (paras : List Para) (tables : KeptTables) (items : Li
     )
       where
         above : (j : ℕ) (row : ParaCells) → i ≤ j → slice_get rows j ≡ Some row → pos (i + 1) ≤ℤ row.para
-        above j row low at =
-            let up = rises i j w.row row low w.row_at at in
-            let first = w.no_earlier in
-            omega (arith, ints, up, first)
+        above j row low at = omega (arith, ints, rises i j w.row row low w.row_at at, w.no_earlier)
 
         own : (row : Para) × Contains paras row × (row.id ≡ pos (i + 1)) × IsOf row w.kept
         own = row-for i w.kept w.at
@@ -369,8 +297,7 @@ module _ (tabs : List Tab) (paras : List Para) (tables : KeptTables) (items : Li
         unsound : w.row.para ≡ pos (i + 1) → ¬ IsSoundCacheRow tabs paras caches w.row
         unsound is s =
             let p = its-place s.paragraph s.there in
-            let same = same_number (p.0 + 1) (i + 1) (sym p.3 ∙ (s.named ∙ is)) in
-            let place : p.0 ≡ i = omega (arith, same) in
+            let place : p.0 ≡ i = omega (arith, same_number (p.0 + 1) (i + 1) (sym p.3 ∙ (s.named ∙ is))) in
             let one : p.1 ≡ w.kept = same_Some p.1 w.kept (sym p.2 ∙ (ap (slice_get items) place ∙ w.at)) in
             w.wrong (
               is,
@@ -385,11 +312,8 @@ module _ (tabs : List Tab) (paras : List Para) (tables : KeptTables) (items : Li
               | inr other ↦
                   let front = none-before i right (i + 1) (omega arith) in
                   let rest = none-after i right (pos (i + 1)) (λ j row low at same.
-                  let up = rises i j w.row row low w.row_at at in
-                  let first = w.no_earlier in
-                  other (omega (arith, ints, up, first, same))) in
-                  let all = counted i (pos (i + 1)) in
-                  inr ((own.0, own.1, own.2), omega (arith, front, rest, all))
+                  other (omega (arith, ints, rises i j w.row row low w.row_at at, w.no_earlier, same))) in
+                  inr ((own.0, own.1, own.2), omega (arith, front, rest, counted i (pos (i + 1))))
             ]
 
     surplus : (i : ℕ) (id : ℤ) → AreRight tables items rows i → IsSurplus items rows i id → IsFirstId (IsDamagedCache tabs paras caches) id
@@ -416,11 +340,9 @@ module _ (tabs : List Tab) (paras : List Para) (tables : KeptTables) (items : Li
             let p = its-place s.paragraph s.there in
             let is : u.row.para ≡ pos (p.0 + 1) = sym s.named ∙ p.3 in
             let front = within p.0 is (slice_get_within items p.0 p.1 p.2) in
-            let one = s.once in
-            let all = counted i u.row.para in
             let before = ap (λ z. rows_with para_of z (take i rows)) is ∙ one-before i right (p.0 + 1) (omega arith) (omega (arith, front)) in
-            let more = some-with para_of u.row.para (drop i rows) u.row (to-drop i rows u.row u.row_at) refl in
-            omega (arith, one, all, before, more)
+            let more = some-with para_of u.row (drop i rows) (to-drop i rows u.row u.row_at) in
+            omega (arith, s.once, counted i u.row.para, before, more)
 
     pub first-misfit : (id : ℤ) → IsMisfit tables items rows id → IsFirstId (IsDamagedCache tabs paras caches) id
     first-misfit id m = elim m.here [

@@ -1,9 +1,9 @@
 -- The rows of all histories, read: what their paragraphs have, or which of their damage is first.
-use Rattle.std.proofs.Common.{◌≡◌, ℕ, ◌+◌, ◌-◌, ◌<◌, ◌≤◌, ℤ, pos, negsuc, ◌≤ℤ◌, ◌<ℤ◌, nat_abs, List, [], ◌∷◌, map, length, Option, Some, None, Contains, refl, sym, ap, subst, ◌∙◌, arith, inl, inr, option_map, slice_get, chars}
+use Rattle.std.proofs.Common.{◌≡◌, ℕ, ◌+◌, ◌-◌, ◌<◌, ◌≤◌, ℤ, pos, negsuc, ◌≤ℤ◌, ◌<ℤ◌, nat_abs, List, map, length, Option, Some, None, Contains, refl, sym, ap, subst, ◌∙◌, arith, inl, inr, option_map, slice_get, chars}
 use Rattle.std.specs.List.{All, range_with_len}
 use Rattle.std.proofs.lemmas.Bool.{cases_lt}
 use Rattle.std.proofs.lemmas.Int.{ints}
-use Rattle.std.proofs.lemmas.List.Elements.{All-cons, All-contains, All-nil}
+use Rattle.std.proofs.lemmas.List.Elements.{All-contains, All-weaker, All-contains_itself}
 use Rattle.std.proofs.lemmas.List.Sorted.{Contains-permutation, IsPermutation-sym}
 use Rattle.std.proofs.lemmas.Option.{slice_get-map, slice_get_within}
 use Rattle.desk_memory.specs.declared.paragraphs.Paragraph.{Paragraph as KeptParagraph}
@@ -13,7 +13,7 @@ use Rattle.desk_rebuild.specs.Entries.{AreGrouped, HaveRead, IsFirstStray, IsStr
 use Rattle.desk_rebuild.specs.History.{AreSoundRows, CanBeRead, HasRead}
 use Rattle.desk_model.specs.Print.{corrected_print}
 use Rattle.desk_parts.specs.Rows.{NamedCorr, Para}
-use Rattle.desk_model.proofs.Lists.Members.{Contains-behind, Contains-here, Contains-map}
+use Rattle.desk_model.proofs.Lists.Members.{Contains-map}
 use Rattle.desk_model.proofs.Lists.Items.{slice_get-there}
 use Rattle.desk_model.proofs.Lists.Numbering.{Contains-range}
 use Rattle.desk_model.proofs.Lists.RowNumbers.{Contains-from_map, key-number, pos_le, same_number}
@@ -26,10 +26,6 @@ below-one id n low = omega (arith, ints, low)
 above-all : (n count : ℕ) (z : ℤ) → n ≤ count → ¬ (z ≤ℤ pos count) → pos n ≤ℤ z
 above-all n count (pos k) small past = pos_le n k (let more : count < k = elim (cases_lt count k) [ inl h ↦ h | inr h ↦ absurd (past (pos_le k count h)) ] in omega (arith, more, small))
 above-all n count (negsuc k) small past = absurd (past (record { le = tt }))
-
-All-among : {X : Type 0} (P : X → Type 0) (xs : List X) → ((x : X) → Contains xs x → P x) → All P xs
-All-among P [] all = All-nil P
-All-among P (x ∷ xs) all = All-cons P x xs (all x (Contains-here x xs)) (All-among P xs (λ y c. all y (Contains-behind x y xs c)))
 
 -- paragraphs that differ in their histories alone
 pub kept-at : (was now : List KeptParagraph) → map without_history now ≡ map without_history was → (k : ℕ) (kept : KeptParagraph) → slice_get was k ≡ Some kept
@@ -67,8 +63,7 @@ module _ (paras : List Para) (was : List KeptParagraph) (are : AreOf paras was) 
       let up : number.0 ≡ k + 1 = omega (arith, low) in
       let id : para.id ≡ pos (k + 1) = number.1 ∙ ap pos up in
       let index : nat_abs para.id - 1 ≡ k = ap (λ (z : ℤ). nat_abs z - 1) number.1 in
-      let many = grouped.many in
-      let group = slice_get-there groups k (omega (arith, low, high, many)) in
+      let group = slice_get-there groups k (omega (arith, low, high, grouped.many)) in
       record {
         index = k;
         id = id;
@@ -82,7 +77,7 @@ module _ (paras : List Para) (was : List KeptParagraph) (are : AreOf paras was) 
   -- the row of the paragraph at an index
   row-at : (index : ℕ) → index < length was → (para : Para) × Contains paras para × (para.id ≡ pos (index + 1))
   row-at index within =
-      let c = Contains-permutation (map pos (range_with_len 1 (length was))) (map (λ (row : Para). row.id) paras) (pos (index + 1)) (IsPermutation-sym (map (λ (row : Para). row.id) paras) (map pos (range_with_len 1 (length was))) are.ids)
+      let c = Contains-permutation _ _ (pos (index + 1)) (IsPermutation-sym _ _ are.ids)
       (Contains-map pos (range_with_len 1 (length was)) (index + 1) (Contains-range 1 (length was) (index + 1) (omega arith) (omega (arith, within)))) in
       Contains-from_map (λ (row : Para). row.id) paras (pos (index + 1)) c
 
@@ -211,8 +206,8 @@ module _ (paras : List Para) (was : List KeptParagraph) (are : AreOf paras was) 
       whole-read none id damaged =
           damage-cases ⊥ id damaged (subst (IsFirstStray (length was) entries) none strays id) (λ para c named unread. unread (can-read para c))
 
-      pub histories-read : All (HasHistory entries now) paras
-      histories-read = All-among (HasHistory entries now) paras (λ para c.
+      has-history : (para : Para) → Contains paras para → HasHistory entries now para
+      has-history para c =
           let a = at-row para c in
           let new = kept-at was now same a.index a.kept a.at in
           let has : HasRead (rows_of entries para.id) new.0 = read a.index (rows_of entries para.id) new.0 a.rows new.1 in
@@ -227,4 +222,7 @@ module _ (paras : List Para) (was : List KeptParagraph) (are : AreOf paras was) 
             history = has.history;
             taken = has.taken;
             print = has.print;
-          })
+          }
+
+      pub histories-read : All (HasHistory entries now) paras
+      histories-read = All-weaker (Contains paras) (HasHistory entries now) has-history paras (All-contains_itself paras)

@@ -13,8 +13,8 @@ use Rattle.desk_rebuild.specs.Rows.{IsFirstId, IsWhole, TellsDamage}
 use Rattle.desk_rebuild.specs.OrderedRows.{IsFirstUnsound, RowRule, TellsUnsound}
 use Rattle.desk_model.specs.Rebuilding.{IsFaultOf}
 use Rattle.desk_parts.specs.Rows.{Para as ParaRow, ParaCells, Tab as TabRow}
-use Rattle.desk_model.proofs.Commands.Ranks.{same_some}
 use Rattle.desk_model.proofs.Damage.FirstDamage.{IsWholeBefore, from_table}
+use Rattle.std.proofs.lemmas.Option.{same_Some}
 
 -- the fault of a table's rows is reported of it
 pub told-of : (table : FileTable) (damaged : ℤ → Type 0) (fault : RowsFault) → TellsDamage damaged fault → TellsDamageOf table damaged (fault_in table fault)
@@ -64,7 +64,7 @@ module _ {T : Type 0} (table : FileTable) (given : Result T RowsFault) (result :
 -- where rows of braille are there, their damage is that of the table
 braille-own : (tabs : List TabRow) (paras : List ParaRow) (caches : List ParaCells) (id : ℤ)
     → IsDamagedBraille tabs paras (Some caches) id → IsDamagedCache tabs paras caches id
-braille-own tabs paras caches id (others, same, damaged) = subst (λ cs. IsDamagedCache tabs paras cs id) (sym (same_some caches others same)) damaged
+braille-own tabs paras caches id (others, same, damaged) = subst (λ cs. IsDamagedCache tabs paras cs id) (sym (same_Some caches others same)) damaged
 
 pub braille-whole : (tabs : List TabRow) (paras : List ParaRow) (caches : List ParaCells)
     → IsWhole (IsDamagedCache tabs paras caches) → IsWhole (IsDamagedBraille tabs paras (Some caches))

@@ -1,16 +1,15 @@
 -- The rows of all histories in groups, one for each paragraph.
-use Rattle.std.proofs.Common.{append-nil, ◌≢◌, ◌≡◌, ◌⊎◌, ℕ, ◌+◌, ℤ, pos, ◌≤ℤ◌, List, [], ◌∷◌, ◌++◌, map, length, Option, Some, None, Contains, set, refl, sym, ap, subst, ◌∙◌, arith, inl, inr, int_eq, IfSome, option_map, slice_get}
+use Rattle.std.proofs.Common.{append-nil, ◌≢◌, ◌≡◌, ◌⊎◌, ℕ, ◌+◌, ℤ, pos, ◌≤ℤ◌, List, [], ◌∷◌, ◌++◌, map, length, Option, Some, None, set, refl, sym, ap, subst, ◌∙◌, arith, inl, inr, int_eq, IfSome, option_map, slice_get}
 use Rattle.std.specs.Cmp.{signed_Decides}
 use Rattle.std.proofs.lemmas.Int.{ints}
 use Rattle.std.proofs.lemmas.Bool.{cases_eq, cases_lt, cond-false, cond-true, false_from_ne_true}
 use Rattle.std.proofs.lemmas.List.{length-append, length-map, length-set}
-use Rattle.std.proofs.lemmas.List.Elements.{filter-append}
+use Rattle.std.proofs.lemmas.List.Elements.{filter-append, Contains-append_left, Contains-push, Contains-push_cases}
 use Rattle.std.proofs.lemmas.Option.{slice_get-map, slice_get_within}
 use Rattle.desk_model.specs.Damage.{IsWithin}
 use Rattle.desk_rebuild.specs.Entries.{AreGrouped, IsFirstStray, IsStray, rows_of}
 use Rattle.desk_parts.specs.Rows.{NamedCorr}
 use Rattle.desk_model.proofs.Lists.Items.{here-at, slice_get-append_left, slice_get-set_other, slice_get-set_same}
-use Rattle.desk_model.proofs.Lists.Members.{Contains-behind, Contains-cases, Contains-here, Contains-none}
 use Rattle.desk_model.proofs.Lists.RowNumbers.{pos_le, same_number}
 
 pub trans_le : (a b c : ℤ) → a ≤ℤ b → b ≤ℤ c → a ≤ℤ c
@@ -23,12 +22,11 @@ pub group-more : (count : ℕ) (groups : List (List NamedCorr)) → AreGrouped c
 group-more count groups is = record {
   many = length-append groups ([] ∷ []) ∙ ap (λ (n : ℕ). n + 1) is.many;
   each = λ index group at.
-      let within = slice_get_within (groups ++ [] ∷ []) index group at in
       let long = length-append groups ([] ∷ []) in
       elim (cases_lt index (length groups)) [
         | inl before ↦ is.each index group (sym (slice_get-append_left groups ([] ∷ []) index before) ∙ at)
         | inr past ↦
-            let here : index ≡ length groups = omega (arith, within, long, past) in
+            let here : index ≡ length groups = omega (arith, slice_get_within (groups ++ [] ∷ []) index group at, long, past) in
             let both : Some [] ≡ Some group = sym (here-at groups [] []) ∙ (ap (slice_get (groups ++ [] ∷ [])) (sym here) ∙ at) in
             let same : [] ≡ group = cc in
             sym same
@@ -90,37 +88,15 @@ grouped-stray count rows groups row is nowhere = record {
 
 -- ---- ids of no paragraph
 
-module _ {X : Type 0} where
-  push-cases : (xs : List X) (y x : X) → Contains (xs ++ y ∷ []) x → Contains xs x ⊎ (y ≡ x)
-  push-cases [] y x c = elim (Contains-cases y x [] c) [ inl same ↦ inr same | inr later ↦ absurd (Contains-none x later) ]
-  push-cases (z ∷ xs) y x c = elim (Contains-cases z x (xs ++ y ∷ []) c) [
-    | inl same ↦ inl (subst (Contains (z ∷ xs)) same (Contains-here z xs))
-    | inr later ↦ elim (push-cases xs y x later) [ inl before ↦ inl (Contains-behind z x xs before) | inr last ↦ inr last ]
-  ]
-
-  push-before : (xs : List X) (y x : X) → Contains xs x → Contains (xs ++ y ∷ []) x
-  push-before [] y x c = absurd (Contains-none x c)
-  push-before (z ∷ xs) y x c = elim (Contains-cases z x xs c) [
-    | inl same ↦ subst (Contains (z ∷ (xs ++ y ∷ []))) same (Contains-here z (xs ++ y ∷ []))
-    | inr later ↦ Contains-behind z x (xs ++ y ∷ []) (push-before xs y x later)
-  ]
-
-  push-last : (xs : List X) (y : X) → Contains (xs ++ y ∷ []) y
-  push-last [] y = Contains-here y []
-  push-last (z ∷ xs) y = Contains-behind z y (xs ++ y ∷ []) (push-last xs y)
-
 module _ (count : ℕ) where
-  pub no-stray : IsFirstStray count [] None
-  no-stray id ((row, c, named), nowhere) = Contains-none row c
-
   stray-cases : (rows : List NamedCorr) (row : NamedCorr) (id : ℤ) → IsStray count (rows ++ row ∷ []) id → IsStray count rows id ⊎ (row.entry.para ≡ id)
-  stray-cases rows row id ((other, c, named), nowhere) = elim (push-cases rows row other c) [
+  stray-cases rows row id ((other, c, named), nowhere) = elim (Contains-push_cases rows row other c) [
     | inl before ↦ inl ((other, before, named), nowhere)
     | inr last ↦ inr (ap (λ (r : NamedCorr). r.entry.para) last ∙ named)
   ]
 
   stray-before : (rows : List NamedCorr) (row : NamedCorr) (id : ℤ) → IsStray count rows id → IsStray count (rows ++ row ∷ []) id
-  stray-before rows row id ((other, c, named), nowhere) = ((other, push-before rows row other c, named), nowhere)
+  stray-before rows row id ((other, c, named), nowhere) = ((other, Contains-append_left rows (row ∷ []) other c, named), nowhere)
 
   pub stray-within : (rows : List NamedCorr) (row : NamedCorr) (o : Option ℤ) → IsWithin 1 count row.entry.para → IsFirstStray count rows o → IsFirstStray count (rows ++ row ∷ []) o
   stray-within rows row None within none = λ id stray. elim (stray-cases rows row id stray) [
@@ -144,7 +120,7 @@ module _ (count : ℕ) where
       of_first (Some other) same all = let equal : other ≡ first = cc in subst (IsStray count rows) equal all.0
 
       is : (first ≡ row.entry.para) ⊎ (o ≡ Some first) → IsStray count (rows ++ row ∷ []) first
-      is (inl same) = ((row, push-last rows row, sym same), subst (λ z. ¬ IsWithin 1 count z) (sym same) nowhere)
+      is (inl same) = ((row, Contains-push rows row, sym same), subst (λ z. ¬ IsWithin 1 count z) (sym same) nowhere)
       is (inr some) = stray-before rows row first (of_first o some given)
 
       below : (q : Option ℤ) → IsFirstStray count rows q → IfSome q (λ id. first ≤ℤ id) → (id : ℤ) → IsStray count rows id → first ≤ℤ id

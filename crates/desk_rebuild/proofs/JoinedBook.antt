@@ -1,16 +1,13 @@
 -- What is read of the tables of a book's file is, joined, the book that its rows show.
-use Rattle.std.proofs.Common.{◌≡◌, ℕ, ◌+◌, ◌-◌, ℤ, pos, nat_abs, List, [], ◌∷◌, map, length, Option, Some, None, Contains, refl, sym, ap, subst, ◌∙◌, arith, nat_cmp, nat_eq, option_map, slice_get, chars}
+use Rattle.std.proofs.Common.{◌≡◌, ℕ, ◌+◌, ◌-◌, ℤ, pos, nat_abs, List, [], ◌∷◌, map, length, Some, Contains, refl, sym, ap, subst, ◌∙◌, arith, nat_cmp, nat_eq, slice_get, chars}
 use Rattle.std.specs.Cmp.Lexicographic.{pointwise, slice_cmp}
 use Rattle.std.specs.List.{All, enumerate_from, flat_map, range_with_len}
 use Rattle.std.specs.List.Sorted.{IsPermutation, IsStrictlySortedBy}
 use Rattle.std.specs.Map.{lookup}
 use Rattle.std.proofs.lemmas.List.Elements.{All-cons, All-contains, All-head, All-nil, All-tail}
 use Rattle.std.proofs.lemmas.List.Sorted.{length_permutation}
-use Rattle.std.proofs.lemmas.Map.Views.{Contains-from_lookup}
 use Rattle.std.proofs.lemmas.Simd.{map-map}
 use Rattle.louis_table.specs.Meaning.{Meaning}
-use Rattle.louis_table.specs.Table.{Means}
-use Rattle.louis_table.proofs.OneMeaning.{one_meaning}
 use Rattle.desk_memory.specs.declared.marks.KeptMark.{KeptMark}
 use Rattle.desk_memory.specs.declared.paragraphs.Paragraph.{Paragraph as KeptParagraph}
 use Rattle.desk_parts.specs.declared.file_table.FileTable.{FileTable}
@@ -28,13 +25,12 @@ use Rattle.desk_model.specs.Print.{corrected_print}
 use Rattle.desk_parts.specs.Rows.{Para}
 use Rattle.desk_model.specs.Shows.{Shows, tab_of}
 use Rattle.desk_memory.proofs.Callers.{paragraph_with_id-cons}
-use Rattle.desk_model.proofs.Lists.Items.{lookup-map}
 use Rattle.desk_model.proofs.Rows.OneBook.{flag_back, marks_same, number, style_back, tables_same, to_flag, to_style}
-use Rattle.desk_model.proofs.Commands.Ranks.{same_some}
 use Rattle.desk_model.proofs.Lists.RowNumbers.{numbers, same_number}
-use Rattle.desk_model.proofs.Lists.TableEntries.{Decides-name}
 use Rattle.desk_model.proofs.Damage.UndamagedBook as whole
 use Rattle.desk_model.proofs.Damage.UndamagedRows.{sound-book}
+use Rattle.desk_rebuild.proofs.ParaRows.{table-found}
+use Rattle.std.proofs.lemmas.Option.{same_Some}
 
 -- the ids of kept marks
 marks-numbered : (n : ℕ) (marks : List KeptMark) → map (λ mark. mark.id) (map mark_kept (enumerate_from n marks)) ≡ range_with_len n (length (map mark_kept (enumerate_from n marks)))
@@ -59,10 +55,10 @@ module _ (rows : FileRows) (texts : AreTexts rows) (its : HasItsTables rows) (no
   cells_at row c = All-contains (HasCells rows.tabs items) rows.paras row cells c
 
   history-of_it : (row : Para) (c : Contains rows.paras row) → (history_at row c).kept ≡ (kept_of row c).kept
-  history-of_it row c = same_some (history_at row c).kept (kept_of row c).kept (sym (history_at row c).at ∙ (kept_of row c).at)
+  history-of_it row c = same_Some (history_at row c).kept (kept_of row c).kept (sym (history_at row c).at ∙ (kept_of row c).at)
 
   cells-of_it : (row : Para) (c : Contains rows.paras row) → (cells_at row c).kept ≡ (kept_of row c).kept
-  cells-of_it row c = same_some (cells_at row c).kept (kept_of row c).kept (sym (cells_at row c).at ∙ (kept_of row c).at)
+  cells-of_it row c = same_Some (cells_at row c).kept (kept_of row c).kept (sym (cells_at row c).at ∙ (kept_of row c).at)
 
   print-of_it : (row : Para) (c : Contains rows.paras row) → corrected_print (chars row.original) (history_of (history_at row c).sorted) ≡ chars row.print
   print-of_it row c =
@@ -79,7 +75,7 @@ module _ (rows : FileRows) (texts : AreTexts rows) (its : HasItsTables rows) (no
       record { sorted = h.sorted; its_own = h.its_own; each = h.each; print = print-of_it row c }
 
   abbrev by_place : (sorted : List Para) × IsPermutation rows.paras sorted × (numbers 1 (length rows.paras) ≡ map (λ row. row.place) sorted)
-  by_place = (places.placed, places.same, ap (numbers 1) (sym (length_permutation rows.paras places.placed places.same)) ∙ sym places.places)
+  by_place = (places.placed, places.same, ap (numbers 1) (sym (length_permutation _ _ places.same)) ∙ sym places.places)
 
   -- ---- the parts of the book
 
@@ -90,16 +86,14 @@ module _ (rows : FileRows) (texts : AreTexts rows) (its : HasItsTables rows) (no
       let h = history_at row c in
       let history : entries_kept k.kept.history ≡ history_of h.sorted = ap (λ (x : KeptParagraph). entries_kept x.history) (sym (history-of_it row c)) ∙ h.history in
       let style = sym (style_back k.kept.style) ∙ ap to_style k.of.style in
-      let volume = sym (flag_back k.kept.begins_volume) ∙ ap to_flag k.of.volume in
       let struck = sym (flag_back k.kept.struck) ∙ ap to_flag k.of.struck in
-      let key = ap number (sym is) in
       λ i. record {
-        id = key i;
+        id = (ap number (sym is)) i;
         table = k.of.table i;
         original = k.of.original i;
         history = history i;
         style = style i;
-        begins_volume = volume i;
+        begins_volume = (sym (flag_back k.kept.begins_volume) ∙ ap to_flag k.of.volume) i;
         struck = struck i;
       }
 
@@ -109,14 +103,13 @@ module _ (rows : FileRows) (texts : AreTexts rows) (its : HasItsTables rows) (no
   paragraphs-are : (ps : List Para) (all : All (Contains rows.paras) ps) (ids : List ℕ) → map (λ row. row.id) ps ≡ map pos ids
       → map paragraph_kept (flat_map (paragraph_with_id items) ids) ≡ whole.made rows texts its none by_place history_for ps all
   paragraphs-are [] all [] is = refl
-  paragraphs-are [] all (id ∷ ids) is = absurd (cc)
-  paragraphs-are (p ∷ ps) all [] is = absurd (cc)
   paragraphs-are (p ∷ ps) all (id ∷ ids) is =
       let first : p.id ≡ pos id = cc in
       let rest : map (λ (row : Para). row.id) ps ≡ map pos ids = cc in
       let c = All-head (Contains rows.paras) p ps all in
       ap (map paragraph_kept) (paragraph_with_id-cons items id ids (kept_of p c).kept (at-id p c id first))
       ∙ (λ i. paragraph-is p c id first i ∷ paragraphs-are ps (All-tail (Contains rows.paras) p ps all) ids rest i)
+  paragraphs-are ps all ids is = absurd (cc)
 
   abbrev texts_kept : List (List ℕ × List ℕ)
   texts_kept = map (λ entry. (entry.0, entry.1.text)) tables
@@ -150,32 +143,14 @@ module _ (rows : FileRows) (texts : AreTexts rows) (its : HasItsTables rows) (no
 
   -- ---- what is kept beside the book
 
-  -- the table with a text that means this
-  table-kept : (name body : List ℕ) (meaning : Meaning) → lookup (pointwise nat_eq name) texts_kept ≡ Some body → Means body meaning
-      → (table : BookTable) × (lookup (pointwise nat_eq name) tables ≡ Some table) × (meaning ≡ table.rules)
-  table-kept name body meaning found means = by (lookup (pointwise nat_eq name) tables) refl
-    where
-      by : (there : Option BookTable) → lookup (pointwise nat_eq name) tables ≡ there
-          → (table : BookTable) × (lookup (pointwise nat_eq name) tables ≡ Some table) × (meaning ≡ table.rules)
-      by None is =
-          let apart = sym found ∙ (lookup-map (pointwise nat_eq name) (λ (t : BookTable). t.text) tables ∙ ap (option_map (λ (t : BookTable). t.text)) is) in
-          absurd (cc)
-      by (Some table) is =
-          let same : body ≡ table.text = same_some body table.text
-          (sym found ∙ (lookup-map (pointwise nat_eq name) (λ (t : BookTable). t.text) tables ∙ ap (option_map (λ (t : BookTable). t.text)) is)) in
-          let there = Contains-from_lookup (λ x y. (Decides-name x y).0) name table tables is in
-          let rules = All-contains (λ (entry : List ℕ × BookTable). Means entry.1.text entry.1.rules) tables (name, table) are_tables.means there in
-          (table, is, one_meaning body meaning table.rules means (subst (λ text. Means text table.rules) (sym same) rules))
-
   is-kept : (row : Para) (c : Contains rows.paras row) (id : ℕ) → row.id ≡ pos id → IsKeptParagraph tables (id, (kept_of row c).kept)
   is-kept row c id is =
       let k = kept_of row c in
       let h = history_at row c in
       let s = cells_at row c in
-      let found = ap (lookup (pointwise nat_eq (chars row.tab))) (sym tables-are) ∙ whole.text-found rows texts its none row s.meaning s.table in
-      let table = table-kept (chars row.tab) s.table.table.body s.meaning found s.table.means in
+      let table = table-found rows.tabs tables are_tables row s.meaning s.table in
       let own = subst (λ (x : KeptParagraph). AreCellsOf s.meaning x.print x.cells) (cells-of_it row c) s.cells in
-      let braille = subst (λ (m : Meaning). AreCellsOf m k.kept.print k.kept.cells) table.2 own in
+      let braille = subst (λ (m : Meaning). AreCellsOf m k.kept.print k.kept.cells) (sym table.2) own in
       record {
         print = subst (λ (x : KeptParagraph). x.print ≡ corrected_print x.original (entries_kept x.history)) (history-of_it row c)
             (sym h.print ∙ ap (corrected_print h.kept.original) (sym h.history));
@@ -190,17 +165,13 @@ module _ (rows : FileRows) (texts : AreTexts rows) (its : HasItsTables rows) (no
   has-marks : (row : Para) (c : Contains rows.paras row) (id : ℕ) → row.id ≡ pos id → HasMarks marks (id, (kept_of row c).kept)
   has-marks row c id is =
       let key = whole.key-of rows texts its none row c in
-      let same = same_number id key.0 (sym is ∙ key.1) in
-      let low = key.2 in
-      let next : id - 1 + 1 ≡ id = omega (arith, same, low) in
+      let next : id - 1 + 1 ≡ id = omega (arith, same_number id key.0 (sym is ∙ key.1), key.2) in
       have_marks (id - 1) (kept_of row c).kept (at-id row c id is) ∙ ap (λ n. indexes_on n marks) next
 
   -- what is so of the kept paragraph of each row
   each-kept : (P : ℕ × KeptParagraph → Type 0) → ((row : Para) (c : Contains rows.paras row) (id : ℕ) → row.id ≡ pos id → P (id, (kept_of row c).kept))
       → (ps : List Para) (all : All (Contains rows.paras) ps) (ids : List ℕ) → map (λ row. row.id) ps ≡ map pos ids → All P (flat_map (paragraph_with_id items) ids)
   each-kept P each [] all [] is = All-nil P
-  each-kept P each [] all (id ∷ ids) is = absurd (cc)
-  each-kept P each (p ∷ ps) all [] is = absurd (cc)
   each-kept P each (p ∷ ps) all (id ∷ ids) is =
       let first : p.id ≡ pos id = cc in
       let rest : map (λ (row : Para). row.id) ps ≡ map pos ids = cc in
@@ -208,6 +179,7 @@ module _ (rows : FileRows) (texts : AreTexts rows) (its : HasItsTables rows) (no
       subst (All P) (sym (paragraph_with_id-cons items id ids (kept_of p c).kept (at-id p c id first)))
       (All-cons P (id, (kept_of p c).kept) (flat_map (paragraph_with_id items) ids) (each p c id first)
       (each-kept P each ps (All-tail (Contains rows.paras) p ps all) ids rest))
+  each-kept P each ps all ids is = absurd (cc)
 
   pub is_kept : IsKept version tables paragraphs marks
   is_kept =

@@ -1,10 +1,9 @@
 -- Kept paragraphs that are those of rows stay so while other things are read of them.
 use Rattle.std.proofs.Common.{◌≡◌, ℕ, zero, suc, ◌-◌, pos, nat_abs, List, [], ◌∷◌, map, length, Some, refl, sym, ap, subst, ◌∙◌, IsPermutation, slice_get}
 use Rattle.std.specs.List.{All, range_with_len}
-use Rattle.std.proofs.lemmas.List.{length-map, map-id}
+use Rattle.std.proofs.lemmas.List.{length-map}
 use Rattle.std.proofs.lemmas.List.Elements.{All-weaker}
 use Rattle.std.proofs.lemmas.List.Sorted.{IsPermutation-map, IsPermutation-sym, IsPermutation-trans}
-use Rattle.std.proofs.lemmas.Simd.{map-map}
 use Rattle.desk_memory.specs.declared.marks.KeptMark.{KeptMark}
 use Rattle.desk_memory.specs.declared.paragraphs.Paragraph.{Paragraph as KeptParagraph}
 use Rattle.desk_memory.specs.Histories.{HaveTaken, entries_kept}
@@ -13,8 +12,8 @@ use Rattle.desk_model.specs.Damage.{history_of}
 use Rattle.desk_model.specs.Print.{corrected_print}
 use Rattle.desk_parts.specs.Rows.{NamedCorr, Para}
 use Rattle.desk_model.specs.Shows.{flag_number, style_number}
-use Rattle.desk_model.proofs.Rows.OneBook.{number}
-use Rattle.desk_model.proofs.Commands.Ranks.{same_some}
+use Rattle.desk_model.proofs.Rows.OneBook.{number, numbers_back}
+use Rattle.std.proofs.lemmas.Option.{same_Some}
 
 -- what a row of `para` says of a kept paragraph, and that with its history
 abbrev pub plain : KeptParagraph → KeptParagraph
@@ -28,13 +27,12 @@ told kept = record kept { cells = []; marks = [] }
 module _ {X Y : Type 0} (f : X → Y) where
   -- the element at the same place of the other list
   pub same-at : (xs ys : List X) → map f xs ≡ map f ys → (i : ℕ) (x : X) → slice_get xs i ≡ Some x → (y : X) × (slice_get ys i ≡ Some y) × (f x ≡ f y)
-  same-at [] ys same i x at = absurd (cc)
-  same-at (z ∷ xs) [] same i x at = absurd (cc)
   same-at (z ∷ xs) (y ∷ ys) same zero x at =
-      let is : z ≡ x = same_some z x at in
+      let is : z ≡ x = same_Some z x at in
       let first : f z ≡ f y = cc in
       (y, refl, ap f (sym is) ∙ first)
   same-at (z ∷ xs) (y ∷ ys) same (suc i) x at = let rest : map f xs ≡ map f ys = cc in same-at xs ys rest i x at
+  same-at xs ys same i x at = absurd (cc)
 
   -- lists that agree in more agree in less
   pub less-same : {Z : Type 0} (g : X → Z) (h : Y → Z) → ((x : X) → h (f x) ≡ g x) → (xs ys : List X) → map f xs ≡ map f ys → map g xs ≡ map g ys
@@ -108,11 +106,8 @@ pub order-permutes : (paras : List Para) (items : List KeptParagraph) (order : L
 order-permutes paras items order of places =
     let id = λ (row : Para). row.id in
     let range = range_with_len 1 (length items) in
-    let placed = IsPermutation-trans (map pos range) (map id paras) (map id places.placed)
-    (IsPermutation-sym (map id paras) (map pos range) of.ids) (IsPermutation-map id paras places.placed places.same) in
+    let placed = IsPermutation-trans _ _ _
+    (IsPermutation-sym _ _ of.ids) (IsPermutation-map id _ _ places.same) in
     let both : IsPermutation (map number (map pos range)) (map number (map pos order)) =
-    IsPermutation-map number (map pos range) (map pos order) (subst (IsPermutation (map pos range)) places.ids placed) in
-    subst (λ ids. IsPermutation ids order) (back range) (subst (IsPermutation (map number (map pos range))) (back order) both)
-  where
-    back : (ids : List ℕ) → map number (map pos ids) ≡ ids
-    back ids = map-map number pos ids ∙ map-id ids
+    IsPermutation-map number _ _ (subst (IsPermutation (map pos range)) places.ids placed) in
+    subst (λ ids. IsPermutation ids order) (numbers_back range) (subst (IsPermutation (map number (map pos range))) (numbers_back order) both)

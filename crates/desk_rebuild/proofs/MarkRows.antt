@@ -104,24 +104,22 @@ kept-rows : (n : ℕ) (rows : List MarkRow) (marks : List KeptMark) → length m
     → ((i : ℕ) (row : MarkRow) (mark : KeptMark) → slice_get rows i ≡ Some row → slice_get marks i ≡ Some mark → (row.id ≡ pos (n + i)) × IsKeptOf row mark)
     → map (spelled tables.Mark) rows ≡ map mark_row_of (map mark_kept (enumerate_from n marks))
 kept-rows n [] [] long each = refl
-kept-rows n [] (m ∷ ms) long each = absurd (omega arith)
-kept-rows n (r ∷ rs) [] long each = absurd (omega arith)
 kept-rows n (r ∷ rs) (m ∷ ms) long each =
     let here = each 0 r m refl refl in
     let own : n + 0 ≡ n = omega arith in
-    let first = kept-row n r m (here.0 ∙ ap pos own) here.1 in
     let rest = kept-rows (n + 1) rs ms (omega arith) (λ i row mark at_row at_mark.
     let later = each (suc i) row mark at_row at_mark in
     let next : n + suc i ≡ n + 1 + i = omega arith in
     (later.0 ∙ ap pos next, later.1)) in
-    λ i. first i ∷ rest i
+    λ i. kept-row n r m (here.0 ∙ ap pos own) here.1 i ∷ rest i
+kept-rows n rows marks long each = absurd (omega arith)
 
 pub are-marks : (items : List KeptParagraph) (rows sorted : List MarkRow) (marks : List KeptMark) → IsPermutation rows sorted → AreKeptOf items sorted marks → AreMarksOf rows marks
 are-marks items rows sorted marks moved have =
     subst (IsPermutation (map (spelled tables.Mark) rows)) (kept-rows 1 sorted marks have.count_is (λ i row mark at_row at_mark.
     let next : i + 1 ≡ 1 + i = omega arith in
     ((have.sound i row (slice_get_within sorted i row at_row) at_row).0.next.1 ∙ ap pos next, have.each i row mark at_row at_mark)))
-    (IsPermutation-map (spelled tables.Mark) rows sorted moved)
+    (IsPermutation-map (spelled tables.Mark) _ _ moved)
 
 -- there are no more than there may be
 pub few-kept : (items : List KeptParagraph) (sorted : List MarkRow) (marks : List KeptMark) → AreKeptOf items sorted marks → length marks ≤ most_marks
@@ -132,19 +130,17 @@ few-kept items sorted marks have =
 -- each mark is on a paragraph
 pub on-ones : (items : List KeptParagraph) (sorted : List MarkRow) (marks : List KeptMark) → AreKeptOf items sorted marks → All (IsOnOne (length items)) marks
 on-ones items sorted marks have k d less =
-    let count = have.count_is in
-    let there : k < length sorted = omega (arith, count, less) in
+    let there : k < length sorted = omega (arith, have.count_is, less) in
     let row = slice_get-there sorted k there in
     let its = (have.sound k row.0 there row.1).0.sound in
-    let within = slice_get_within items its.named.index its.kept its.named.at in
     let same = same_number (get_or marks k d).paragraph (its.named.index + 1)
     (ap (λ (r : MarkRow). r.para) (have.each k row.0 (get_or marks k d) row.1 (slice_get-get_or marks k d less)) ∙ its.named.is) in
-    (omega (arith, same), omega (arith, same, within))
+    (omega (arith, same), omega (arith, same, slice_get_within items its.named.index its.kept its.named.at))
 
 -- and each row's text is UTF-8
 pub all-texts : (items : List KeptParagraph) (rows sorted : List MarkRow) (marks : List KeptMark) → IsPermutation rows sorted → AreKeptOf items sorted marks → All (HasUtf8Texts tables.Mark) rows
 all-texts items rows sorted marks moved have =
-    All-permutation (HasUtf8Texts tables.Mark) sorted rows (IsPermutation-sym rows sorted moved) (λ k d within.
+    All-permutation (HasUtf8Texts tables.Mark) _ _ (IsPermutation-sym _ _ moved) (λ k d within.
     (have.sound k (get_or sorted k d) within (slice_get-get_or sorted k d within)).1)
 
 -- ---- the indexes of a paragraph's marks
@@ -169,8 +165,7 @@ module _ (marks : List KeptMark) (i : ℕ) (mark : KeptMark) (items : List KeptP
   pub shared : (new : KeptParagraph) → new.marks ≡ was.marks ++ i ∷ [] → HaveMarks (take (i + 1) marks) (set items (mark.paragraph - 1) new)
   shared new pushed index kept here =
       let low = on.0 in
-      let less = slice_get_within marks i mark at in
-      let long = length-take-le i marks (omega (arith, less)) in
+      let long = length-take-le i marks (omega (arith, slice_get_within marks i mark at)) in
       let more = take-more marks i mark at in
       let own : mark.paragraph - 1 + 1 ≡ mark.paragraph = omega (arith, low) in
       elim (set-cases items (mark.paragraph - 1) index new kept here) [

@@ -1,5 +1,5 @@
 -- Rows of paragraphs, read in the order of their ids, beside kept tables.
-use Rattle.std.proofs.Common.{◌≡◌, Option, None, ℕ, zero, suc, ◌+◌, ◌-◌, ◌<◌, ℤ, pos, ◌≤ℤ◌, List, [], ◌∷◌, ◌++◌, map, length, take, drop, set, Some, Contains, refl, sym, ap, subst, ◌∙◌, arith, inl, inr, nat_cmp, ◌≢◌, IsUtf8, nat_eq, option_map, slice_get, chars, length-set, length-take-le, take-append-drop}
+use Rattle.std.proofs.Common.{◌≡◌, Option, None, ℕ, zero, suc, ◌+◌, ◌-◌, ◌<◌, ℤ, pos, ◌≤ℤ◌, List, [], ◌∷◌, ◌++◌, map, length, take, drop, set, Some, Contains, refl, sym, ap, subst, ◌∙◌, arith, inl, inr, nat_cmp, ◌≢◌, IsUtf8, nat_eq, option_map, slice_get, chars, length-set, take-append-drop}
 use Rattle.std.specs.Cmp.Lexicographic.{pointwise, slice_cmp}
 use Rattle.std.specs.List.Sorted.{IsPermutation, IsStrictlySortedBy}
 use Rattle.std.specs.Map.{lookup}
@@ -25,7 +25,7 @@ use Rattle.desk_rebuild.specs.OrderedRows.{AreInOrder, AreSoundUpTo, IsFirstUnso
 use Rattle.desk_model.specs.Limits.{most_paragraphs}
 use Rattle.desk_parts.specs.Rows.{Para, Tab}
 use Rattle.desk_model.specs.Shows.{tab_of}
-use Rattle.desk_model.proofs.Lists.Items.{Contains-there, drop-there, lookup-map, set-cases, slice_get-append_left, slice_get-set_other, slice_get-set_same, slice_get-there}
+use Rattle.desk_model.proofs.Lists.Items.{Contains-there, drop-there, lookup-map, set-cases, slice_get-set_other, slice_get-set_same, slice_get-there}
 use Rattle.desk_model.proofs.Lists.Members.{Contains-map}
 use Rattle.desk_rebuild.proofs.OrderedRows.{from-place, kept-more as one-more, tells as first-told, whole as none-damaged}
 use Rattle.desk_model.proofs.Lists.RowNumbers.{Contains-from_map, pos_le, same_number}
@@ -33,6 +33,7 @@ use Rattle.desk_model.proofs.Damage.SoundRows.{same_bytes}
 use Rattle.desk_model.proofs.Lists.Stable.{at_least, le_from}
 use Rattle.desk_model.proofs.Lists.TableEntries.{Decides-name, text-there}
 use Rattle.desk_model.proofs.Damage.UndamagedRows.{place-of}
+use Rattle.desk_model.proofs.Books.HistoryLists.{slice_get-take}
 
 -- ---- rows beside tables
 
@@ -48,8 +49,7 @@ module _ (tabs : List Tab) (tables : KeptTables) (are : AreTables tabs tables) w
   its-table row utf8 table found =
       let entry = Contains-from_lookup (λ x y same. (Decides-name x y).0 same) (chars row.tab) table tables found in
       let stored = Contains-from_map (spelled file.Tab) tabs (tab_of (chars row.tab, table.text))
-      (Contains-permutation (map (λ (e : List ℕ × BookTable). tab_of (text_of_entry e)) tables) (map (spelled file.Tab) tabs) (tab_of (chars row.tab, table.text))
-      (IsPermutation-sym (map (spelled file.Tab) tabs) (map (λ (e : List ℕ × BookTable). tab_of (text_of_entry e)) tables) are.rows)
+      (Contains-permutation _ _ (tab_of (chars row.tab, table.text)) (IsPermutation-sym _ _ are.rows)
       (Contains-map (λ (e : List ℕ × BookTable). tab_of (text_of_entry e)) tables (chars row.tab, table) entry)) in
       let body : stored.0.body ≡ table.text = ap (λ (t : Tab). t.body) stored.2 in
       record {
@@ -65,7 +65,7 @@ module _ (tabs : List Tab) (tables : KeptTables) (are : AreTables tabs tables) w
       → (table : BookTable) × (lookup (pointwise nat_eq (chars row.tab)) tables ≡ Some table) × (table.rules ≡ meaning)
   table-found row meaning its =
       let stored = Contains-from_map (λ (e : List ℕ × BookTable). tab_of (text_of_entry e)) tables (spelled file.Tab its.table)
-      (Contains-permutation (map (spelled file.Tab) tabs) (map (λ (e : List ℕ × BookTable). tab_of (text_of_entry e)) tables) (spelled file.Tab its.table) are.rows
+      (Contains-permutation _ _ (spelled file.Tab its.table) are.rows
       (Contains-map (spelled file.Tab) tabs its.table its.there)) in
       let name : stored.0.0 ≡ chars row.tab = ap (λ (t : Tab). t.name) stored.2 ∙ ap chars its.named in
       let body : stored.0.1.text ≡ its.table.body = ap (λ (t : Tab). t.body) stored.2 in
@@ -96,9 +96,8 @@ module _ (tables : KeptTables) (count : ℕ) (rows : List Para) (order : List �
       let k = at_least 1 row.place s.place.0 in
       let low = k.2 in
       let high = le_from k.0 (length rows) (subst (λ z. z ≤ℤ pos (length rows)) k.1 s.place.1) in
-      let room = have.room in
       let is : row.place ≡ pos (k.0 - 1 + 1) = k.1 ∙ ap pos (let same : k.0 ≡ k.0 - 1 + 1 = omega (arith, low) in same) in
-      let there = slice_get-there order (k.0 - 1) (omega (arith, low, high, room)) in
+      let there = slice_get-there order (k.0 - 1) (omega (arith, low, high, have.room)) in
       by there.0 (k.0 - 1) is there.1
     where
       by : (id index : ℕ) → row.place ≡ pos (index + 1) → slice_get order index ≡ Some id → (index : ℕ) × IsFree order row.place index
@@ -118,9 +117,8 @@ module _ (tables : KeptTables) (count : ℕ) (rows : List Para) (order : List �
   para-at : (index : ℕ) → IsFree order row.place index → IsParaOn tables row → IsParaAt tables rows count row
   para-at index free on =
       let less = slice_get_within order index 0 free.free in
-      let room = have.room in
       record {
-        place = subst (IsWithin 1 (length rows)) (sym free.is) (pos_le 1 (index + 1) (omega arith), pos_le (index + 1) (length rows) (omega (arith, less, room)));
+        place = subst (IsWithin 1 (length rows)) (sym free.is) (pos_le 1 (index + 1) (omega arith), pos_le (index + 1) (length rows) (omega (arith, less, have.room)));
         own = own-place index free;
         para = on;
       }
@@ -212,7 +210,7 @@ module _ (tabs : List Tab) (tables : KeptTables) (are : AreTables tabs tables) w
 
   module _ (rows sorted : List Para) (moved : IsPermutation rows sorted) (up : AreInOrder key sorted) where
     same-length : length rows ≡ length sorted
-    same-length = sym (length_permutation rows sorted moved)
+    same-length = sym (length_permutation _ _ moved)
 
     abbrev rule : RowRule Para
     rule = para_rule tables sorted
@@ -227,20 +225,14 @@ module _ (tabs : List Tab) (tables : KeptTables) (are : AreTables tabs tables) w
         let split = drop-there sorted index row at in
         let parts : sorted ≡ take index sorted ++ row ∷ drop (index + 1) sorted =
         sym (take-append-drop index sorted) ∙ ap (λ (xs : List Para). take index sorted ++ xs) split.0 in
-        sound-row rows row texts.0 number
-        (subst (λ n. IsWithin 1 n row.place) (sym same-length) s.sound.place)
-        (λ other c same.
+        sound-row rows row texts.0 number (subst (λ n. IsWithin 1 n row.place) (sym same-length) s.sound.place) (λ other c same.
         elim (Contains-append_cases (take index sorted) (row ∷ drop (index + 1) sorted) other
-        (subst (λ xs. Contains xs other) parts (Contains-permutation rows sorted other moved c))) [
+        (subst (λ xs. Contains xs other) parts (Contains-permutation _ _ other moved c))) [
           | inl early ↦
               let place = place-of (take index sorted) other early in
-              let within = slice_get_within (take index sorted) place.0 other place.1 in
-              let less = split.1 in
-              let long = length-take-le index sorted (omega (arith, less)) in
-              let there : slice_get sorted place.0 ≡ Some other =
-              ap (λ (xs : List Para). slice_get xs place.0) parts ∙ (slice_get-append_left (take index sorted) (row ∷ drop (index + 1) sorted) place.0 within ∙ place.1) in
-              absurd (s.sound.own place.0 other (omega (arith, within, long)) there same)
-          | inr late ↦ from-place key sorted up index row other split.0 late
+              let there = slice_get-take sorted index place.0 other place.1 in
+              absurd (s.sound.own place.0 other there.1 there.0 same)
+          | inr late ↦ from-place key sorted up index row other at (subst (λ xs. Contains xs other) (sym split.0) late)
         ])
         s.sound.para
 
@@ -251,12 +243,11 @@ module _ (tabs : List Tab) (tables : KeptTables) (are : AreTables tabs tables) w
         record {
           place = subst (λ n. IsWithin 1 n row.place) same-length sound.place;
           own = λ place other early there same.
-              let c = Contains-permutation sorted rows other (IsPermutation-sym rows sorted moved) (Contains-there sorted place other there) in
+              let c = Contains-permutation _ _ other (IsPermutation-sym _ _ moved) (Contains-there sorted place other there) in
               let its = (before place other early there).0.next.1 in
               let high : pos (index + 1) ≤ℤ pos (place + 1) =
               subst (λ z. z ≤ℤ pos (place + 1)) next.1 (subst (λ z. row.id ≤ℤ z) its (sound.own other c same)) in
-              let less = le_from (index + 1) (place + 1) high in
-              omega (arith, less, early);
+              omega (arith, le_from (index + 1) (place + 1) high, early);
           para = para-on rows row sound;
         }
 

@@ -1,6 +1,6 @@
 -- What an entry that is read from its row does to the print that those before it leave.
-use Rattle.std.proofs.Common.{◌↔◌, IsTrue, Bool, Ordering, Less, Equal, Greater, is_eq, ◌≡◌, ℕ, zero, suc, ◌+◌, ◌-◌, ◌≤◌, ℤ, pos, ◌+ℤ◌, ◌≤ℤ◌, nat_abs, true, false, List, [], ◌∷◌, ◌++◌, length, take, drop, Option, Some, None, refl, sym, ap, ap₂, subst, ◌∙◌, arith, inl, inr, IfSome, nat_eq, not, option_map, slice_range, position, is_some, chars}
-use Rattle.std.specs.Ordering.{nat_cmp, ordering_reverse}
+use Rattle.std.proofs.Common.{◌↔◌, IsTrue, Bool, Ordering, Equal, is_eq, ◌≡◌, ℕ, ◌+◌, ◌-◌, ◌≤◌, ℤ, pos, ◌+ℤ◌, ◌≤ℤ◌, nat_abs, true, false, List, [], ◌∷◌, ◌++◌, length, take, drop, Option, Some, None, refl, sym, ap, ap₂, subst, ◌∙◌, arith, inl, inr, IfSome, nat_eq, not, option_map, slice_range, position, is_some, chars}
+use Rattle.std.specs.Ordering.{nat_cmp}
 use Rattle.std.specs.Cmp.Lexicographic.{nat_list_cmp_total, pointwise, slice_cmp}
 use Rattle.std.proofs.lemmas.Bool.{both_ways, cases_Bool}
 use Rattle.std.proofs.lemmas.List.{length-map}
@@ -22,12 +22,13 @@ use Rattle.desk_model.specs.Sound.{AreSoundEntries, IsSoundEntry}
 use Rattle.desk_model.specs.NormalForm.{IsUnbarred, is_barred}
 use Rattle.desk_memory.proofs.Callers.{TookFrom-correction, entry-correction, undone-print}
 use Rattle.desk_model.proofs.Books.HistoryLists.{corrected_print-corrects}
-use Rattle.desk_model.proofs.Lists.Items.{slice_get-there}
 use Rattle.desk_model.proofs.Lists.RowNumbers.{pos_le}
 use Rattle.desk_model.proofs.Rows.RowParts.{entry-corrects, entry-undoes}
 use Rattle.desk_model.proofs.Lists.Stable.{le_from, natural}
 use Rattle.desk_model.proofs.Lists.TableEntries.{Decides-name, same_name}
 use Rattle.desk_model.proofs.Commands.TextTests.{IsFirstBarred-position, IsUnbarred-position}
+use Rattle.std.specs.Cmp.{tied_itself}
+use Rattle.desk_model.proofs.Damage.UndamagedRows.{short-list}
 
 -- ---- an undo
 
@@ -125,24 +126,15 @@ piece print start count = let same : start + count - start ≡ count = omega ari
 
 -- ---- a text and a print
 
-same-self : (text : List ℕ) → slice_cmp nat_cmp text text ≡ Equal
-same-self text = by (slice_cmp nat_cmp text text) (nat_list_cmp_total.antisymm text text)
-  where
-    by : (o : Ordering) → o ≡ ordering_reverse o → o ≡ Equal
-    by Less is = absurd (cc)
-    by Equal is = refl
-    by Greater is = absurd (cc)
-
 pub same-text : (text print : List ℕ) (o : Ordering) (b : Bool) → o ≡ slice_cmp nat_cmp text print → b ≡ is_eq o → IsTrue b ↔ (text ≡ print)
 same-text text print o b compared tested = (to o compared tested, from)
   where
     to : (o : Ordering) → o ≡ slice_cmp nat_cmp text print → b ≡ is_eq o → IsTrue b → text ≡ print
-    to Less is test so = absurd (both_ways b test so)
     to Equal is test so = same_name text print (sym is)
-    to Greater is test so = absurd (both_ways b test so)
+    to o is test so = absurd (both_ways b test so)
 
     from : text ≡ print → IsTrue b
-    from same = tested ∙ ap is_eq (compared ∙ (ap (slice_cmp nat_cmp text) (sym same) ∙ same-self text))
+    from same = tested ∙ ap is_eq (compared ∙ (ap (slice_cmp nat_cmp text) (sym same) ∙ tied_itself nat_list_cmp_total text))
 
 pub same-print : (one other : List ℕ) (differs : Bool) → differs ≡ not (pointwise nat_eq one other) → (differs ≡ false → one ≡ other) × (differs ≡ true → ¬ (one ≡ other))
 same-print one other differs is =
@@ -153,16 +145,9 @@ same-print one other differs is =
 
 -- ---- a whole history
 
-few-sound : (original : List ℕ) (rows : List NamedCorr) → AreSoundRows original rows → (n : ℕ) → n ≡ length rows → n ≤ most_entries
-few-sound original rows sound zero is = omega arith
-few-sound original rows sound (suc n) is =
-    let last = slice_get-there rows n (omega arith) in
-    let room = (sound n last.0 last.1).room in
-    omega arith
-
 -- it has no more entries than a history may have
 pub few-read : (original : List ℕ) (rows : List NamedCorr) (reading : Reading) → AreSoundRows original rows → IsRead original rows reading
     → length reading.entries.items ≤ most_entries
 few-read original rows reading sound read =
-    few-sound original rows sound (length reading.entries.items)
-    (sym (length-map reading.entries.items entry_kept) ∙ (ap length read.entries ∙ length-map rows entry_of))
+    subst (λ n. n ≤ most_entries) (sym (sym (length-map reading.entries.items entry_kept) ∙ (ap length read.entries ∙ length-map rows entry_of)))
+    (short-list rows most_entries (λ i row at. (sound i row at).room))

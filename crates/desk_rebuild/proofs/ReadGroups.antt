@@ -1,9 +1,9 @@
 -- The histories of paragraphs, read in turn from their groups of rows.
-use Rattle.std.proofs.Common.{◌≡◌, ℕ, ◌+◌, ◌<◌, ◌≤◌, ◌≢◌, List, map, length, Option, Some, None, get_or, set, refl, sym, ap, subst, ◌∙◌, arith, inl, inr, option_map, slice_get}
+use Rattle.std.proofs.Common.{◌≡◌, ℕ, ◌+◌, ◌<◌, ◌≤◌, ◌≢◌, List, map, length, Some, get_or, set, sym, ap, subst, ◌∙◌, arith, inl, inr, slice_get}
 use Rattle.std.proofs.lemmas.Bool.{cases_eq}
 use Rattle.std.specs.List.{enumerate_from}
 use Rattle.std.proofs.lemmas.List.{length-map}
-use Rattle.std.proofs.lemmas.Option.{slice_get_read, slice_get_within}
+use Rattle.std.proofs.lemmas.Option.{slice_get_within, slice_get-get_or}
 use Rattle.desk_memory.specs.declared.paragraphs.Paragraph.{Paragraph as KeptParagraph}
 use Rattle.desk_rebuild.specs.Rows.{without_history}
 use Rattle.desk_rebuild.specs.Entries.{HaveRead, IsUnread}
@@ -13,16 +13,13 @@ use Rattle.desk_model.specs.Print.{corrected_print}
 use Rattle.desk_parts.specs.Rows.{NamedCorr}
 use Rattle.desk_model.proofs.Lists.Items.{map-set_same, slice_get-set_other, slice_get-set_same}
 use Rattle.desk_rebuild.proofs.EntryRows.{kept-at}
-use Rattle.desk_memory.proofs.Callers.{slice_get-enumerate}
+use Rattle.std.proofs.lemmas.List.FromFn.{get_or-enumerate_from, length-enumerate_from}
 
 -- so many of the paragraphs have the histories of their groups, and the others are as they were
 pub record HaveReadTo (groups : List (List NamedCorr)) (was now : List KeptParagraph) (count : ℕ) : Type 0 where
   pub same : map without_history now ≡ map without_history was
   pub read : (k : ℕ) (rows : List NamedCorr) (kept : KeptParagraph) → k < count → slice_get groups k ≡ Some rows → slice_get now k ≡ Some kept → HasRead rows kept
   pub rest : (k : ℕ) → count ≤ k → slice_get now k ≡ slice_get was k
-
-pub read-none : (groups : List (List NamedCorr)) (was : List KeptParagraph) → HaveReadTo groups was was 0
-read-none groups was = record { same = refl; read = λ k rows kept below group at. absurd (omega (arith, below)); rest = λ k past. refl }
 
 module _ (groups : List (List NamedCorr)) (was now : List KeptParagraph) (count : ℕ) (is : HaveReadTo groups was now count) where
   pub read-more : (rows : List NamedCorr) (old new : KeptParagraph) → slice_get groups count ≡ Some rows → slice_get now count ≡ Some old → without_history new ≡ without_history old → HasRead rows new
@@ -66,21 +63,10 @@ module _ (groups : List (List NamedCorr)) (was now : List KeptParagraph) (count 
   pub as-long : length now ≡ length was
   as-long = sym (length-map now without_history) ∙ (ap length is.same ∙ length-map was without_history)
 
-abbrev numbered : {V : Type 0} → ℕ → V → ℕ × V
-numbered n v = (0 + n, v)
-
 -- what stands at a place of an enumerated list
 pub at-enumerate : {V : Type 0} (vs : List V) (n i : ℕ) (v : V) → n < length (enumerate_from 0 vs) → (i, v) ≡ get_or (enumerate_from 0 vs) n (i, v) → (i ≡ n) × (slice_get vs n ≡ Some v)
-at-enumerate {V} vs n i v within is = by (slice_get vs n) refl
-  where
-    there : option_map (numbered n) (slice_get vs n) ≡ Some (i, v)
-    there = sym (slice_get-enumerate 0 vs n) ∙ slice_get_read (enumerate_from 0 vs) (length (enumerate_from 0 vs)) n (i, v) refl within is
-
-    by : (o : Option V) → slice_get vs n ≡ o → (i ≡ n) × (slice_get vs n ≡ Some v)
-    by None none = absurd (let both = sym (ap (option_map (numbered n)) none) ∙ there in cc)
-    by (Some w) some =
-        let both : Some (0 + n, w) ≡ Some (i, v) = sym (ap (option_map (numbered n)) some) ∙ there in
-        let pair : (0 + n, w) ≡ (i, v) = cc in
-        let first : 0 + n ≡ i = ap (λ (q : ℕ × V). q.0) pair in
-        let second : w ≡ v = ap (λ (q : ℕ × V). q.1) pair in
-        (omega (arith, first), some ∙ ap Some second)
+at-enumerate {V} vs n i v within is =
+    let less : n < length vs = omega (arith, within, length-enumerate_from 0 vs) in
+    let both : (i, v) ≡ (0 + n, get_or vs n v) = is ∙ get_or-enumerate_from 0 vs n (i, v) less in
+    let first : i ≡ 0 + n = ap (λ (q : ℕ × V). q.0) both in
+    (omega (arith, first), slice_get-get_or vs n v less ∙ ap Some (sym (ap (λ (q : ℕ × V). q.1) both)))

@@ -18,9 +18,6 @@ use Rattle.desk_memory.proofs.Callers.{HaveTaken-push}
 use Rattle.desk_model.proofs.Books.SoundEntries.{AreSoundEntries-push}
 use Rattle.desk_model.proofs.Lists.Items.{take-more}
 
-history-push : (rows : List NamedCorr) (row : NamedCorr) → history_of (rows ++ row ∷ []) ≡ history_of rows ++ entry_of row ∷ []
-history-push rows row = map-append entry_of rows (row ∷ [])
-
 -- ---- one row more
 
 module _ (original : List ℕ) (rows : List NamedCorr) (reading : Reading) (is : IsRead original rows reading) (row : NamedCorr) where
@@ -35,7 +32,7 @@ module _ (original : List ℕ) (rows : List NamedCorr) (reading : Reading) (is :
 
   module _ (next : Next) (follows : IsNext original (entries_kept reading.entries.items) row next) where
     print_is : next.print.items ≡ corrected_print original (history_of (rows ++ row ∷ []))
-    print_is = follows.print ∙ (ap (λ (h : List Entry). corrected_print original (h ++ entry_of row ∷ [])) is.entries ∙ ap (corrected_print original) (sym (history-push rows row)))
+    print_is = follows.print ∙ (ap (λ (h : List Entry). corrected_print original (h ++ entry_of row ∷ [])) is.entries ∙ ap (corrected_print original) (sym (map-append entry_of rows (row ∷ []))))
 
     pub long-next : most_print < length next.print.items → ¬ IsSoundNext original rows row
     long-next long sound = let short = sound.short in let same = ap length print_is in omega (arith, short, same, long)
@@ -58,7 +55,7 @@ module _ (original : List ℕ) (rows : List NamedCorr) (reading : Reading) (is :
             taken = subst (HaveTaken original) (sym more) (HaveTaken-push original entries next.entry is.left.taken follows.taken);
             print_is = printed ∙ (follows.print ∙ ap (corrected_print original) (sym kept));
           };
-          entries = kept ∙ (ap (λ (h : List Entry). h ++ entry_of row ∷ []) is.entries ∙ sym (history-push rows row));
+          entries = kept ∙ (ap (λ (h : List Entry). h ++ entry_of row ∷ []) is.entries ∙ sym (map-append entry_of rows (row ∷ [])));
         }
 
 -- ---- all rows

@@ -1,5 +1,5 @@
 -- Rows of tables as they are read, in the order of their names.
-use Rattle.std.proofs.Common.{◌≡◌, ◌⊎◌, ℕ, zero, suc, ℤ, pos, ◌+◌, ◌<◌, ◌≤◌, ◌≤ℤ◌, Bool, true, false, cond, List, [], ◌∷◌, ◌++◌, map, filter, length, get_or, nat_eq, Option, Some, None, Contains, Ordering, Result, Ok, Err, w64, to_z, of_z, ◌+ℤ◌, refl, sym, ap, subst, ◌∙◌, arith, inl, inr, IfOk, slice_get, chars, Less, Equal, Greater}
+use Rattle.std.proofs.Common.{◌≡◌, ◌⊎◌, ℕ, suc, ℤ, pos, ◌+◌, ◌<◌, ◌≤◌, ◌≤ℤ◌, Bool, true, false, cond, List, [], ◌∷◌, ◌++◌, map, filter, length, get_or, nat_eq, Option, Some, None, Contains, Ordering, Result, Ok, Err, w64, to_z, of_z, ◌+ℤ◌, refl, sym, ap, subst, ◌∙◌, arith, inl, inr, IfOk, slice_get, chars, Less, Equal, Greater}
 use Rattle.std.specs.Cmp.{IsTotalOrder, IsStrictWeakOrder, tied_itself}
 use Rattle.std.specs.Cmp.Lexicographic.{pointwise, slice_cmp}
 use Rattle.std.specs.FinMap.Entries.{by_order}
@@ -30,7 +30,7 @@ use Rattle.desk_memory.specs.Kept.{KeptTables, with_table}
 use Rattle.desk_model.specs.Limits.{most_tables}
 use Rattle.desk_parts.specs.Rows.{StoredTab, Tab}
 use Rattle.desk_model.specs.Shows.{tab_of}
-use Rattle.desk_model.proofs.Lists.Items.{Contains-there, here-at}
+use Rattle.desk_model.proofs.Lists.Items.{Contains-there, here-at, slice_get-append_left}
 use Rattle.desk_model.proofs.Lists.Members.{Contains-behind, Contains-cases, Contains-here, Contains-map, Contains-none}
 use Rattle.desk_model.proofs.Lists.Permutations.{IsPermutation-filter, IsPermutation-exchange}
 use Rattle.desk_model.proofs.Lists.RowNumbers.{Contains-from_map, pos_le}
@@ -55,14 +55,12 @@ same_tab : (a b : Tab) → tab_order a b ≡ Equal → a ≡ b
 same_tab a b tied = by (slice_cmp nat_cmp a.name b.name) refl tied
   where
     by : (o : Ordering) → slice_cmp nat_cmp a.name b.name ≡ o → ordering_then o (slice_cmp nat_cmp a.body b.body) ≡ Equal → a ≡ b
-    by Less is e = absurd (cc)
     by Equal is e = let name = same_name a.name b.name is in let body = same_name a.body b.body e in λ i. record { name = name i; body = body i }
-    by Greater is e = absurd (cc)
+    by o is e = absurd (cc)
 
 neither : (o : Ordering) → is_lt o ≡ false → is_lt (ordering_reverse o) ≡ false → o ≡ Equal
-neither Less p q = absurd (cc)
 neither Equal p q = refl
-neither Greater p q = absurd (cc)
+neither o p q = absurd (cc)
 
 both_ways : (a b : Tab) → less a b ≡ false → less b a ≡ false → a ≡ b
 both_ways a b p q = same_tab a b (neither (tab_order a b) p (ap is_lt (sym (order_total.antisymm b a)) ∙ q))
@@ -83,7 +81,7 @@ abbrev AreAsMany : List Tab → List Tab → Type 0
 AreAsMany xs ys = (test : Tab → Bool) → length (filter test xs) ≡ length (filter test ys)
 
 as_many : (xs ys : List Tab) → IsPermutation xs ys → AreAsMany xs ys
-as_many xs ys moved test = sym (length_permutation (filter test xs) (filter test ys) (IsPermutation-filter test xs ys moved))
+as_many xs ys moved test = sym (length_permutation _ _ (IsPermutation-filter test _ _ moved))
 
 without_first : (x : Tab) (xs ys : List Tab) → AreAsMany (x ∷ xs) (x ∷ ys) → AreAsMany xs ys
 without_first x xs ys same test = by (test x) (same test)
@@ -103,17 +101,15 @@ some_passes test (x ∷ xs) some = by (test x) refl (some_passes test xs) some
     by false is rest more = let found = rest more in (found.0, Contains-behind x found.0 xs found.1, found.2)
 
 is-equal : (o : Ordering) → is_eq o ≡ true → o ≡ Equal
-is-equal Less e = absurd (cc)
 is-equal Equal e = refl
-is-equal Greater e = absurd (cc)
+is-equal o e = absurd (cc)
 
 among : (xs ys : List Tab) (y : Tab) → AreAsMany xs (y ∷ ys) → Contains xs y
 among xs ys y same =
     let test = λ (z : Tab). is_eq (tab_order z y) in
     let passes : test y ≡ true = ap is_eq (tied_itself order_total y) in
     let one : length (filter test (y ∷ ys)) ≡ suc (length (filter test ys)) = ap length (cond-true (test y) (y ∷ filter test ys) (filter test ys) passes) in
-    let all = same test in
-    let found = some_passes test xs (omega (arith, one, all)) in
+    let found = some_passes test xs (omega (arith, one, same test)) in
     subst (Contains xs) (same_tab found.0 y (is-equal (tab_order found.0 y) found.2)) found.1
 
 one_order : (xs ys : List Tab) → AreInOrder xs → AreInOrder ys → AreAsMany xs ys → xs ≡ ys
@@ -159,20 +155,7 @@ put-moved name table (e ∷ es) none = by (slice_cmp nat_cmp name e.0) refl (put
     by Less is rest = IsPermutation-refl ((name, table) ∷ e ∷ es)
     by Equal is rest = absurd (found-some name e.1 (e ∷ es) (subst (λ n. Contains (e ∷ es) (n, e.1)) (sym (same_name name e.0 is)) (Contains-here e es)) none)
     by Greater is rest =
-        IsPermutation-trans ((name, table) ∷ e ∷ es) (e ∷ (name, table) ∷ es) (e ∷ with_table name table es)
-        (IsPermutation-exchange (name, table) e es) (IsPermutation-cons e ((name, table) ∷ es) (with_table name table es) rest)
-
--- ---- lists
-
-in-front : {X : Type 0} (xs ys : List X) (i : ℕ) (x : X) → i < length xs → slice_get (xs ++ ys) i ≡ Some x → slice_get xs i ≡ Some x
-in-front [] ys i x less is = absurd (omega (arith, less))
-in-front (y ∷ xs) ys zero x less is = is
-in-front (y ∷ xs) ys (suc i) x less is = in-front xs ys i x (omega (arith, less)) is
-
-to-front : {X : Type 0} (xs ys : List X) (i : ℕ) (x : X) → slice_get xs i ≡ Some x → (i < length xs) × (slice_get (xs ++ ys) i ≡ Some x)
-to-front [] ys i x is = absurd (cc)
-to-front (y ∷ xs) ys zero x is = (omega arith, is)
-to-front (y ∷ xs) ys (suc i) x is = let rest = to-front xs ys i x is in (omega (arith, rest.0), rest.1)
+        IsPermutation-trans _ _ _ (IsPermutation-exchange (name, table) e es) (IsPermutation-cons e _ _ rest)
 
 -- ---- a row, after those before it
 
@@ -184,24 +167,20 @@ module _ (done rest : List Tab) (row : Tab) (tables : KeptTables) (text : HasUtf
   sorted = done ++ row ∷ rest
 
   pub count : length tables ≡ length done
-  count =
-      let moved = length_permutation (map (spelled file.Tab) done) (map kept_tab tables) read.rows in
-      let one = length-map done (spelled file.Tab) in
-      let other = length-map tables kept_tab in
-      omega (arith, moved, one, other)
+  count = omega (arith, length_permutation _ _ read.rows, length-map done (spelled file.Tab), length-map tables kept_tab)
 
   -- a row before it has the name under which a table is kept
   row-named : (name : List ℕ) (table : BookTable) → Contains tables (name, table) → (other : Tab) × Contains done other × (chars other.name ≡ name)
   row-named name table c =
-      let back = Contains-permutation (map kept_tab tables) (map (spelled file.Tab) done) (kept_tab (name, table))
-      (IsPermutation-sym (map (spelled file.Tab) done) (map kept_tab tables) read.rows) (Contains-map kept_tab tables (name, table) c) in
+      let back = Contains-permutation _ _ (kept_tab (name, table))
+      (IsPermutation-sym _ _ read.rows) (Contains-map kept_tab tables (name, table) c) in
       let other = Contains-from_map (spelled file.Tab) done (kept_tab (name, table)) back in
       (other.0, other.1, ap (λ (t : Tab). t.name) other.2)
 
   -- and a table is kept under the name of each row before it
   table-named : (other : Tab) → Contains done other → (table : BookTable) × Contains tables (chars other.name, table)
   table-named other c =
-      let there = Contains-permutation (map (spelled file.Tab) done) (map kept_tab tables) (spelled file.Tab other) read.rows (Contains-map (spelled file.Tab) done other c) in
+      let there = Contains-permutation _ _ (spelled file.Tab other) read.rows (Contains-map (spelled file.Tab) done other c) in
       let entry = Contains-from_map kept_tab tables (spelled file.Tab other) there in
       (entry.0.1, subst (λ n. Contains tables (n, entry.0.1)) (ap (λ (t : Tab). t.name) entry.2) entry.1)
 
@@ -227,35 +206,32 @@ module _ (done rest : List Tab) (row : Tab) (tables : KeptTables) (text : HasUtf
       none (Some table) is =
           let other = row-named (chars row.name) table (Contains-from_lookup (λ x y. (Decides-name x y).0) (chars row.name) table tables is) in
           let place = place-of done other.0 other.1 in
-          let front = to-front done (row ∷ rest) place.0 other.0 place.1 in
-          absurd (s.new place.0 other.0 front.0 front.1 (same-bytes other.0 other.1 other.2))
+          let within = slice_get_within done place.0 other.0 place.1 in
+          absurd (s.new place.0 other.0 within (slice_get-append_left done (row ∷ rest) place.0 within ∙ place.1) (same-bytes other.0 other.1 other.2))
 
   pub more-read : (table : BookTable) → MayCome tables (chars row.name) → table.text ≡ row.body → Means row.body table.rules
       → AreRead sorted (done ++ row ∷ []) (with_table (chars row.name) table tables)
   more-read table may is means =
       let moved = put-moved (chars row.name) table tables may.new in
       let own : kept_tab (chars row.name, table) ≡ spelled file.Tab row = λ i. record { name = chars row.name; body = is i } in
-      let longer = length_permutation ((chars row.name, table) ∷ tables) (with_table (chars row.name) table tables) moved in
-      let room = may.room in
       record {
         texts = All-push (HasUtf8Texts file.Tab) done row read.texts text;
         rows = subst (λ xs. IsPermutation xs (map kept_tab (with_table (chars row.name) table tables))) (sym (map-append (spelled file.Tab) done (row ∷ [])))
             (IsPermutation-push_more (map (spelled file.Tab) done) (map kept_tab tables) (map kept_tab (with_table (chars row.name) table tables)) (spelled file.Tab row) read.rows
             (subst (λ t. IsPermutation (t ∷ map kept_tab tables) (map kept_tab (with_table (chars row.name) table tables))) own
-            (IsPermutation-map kept_tab ((chars row.name, table) ∷ tables) (with_table (chars row.name) table tables) moved)));
+            (IsPermutation-map kept_tab _ _ moved)));
         means = All-put (slice_cmp nat_cmp) same_name (λ entry. Means entry.1.text entry.1.rules) (chars row.name) table tables read.means
             (subst (λ text. Means text table.rules) (sym is) means);
         names = IsStrictlySortedBy-put (slice_cmp nat_cmp) nat_list_cmp_total (chars row.name) table tables read.names;
-        few = omega (arith, longer, room);
+        few = omega (arith, length_permutation _ _ moved, may.room);
         sound = λ index other within at. sound index other (split index within) at;
       }
     where
       split : (index : ℕ) → index < length (done ++ row ∷ []) → (index < length done) ⊎ (index ≡ length done)
       split index within =
-          let long = length_push done row in
           elim (cases_eq index (length done)) [
             | inl same ↦ inr same
-            | inr other ↦ inl (omega (arith, within, long, other))
+            | inr other ↦ inl (omega (arith, within, length_push done row, other))
           ]
 
       sound : (index : ℕ) (other : Tab) → (index < length done) ⊎ (index ≡ length done) → slice_get sorted index ≡ Some other → IsSoundTabRow sorted index other
@@ -267,7 +243,7 @@ module _ (done rest : List Tab) (row : Tab) (tables : KeptTables) (text : HasUtf
             meaning = table.rules;
             means = means;
             room = subst (λ n. n < most_tables) count may.room;
-            new = λ before earlier less is name. no-table earlier (Contains-there done before earlier (in-front done (row ∷ rest) before earlier less is)) name may.new;
+            new = λ before earlier less is name. no-table earlier (Contains-there done before earlier (sym (slice_get-append_left done (row ∷ rest) before less) ∙ is)) name may.new;
           }))
 
 -- ---- all rows
@@ -337,8 +313,8 @@ none-read all = record {
 pub are-tables : (tabs all : List Tab) → IsPermutation tabs all → (result : Result KeptTables RowsFault) → IfOk result (AreRead all all) → IfOk result (AreTables tabs)
 are-tables tabs all moved (Err fault) read = tt
 are-tables tabs all moved (Ok tables) read = record {
-  texts = All-permutation (HasUtf8Texts file.Tab) all tabs (IsPermutation-sym tabs all moved) read.texts;
-  rows = IsPermutation-trans (map (spelled file.Tab) tabs) (map (spelled file.Tab) all) (map kept_tab tables) (IsPermutation-map (spelled file.Tab) tabs all moved) read.rows;
+  texts = All-permutation (HasUtf8Texts file.Tab) _ _ (IsPermutation-sym _ _ moved) read.texts;
+  rows = IsPermutation-trans _ _ _ (IsPermutation-map (spelled file.Tab) _ _ moved) read.rows;
   means = read.means;
   sorted = read.names;
 }

@@ -20,7 +20,8 @@ use Rattle.desk_model.specs.Refusals.{Holds, IsUndefined, new_print, print_to_tr
 use Rattle.desk_model.specs.Ranks.{rank, undefined_rank, untranslatable_rank}
 use Rattle.desk_model.proofs.Lists.Options.{IsSomeAnd-of, IsSomeAnd-value}
 use Rattle.desk_model.proofs.Commands.Judging.{IsRefused-passes, Passes-past, Passes-skip, skips}
-use Rattle.desk_model.proofs.Commands.Ranks.{defined_not_first, passes_to, same_some}
+use Rattle.desk_model.proofs.Commands.Ranks.{defined_not_first, passes_to}
+use Rattle.std.proofs.lemmas.Option.{same_Some}
 
 -- ---- paragraphs that are named
 
@@ -75,10 +76,10 @@ module _ (book : Book) (command : Command) where
       where
         none : (place : ℕ) → ¬ IsUndefined book command place
         none place u =
-            let pair = same_some (u.print, u.name) (print, name) (sym u.print_is ∙ given) in
+            let pair = same_Some (u.print, u.name) (print, name) (sym u.print_is ∙ given) in
             let same_print : u.print ≡ print = ap (λ (p : List ℕ × List ℕ). p.0) pair in
             let same_name : u.name ≡ name = ap (λ (p : List ℕ × List ℕ). p.1) pair in
-            let text : u.text ≡ table.text = same_some u.text table.text (sym u.found ∙ (ap (text_of book) same_name ∙ found.found)) in
+            let text : u.text ≡ table.text = same_Some u.text table.text (sym u.found ∙ (ap (text_of book) same_name ∙ found.found)) in
             let meaning = one_meaning table.text u.meaning table.rules (subst (λ (t : List ℕ). Means t u.meaning) text u.means) found.means in
             defined_not_first table.rules print place defined (rw (meaning, same_print) at u.first)
 

@@ -21,7 +21,8 @@ use Rattle.desk_model.specs.Ranks.{bad_table_rank, rank, untranslatable_rank}
 use Rattle.desk_model.proofs.Commands.Judging.{IsAccepted-passes, Passes-past}
 use Rattle.desk_book.proofs.Plans.Planning.{no_memory, turned_down}
 use Rattle.desk_model.proofs.Commands.FirstUndefined.{IsFirstUser-none}
-use Rattle.desk_model.proofs.Commands.Ranks.{passes_to, same_some}
+use Rattle.desk_model.proofs.Commands.Ranks.{passes_to}
+use Rattle.std.proofs.lemmas.Option.{same_Some}
 
 -- a table that isn't there has no users
 pub unused : (book : Book) (name : List ℕ) (meaning : Meaning) → IsSound book → text_of book name ≡ None → All (DefinesUser meaning name) book.paragraphs
@@ -73,7 +74,7 @@ module _ (book : Book) (name text : List ℕ) where
       where
         none : (id place : ℕ) → ¬ IsUntranslatable book (Table name text) id place
         none id place u =
-            let given = same_some (name, text) (u.name, u.text) u.given in
+            let given = same_Some (name, text) (u.name, u.text) u.given in
             let same_name = ap (λ (pair : List ℕ × List ℕ). pair.0) given in
             let same_text = ap (λ (pair : List ℕ × List ℕ). pair.1) given in
             let same = one_meaning text u.meaning meaning (subst (λ (t : List ℕ). Means t u.meaning) (sym same_text) u.means) means in

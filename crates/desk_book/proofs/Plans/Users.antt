@@ -4,7 +4,7 @@ use Rattle.std.specs.List.{All}
 use Rattle.std.specs.Prelude.{slice_get, MatchOption, ◌≢◌}
 use Rattle.std.proofs.lemmas.Bool.{cases_eq}
 use Rattle.std.proofs.lemmas.List.Elements.{All-contains, All-nil, Contains-get_or}
-use Rattle.std.proofs.lemmas.Option.{slice_get-get_or}
+use Rattle.std.proofs.lemmas.Option.{slice_get-get_or, same_Some}
 use Rattle.louis_table.specs.Meaning.{Meaning}
 use Rattle.louis_translate.specs.Position.{AreDefined, IsFirstUndefined}
 use Rattle.desk_memory.specs.declared.paragraphs.Paragraph.{Paragraph as KeptParagraph}
@@ -18,7 +18,6 @@ use Rattle.desk_model.specs.Print.{print_of}
 use Rattle.desk_model.specs.Sound.{IsSound}
 use Rattle.desk_model.proofs.Books.ParagraphLists.{Contains-found}
 use Rattle.desk_model.proofs.Commands.FirstUndefined.{IsFirstUser-later}
-use Rattle.desk_model.proofs.Commands.Ranks.{same_some}
 use Rattle.desk_model.proofs.Books.SoundBooks.{paragraph_of-own, paragraph_of-within}
 use Rattle.desk_model.proofs.Lists.Items.{push-cases}
 
@@ -42,7 +41,7 @@ module _ (meaning : Meaning) (name : List ℕ) where
   pub DefinesUser-kept : (ps : List Paragraph) (n id : ℕ) (kept : KeptParagraph) → (slice_get ps n ≡ Some (paragraph_kept (id, kept))) × (kept.print ≡ print_of (paragraph_kept (id, kept)))
       → (kept.table ≡ name → AreDefined meaning kept.print) → (p : Paragraph) → slice_get ps n ≡ Some p → DefinesUser meaning name p
   DefinesUser-kept ps n id kept (at, print) defined p e =
-      subst (DefinesUser meaning name) (same_some (paragraph_kept (id, kept)) p (sym at ∙ e)) (λ uses. subst (AreDefined meaning) print (defined uses))
+      subst (DefinesUser meaning name) (same_Some (paragraph_kept (id, kept)) p (sym at ∙ e)) (λ uses. subst (AreDefined meaning) print (defined uses))
 
   pub IsFirstUser-at : (ps : List Paragraph) (n place : ℕ) (p : Paragraph) → slice_get ps n ≡ Some p → DefinesUsersBelow meaning name ps n → p.table ≡ name → IsFirstUndefined meaning (print_of p) place → IsFirstUser meaning name ps p.id place
   IsFirstUser-at [] n place p at below uses first = absurd (cc)
@@ -70,7 +69,7 @@ Renews book meaning name id cells =
 pub Renews-found : (book : Book) (meaning : Meaning) (name : List ℕ) (id : ℕ) (kept : KeptParagraph) (cells : Option (List ℕ)) → IsKeptFor book id kept
     → MatchOption cells (kept.table ≢ name) (λ new. (kept.table ≡ name) × AreCellsOf meaning kept.print new) → Renews book meaning name id cells
 Renews-found book meaning name id kept cells k given p e =
-    let same : paragraph_kept (id, kept) ≡ p = same_some (paragraph_kept (id, kept)) p (sym k.found ∙ e) in
+    let same : paragraph_kept (id, kept) ≡ p = same_Some (paragraph_kept (id, kept)) p (sym k.found ∙ e) in
     subst (λ (q : Paragraph). MatchOption cells (q.table ≢ name) (λ new. (q.table ≡ name) × AreCellsOf meaning (print_of q) new)) same
     (subst (λ (t : List ℕ). MatchOption cells (kept.table ≢ name) (λ new. (kept.table ≡ name) × AreCellsOf meaning t new)) k.print given)
 

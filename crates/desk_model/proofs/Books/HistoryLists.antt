@@ -188,8 +188,7 @@ module _ (original : List ℕ) where
           let is = IsLast-parts (take i h) 1 (take i h) parts.0 n r parts.1 in
           let from = is.from in
           let to = is.to in
-          let long = length-take i h in
-          (omega (arith, long), omega arith)
+          (omega (arith, length-take i h), omega arith)
 
   -- a correction goes on top of the stack
   pub stack-corrected : (h : List Entry) (r : Replacement) (who : List ℕ) → AreSoundEntries original h → stack (h ++ Corrects r who ∷ []) ≡ stack h ++ (length h + 1, r) ∷ []
@@ -232,8 +231,7 @@ module _ (original : List ℕ) where
     where
       by : Smaller original fuel → (front : List Entry) (x : Entry) → h ≡ front ++ x ∷ [] → stack (take (n - 1) h) ≡ s
       by smaller front (Corrects q who) is =
-          let long = length-append front (Corrects q who ∷ []) in
-          let count : length h ≡ length front + 1 = ap length is ∙ long in
+          let count : length h ≡ length front + 1 = ap length is ∙ length-append front (Corrects q who ∷ []) in
           let its : AreSoundEntries original front = subst (AreSoundEntries original) (ap (take (length front)) is ∙ take-append_seam front (Corrects q who ∷ [])) (AreSoundEntries-take h (length front) sound) in
           let both = same_from_push (stack front) s (length front + 1, q) (n, r) (sym (stack-corrected front q who its) ∙ (ap stack (sym is) ∙ e)) in
           let number : length front + 1 ≡ n = ap (λ (c : ℕ × Replacement). c.0) both.1 in
@@ -266,7 +264,6 @@ module _ (original : List ℕ) where
               let left : stack h ≡ parts.0 = ap stack is ∙ (ap (λ (k : ℕ). stack (front ++ Undoes k ∷ [])) (sym same) ∙ stack-undone front m q parts.0 parts.1) in
               let g = take (m - 1) front in
               let before : stack g ≡ s ++ (n, r) ∷ [] = smaller front (omega (arith, long)) its m q parts.0 parts.1 ∙ (sym left ∙ e) in
-              let g_sound = AreSoundEntries-take front (m - 1) its in
               let g_long = length-take (m - 1) front in
               let at_g = IsLast-parts g 1 g s n r before in
               let to = at_g.to in
@@ -276,7 +273,7 @@ module _ (original : List ℕ) where
               let less : n - 1 ≤ m - 1 = omega (arith, g_long) in
               let within : n - 1 ≤ length front = omega (arith, g_long) in
               let whole : take (n - 1) h ≡ take (n - 1) front = ap (take (n - 1)) is ∙ take-append-le (n - 1) front (Undoes u ∷ []) within in
-              ap stack (whole ∙ sym (take-take (n - 1) (m - 1) front less)) ∙ smaller g small g_sound n r s before
+              ap stack (whole ∙ sym (take-take (n - 1) (m - 1) front less)) ∙ smaller g small (AreSoundEntries-take front (m - 1) its) n r s before
 
   pub stack-before : (h : List Entry) → AreSoundEntries original h → (n : ℕ) (r : Replacement) (s : List (ℕ × Replacement)) → stack h ≡ s ++ (n, r) ∷ [] → stack (take (n - 1) h) ≡ s
   stack-before h sound n r s e = below (length h) h (omega arith) sound n r s e

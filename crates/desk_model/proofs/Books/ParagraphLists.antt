@@ -39,7 +39,7 @@ AreApart-rest p ps apart = IsDistinct-tail nat_eq p.id (ids_of ps) apart
 
 pub AreApart-permutation : (ps qs : List Paragraph) → IsPermutation ps qs → AreApart ps → AreApart qs
 AreApart-permutation ps qs moved apart =
-    IsDistinct-IsPermutation nat_eq (λ x y. nat_eq_equiv.symm x y) (ids_of ps) (ids_of qs) (IsPermutation-map (λ (p : Paragraph). p.id) ps qs moved) apart
+    IsDistinct-IsPermutation nat_eq (λ x y. nat_eq_equiv.symm x y) (ids_of ps) (ids_of qs) (IsPermutation-map (λ (p : Paragraph). p.id) _ _ moved) apart
 
 -- ---- what is found
 
@@ -72,7 +72,7 @@ found-own (q ∷ ps) p apart c =
 
 found_among : (id : ℕ) (ps qs : List Paragraph) (p : Paragraph) → IsPermutation ps qs → AreApart ps → found id ps ≡ Some p → found id qs ≡ Some p
 found_among id ps qs p moved apart e =
-    let at = found-own qs p (AreApart-permutation ps qs moved apart) (Contains-permutation ps qs p moved (Contains-found id ps p e)) in
+    let at = found-own qs p (AreApart-permutation ps qs moved apart) (Contains-permutation _ _ p moved (Contains-found id ps p e)) in
     ap (λ (n : ℕ). found n qs) (sym (id-found id ps p e)) ∙ at
 
 -- the order doesn't matter
@@ -81,7 +81,7 @@ found-permutation id ps qs moved apart = by (found id ps) (found id qs) refl ref
   where
     by : (x y : Option Paragraph) → found id ps ≡ x → found id qs ≡ y → found id qs ≡ found id ps
     by (Some p) y e f = found_among id ps qs p moved apart e ∙ sym e
-    by None (Some q) e f = sym (found_among id qs ps q (IsPermutation-sym ps qs moved) (AreApart-permutation ps qs moved apart) f ∙ sym f)
+    by None (Some q) e f = sym (found_among id qs ps q (IsPermutation-sym _ _ moved) (AreApart-permutation ps qs moved apart) f ∙ sym f)
     by None None e f = f ∙ sym e
 
 -- ---- a change of one paragraph
@@ -131,7 +131,7 @@ All-with_change P id change (p ∷ ps) all here =
 
 -- ---- a paragraph more, and one less
 
--- nothing is put where no paragraph has the id
+-- nothing is added if no paragraph has the id
 none-behind : (id : ℕ) (new : Paragraph) (ps : List Paragraph) → ((p : Paragraph) → Contains ps p → nat_eq p.id id ≡ false) → with_paragraph (Para id) new ps ≡ ps
 none-behind id new [] none = refl
 none-behind id new (p ∷ ps) none =
@@ -162,23 +162,22 @@ put-behind id new (p ∷ ps) apart c =
           let at : with_paragraph (Para id) new (p ∷ ps) ≡ p ∷ new ∷ ps =
           ap (λ (front : List Paragraph). front ++ with_paragraph (Para id) new ps) (cond-true (nat_eq p.id id) (p ∷ new ∷ []) (p ∷ []) e)
           ∙ ap (λ (left : List Paragraph). p ∷ new ∷ left) rest in
-          subst (IsPermutation (new ∷ p ∷ ps)) (sym at) (IsPermutation-sym (p ∷ new ∷ ps) (new ∷ p ∷ ps) (IsPermutation-middle (p ∷ []) new ps))
+          subst (IsPermutation (new ∷ p ∷ ps)) (sym at) (IsPermutation-sym _ _ (IsPermutation-middle (p ∷ []) new ps))
       | inr e ↦ elim (Contains-cases p.id id (ids_of ps) c) [
         | inl same ↦ absurd (let is = eq-eqb p.id id same in cc)
         | inr there ↦
             let at : with_paragraph (Para id) new (p ∷ ps) ≡ p ∷ with_paragraph (Para id) new ps =
             ap (λ (front : List Paragraph). front ++ with_paragraph (Para id) new ps) (cond-false (nat_eq p.id id) (p ∷ new ∷ []) (p ∷ []) e) in
-            subst (IsPermutation (new ∷ p ∷ ps)) (sym at)
-            (IsPermutation-trans (new ∷ p ∷ ps) (p ∷ new ∷ ps) (p ∷ with_paragraph (Para id) new ps)
-            (IsPermutation-sym (p ∷ new ∷ ps) (new ∷ p ∷ ps) (IsPermutation-middle (p ∷ []) new ps))
-            (IsPermutation-cons p (new ∷ ps) (with_paragraph (Para id) new ps) (put-behind id new ps (AreApart-rest p ps apart) there)))
+            subst (IsPermutation (new ∷ p ∷ ps)) (sym at) (IsPermutation-trans _ _ _
+            (IsPermutation-sym _ _ (IsPermutation-middle (p ∷ []) new ps))
+            (IsPermutation-cons p _ _ (put-behind id new ps (AreApart-rest p ps apart) there)))
       ]
     ]
 
--- a new paragraph is put among the others wherever the command says, if it is put after one that is there
+-- a new paragraph joins the others wherever the command says, if it is to stand after one that is there
 pub IsPermutation-with_paragraph : (anchor : Anchor) (new : Paragraph) (ps : List Paragraph) → AreApart ps → ((id : ℕ) → Contains (paragraph_before anchor) id → Contains (ids_of ps) id) → IsPermutation (new ∷ ps) (with_paragraph anchor new ps)
 IsPermutation-with_paragraph Front new ps apart there = IsPermutation-refl (new ∷ ps)
-IsPermutation-with_paragraph End new ps apart there = IsPermutation-sym (ps ++ new ∷ []) (new ∷ ps) (IsPermutation-to_front ps new)
+IsPermutation-with_paragraph End new ps apart there = IsPermutation-sym _ _ (IsPermutation-to_front ps new)
 IsPermutation-with_paragraph (Para id) new ps apart there = put-behind id new ps apart (there id (Contains-here id []))
 
 -- a paragraph that is there is taken out from among the others
@@ -195,10 +194,8 @@ IsPermutation-without_paragraph id p (q ∷ ps) apart e =
       | inr h ↦
           let left : without_paragraph id (q ∷ ps) ≡ q ∷ without_paragraph id ps = cond-true (not (nat_eq q.id id)) (q ∷ without_paragraph id ps) (without_paragraph id ps) (ap not h) in
           let rest = IsPermutation-without_paragraph id p ps (AreApart-rest q ps apart) (sym (cond-false (nat_eq q.id id) (Some q) (found id ps) h) ∙ e) in
-          subst (λ (l : List Paragraph). IsPermutation (q ∷ ps) (p ∷ l)) (sym left)
-          (IsPermutation-trans (q ∷ ps) (q ∷ p ∷ without_paragraph id ps) (p ∷ q ∷ without_paragraph id ps)
-          (IsPermutation-cons q ps (p ∷ without_paragraph id ps) rest)
-          (IsPermutation-middle (q ∷ []) p (without_paragraph id ps)))
+          subst (λ (l : List Paragraph). IsPermutation (q ∷ ps) (p ∷ l)) (sym left) (IsPermutation-trans _ _ _
+          (IsPermutation-cons q _ _ rest) (IsPermutation-middle (q ∷ []) p (without_paragraph id ps)))
     ]
 
 -- ---- a paragraph moved
@@ -207,12 +204,10 @@ IsPermutation-without_paragraph id p (q ∷ ps) apart e =
 behind_others : (id : ℕ) (anchor : Anchor) (p : Paragraph) (ps : List Paragraph) → AreApart ps → found id ps ≡ Some p → is_after id anchor ≡ false
     → ((other : ℕ) → Contains (paragraph_before anchor) other → (q : Paragraph) × (found other ps ≡ Some q))
     → (other : ℕ) → Contains (paragraph_before anchor) other → Contains (ids_of (without_paragraph id ps)) other
-behind_others id Front p ps apart e elsewhere there other c = absurd (Contains-none other c)
-behind_others id End p ps apart e elsewhere there other c = absurd (Contains-none other c)
 behind_others id (Para place) p ps apart e elsewhere there other c =
     let q = there other c in
     let is : q.0.id ≡ other = id-found other ps q.0 q.1 in
-    let among = Contains-permutation ps (p ∷ without_paragraph id ps) q.0 (IsPermutation-without_paragraph id p ps apart e) (Contains-found other ps q.0 q.1) in
+    let among = Contains-permutation _ _ q.0 (IsPermutation-without_paragraph id p ps apart e) (Contains-found other ps q.0 q.1) in
     elim (Contains-cases p q.0 (without_paragraph id ps) among) [
       | inr rest ↦ subst (Contains (ids_of (without_paragraph id ps))) is (Contains-map (λ (r : Paragraph). r.id) (without_paragraph id ps) q.0 rest)
       | inl same ↦ elim (Contains-cases place other [] c) [
@@ -220,6 +215,7 @@ behind_others id (Para place) p ps apart e elsewhere there other c =
         | inl at ↦ absurd (eqb-false place id elsewhere (at ∙ (sym is ∙ (ap (λ (r : Paragraph). r.id) (sym same) ∙ id-found id ps p e))))
       ]
     ]
+behind_others id anchor p ps apart e elsewhere there other c = absurd (Contains-none other c)
 
 -- a paragraph that is moved after one that is there, or to an end, changes its place alone
 pub IsPermutation-with_move : (book : Book) (id : ℕ) (anchor : Anchor) (p : Paragraph) → AreApart book.paragraphs → paragraph_of book id ≡ Some p
@@ -235,8 +231,7 @@ IsPermutation-with_move book id anchor p apart e there =
       | inr elsewhere ↦
           let at : with_move id anchor book ≡ put p =
           cond-false (is_after id anchor) ps (option_map_or put (paragraph_of book id) ps) elsewhere ∙ ap (λ (x : Option Paragraph). option_map_or put x ps) e in
-          subst (IsPermutation ps) (sym at)
-          (IsPermutation-trans ps (p ∷ others) (put p) out
+          subst (IsPermutation ps) (sym at) (IsPermutation-trans _ _ _ out
           (IsPermutation-with_paragraph anchor p others (AreApart-rest p others (AreApart-permutation ps (p ∷ others) out apart)) (behind_others id anchor p ps apart e elsewhere there)))
     ]
 

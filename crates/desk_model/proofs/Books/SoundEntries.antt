@@ -28,9 +28,8 @@ module _ (original : List ℕ) (h : List Entry) (entry : Entry) where
   pub IsSoundHistory-push : IsSoundHistory original h → IsSoundEntry original h entry → length h < most_entries → length (corrected_print original (h ++ entry ∷ [])) ≤ most_print
       → IsSoundHistory original (h ++ entry ∷ [])
   IsSoundHistory-push sound last few short =
-      let long = length-append h (entry ∷ []) in
       record {
-        few = omega (arith, few, long);
+        few = omega (arith, few, length-append h (entry ∷ []));
         entries = AreSoundEntries-push sound.entries last;
         short = shorts;
       }
@@ -146,8 +145,7 @@ module _ (book : Book) (id : ℕ) (entry : Entry) (move : Mark → Mark) (p : Pa
             (subst (IsPermutation (range_with_len 1 (length book.paragraphs))) (sym (ids-with_change id (with_entry entry) (λ q. refl) book.paragraphs)) sound.ids);
         paragraphs = All-weaker (IsSoundParagraph book) (IsSoundParagraph next) (IsSoundParagraph-same_texts book next (λ name. refl)) after (All-with_change (IsSoundParagraph book) id (with_entry entry) book.paragraphs sound.paragraphs
             (λ q c same s.
-            let own = paragraph_of-own book sound q c in
-            let both : Some q ≡ Some p = sym own ∙ (ap (paragraph_of book) same ∙ there) in
+            let both : Some q ≡ Some p = sym (paragraph_of-own book sound q c) ∙ (ap (paragraph_of book) same ∙ there) in
             let is : q ≡ p = cc in
             subst (λ (x : Paragraph). IsSoundParagraph book (with_entry entry x)) (sym is) its));
         numbers = numbers-moved book.marks ∙ (sound.numbers ∙ ap (range_with_len 1) (sym many));
@@ -160,18 +158,10 @@ pub IsSound-with_marks : (book : Book) (marks : List Mark) → IsSound book → 
     → All (IsSoundMark book) marks → IsSound (next_with_marks book marks)
 IsSound-with_marks book marks sound room few numbers all =
     let next : Book = next_with_marks book marks in
-    record {
-      version = omega arith;
-      few_tables = sound.few_tables;
-      few_paragraphs = sound.few_paragraphs;
-      few_marks = few;
-      names = sound.names;
-      tables = sound.tables;
-      ids = sound.ids;
-      paragraphs = All-weaker (IsSoundParagraph book) (IsSoundParagraph next) (IsSoundParagraph-same_texts book next (λ name. refl)) book.paragraphs sound.paragraphs;
-      numbers = numbers;
-      marks = All-weaker (IsSoundMark book) (IsSoundMark next) (IsSoundMark-kept book next (λ id p e. (p, e, refl))) marks all;
-    }
+    let version : next.version ≤ most_version = omega arith in
+    let paragraphs = All-weaker (IsSoundParagraph book) (IsSoundParagraph next) (IsSoundParagraph-same_texts book next (λ name. refl)) book.paragraphs sound.paragraphs in
+    let kept = All-weaker (IsSoundMark book) (IsSoundMark next) (IsSoundMark-kept book next (λ id p e. (p, e, refl))) marks all in
+    assumption
 
 -- the mark, resolved if it has this id
 abbrev pub resolved_by : ℕ → Mark → Mark

@@ -41,18 +41,10 @@ pub IsSound-with_paragraphs : (book : Book) (paragraphs : List Paragraph) → Is
     → IsSound (next_with_paragraphs book paragraphs)
 IsSound-with_paragraphs book paragraphs sound room few ids all kept =
     let next : Book = next_with_paragraphs book paragraphs in
-    record {
-      version = omega arith;
-      few_tables = sound.few_tables;
-      few_paragraphs = few;
-      few_marks = sound.few_marks;
-      names = sound.names;
-      tables = sound.tables;
-      ids = ids;
-      paragraphs = All-weaker (IsSoundParagraph book) (IsSoundParagraph next) (IsSoundParagraph-same_texts book next (λ name. refl)) paragraphs all;
-      numbers = sound.numbers;
-      marks = All-weaker (IsSoundMark book) (IsSoundMark next) (IsSoundMark-kept book next kept) book.marks sound.marks;
-    }
+    let version : next.version ≤ most_version = omega arith in
+    let paragraphs_sound = All-weaker (IsSoundParagraph book) (IsSoundParagraph next) (IsSoundParagraph-same_texts book next (λ name. refl)) paragraphs all in
+    let marks = All-weaker (IsSoundMark book) (IsSoundMark next) (IsSoundMark-kept book next kept) book.marks sound.marks in
+    assumption
 
 -- ---- a change of one paragraph
 
@@ -66,8 +58,7 @@ IsSound-changed book id change sound room keeps here =
     (subst (λ (n : ℕ). IsPermutation (range_with_len 1 n) (ids_of ps)) (sym long)
     (subst (IsPermutation (range_with_len 1 (length book.paragraphs))) (sym (ids-with_change id change keeps book.paragraphs)) sound.ids))
     (All-with_change (IsSoundParagraph book) id change book.paragraphs sound.paragraphs
-    (λ p c same s. (here p (ap (λ (n : ℕ). paragraph_of book n) (sym same) ∙ paragraph_of-own book sound p c)).0))
-    (λ other p e.
+    (λ p c same s. (here p (ap (λ (n : ℕ). paragraph_of book n) (sym same) ∙ paragraph_of-own book sound p c)).0)) (λ other p e.
     let same : (p.id ≡ id) → paragraph_of book id ≡ Some p = λ h. ap (λ (n : ℕ). paragraph_of book n) (sym h ∙ id-found other book.paragraphs p e) ∙ e in (
       changed id change p,
       found-with_change id change keeps book.paragraphs other ∙ ap (option_map (changed id change)) e,
@@ -102,11 +93,11 @@ IsSound-kept_text book id change sound room keeps =
 
 pub IsSound-reordered : (book : Book) (ps : List Paragraph) → IsSound book → book.version < most_version → IsPermutation book.paragraphs ps → IsSound (next_with_paragraphs book ps)
 IsSound-reordered book ps sound room moved =
-    let long : length ps ≡ length book.paragraphs = length_permutation book.paragraphs ps moved in
+    let long : length ps ≡ length book.paragraphs = length_permutation _ _ moved in
     IsSound-with_paragraphs book ps sound room (subst (λ (n : ℕ). n ≤ most_paragraphs) (sym long) sound.few_paragraphs)
     (subst (λ (n : ℕ). IsPermutation (range_with_len 1 n) (ids_of ps)) (sym long)
-    (IsPermutation-trans (range_with_len 1 (length book.paragraphs)) (ids_of book.paragraphs) (ids_of ps) sound.ids (IsPermutation-map (λ (p : Paragraph). p.id) book.paragraphs ps moved)))
-    (All-permutation (IsSoundParagraph book) book.paragraphs ps moved sound.paragraphs)
+    (IsPermutation-trans _ _ _ sound.ids (IsPermutation-map (λ (p : Paragraph). p.id) _ _ moved)))
+    (All-permutation (IsSoundParagraph book) _ _ moved sound.paragraphs)
     (λ id p e. (p, found-permutation id book.paragraphs ps moved (paragraphs-apart book sound) ∙ e, refl))
 
 -- ---- a new paragraph
@@ -122,12 +113,11 @@ IsSound-with_paragraph book anchor new sound room more numbered new_sound there 
     let front : IsPermutation (range_with_len 1 (length old + 1)) (ids_of (new ∷ old)) =
     subst (λ (n : ℕ). IsPermutation (range_with_len 1 (length old + 1)) (n ∷ ids_of old)) (sym numbered) (next-number (length old) (ids_of old) sound.ids) in
     let apart : AreApart (new ∷ old) = IsDistinct-numbers (length old + 1) (ids_of (new ∷ old)) front in
-    let long : length ps ≡ length old + 1 = omega (arith, length_permutation (new ∷ old) ps moved) in
+    let long : length ps ≡ length old + 1 = omega (arith, length_permutation _ _ moved) in
     IsSound-with_paragraphs book ps sound room (omega (arith, long, more))
     (subst (λ (n : ℕ). IsPermutation (range_with_len 1 n) (ids_of ps)) (sym long)
-    (IsPermutation-trans (range_with_len 1 (length old + 1)) (ids_of (new ∷ old)) (ids_of ps) front (IsPermutation-map (λ (p : Paragraph). p.id) (new ∷ old) ps moved)))
-    (All-permutation (IsSoundParagraph book) (new ∷ old) ps moved (All-cons (IsSoundParagraph book) new old new_sound sound.paragraphs))
-    (λ id p e.
+    (IsPermutation-trans _ _ _ front (IsPermutation-map (λ (p : Paragraph). p.id) _ _ moved)))
+    (All-permutation (IsSoundParagraph book) _ _ moved (All-cons (IsSoundParagraph book) new old new_sound sound.paragraphs)) (λ id p e.
     let within = paragraph_of-within book sound id p e in (
       p,
       found-permutation id (new ∷ old) ps moved apart

@@ -1,7 +1,7 @@
 -- An accepted command makes a sound book of a sound book.
-use Rattle.std.proofs.Common.{◌≡◌, ℕ, zero, suc, ◌+◌, ◌-◌, ◌<◌, ◌≤◌, true, false, List, [], ◌∷◌, ◌++◌, length, take, get_or, Option, Some, None, Contains, refl, sym, ap, subst, ◌∙◌, arith, inl, inr, nat_cmp, nat_eq, not, option_map, IsPermutation}
+use Rattle.std.proofs.Common.{◌≡◌, ℕ, zero, suc, ◌+◌, ◌-◌, ◌<◌, ◌≤◌, true, false, List, [], ◌∷◌, ◌++◌, length, take, get_or, Option, Some, None, Contains, refl, sym, ap, subst, ◌∙◌, arith, inl, inr, nat_cmp, nat_eq, not, option_map, IsPermutation, ◌⊎◌}
 use Rattle.std.specs.Cmp.Lexicographic.{pointwise, slice_cmp}
-use Rattle.std.proofs.lemmas.Bool.{cases_Bool, both_ways, not-true, cases_lt}
+use Rattle.std.proofs.lemmas.Bool.{cases_Bool, both_ways, not-true}
 use Rattle.std.specs.List.{All, range_with_len}
 use Rattle.std.proofs.lemmas.List.Elements.{All-head, All-nil, All-tail, All-weaker, filter_passes, All-push}
 use Rattle.std.proofs.lemmas.List.Sorted.{IsPermutation-refl}
@@ -39,6 +39,7 @@ use Rattle.desk_model.proofs.Books.SoundParagraphs.{KeepsText, IsSoundMark-kept,
 use Rattle.desk_model.proofs.Books.ParagraphLists.{IsPermutation-with_move, ids_of, id-found, Contains-found}
 use Rattle.desk_model.proofs.Books.SoundBooks.{paragraphs-apart, IsSoundParagraph-found, IsSoundTable-found}
 use Rattle.desk_model.proofs.Lists.TableEntries.{keys-is_sorted, Decides-name, with_text, text-put_same, text-put_other, names-put, All-text, count-put_new, count-put_old}
+use Rattle.desk_model.proofs.Lists.Decisions.{at_most_unless, below_unless}
 
 -- ---- the text of a table
 
@@ -125,8 +126,7 @@ sound_type book expect anchor table text sound accepted written =
       found = named.1;
       means = shown.means;
       defined = shown_defined book expect command accepted (normal_form text) table named.0 shown.meaning refl named.1 shown.means;
-    })
-    (λ other c.
+    }) (λ other c.
     let q = named_paragraph book expect command accepted other c in
     subst (Contains (ids_of book.paragraphs)) (id-found other book.paragraphs q.0 q.1) (Contains-map (λ (r : Paragraph). r.id) book.paragraphs q.0 (Contains-found other book.paragraphs q.0 q.1)))
 
@@ -175,10 +175,8 @@ sound_correct book expect id start count text who sound accepted written =
     let p : Paragraph = named.0 in
     let s = IsSoundParagraph-found book sound id p named.1 in
     let print : print_of (with_entry (Corrects r who) p) ≡ with_replacement (print_of p) r = corrected_print-corrects p.original p.history r who s.history.entries in
-    let span : start + count ≤ length (print_of p) = elim (cases_lt (length (print_of p)) (start + count)) [
-      | inl past ↦ absurd (accepted BadSpan (IsSomeAnd-of (λ (q : Paragraph). length (print_of q) < start + count) named.1 past))
-      | inr h ↦ h
-    ] in
+    let span = at_most_unless (start + count) (length (print_of p))
+    (λ past. accepted BadSpan (IsSomeAnd-of (λ (q : Paragraph). length (print_of q) < start + count) named.1 past)) in
     let change : Paragraph → Option (List ℕ) = λ q. Some (with_replacement (print_of q) r) in
     let short = short_print book expect command accepted (with_replacement (print_of p) r) (changed-print book id change p (with_replacement (print_of p) r) named.1 refl) in
     let defined = shown_defined book expect command accepted (with_replacement (print_of p) r) p.table s.text s.meaning (changed-translated book id change p (with_replacement (print_of p) r) named.1 refl) s.found s.means in
@@ -220,14 +218,10 @@ sound_mark book expect id cell count start end note sound accepted written are =
     let new : BookMark = new_mark (next_mark book) id start end note in
     let room = room_for_mark book expect command accepted note refl in
     let long = length-append book.marks (new ∷ []) in
-    let some : 0 < count = elim (cases_lt 0 count) [
-      | inl h ↦ h
-      | inr none ↦ absurd (accepted BadSpan (record { paragraph = p; found = are.found; meaning = are.meaning; choices = are.choices; translated = are.translated; lacks = inl (omega arith) }))
-    ] in
-    let there : cell + count ≤ length (braille are.meaning print are.choices) = elim (cases_lt (length (braille are.meaning print are.choices)) (cell + count)) [
-      | inl past ↦ absurd (accepted BadSpan (record { paragraph = p; found = are.found; meaning = are.meaning; choices = are.choices; translated = are.translated; lacks = inr past }))
-      | inr h ↦ h
-    ] in
+    let lacking = λ (lacks : (count ≡ 0) ⊎ (length (braille are.meaning print are.choices) < cell + count)).
+    accepted BadSpan (record { paragraph = p; found = are.found; meaning = are.meaning; choices = are.choices; translated = are.translated; lacks = lacks }) in
+    let some = below_unless 0 count (λ none. lacking (inl (omega arith))) in
+    let there = at_most_unless (cell + count) (length (braille are.meaning print are.choices)) (λ past. lacking (inr past)) in
     let tiles = are.translated.tiles in
     let ordered = begins-before are.meaning print are.choices cell (cell + count - 1) start end tiles (omega arith) are.starts are.ends in
     let within = end-within are.meaning print are.choices (cell + count - 1) end tiles are.ends in

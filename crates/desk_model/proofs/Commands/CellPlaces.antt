@@ -13,8 +13,7 @@ module _ (meaning : Meaning) (print : List ℕ) where
   within i j [] c after (inside, at, rest) =
       let start = at.start in
       let end = at.end in
-      let more = Covers-le meaning print c.end j after rest in
-      (omega arith, omega arith, more)
+      (omega arith, omega arith, Covers-le meaning print c.end j after rest)
   within i j (b ∷ before) c after (inside, at, rest) =
       let end = at.end in
       let more = within b.end j before c after rest in

@@ -19,7 +19,7 @@ use Rattle.desk_model.specs.NormalForm.{IsFirstBarred}
 use Rattle.desk_model.specs.Print.{newest}
 use Rattle.desk_model.proofs.Lists.Options.{IsSomeAnd-some}
 use Rattle.desk_model.specs.Judging.{Passes}
-use Rattle.desk_model.specs.Named.{Changed, Named, Retabled, Translated, Typed, named_by}
+use Rattle.desk_model.specs.Named.{Changed, Named, Translated, Typed, named_by}
 use Rattle.desk_model.specs.Refusals.{Holds, IsRefused, IsAccepted, IsFull, IsLongerThan, IsMoved, IsUndefined, IsUntranslatable, LacksSpan, new_print, print_and_table, print_made}
 use Rattle.desk_model.specs.Ranks.{bad_table_rank, bad_text_rank, rank, undefined_rank, untranslatable_rank}
 
@@ -69,10 +69,9 @@ module _ (book : Book) (expect : Option ℕ) (command : Command) where
 
 -- whether the print of such a paragraph is a new one
 abbrev pub is_new : Option Translated → Bool
-is_new None = false
 is_new (Some (Typed print table)) = true
 is_new (Some (Changed id change)) = true
-is_new (Some (Retabled id table)) = false
+is_new translated = false
 
 -- each rank, with whether a refusal of it may hold of a command that gives and names this
 abbrev pub ranks : Named → List (ℕ × Bool)
@@ -119,10 +118,9 @@ named_some (other ∷ ids) id h = refl
 
 module _ (book : Book) where
   made_new : (o : Option Translated) → is_some (option_and_then (print_made book) o) ≡ true → is_new o ≡ true
-  made_new None e = absurd (cc)
   made_new (Some (Typed text table)) e = refl
   made_new (Some (Changed id change)) e = refl
-  made_new (Some (Retabled id table)) e = absurd (cc)
+  made_new o e = absurd (cc)
 
   translated_some : (o : Option Translated) (shown : List ℕ × List ℕ) → option_and_then (print_and_table book) o ≡ Some shown → is_some o ≡ true
   translated_some None shown e = absurd (cc)

@@ -12,7 +12,7 @@ use Rattle.louis_translate.proofs.Tilings.{one_cover, one_tiling}
 use Rattle.desk_model.specs.Book.{Book, Paragraph, paragraph_of, text_of}
 use Rattle.desk_model.specs.Print.{print_of}
 use Rattle.desk_model.specs.Translation.{AreMarked, IsTranslatedBy, LacksCells}
-use Rattle.desk_model.proofs.Commands.Ranks.{same_some}
+use Rattle.std.proofs.lemmas.Option.{same_Some}
 
 -- ---- the choice that made a cell
 
@@ -71,8 +71,8 @@ module _ (book : Book) (id : ℕ) where
 
   one_view : (a b : View) → Sees a → Sees b → a ≡ b
   one_view a b (found, shown) (finds, shows) =
-      let paragraphs = same_some b.paragraph a.paragraph (sym finds ∙ found) in
-      let texts = same_some shows.text shown.text (sym shows.found ∙ (ap (λ (p : Paragraph). text_of book p.table) paragraphs ∙ shown.found)) in
+      let paragraphs = same_Some b.paragraph a.paragraph (sym finds ∙ found) in
+      let texts = same_Some shows.text shown.text (sym shows.found ∙ (ap (λ (p : Paragraph). text_of book p.table) paragraphs ∙ shown.found)) in
       let meanings = one_meaning shown.text b.meaning a.meaning (subst (λ (t : List ℕ). Means t b.meaning) texts shows.means) shown.means in
       let tiles = subst (λ (m : Meaning). Tiles m (print_of a.paragraph) b.choices) meanings (subst (λ (p : Paragraph). Tiles b.meaning (print_of p) b.choices) paragraphs shows.tiles) in
       let choices = one_cover a.meaning (print_of a.paragraph) 0 a.choices b.choices shown.tiles tiles in

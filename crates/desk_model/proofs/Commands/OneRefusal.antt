@@ -17,7 +17,8 @@ use Rattle.desk_model.specs.Print.{print_of}
 use Rattle.desk_model.specs.NormalForm.{IsFirstBarred}
 use Rattle.desk_model.specs.Ranks.{rank}
 use Rattle.desk_model.proofs.Commands.Judging.{limit_rank, same_limit}
-use Rattle.desk_model.proofs.Commands.Ranks.{defined_not_first, same_some}
+use Rattle.desk_model.proofs.Commands.Ranks.{defined_not_first}
+use Rattle.std.proofs.lemmas.Option.{same_Some}
 
 -- ---- firsts
 
@@ -67,27 +68,25 @@ module _ (book : Book) (expect : Option ℕ) (command : Command) where
 
   one_place : (p q : ℕ) → IsUndefined book command p → IsUndefined book command q → p ≡ q
   one_place p q a b =
-      let same = same_some (b.print, b.name) (a.print, a.name) (sym b.print_is ∙ a.print_is) in
-      let names = ap (λ (e : List ℕ × List ℕ). e.1) same in
-      let texts = same_some b.text a.text (sym b.found ∙ (ap (text_of book) names ∙ a.found)) in
+      let same = same_Some (b.print, b.name) (a.print, a.name) (sym b.print_is ∙ a.print_is) in
+      let texts = same_Some b.text a.text (sym b.found ∙ (ap (text_of book) (ap (λ (e : List ℕ × List ℕ). e.1) same) ∙ a.found)) in
       let meanings = one_meaning a.text b.meaning a.meaning (subst (λ (t : List ℕ). Means t b.meaning) texts b.means) a.means in
       let its = subst (λ (m : Meaning). IsFirstUndefined m b.print q) meanings b.first in
       one_undefined a.meaning a.print p q a.first (subst (λ (t : List ℕ). IsFirstUndefined a.meaning t q) (ap (λ (e : List ℕ × List ℕ). e.0) same) its)
 
   one_user : (id n place other : ℕ) → IsUntranslatable book command id place → IsUntranslatable book command n other → (id ≡ n) × (place ≡ other)
   one_user id n place other a b =
-      let same = same_some (b.name, b.text) (a.name, a.text) (sym b.given ∙ a.given) in
+      let same = same_Some (b.name, b.text) (a.name, a.text) (sym b.given ∙ a.given) in
       let names = ap (λ (e : List ℕ × List ℕ). e.0) same in
       let texts = ap (λ (e : List ℕ × List ℕ). e.1) same in
       let meanings = one_meaning a.text b.meaning a.meaning (subst (λ (t : List ℕ). Means t b.meaning) texts b.means) a.means in
       let u = a.user in
       let v = b.user in
       let first = subst (λ (m : Meaning). IsFirstUndefined m (print_of v.paragraph) other) meanings v.first in
-      let uses = v.uses ∙ names in
       let before = subst (λ (m : Meaning). All (DefinesUser m a.name) v.before) meanings (subst (λ (t : List ℕ). All (DefinesUser b.meaning t) v.before) names v.others) in
       let one = one_lacking (DefinesUser a.meaning a.name) u.before u.paragraph u.after v.before v.paragraph v.after (sym u.parts ∙ v.parts) u.others before
       (λ defines. defined_not_first a.meaning (print_of u.paragraph) place (defines u.uses) u.first)
-      (λ defines. defined_not_first a.meaning (print_of v.paragraph) other (defines uses) first) in (
+      (λ defines. defined_not_first a.meaning (print_of v.paragraph) other (defines (v.uses ∙ names)) first) in (
         u.told ∙ (ap (λ (p : Paragraph). p.id) one ∙ sym v.told),
         one_undefined a.meaning (print_of u.paragraph) place other u.first (subst (λ (p : Paragraph). IsFirstUndefined a.meaning (print_of p) other) (sym one) first),
       )

@@ -17,9 +17,6 @@ use Rattle.desk_model.proofs.Commands.Judging.{IsAccepted-passes, Passes-past, P
 use Rattle.desk_model.proofs.Commands.TextTests.{IsUnbarred-none}
 use Rattle.desk_model.proofs.Lists.Options.{IsSomeAnd-value}
 
-pub same_some : {X : Type 0} (x y : X) → Some x ≡ Some y → x ≡ y
-same_some x y e = cc
-
 -- a table that defines a print leaves no first character of it undefined
 pub defined_not_first : (meaning : Meaning) (print : List ℕ) (place : ℕ) → AreDefined meaning print → ¬ IsFirstUndefined meaning print place
 defined_not_first meaning print place defined first = let there = defined place first.within in let none = first.undefined in cc (ap is_some none)
@@ -103,7 +100,6 @@ module _ (book : Book) (command : Command) (id : ℕ) (named : (named_by command
 
   pub past_fit : (p : Paragraph) → paragraph_of book id ≡ Some p → p.struck ≡ false → Passes book None command (rank NotStruck)
   past_fit p found free =
-      Passes-past book None command Struck (rank NotStruck) refl (past_there p found)
-      (λ s. both_ways p.struck free
+      Passes-past book None command Struck (rank NotStruck) refl (past_there p found) (λ s. both_ways p.struck free
       (IsSomeAnd-value (λ (q : Paragraph). q.struck ≡ true) found
       (IsSomeAnd-value (λ (n : ℕ). IsSomeAnd (paragraph_of book n) (λ q. q.struck ≡ true)) live s)))

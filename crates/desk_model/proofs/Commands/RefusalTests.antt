@@ -1,6 +1,6 @@
 -- Of each refusal it is decided whether it holds of a command.
-use Rattle.std.proofs.Common.{◌≡◌, ℕ, ◌+◌, ◌<◌, ◌≤◌, true, false, List, [], ◌∷◌, length, Option, Some, None, Contains, refl, sym, ap, subst, ◌∙◌, inl, inr, position, IsSomeAnd, is_some}
-use Rattle.std.proofs.lemmas.Bool.{cases_eq, cases_lt}
+use Rattle.std.proofs.Common.{◌≡◌, ℕ, ◌+◌, ◌<◌, ◌≤◌, true, false, List, length, Option, Some, None, refl, sym, ap, subst, ◌∙◌, inl, inr, position, IsSomeAnd, is_some}
+use Rattle.std.proofs.lemmas.Bool.{cases_eq}
 use Rattle.louis_table.proofs.OneMeaning.{means_or_bad, one_meaning, some_meaning}
 use Rattle.louis_table.specs.Meaning.{Meaning}
 use Rattle.louis_table.specs.Table.{Bad, Means}
@@ -13,8 +13,8 @@ use Rattle.desk_model.specs.declared.refusal.Limit.TheVariants.{Tables, Paragrap
 use Rattle.desk_model.specs.declared.refusal.Refusal.TheVariants.{BadName, BadReader, BadSpan, BadTable, BadText, NoMark, NoParagraph, NoTable, NotStruck, NothingToUndo, Resolved, Struck, TooLong}
 use Rattle.louis_table.specs.declared.fault.TableFault.{TableFault}
 use Rattle.desk_model.specs.Book.{Book, Mark as BookMark, Paragraph, mark_of, paragraph_of, text_of}
-use Rattle.desk_model.specs.Limits.{most_entries, most_marks, most_name, most_note, most_paragraphs, most_print, most_proofreader, most_tables, most_version}
-use Rattle.desk_model.specs.Name.{IsProofreaderName, IsTableName, is_name_character, is_proofreader_character}
+use Rattle.desk_model.specs.Limits.{most_entries, most_marks, most_note, most_paragraphs, most_print, most_tables, most_version}
+use Rattle.desk_model.specs.Name.{IsProofreaderName, IsTableName}
 use Rattle.desk_model.specs.Named.{Cells, Characters, Span, named_by}
 use Rattle.desk_model.specs.Refusals.{Holds, IsFirstUser, IsFull, IsLongerThan, IsMoved, IsUndefined, IsUntranslatable, LacksSpan, new_print, print_to_translate}
 use Rattle.desk_model.specs.Print.{newest, print_of}
@@ -22,22 +22,11 @@ use Rattle.desk_model.specs.NormalForm.{IsFirstBarred, is_barred}
 use Rattle.desk_model.specs.Translation.{LacksCells}
 use Rattle.desk_model.proofs.Commands.FirstUndefined.{IsFirstUser-none, all_or_first_user, defined_or_first}
 use Rattle.desk_model.proofs.Commands.MarkedPlaces.{has_cells}
-use Rattle.desk_model.proofs.Lists.Members.{Contains-behind, Contains-cases, Contains-here, Contains-none}
-use Rattle.desk_model.proofs.Commands.Ranks.{defined_not_first, same_some}
+use Rattle.desk_model.proofs.Commands.Ranks.{defined_not_first}
 use Rattle.desk_model.proofs.Commands.TextTests.{IsFirstBarred-position, IsUnbarred-none, IsUnbarred-position}
-use Rattle.desk_model.proofs.Lists.Decisions.{Decided, SomeOrNone, all, at_most, below, both, either, implied, is_none, is_so, isnt_so, not, of_given}
-
--- ---- names
-
-table_name : (name : List ℕ) → Decided (IsTableName name)
-table_name name =
-    implied (λ h. record { nonempty = h.0.0; short = h.0.1; characters = h.1 }) (λ h. ((h.nonempty, h.short), h.characters))
-    (both (both (below 0 (length name)) (at_most (length name) most_name)) (all (λ c. is_name_character c ≡ true) (λ c. is_so (is_name_character c)) name))
-
-proofreader_name : (name : List ℕ) → Decided (IsProofreaderName name)
-proofreader_name name =
-    implied (λ h. record { short = h.0; characters = h.1 }) (λ h. (h.short, h.characters))
-    (both (at_most (length name) most_proofreader) (all (λ c. is_proofreader_character c ≡ true) (λ c. is_so (is_proofreader_character c)) name))
+use Rattle.desk_model.proofs.Lists.Decisions.{Decided, SomeOrNone, at_most, below, both, either, is_none, is_so, isnt_so, not, of_given, at_most_unless}
+use Rattle.std.proofs.lemmas.Option.{same_Some}
+use Rattle.desk_model.proofs.Lists.Stable.{among, is_reader_name, is_table_name, same_nat}
 
 -- ---- by a paragraph of the book
 
@@ -52,7 +41,7 @@ module _ (book : Book) where
       seen : (p : Paragraph) (text : List ℕ) (meaning : Meaning) → paragraph_of book id ≡ Some p → text_of book p.table ≡ Some text → Means text meaning → Decided (LacksCells book id cell count)
       seen p text meaning found has means =
           let t = one_tiling meaning (print_of p) in
-          elim (either (is_none_of count) (below (length (braille meaning (print_of p) t.0)) (cell + count))) [
+          elim (either (same_nat count 0) (below (length (braille meaning (print_of p) t.0)) (cell + count))) [
             | inl lacks ↦ inl (record {
               paragraph = p;
               found = found;
@@ -62,26 +51,19 @@ module _ (book : Book) where
               lacks = lacks;
             })
             | inr enough ↦ inr (has_cells book id cell count (record { paragraph = p; meaning = meaning; choices = t.0 })
-                (found, record { text = text; found = has; means = means; tiles = t.1 })
-                (λ none. enough (inl none))
-                (within (length (braille meaning (print_of p) t.0)) (λ past. enough (inr past))))
+                (found, record { text = text; found = has; means = means; tiles = t.1 }) (λ none. enough (inl none))
+                (at_most_unless (cell + count) (length (braille meaning (print_of p) t.0)) (λ past. enough (inr past))))
           ]
-        where
-          is_none_of : (n : ℕ) → Decided (n ≡ 0)
-          is_none_of n = elim (cases_eq n 0) [ inl e ↦ inl e | inr ne ↦ inr ne ]
-
-          within : (n : ℕ) → ¬ (n < cell + count) → cell + count ≤ n
-          within n h = elim (cases_lt n (cell + count)) [ inl less ↦ absurd (h less) | inr le ↦ le ]
 
       tabled : (p : Paragraph) (o : Option (List ℕ)) → paragraph_of book id ≡ Some p → text_of book p.table ≡ o → Decided (LacksCells book id cell count)
       tabled p None found none =
-          inr (λ l. let same = same_some l.paragraph p (sym l.found ∙ found) in let has = l.translated.found in cc (ap (λ (q : Paragraph). text_of book q.table) same, none, has))
+          inr (λ l. let same = same_Some l.paragraph p (sym l.found ∙ found) in let has = l.translated.found in cc (ap (λ (q : Paragraph). text_of book q.table) same, none, has))
       tabled p (Some text) found has =
           elim (some_meaning text) [
             | inl means ↦ seen p text means.0 found has means.1
             | inr bad ↦ inr (λ l.
-                let same = same_some l.paragraph p (sym l.found ∙ found) in
-                let texts = same_some l.translated.text text (sym l.translated.found ∙ (ap (λ (q : Paragraph). text_of book q.table) same ∙ has)) in
+                let same = same_Some l.paragraph p (sym l.found ∙ found) in
+                let texts = same_Some l.translated.text text (sym l.translated.found ∙ (ap (λ (q : Paragraph). text_of book q.table) same ∙ has)) in
                 means_or_bad text l.meaning bad.0 bad.1 (subst (λ (x : List ℕ). Means x l.meaning) texts l.translated.means) bad.2)
           ]
 
@@ -93,24 +75,13 @@ module _ (book : Book) where
 
 module _ (book : Book) (command : Command) where
   pub bad_name : Decided (Holds book None command BadName)
-  bad_name = of_given (λ (given : List ℕ × List ℕ). ¬ IsTableName given.0) (λ given. not (table_name given.0)) (named_by command).table_given
+  bad_name = of_given (λ (given : List ℕ × List ℕ). ¬ IsTableName given.0) (λ given. not (is_table_name given.0)) (named_by command).table_given
 
   pub bad_reader : Decided (Holds book None command BadReader)
-  bad_reader = of_given (λ name. ¬ IsProofreaderName name) (λ name. not (proofreader_name name)) (named_by command).proofreader_given
-
-  lacks_one : (ids : List ℕ) → Decided ((id : ℕ) × Contains ids id × (paragraph_of book id ≡ None))
-  lacks_one [] = inr (λ h. Contains-none h.0 h.1)
-  lacks_one (id ∷ ids) =
-      implied
-      (λ h. elim h [ inl none ↦ (id, Contains-here id ids, none) | inr found ↦ (found.0, Contains-behind id found.0 ids found.1, found.2) ])
-      (λ h. elim (Contains-cases id h.0 ids h.1) [
-        | inl e ↦ inl (ap (paragraph_of book) e ∙ h.2)
-        | inr more ↦ inr (h.0, more, h.2)
-      ])
-      (either (is_none (paragraph_of book id)) (lacks_one ids))
+  bad_reader = of_given (λ name. ¬ IsProofreaderName name) (λ name. not (is_reader_name name)) (named_by command).proofreader_given
 
   pub lacks_paragraph : Decided (Holds book None command NoParagraph)
-  lacks_paragraph = lacks_one (named_by command).paragraphs_named
+  lacks_paragraph = among (λ id. paragraph_of book id ≡ None) (λ id. is_none (paragraph_of book id)) (named_by command).paragraphs_named
 
   pub lacks_table : Decided (Holds book None command NoTable)
   lacks_table = of_given (λ name. text_of book name ≡ None) (λ name. is_none (text_of book name)) (named_by command).table_named
@@ -171,7 +142,7 @@ module _ (book : Book) (command : Command) where
   moved_or None = inr (λ v h. cc h.given)
   moved_or (Some expected) =
       elim (cases_eq expected book.version) [
-        | inl same ↦ inr (λ v h. h.other (sym (same_some expected h.expected h.given) ∙ same))
+        | inl same ↦ inr (λ v h. h.other (sym (same_Some expected h.expected h.given) ∙ same))
         | inr other ↦ inl (book.version, record { expected = expected; given = refl; other = other; told = refl })
       ]
 
@@ -205,21 +176,21 @@ module _ (book : Book) (command : Command) where
           elim (defined_or_first meaning e.0) [
             | inr first ↦ inl (first.0, record { print = e.0; name = e.1; print_is = is; text = text; meaning = meaning; found = found; means = means; first = first.1 })
             | inl defined ↦ inr (λ place h.
-                let same = same_some (h.print, h.name) e (sym h.print_is ∙ is) in
-                let texts = same_some h.text text (sym h.found ∙ (ap (λ (x : List ℕ × List ℕ). text_of book x.1) same ∙ found)) in
+                let same = same_Some (h.print, h.name) e (sym h.print_is ∙ is) in
+                let texts = same_Some h.text text (sym h.found ∙ (ap (λ (x : List ℕ × List ℕ). text_of book x.1) same ∙ found)) in
                 let meanings = one_meaning text h.meaning meaning (subst (λ (t : List ℕ). Means t h.meaning) texts h.means) means in
                 defined_not_first meaning e.0 place defined
                 (subst (λ (t : List ℕ). IsFirstUndefined meaning t place) (ap (λ (x : List ℕ × List ℕ). x.0) same) (subst (λ (m : Meaning). IsFirstUndefined m h.print place) meanings h.first)))
           ]
 
       tabled : (e : List ℕ × List ℕ) (o : Option (List ℕ)) → print_to_translate book command ≡ Some e → text_of book e.1 ≡ o → SomeOrNone (IsUndefined book command)
-      tabled e None is none = inr (λ place h. let has = h.found in cc (ap (λ (x : List ℕ × List ℕ). text_of book x.1) (same_some (h.print, h.name) e (sym h.print_is ∙ is)), none, has))
+      tabled e None is none = inr (λ place h. let has = h.found in cc (ap (λ (x : List ℕ × List ℕ). text_of book x.1) (same_Some (h.print, h.name) e (sym h.print_is ∙ is)), none, has))
       tabled e (Some text) is found =
           elim (some_meaning text) [
             | inl means ↦ seen e text means.0 is found means.1
             | inr bad ↦ inr (λ place h.
-                let same = same_some (h.print, h.name) e (sym h.print_is ∙ is) in
-                let texts = same_some h.text text (sym h.found ∙ (ap (λ (x : List ℕ × List ℕ). text_of book x.1) same ∙ found)) in
+                let same = same_Some (h.print, h.name) e (sym h.print_is ∙ is) in
+                let texts = same_Some h.text text (sym h.found ∙ (ap (λ (x : List ℕ × List ℕ). text_of book x.1) same ∙ found)) in
                 means_or_bad text h.meaning bad.0 bad.1 (subst (λ (t : List ℕ). Means t h.meaning) texts h.means) bad.2)
           ]
 
@@ -238,12 +209,12 @@ module _ (book : Book) (command : Command) where
       by (Some e) gives =
           elim (some_meaning e.1) [
             | inr bad ↦ inr (λ at h.
-                let same = same_some (h.name, h.text) e (sym h.given ∙ gives) in
+                let same = same_Some (h.name, h.text) e (sym h.given ∙ gives) in
                 means_or_bad e.1 h.meaning bad.0 bad.1 (subst (λ (t : List ℕ). Means t h.meaning) (ap (λ (x : List ℕ × List ℕ). x.1) same) h.means) bad.2)
             | inl means ↦ elim (all_or_first_user means.0 e.0 book.paragraphs) [
               | inr found ↦ inl ((found.0, found.1), record { name = e.0; text = e.1; given = gives; meaning = means.0; means = means.1; user = found.2 })
               | inl defines ↦ inr (λ at h.
-                  let same = same_some (h.name, h.text) e (sym h.given ∙ gives) in
+                  let same = same_Some (h.name, h.text) e (sym h.given ∙ gives) in
                   let meanings = one_meaning e.1 h.meaning means.0 (subst (λ (t : List ℕ). Means t h.meaning) (ap (λ (x : List ℕ × List ℕ). x.1) same) h.means) means.1 in
                   IsFirstUser-none means.0 e.0 book.paragraphs at.0 at.1 defines
                   (subst (λ (m : Meaning). IsFirstUser m e.0 book.paragraphs at.0 at.1) meanings

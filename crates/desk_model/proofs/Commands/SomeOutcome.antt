@@ -22,11 +22,11 @@ use Rattle.desk_model.proofs.Commands.Judging.{IsAccepted-passes, IsRefused-pass
 use Rattle.desk_model.proofs.Commands.MarkedPlaces.{one_span, some_span}
 use Rattle.desk_model.proofs.Lists.Members.{Contains-here}
 use Rattle.desk_model.proofs.Commands.OneRefusal.{one_refusal}
-use Rattle.desk_model.proofs.Commands.Ranks.{same_some}
 use Rattle.desk_model.proofs.Books.SoundBooks.{IsSoundParagraph-found}
 use Rattle.desk_model.proofs.Lists.Decisions.{Decided, SomeOrNone}
 use Rattle.desk_model.proofs.Lists.Options.{IsSomeAnd-of}
 use Rattle.desk_model.proofs.Commands.RefusalTests.{bad_name, bad_reader, bad_span, bad_table, bad_text, is_full, is_not_struck, is_resolved, is_struck, lacks_mark, lacks_paragraph, lacks_table, moved_or, nothing_to_undo, too_long, undefined, untranslatable}
+use Rattle.std.proofs.lemmas.Option.{same_Some}
 
 -- ---- one rank after the other
 
@@ -87,8 +87,8 @@ module _ (book : Book) (expect : Option ℕ) (command : Command) where
 
 one_next : (book : Book) (command : Command) (next other : Book) → Makes book command next → Makes book command other → next ≡ other
 one_next book (Undo id) next other (n, r, newest_is, is) (m, s, newest_too, at) =
-    let paragraphs = same_some newest_is.paragraph newest_too.paragraph (sym newest_is.found ∙ newest_too.found) in
-    let both : (n, r) ≡ (m, s) = same_some (n, r) (m, s) (sym newest_is.newest_is ∙ (ap (λ (p : Paragraph). newest p.history) paragraphs ∙ newest_too.newest_is)) in
+    let paragraphs = same_Some newest_is.paragraph newest_too.paragraph (sym newest_is.found ∙ newest_too.found) in
+    let both : (n, r) ≡ (m, s) = same_Some (n, r) (m, s) (sym newest_is.newest_is ∙ (ap (λ (p : Paragraph). newest p.history) paragraphs ∙ newest_too.newest_is)) in
     is ∙ (ap (λ (e : ℕ × Replacement). next_with_entry book id (Undoes e.0) (mark_moved_back e.1)) both ∙ sym at)
 one_next book (Mark id cell count note) next other (start, end, marked, is) (first, last, marks, at) =
     let both = one_span book id cell count start end first last marked marks in
@@ -126,5 +126,4 @@ one_outcome book expect command sound =
 pub one_after : (commands : List Command) (book last other : Book) → After book commands last → After book commands other → last ≡ other
 one_after [] book last other is at = is ∙ sym at
 one_after (command ∷ commands) book last other (accepted, (next, makes, after)) (also, (then, made, behind)) =
-    let same = one_next book command then next made makes in
-    one_after commands next last other after (subst (λ (b : Book). After b commands other) same behind)
+    one_after commands next last other after (subst (λ (b : Book). After b commands other) (one_next book command then next made makes) behind)

@@ -1,24 +1,14 @@
 -- The first damage of rows: no table that is checked before it has any, and it is the only one.
-use Rattle.std.proofs.Common.{◌≡◌, ℕ, ◌<◌, ◌≤◌, ℤ, pos, negsuc, ◌≤ℤ◌, cond, refl, sym, ap, subst, ◌∙◌, arith, inl, inr, leb→le, lit≤, ◌==◌}
+use Rattle.std.proofs.Common.{◌≡◌, ℕ, ◌<◌, ◌≤◌, ℤ, ◌≤ℤ◌, cond, refl, sym, ap, subst, ◌∙◌, arith, inl, inr, lit≤, ◌==◌}
 use Rattle.std.proofs.lemmas.Bool.{cases_eq}
 use Rattle.desk_parts.specs.declared.file_table.FileTable.{FileTable}
 use Rattle.desk_parts.specs.declared.file_table.FileTable.TheVariants.{Book, Tab, Para, Corr, Mark, Cache, NamedCorr}
 use Rattle.desk_model.specs.Damage.{IsDamaged, IsDamagedEntries, IsFirstDamage, table_rank}
 use Rattle.desk_parts.specs.FileRows.{EntryRows, FileRows, Named, Unnamed, entries_in, table_of}
+use Rattle.std.proofs.lemmas.Int.{ints}
 
-le_antisymm : (a b : ℤ) → a ≤ℤ b → b ≤ℤ a → a ≡ b
-le_antisymm (pos a) (pos b) up down =
-    let low : a ≤ b = leb→le a b up.le in
-    let high : b ≤ a = leb→le b a down.le in
-    let same : a ≡ b = omega (arith, low, high) in
-    ap pos same
-le_antisymm (pos a) (negsuc b) up down = absurd up.le
-le_antisymm (negsuc a) (pos b) up down = absurd down.le
-le_antisymm (negsuc a) (negsuc b) up down =
-    let low : b ≤ a = leb→le b a up.le in
-    let high : a ≤ b = leb→le a b down.le in
-    let same : a ≡ b = omega (arith, low, high) in
-    ap negsuc same
+pub le_antisymm : (a b : ℤ) → a ≤ℤ b → b ≤ℤ a → a ≡ b
+le_antisymm a b up down = omega (arith, ints)
 
 -- the table with a rank, if this is the one that has the entries
 abbrev ranked_table : FileTable → ℕ → FileTable

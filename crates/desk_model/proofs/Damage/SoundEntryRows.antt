@@ -157,7 +157,7 @@ module _ (rows : FileRows) (book : Book) (shown : Shows rows book) where
     -- the entries of the paragraph, in the order of its history
     in_order : (sorted : List NamedCorr) × IsPermutation its_own sorted × (entry_rows_of p ≡ map (spelled file.NamedCorr) sorted)
     in_order =
-        let moved = IsPermutation-filter (is_of para.id) (map (spelled file.NamedCorr) all_entries) (flat_map entry_rows_of book.paragraphs) shown.entries in
+        let moved = IsPermutation-filter (is_of para.id) _ _ shown.entries in
         let left : filter (is_of para.id) (map (spelled file.NamedCorr) all_entries) ≡ map (spelled file.NamedCorr) its_own = filter-map (is_of para.id) (spelled file.NamedCorr) all_entries in
         let right : filter (is_of para.id) (flat_map entry_rows_of book.paragraphs) ≡ entry_rows_of p =
         ap (λ z. filter (is_of z) (flat_map entry_rows_of book.paragraphs)) id ∙ own-entries book.paragraphs p (paragraphs-apart book shown.sound) in_book in
@@ -171,8 +171,7 @@ module _ (rows : FileRows) (book : Book) (shown : Shows rows book) where
 
     history-of : history_of sorted ≡ p.history
     history-of =
-        sym (map-map read (spelled file.NamedCorr) sorted)
-        ∙ (ap (map read) (sym in_order.2) ∙ reads-back p.id 1 p.history)
+        sym (map-map read (spelled file.NamedCorr) sorted) ∙ (ap (map read) (sym in_order.2) ∙ reads-back p.id 1 p.history)
 
     taken : (n : ℕ) → history_of (take n sorted) ≡ take n p.history
     taken n = sym (take-map entry_of n sorted) ∙ ap (take n) history-of
@@ -184,7 +183,7 @@ module _ (rows : FileRows) (book : Book) (shown : Shows rows book) where
         let found = entry-at p.id 1 p.history index (spelled file.NamedCorr row) there in
         let within = slice_get_within p.history index found.0 found.1 in
         let among : Contains all_entries row =
-        from_filter (is_of para.id) all_entries row (Contains-permutation sorted its_own row (IsPermutation-sym its_own sorted in_order.1) (Contains-there sorted index row at)) in
+        from_filter (is_of para.id) all_entries row (Contains-permutation _ _ row (IsPermutation-sym _ _ in_order.1) (Contains-there sorted index row at)) in
         let next : 1 + index ≡ index + 1 = omega arith in
         subst (λ text. IsSoundEntryRow text sorted index row) original
         (record {
@@ -217,7 +216,7 @@ module _ (rows : FileRows) (book : Book) (shown : Shows rows book) where
   pub sound-entries : (id : ℤ) → ¬ IsDamagedEntries rows.paras all_entries id
   sound-entries id (inl (para, c, named, unsound)) = unsound (sound-entries_of para c)
   sound-entries id (inr (row, c, named, none)) =
-      let shown_row = Contains-permutation (map (spelled file.NamedCorr) all_entries) (flat_map entry_rows_of book.paragraphs) (spelled file.NamedCorr row) shown.entries (Contains-map (spelled file.NamedCorr) all_entries row c) in
+      let shown_row = Contains-permutation _ _ (spelled file.NamedCorr row) shown.entries (Contains-map (spelled file.NamedCorr) all_entries row c) in
       let found = from_flat_map entry_rows_of book.paragraphs (spelled file.NamedCorr row) shown_row in
       none (has-para found.0 id found.1 (sym (named_in found.0.id 1 found.0.history (spelled file.NamedCorr row) found.2) ∙ named))
 
@@ -226,7 +225,7 @@ module _ (rows : FileRows) (book : Book) (shown : Shows rows book) where
   module _ (caches : List ParaCells) (are : AreCached book caches) where
     cache-keys : IsPermutation (map (λ row. row.para) caches) (map pos (range_with_len 1 (length book.paragraphs)))
     cache-keys =
-        IsPermutation-trans (map (λ row. row.para) caches) (map (λ p. pos p.id) book.paragraphs) (map pos (range_with_len 1 (length book.paragraphs))) are.one_each
+        IsPermutation-trans _ _ _ are.one_each
         (subst (λ (zs : List ℤ). IsPermutation zs (map pos (range_with_len 1 (length book.paragraphs)))) (map-map pos (λ (p : Paragraph). p.id) book.paragraphs)
         (numbers-ids rows book shown))
 

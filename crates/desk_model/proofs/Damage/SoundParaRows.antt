@@ -17,7 +17,6 @@ use Rattle.desk_model.specs.Limits.{most_marks, most_note, most_paragraphs, most
 use Rattle.desk_model.specs.Print.{print_of}
 use Rattle.desk_parts.specs.Rows.{Para, Mark as MarkRow}
 use Rattle.desk_model.specs.Shows.{Shows, mark_row_of, para_of}
-use Rattle.desk_model.proofs.Rows.ParaRows.{paras_of}
 use Rattle.desk_model.specs.Sound.{IsSoundEntry, IsSoundMark, IsSoundParagraph}
 use Rattle.desk_model.specs.NormalForm.{IsUnbarred, is_barred}
 use Rattle.desk_model.proofs.Lists.Members.{Contains-map}
@@ -54,37 +53,36 @@ module _ (rows : FileRows) (book : Book) (shown : Shows rows book) where
   ps = book.paragraphs
 
   pub numbers-ids : IsPermutation (map pos (ids_of ps)) (map pos (range_with_len 1 (length ps)))
-  numbers-ids = IsPermutation-map pos (ids_of ps) (range_with_len 1 (length ps)) (IsPermutation-sym (range_with_len 1 (length ps)) (ids_of ps) shown.sound.ids)
+  numbers-ids = IsPermutation-map pos _ _ (IsPermutation-sym _ _ shown.sound.ids)
 
   -- the ids of the rows are the numbers from one on, in some order
   pub para-keys : IsPermutation (map (λ row. row.id) rows.paras) (map pos (range_with_len 1 (length ps)))
   para-keys =
-      IsPermutation-trans (map (λ row. row.id) rows.paras) (map pos (ids_of ps)) (map pos (range_with_len 1 (length ps)))
+      IsPermutation-trans _ _ _
       (subst (λ (zs : List ℤ). IsPermutation zs (map pos (ids_of ps))) (map-map (λ (row : Para). row.id) (spelled file.Para) rows.paras)
       (subst (λ (zs : List ℤ). IsPermutation (map (λ (row : Para). row.id) (map (spelled file.Para) rows.paras)) zs) (ids-rows 1 ps)
-      (IsPermutation-map (λ (row : Para). row.id) (map (spelled file.Para) rows.paras) (paras_of ps) shown.paragraphs)))
+      (IsPermutation-map (λ (row : Para). row.id) _ _ shown.paragraphs)))
       numbers-ids
 
   count-paras : length rows.paras ≡ length ps
   count-paras =
-      let keys = length_permutation (map (λ row. row.id) rows.paras) (map pos (range_with_len 1 (length ps))) para-keys in
       let one = length-map rows.paras (λ (row : Para). row.id) in
       let four = length-map ps (λ (p : Paragraph). p.id) in
-      omega (arith, keys, one, length_permutation (map pos (ids_of ps)) (map pos (range_with_len 1 (length ps))) numbers-ids, length-map (ids_of ps) pos, four)
+      omega (arith, length_permutation _ _ para-keys, one, length_permutation _ _ numbers-ids, length-map (ids_of ps) pos, four)
 
   -- ---- the parts of rows, and the rows of parts
 
   pub para_part : (row : Para) → Contains rows.paras row → (place : ℕ) × (p : Paragraph) × Contains (enumerate_from 1 ps) (place, p) × (para_of (place, p) ≡ spelled file.Para row)
   para_part row c =
       let found = Contains-from_map para_of (enumerate_from 1 ps) (spelled file.Para row)
-      (Contains-permutation (map (spelled file.Para) rows.paras) (paras_of ps) (spelled file.Para row) shown.paragraphs (Contains-map (spelled file.Para) rows.paras row c)) in
+      (Contains-permutation _ _ (spelled file.Para row) shown.paragraphs (Contains-map (spelled file.Para) rows.paras row c)) in
       (found.0.0, found.0.1, found.1, found.2)
 
   pub para_row : (p : Paragraph) → Contains ps p → (row : Para) × Contains rows.paras row × (row.id ≡ pos p.id) × (chars row.print ≡ print_of p) × (chars row.tab ≡ p.table)
   para_row p c =
       let numbered = Contains-enumerate 1 ps p c in
       let found = Contains-from_map (spelled file.Para) rows.paras (para_of (numbered.0, p))
-      (Contains-permutation (paras_of ps) (map (spelled file.Para) rows.paras) (para_of (numbered.0, p)) (IsPermutation-sym (map (spelled file.Para) rows.paras) (paras_of ps) shown.paragraphs)
+      (Contains-permutation _ _ (para_of (numbered.0, p)) (IsPermutation-sym _ _ shown.paragraphs)
       (Contains-map para_of (enumerate_from 1 ps) (numbered.0, p) numbered.1)) in
       (found.0, found.1, ap (λ (r : Para). r.id) found.2, ap (λ (r : Para). r.print) found.2, ap (λ (r : Para). r.tab) found.2)
 
@@ -147,7 +145,7 @@ module _ (rows : FileRows) (book : Book) (shown : Shows rows book) where
   mark_part : (row : MarkRow) → Contains rows.marks row → (mark : Mark) × Contains book.marks mark × (mark_row_of mark ≡ spelled file.Mark row)
   mark_part row c =
       Contains-from_map mark_row_of book.marks (spelled file.Mark row)
-      (Contains-permutation (map (spelled file.Mark) rows.marks) (map mark_row_of book.marks) (spelled file.Mark row) shown.marks (Contains-map (spelled file.Mark) rows.marks row c))
+      (Contains-permutation _ _ (spelled file.Mark row) shown.marks (Contains-map (spelled file.Mark) rows.marks row c))
 
   mark-keys : IsPermutation (map (λ row. row.id) rows.marks) (map pos (range_with_len 1 (length book.marks)))
   mark-keys =
@@ -155,7 +153,7 @@ module _ (rows : FileRows) (book : Book) (shown : Shows rows book) where
       map-map (λ (row : MarkRow). row.id) mark_row_of book.marks ∙ (sym (map-map pos (λ (m : Mark). m.id) book.marks) ∙ ap (map pos) shown.sound.numbers) in
       subst (λ (zs : List ℤ). IsPermutation zs (map pos (range_with_len 1 (length book.marks)))) (map-map (λ (row : MarkRow). row.id) (spelled file.Mark) rows.marks)
       (subst (λ (zs : List ℤ). IsPermutation (map (λ (row : MarkRow). row.id) (map (spelled file.Mark) rows.marks)) zs) ids
-      (IsPermutation-map (λ (row : MarkRow). row.id) (map (spelled file.Mark) rows.marks) (map mark_row_of book.marks) shown.marks))
+      (IsPermutation-map (λ (row : MarkRow). row.id) _ _ shown.marks))
 
   sound-mark_row : (row : MarkRow) → Contains rows.marks row → IsSoundMarkRow rows.paras rows.marks row
   sound-mark_row row c =

@@ -1,5 +1,5 @@
 -- Rows that show a book have no damage.
-use Rattle.std.proofs.Common.{◌≡◌, ℕ, ◌<◌, ℤ, pos, ◌≤ℤ◌, Bool, true, false, List, map, length, Some, Contains, refl, sym, ap, ap₂, subst, ◌∙◌, arith, inl, inr, IsPermutation, Ordering, Less, Equal, Greater, IsUtf8, option_map, slice_get, chars}
+use Rattle.std.proofs.Common.{◌≡◌, ℕ, ◌<◌, ℤ, pos, ◌≤ℤ◌, Bool, true, false, List, map, length, Some, Contains, refl, sym, ap, ap₂, subst, ◌∙◌, arith, inl, inr, IsPermutation, Ordering, Less, IsUtf8, option_map, slice_get, chars}
 use Rattle.std.specs.Cmp.Lexicographic.{slice_cmp}
 use Rattle.std.specs.Ordering.{eq_by_cmp, is_eq, nat_cmp, ordering_reverse}
 use Rattle.std.proofs.lemmas.Cmp.{nat_list_cmp_total}
@@ -26,17 +26,13 @@ use Rattle.desk_model.specs.Name.{IsTableName}
 use Rattle.desk_model.proofs.Lists.Items.{Contains-there}
 use Rattle.desk_model.proofs.Lists.Members.{Contains-map}
 use Rattle.desk_model.proofs.Lists.RowNumbers.{Contains-from_map, pos_le}
+use Rattle.std.specs.Cmp.{tied_itself}
 
 -- ---- names
 
 is_eq-reverse : (o : Ordering) → is_eq (ordering_reverse o) ≡ is_eq o
 is_eq-reverse Less = refl
 is_eq-reverse o = refl
-
-is_eq-self : (o : Ordering) → o ≡ ordering_reverse o → is_eq o ≡ true
-is_eq-self Less e = absurd (cc)
-is_eq-self Equal e = refl
-is_eq-self Greater e = absurd (cc)
 
 abbrev same_name : List ℕ → List ℕ → Bool
 same_name = eq_by_cmp (slice_cmp nat_cmp)
@@ -45,7 +41,7 @@ same_name-flips : (x y : List ℕ) → same_name x y ≡ same_name y x
 same_name-flips x y = ap is_eq (nat_list_cmp_total.antisymm x y) ∙ is_eq-reverse (slice_cmp nat_cmp y x)
 
 same_name-self : (x : List ℕ) → same_name x x ≡ true
-same_name-self x = is_eq-self (slice_cmp nat_cmp x x) (nat_list_cmp_total.antisymm x x)
+same_name-self x = ap is_eq (tied_itself nat_list_cmp_total x)
 
 -- texts in UTF-8 are the same where their characters are
 pub same_bytes : (a b : List ℕ) → IsUtf8 a → IsUtf8 b → chars a ≡ chars b → a ≡ b
@@ -85,13 +81,13 @@ module _ (rows : FileRows) (book : Book) (shown : Shows rows book) where
   tab_part : (row : Tab) → Contains rows.tabs row → (entry : List ℕ × List ℕ) × Contains book.tables entry × (tab_of entry ≡ spelled file.Tab row)
   tab_part row c =
       Contains-from_map tab_of book.tables (spelled file.Tab row)
-      (Contains-permutation (map (spelled file.Tab) rows.tabs) (map tab_of book.tables) (spelled file.Tab row) shown.tables (Contains-map (spelled file.Tab) rows.tabs row c))
+      (Contains-permutation _ _ (spelled file.Tab row) shown.tables (Contains-map (spelled file.Tab) rows.tabs row c))
 
   -- the row of a table
   pub tab_row : (name text : List ℕ) → Contains book.tables (name, text) → (row : Tab) × Contains rows.tabs row × (chars row.name ≡ name) × (row.body ≡ text)
   tab_row name text c =
       let found = Contains-from_map (spelled file.Tab) rows.tabs (tab_of (name, text))
-      (Contains-permutation (map tab_of book.tables) (map (spelled file.Tab) rows.tabs) (tab_of (name, text)) (IsPermutation-sym (map (spelled file.Tab) rows.tabs) (map tab_of book.tables) shown.tables)
+      (Contains-permutation _ _ (tab_of (name, text)) (IsPermutation-sym _ _ shown.tables)
       (Contains-map tab_of book.tables (name, text) c)) in
       (found.0, found.1, ap (λ (t : Tab). t.name) found.2, ap (λ (t : Tab). t.body) found.2)
 
@@ -101,17 +97,16 @@ module _ (rows : FileRows) (book : Book) (shown : Shows rows book) where
 
     count-sorted : length sorted ≡ length book.tables
     count-sorted =
-        let two = length_permutation (map (spelled file.Tab) rows.tabs) (map tab_of book.tables) shown.tables in
-        omega (arith, length_permutation rows.tabs sorted moved, two, length-map rows.tabs (spelled file.Tab), length-map book.tables tab_of)
+        let two = length_permutation _ _ shown.tables in
+        omega (arith, length_permutation _ _ moved, two, length-map rows.tabs (spelled file.Tab), length-map book.tables tab_of)
 
     names-moved : IsPermutation (map (λ e. e.0) book.tables) (names sorted)
     names-moved =
-        IsPermutation-trans (map (λ e. e.0) book.tables) (names rows.tabs) (names sorted)
+        IsPermutation-trans _ _ _
         (subst (λ (ns : List (List ℕ)). IsPermutation (map (λ e. e.0) book.tables) ns) (map-map (λ (t : Tab). t.name) (spelled file.Tab) rows.tabs)
         (subst (λ (ns : List (List ℕ)). IsPermutation ns (map (λ (t : Tab). t.name) (map (spelled file.Tab) rows.tabs))) (map-map (λ (t : Tab). t.name) tab_of book.tables)
-        (IsPermutation-map (λ (t : Tab). t.name) (map tab_of book.tables) (map (spelled file.Tab) rows.tabs)
-        (IsPermutation-sym (map (spelled file.Tab) rows.tabs) (map tab_of book.tables) shown.tables))))
-        (IsPermutation-map (λ (t : Tab). chars t.name) rows.tabs sorted moved)
+        (IsPermutation-map (λ (t : Tab). t.name) _ _ (IsPermutation-sym _ _ shown.tables))))
+        (IsPermutation-map (λ (t : Tab). chars t.name) _ _ moved)
 
     apart-names : (i j : ℕ) (one other : Tab) → i < j → slice_get sorted i ≡ Some one → slice_get sorted j ≡ Some other → ¬ (one.name ≡ other.name)
     apart-names i j one other less at_one at_other same =
@@ -129,15 +124,14 @@ module _ (rows : FileRows) (book : Book) (shown : Shows rows book) where
 
     sound-tab_row : (index : ℕ) (row : Tab) → slice_get sorted index ≡ Some row → IsSoundTabRow sorted index row
     sound-tab_row index row at =
-        let among = Contains-permutation sorted rows.tabs row (IsPermutation-sym rows.tabs sorted moved) (Contains-there sorted index row at) in
+        let among = Contains-permutation _ _ row (IsPermutation-sym _ _ moved) (Contains-there sorted index row at) in
         let part = tab_part row among in
         let sound = All-contains IsSoundTable book.tables part.0 shown.sound.tables part.1 in
-        let within = slice_get_within sorted index row at in
         record {
           named = subst IsTableName (ap (λ (t : Tab). t.name) part.2) sound.named;
           meaning = sound.meaning;
           means = subst (λ text. Means text sound.meaning) (ap (λ (t : Tab). t.body) part.2) sound.means;
-          room = omega (arith, within, count-sorted, shown.sound.few_tables);
+          room = omega (arith, slice_get_within sorted index row at, count-sorted, shown.sound.few_tables);
           new = λ before other less at_other same. apart-names before index other row less at_other at same;
         }
 

@@ -5,7 +5,7 @@ use Rattle.std.specs.List.{All, enumerate_from, flat_map, range_with_len}
 use Rattle.std.specs.List.Sorted.{IsPermutation, IsStrictlySortedBy}
 use Rattle.std.specs.Cmp.{signed_Decides}
 use Rattle.std.specs.Map.{lookup}
-use Rattle.std.proofs.lemmas.List.{length-map, map-append, map-id}
+use Rattle.std.proofs.lemmas.List.{length-map, map-append}
 use Rattle.std.proofs.lemmas.List.Elements.{All-contains, All-contains_itself, All-cons, All-filter, All-head, All-map, All-nil, All-tail, All-weaker, filter_passes}
 use Rattle.std.proofs.lemmas.List.FromFn.{length-range_with_len}
 use Rattle.std.proofs.lemmas.List.Sorted.{All-permutation, Contains-permutation, IsPermutation-append, IsPermutation-map, IsPermutation-refl, IsPermutation-sym, IsPermutation-trans, length_permutation}
@@ -32,12 +32,11 @@ use Rattle.desk_model.proofs.Rows.ParaRows.{paras_of}
 use Rattle.desk_model.specs.Sound.{IsSound, IsSoundMark, IsSoundParagraph, IsSoundTable}
 use Rattle.desk_model.proofs.Rows.BookRows.{name_low}
 use Rattle.desk_model.proofs.Lists.Items.{Contains-there}
-use Rattle.desk_model.proofs.Lists.NumberedRows.{AreOnce, AreUpTo, all-numbers, few-rows, in_order, keys-numbers, number-of, once-keys, once-one, once-permutation, pigeonholes}
+use Rattle.desk_model.proofs.Lists.NumberedRows.{AreUpTo, all-numbers, few-rows, in_order, keys-numbers, number-of, once-keys, once-permutation, pigeonholes}
 use Rattle.desk_model.proofs.Lists.Members.{Contains-behind, Contains-cases, Contains-here, Contains-map, Contains-none}
 use Rattle.desk_model.proofs.Lists.Numbering.{IsDistinct-numbers}
-use Rattle.desk_model.proofs.Rows.OneBook.{number, to_paragraph}
+use Rattle.desk_model.proofs.Rows.OneBook.{number, to_paragraph, numbers_back}
 use Rattle.desk_model.proofs.Books.ParagraphLists.{AreApart, found-own, ids_of}
-use Rattle.desk_model.proofs.Lists.Permutations.{pull_back}
 use Rattle.desk_model.proofs.Lists.RowGroups.{all-grouped, group}
 use Rattle.desk_model.proofs.Lists.RowNumbers.{Contains-from_map, key-number, number-key, numbers, pos_le}
 use Rattle.desk_model.proofs.Rows.RowParts.{characters-of, entry-row, flag-back, history-rows, mark-back, mark_of_row, number-back, sound-history, style-back}
@@ -45,7 +44,7 @@ use Rattle.desk_model.proofs.Rows.SortedTabs.{names-strict}
 use Rattle.desk_model.proofs.Lists.Stable.{at_least, le_from}
 use Rattle.desk_model.proofs.Lists.TableEntries.{text-there}
 use Rattle.desk_model.proofs.Damage.UndamagedEntries.{entry-para, sound-entries}
-use Rattle.desk_model.proofs.Damage.UndamagedRows.{each-cached, few-tabs, names-apart, sorted_tabs, sound-book, sound-cache, sound-mark, sound-para, sound-tab, tabs-moved, tabs-rise}
+use Rattle.desk_model.proofs.Damage.UndamagedRows.{each-cached, few-tabs, names-apart, sorted_tabs, sound-book, sound-cache, sound-mark, sound-para, sound-tab, tabs-moved, tabs-rise, by_place, id-number, ids-numbered}
 
 -- ---- lists
 
@@ -58,9 +57,6 @@ plain-name : (bytes : List ℕ) → IsUtf8 bytes → IsTableName (chars bytes) �
 plain-name bytes utf8 named =
     sym (encodes-chars bytes utf8)
     ∙ encodes-IsAscii (chars bytes) (IsAscii-from_all (chars bytes) (All-weaker (λ c. is_name_character c ≡ true) (λ c. c < 128) name_low (chars bytes) named.characters))
-
-numbers-back : (n count : ℕ) → map number (numbers n count) ≡ range_with_len n count
-numbers-back n count = map-map number pos (range_with_len n count) ∙ map-id (range_with_len n count)
 
 module _ (rows : FileRows) (texts : AreTexts rows) (its : HasItsTables rows) (none : (table : FileTable) (id : ℤ) → ¬ IsDamaged rows table id) where
   abbrev pub entries : List NamedCorr
@@ -99,7 +95,7 @@ module _ (rows : FileRows) (texts : AreTexts rows) (its : HasItsTables rows) (no
   tables = map table_for tabs
 
   tab-text : (t : Tab) → Contains tabs t → HasUtf8Texts file.Tab t
-  tab-text t c = All-contains (HasUtf8Texts file.Tab) rows.tabs t texts.tabs (Contains-permutation tabs rows.tabs t (IsPermutation-sym rows.tabs tabs (tabs-moved rows.tabs no-tab)) c)
+  tab-text t c = All-contains (HasUtf8Texts file.Tab) rows.tabs t texts.tabs (Contains-permutation _ _ t (IsPermutation-sym _ _ (tabs-moved rows.tabs no-tab)) c)
 
   sound-tables : All IsSoundTable tables
   sound-tables =
@@ -119,14 +115,14 @@ module _ (rows : FileRows) (texts : AreTexts rows) (its : HasItsTables rows) (no
   pub shown-tables : IsPermutation (map (spelled file.Tab) rows.tabs) (map tab_of tables)
   shown-tables =
       subst (IsPermutation (map (spelled file.Tab) rows.tabs)) (sym (map-map tab_of table_for tabs))
-      (IsPermutation-map (spelled file.Tab) rows.tabs tabs (tabs-moved rows.tabs no-tab))
+      (IsPermutation-map (spelled file.Tab) _ _ (tabs-moved rows.tabs no-tab))
 
   -- the text of a table that a row names
   pub text-found : (para : Para) (meaning : Meaning) → (table : IsItsTable rows.tabs para meaning) → lookup (pointwise nat_eq (chars para.tab)) tables ≡ Some table.table.body
   text-found para meaning table =
       text-there (chars para.tab) table.table.body tables names-sorted
       (subst (λ name. Contains tables (chars name, table.table.body)) table.named
-      (Contains-map table_for tabs table.table (Contains-permutation rows.tabs tabs table.table (tabs-moved rows.tabs no-tab) table.there)))
+      (Contains-map table_for tabs table.table (Contains-permutation _ _ table.table (tabs-moved rows.tabs no-tab) table.there)))
 
   -- ---- paragraphs
 
@@ -143,49 +139,13 @@ module _ (rows : FileRows) (texts : AreTexts rows) (its : HasItsTables rows) (no
   place_of para = para.place
 
   para-keys : IsPermutation (map id_of rows.paras) (numbers 1 count)
-  para-keys = keys-numbers id_of most_paragraphs rows.paras (λ para c. (sound-row para c).number)
+  para-keys = ids-numbered rows.tabs rows.paras (λ id. none file.Para id)
 
   pub key-of : (para : Para) → Contains rows.paras para → (k : ℕ) × (para.id ≡ pos k) × (1 ≤ k) × (k ≤ most_paragraphs)
-  key-of = number-of id_of most_paragraphs rows.paras (λ para c. (sound-row para c).number)
-
-  -- two rows with one place have one id
-  same-id : (one other : Para) → Contains rows.paras one → Contains rows.paras other → one.place ≡ other.place → one.id ≡ other.id
-  same-id one other in_one in_other same =
-      let a = key-of one in_one in
-      let b = key-of other in_other in
-      let to : pos a.0 ≤ℤ pos b.0 = subst (λ (z : ℤ). z ≤ℤ pos b.0) a.1 (subst (λ (z : ℤ). one.id ≤ℤ z) b.1 ((sound-row one in_one).own other in_other (sym same))) in
-      let back : pos b.0 ≤ℤ pos a.0 = subst (λ (z : ℤ). z ≤ℤ pos a.0) b.1 (subst (λ (z : ℤ). other.id ≤ℤ z) a.1 ((sound-row other in_other).own one in_one same)) in
-      let up = le_from a.0 b.0 to in
-      let down = le_from b.0 a.0 back in
-      a.1 ∙ (ap pos (let equal : a.0 ≡ b.0 = omega (arith, up, down) in equal) ∙ sym b.1)
-
-  once-places : AreOnce (map place_of rows.paras)
-  once-places z others moved c =
-      let back = pull_back place_of (map place_of rows.paras) (z ∷ others) moved rows.paras refl in
-      by back.0 back.1 back.2
-    where
-      by : (to : List Para) → IsPermutation rows.paras to → z ∷ others ≡ map place_of to → ⊥
-      by [] same is = absurd (cc)
-      by (para ∷ to) same is =
-          let first : z ≡ para.place = cc in
-          let rest : others ≡ map place_of to = cc in
-          let twin = Contains-from_map place_of to z (subst (λ (zs : List ℤ). Contains zs z) rest c) in
-          let back = IsPermutation-sym rows.paras (para ∷ to) same in
-          let there = Contains-permutation (para ∷ to) rows.paras para back (Contains-here para to) in
-          let other = Contains-permutation (para ∷ to) rows.paras twin.0 back (Contains-behind para twin.0 to twin.1) in
-          once-one id_of rows.paras to para twin.0 (sound-row para there).number.once same twin.1 (same-id twin.0 para other there (twin.2 ∙ first))
-
-  places-within : AreUpTo count (map place_of rows.paras)
-  places-within z c =
-      let found = Contains-from_map place_of rows.paras z c in
-      let within = (sound-row found.0 found.1).place in
-      let k = at_least 1 found.0.place within.0 in
-      (k.0, sym found.2 ∙ k.1, k.2, le_from k.0 count (subst (λ (y : ℤ). y ≤ℤ pos count) k.1 within.1))
+  key-of = id-number rows.tabs rows.paras (λ id. none file.Para id)
 
   abbrev own_places : (sorted : List Para) × IsPermutation rows.paras sorted × (numbers 1 count ≡ map place_of sorted)
-  own_places =
-      in_order place_of rows.paras count
-      ((pigeonholes count (map place_of rows.paras) once-places places-within).1 (length-map rows.paras place_of))
+  own_places = by_place rows.tabs rows.paras (λ id. none file.Para id)
 
   -- ---- histories
 
@@ -206,7 +166,7 @@ module _ (rows : FileRows) (texts : AreTexts rows) (its : HasItsTables rows) (no
     paras = by_place.0
 
     count-paras : length paras ≡ count
-    count-paras = length_permutation rows.paras paras by_place.1
+    count-paras = length_permutation _ _ by_place.1
 
     abbrev pub paragraph_for : (para : Para) → Contains rows.paras para → Paragraph
     paragraph_for para c = to_paragraph (spelled file.Para para) (history_of (history_for para c).sorted)
@@ -216,7 +176,7 @@ module _ (rows : FileRows) (texts : AreTexts rows) (its : HasItsTables rows) (no
     made (p ∷ ps) all = paragraph_for p (All-head (Contains rows.paras) p ps all) ∷ made ps (All-tail (Contains rows.paras) p ps all)
 
     pub all-in : All (Contains rows.paras) paras
-    all-in = All-permutation (Contains rows.paras) rows.paras paras by_place.1 (All-contains_itself rows.paras)
+    all-in = All-permutation (Contains rows.paras) _ _ by_place.1 (All-contains_itself rows.paras)
 
     abbrev pub paragraphs : List Paragraph
     paragraphs = made paras all-in
@@ -237,7 +197,7 @@ module _ (rows : FileRows) (texts : AreTexts rows) (its : HasItsTables rows) (no
     paragraph-of_row : (q : Para) → Contains rows.paras q
         → (p : Paragraph) × Contains paragraphs p × (p.id ≡ number q.id) × (print_of p ≡ chars q.print) × (p.table ≡ chars q.tab)
     paragraph-of_row q c =
-        let its_own = made-has paras all-in q (Contains-permutation rows.paras paras q by_place.1 c) in
+        let its_own = made-has paras all-in q (Contains-permutation _ _ q by_place.1 c) in
         (paragraph_for q its_own.0, its_own.1, refl, (history_for q its_own.0).print, refl)
 
     -- ---- their ids
@@ -251,24 +211,20 @@ module _ (rows : FileRows) (texts : AreTexts rows) (its : HasItsTables rows) (no
 
     paras-keys : IsPermutation (map id_of paras) (numbers 1 count)
     paras-keys =
-        IsPermutation-trans (map id_of paras) (map id_of rows.paras) (numbers 1 count)
-        (IsPermutation-map id_of paras rows.paras (IsPermutation-sym rows.paras paras by_place.1)) para-keys
+        IsPermutation-trans _ _ _ (IsPermutation-map id_of _ _ (IsPermutation-sym _ _ by_place.1)) para-keys
 
     ids-numbers : IsPermutation (ids_of paragraphs) (range_with_len 1 count)
     ids-numbers =
         subst (λ ids. IsPermutation ids (range_with_len 1 count)) (sym (made-ids paras all-in))
-        (subst (IsPermutation (map number (map id_of paras))) (numbers-back 1 count)
-        (IsPermutation-map number (map id_of paras) (numbers 1 count) paras-keys))
+        (subst (IsPermutation (map number (map id_of paras))) (numbers_back (range_with_len 1 count)) (IsPermutation-map number _ _ paras-keys))
 
     count-made : length paragraphs ≡ count
     count-made =
-        let three = length-map paragraphs (λ (p : Paragraph). p.id) in
-        omega (arith, length_permutation (ids_of paragraphs) (range_with_len 1 count) ids-numbers, length-range_with_len 1 count, three)
+        omega (arith, length_permutation _ _ ids-numbers, length-range_with_len 1 count, length-map paragraphs (λ (p : Paragraph). p.id))
 
     ids : IsPermutation (range_with_len 1 (length paragraphs)) (ids_of paragraphs)
     ids =
-        subst (λ n. IsPermutation (range_with_len 1 n) (ids_of paragraphs)) (sym count-made)
-        (IsPermutation-sym (ids_of paragraphs) (range_with_len 1 count) ids-numbers)
+        subst (λ n. IsPermutation (range_with_len 1 n) (ids_of paragraphs)) (sym count-made) (IsPermutation-sym _ _ ids-numbers)
 
     -- ---- their rows
 
@@ -298,7 +254,7 @@ module _ (rows : FileRows) (texts : AreTexts rows) (its : HasItsTables rows) (no
     shown-paragraphs =
         let places : map place_of paras ≡ numbers 1 (length paras) = sym by_place.2 ∙ ap (numbers 1) (sym count-paras) in
         subst (IsPermutation (map (spelled file.Para) rows.paras)) (sym (rows-made 1 paras all-in places))
-        (IsPermutation-map (spelled file.Para) rows.paras paras by_place.1)
+        (IsPermutation-map (spelled file.Para) _ _ by_place.1)
 
     -- ---- the rows of their histories
 
@@ -310,7 +266,7 @@ module _ (rows : FileRows) (texts : AreTexts rows) (its : HasItsTables rows) (no
         let h = history_for para c in
         let own = group of_para id_of entries para in
         let test = λ (e : NamedCorr). int_eq e.entry.para para.id in
-        let among = Contains-permutation h.sorted own row (IsPermutation-sym own h.sorted h.its_own) (Contains-there h.sorted i row at) in
+        let among = Contains-permutation _ _ row (IsPermutation-sym _ _ h.its_own) (Contains-there h.sorted i row at) in
         (signed_Decides row.entry.para para.id).0 (All-contains (λ e. test e ≡ true) (filter test entries) row (filter_passes test entries) among)
 
     entry-rows-made : (para : Para) (c : Contains rows.paras para) → entry_rows_of (paragraph_for para c) ≡ map (spelled file.NamedCorr) (history_for para c).sorted
@@ -327,25 +283,23 @@ module _ (rows : FileRows) (texts : AreTexts rows) (its : HasItsTables rows) (no
     groups-made [] all = IsPermutation-refl []
     groups-made (p ∷ ps) all =
         let c = All-head (Contains rows.paras) p ps all in
-        let tail = All-tail (Contains rows.paras) p ps all in
         let h = history_for p c in
         let own = group of_para id_of entries p in
         let others = flat_map (group of_para id_of entries) ps in
         subst (λ xs. IsPermutation xs (flat_map entry_rows_of (made (p ∷ ps) all))) (sym (map-append (spelled file.NamedCorr) own others))
-        (IsPermutation-append (map (spelled file.NamedCorr) own) (entry_rows_of (paragraph_for p c)) (map (spelled file.NamedCorr) others) (flat_map entry_rows_of (made ps tail))
-        (subst (IsPermutation (map (spelled file.NamedCorr) own)) (sym (entry-rows-made p c)) (IsPermutation-map (spelled file.NamedCorr) own h.sorted h.its_own))
-        (groups-made ps tail))
+        (IsPermutation-append _ _ _ _
+        (subst (IsPermutation (map (spelled file.NamedCorr) own)) (sym (entry-rows-made p c)) (IsPermutation-map (spelled file.NamedCorr) _ _ h.its_own))
+        (groups-made ps (All-tail (Contains rows.paras) p ps all)))
 
     shown-entries : IsPermutation (map (spelled file.NamedCorr) entries) (flat_map entry_rows_of paragraphs)
     shown-entries =
         let groups = flat_map (group of_para id_of entries) paras in
-        let once = once-permutation (map id_of rows.paras) (map id_of paras) (IsPermutation-map id_of rows.paras paras by_place.1)
+        let once = once-permutation (map id_of rows.paras) (map id_of paras) (IsPermutation-map id_of _ _ by_place.1)
         (once-keys id_of rows.paras (λ p c. (sound-row p c).number.once)) in
         let grouped = all-grouped of_para id_of entries paras once (λ row c.
         let para = entry-para rows.paras entries no-entries row c in
-        subst (Contains (map id_of paras)) para.2 (Contains-map id_of paras para.0 (Contains-permutation rows.paras paras para.0 by_place.1 para.1))) in
-        IsPermutation-trans (map (spelled file.NamedCorr) entries) (map (spelled file.NamedCorr) groups) (flat_map entry_rows_of paragraphs)
-        (IsPermutation-map (spelled file.NamedCorr) entries groups grouped) (groups-made paras all-in)
+        subst (Contains (map id_of paras)) para.2 (Contains-map id_of paras para.0 (Contains-permutation _ _ para.0 by_place.1 para.1))) in
+        IsPermutation-trans _ _ _ (IsPermutation-map (spelled file.NamedCorr) _ _ grouped) (groups-made paras all-in)
 
     -- ---- marks
 
@@ -378,23 +332,23 @@ module _ (rows : FileRows) (texts : AreTexts rows) (its : HasItsTables rows) (no
         mark-back rows.paras rows.marks m id para (stop-low m c) s
 
     in-marks : (m : MarkRow) → Contains by_id.0 m → Contains rows.marks m
-    in-marks m c = Contains-permutation by_id.0 rows.marks m (IsPermutation-sym rows.marks by_id.0 by_id.1) c
+    in-marks m c = Contains-permutation _ _ m (IsPermutation-sym _ _ by_id.1) c
 
     pub shown-marks : IsPermutation (map (spelled file.Mark) rows.marks) (map mark_row_of marks)
     shown-marks =
         subst (IsPermutation (map (spelled file.Mark) rows.marks))
         (sym (map-map mark_row_of mark_of_row by_id.0 ∙ map-same (λ m. mark_row_of (mark_of_row m)) (spelled file.Mark) by_id.0 (λ m c. mark-row-made m (in-marks m c))))
-        (IsPermutation-map (spelled file.Mark) rows.marks by_id.0 by_id.1)
+        (IsPermutation-map (spelled file.Mark) _ _ by_id.1)
 
     count-marks : length marks ≡ length rows.marks
-    count-marks = omega (arith, length_permutation rows.marks by_id.0 by_id.1, length-map by_id.0 mark_of_row)
+    count-marks = omega (arith, length_permutation _ _ by_id.1, length-map by_id.0 mark_of_row)
 
     pub mark-numbers : map (λ mark. mark.id) marks ≡ range_with_len 1 (length marks)
     mark-numbers =
         map-map (λ (mark : Mark). mark.id) mark_of_row by_id.0
         ∙ (sym (map-map number mark_id by_id.0)
         ∙ (ap (map number) (sym by_id.2)
-        ∙ (numbers-back 1 (length rows.marks) ∙ ap (range_with_len 1) (sym count-marks))))
+        ∙ (numbers_back (range_with_len 1 (length rows.marks)) ∙ ap (range_with_len 1) (sym count-marks))))
 
     -- ---- the book
 
@@ -408,7 +362,7 @@ module _ (rows : FileRows) (texts : AreTexts rows) (its : HasItsTables rows) (no
         let own = group of_para id_of entries para in
         let test = λ (e : NamedCorr). int_eq e.entry.para para.id in
         let in_utf8 = All-contains (HasUtf8Texts file.Para) rows.paras para texts.paras c in
-        let entry_texts = All-permutation (HasUtf8Texts file.NamedCorr) own h.sorted h.its_own (All-filter test (HasUtf8Texts file.NamedCorr) entries texts.entries) in
+        let entry_texts = All-permutation (HasUtf8Texts file.NamedCorr) _ _ h.its_own (All-filter test (HasUtf8Texts file.NamedCorr) entries texts.entries) in
         record {
           clean = record { characters = characters-of para.original in_utf8.1; unbarred = s.original.1 };
           history = sound-history (chars para.original) h.sorted s.original.0 entry_texts h.each;
@@ -441,8 +395,7 @@ module _ (rows : FileRows) (texts : AreTexts rows) (its : HasItsTables rows) (no
           found = ap (paragraph_of book) named ∙ found-own paragraphs p.0 apart p.1;
           ordered = le_from (number m.start) (number m.stop)
               (subst (λ (z : ℤ). z ≤ℤ pos (number m.stop)) (sym start) (subst (λ (z : ℤ). m.start ≤ℤ z) (sym stop) s.span.ordered));
-          within = le_from (number m.stop) (length (print_of p.0))
-              (subst (λ (z : ℤ). z ≤ℤ pos (length (print_of p.0))) (sym stop)
+          within = le_from (number m.stop) (length (print_of p.0)) (subst (λ (z : ℤ). z ≤ℤ pos (length (print_of p.0))) (sym stop)
               (subst (λ (print : List ℕ). m.stop ≤ℤ pos (length print)) (sym p.3) s.span.stop));
           clean = record { characters = characters-of m.note (All-contains (HasUtf8Texts file.Mark) rows.marks m texts.marks c); unbarred = s.note };
           short = s.short;
@@ -450,13 +403,11 @@ module _ (rows : FileRows) (texts : AreTexts rows) (its : HasItsTables rows) (no
 
     is-sound : IsSound book
     is-sound =
-        let names_count = length-map tabs table_for in
-        let few = few-tabs rows.tabs no-tab in
         let few_rows = few-rows id_of most_paragraphs rows.paras (λ para c. (sound-row para c).number) in
         let few_marks_rows = few-rows mark_id most_marks rows.marks (λ m c. (mark-row m c).number) in
         record {
           version = few-versions;
-          few_tables = omega (arith, names_count, few);
+          few_tables = omega (arith, length-map tabs table_for, few-tabs rows.tabs no-tab);
           few_paragraphs = omega (arith, count-made, few_rows);
           few_marks = omega (arith, count-marks, few_marks_rows);
           names = names-sorted;
@@ -466,7 +417,7 @@ module _ (rows : FileRows) (texts : AreTexts rows) (its : HasItsTables rows) (no
           numbers = mark-numbers;
           marks = All-map (IsSoundMark book) mark_of_row by_id.0
               (All-weaker (Contains rows.marks) (λ m. IsSoundMark book (mark_of_row m)) sound-mark_of_row by_id.0
-              (All-permutation (Contains rows.marks) rows.marks by_id.0 by_id.1 (All-contains_itself rows.marks)));
+              (All-permutation (Contains rows.marks) _ _ by_id.1 (All-contains_itself rows.marks)));
         }
 
     -- ---- braille
@@ -513,14 +464,13 @@ module _ (rows : FileRows) (texts : AreTexts rows) (its : HasItsTables rows) (no
           let para = number-key id_of rows.paras count para-keys k low high in
           let row = each-cached rows.tabs rows.paras caches no_damage para.0 para.1 in
           subst (Contains (map cache_id caches)) (row.2 ∙ para.2) (Contains-map cache_id caches row.0 row.1)) in
-          let few = holes.0 in
-          holes.1 (omega (arith, few, all))
+          holes.1 (omega (arith, holes.0, all))
 
       are-cached : AreCached book caches
       are-cached = record {
-        one_each = IsPermutation-trans (map cache_id caches) (numbers 1 count) (map (λ (p : Paragraph). pos p.id) paragraphs) caches-numbers
+        one_each = IsPermutation-trans _ _ _ caches-numbers
             (subst (IsPermutation (numbers 1 count)) (map-map pos (λ (p : Paragraph). p.id) paragraphs)
-            (IsPermutation-map pos (range_with_len 1 count) (ids_of paragraphs) (IsPermutation-sym (ids_of paragraphs) (range_with_len 1 count) ids-numbers)));
+            (IsPermutation-map pos _ _ (IsPermutation-sym _ _ ids-numbers)));
         cells = All-weaker (Contains caches) (IsCached book) is-cached caches (All-contains_itself caches);
       }
 

@@ -1,9 +1,9 @@
 -- Rows of histories without damage are sound, in the order of their numbers.
-use Rattle.std.proofs.Common.{◌≡◌, ◌⊎◌, ℕ, suc, ◌+◌, ℤ, pos, ◌+ℤ◌, List, [], ◌∷◌, map, filter, length, take, Option, Some, Contains, refl, sym, ap, subst, ◌∙◌, arith, inl, inr, int_eq, nat_cmp, option_map, slice_get, chars}
+use Rattle.std.proofs.Common.{◌≡◌, ◌⊎◌, ℕ, ◌+◌, ℤ, pos, List, [], map, filter, length, take, Option, Some, Contains, refl, sym, ap, subst, ◌∙◌, inl, inr, int_eq, nat_cmp, option_map, slice_get, chars}
 use Rattle.std.specs.List.{range_with_len}
 use Rattle.std.specs.List.Sorted.{IsPermutation, IsStrictlySortedBy}
 use Rattle.std.proofs.lemmas.Cmp.{nat_cmp_total}
-use Rattle.std.proofs.lemmas.List.{length-map, map-id}
+use Rattle.std.proofs.lemmas.List.{length-map}
 use Rattle.std.proofs.lemmas.List.Sorted.{Contains-permutation, IsPermutation-map, IsPermutation-sym, length_permutation}
 use Rattle.std.proofs.lemmas.Simd.{map-map}
 use Rattle.desk_model.specs.Book.{Entry, Replacement}
@@ -11,24 +11,18 @@ use Rattle.desk_model.specs.Damage.{HasPara, HasSoundEntries, IsDamagedEntries, 
 use Rattle.desk_model.specs.Limits.{most_entries, most_print}
 use Rattle.desk_model.specs.Print.{corrected_print, newest}
 use Rattle.desk_parts.specs.Rows.{NamedCorr, Para}
-use Rattle.desk_model.proofs.Commands.Accepted.{IsProofreaderName-stable}
-use Rattle.desk_model.proofs.Lists.Decisions.{at_most, below, given}
+use Rattle.desk_model.proofs.Lists.Decisions.{at_most, below, given, IsDecidable, decisions}
 use Rattle.desk_model.proofs.Lists.NumberedRows.{AreOnce, AreUpTo, in_order, once-keys, pigeonholes}
-use Rattle.desk_model.proofs.Rows.OneBook.{number, range_sorted, sorted_same}
-use Rattle.desk_model.proofs.Lists.RowNumbers.{Contains-from_map, key-number, key-once, numbers, pos_le}
-use Rattle.desk_model.proofs.Lists.Stable.{among, at_least, is_le, is_unbarred, is_within, le_from, lifted, same_int, same_text, stable, stable_from}
+use Rattle.desk_model.proofs.Rows.OneBook.{number, range_sorted, sorted_same, numbers_back}
+use Rattle.desk_model.proofs.Lists.RowNumbers.{Contains-from_map, key-number, key-once, numbers, pos_le, keys-counted}
+use Rattle.desk_model.proofs.Lists.Stable.{among, at_least, is_le, is_unbarred, is_within, le_from, lifted, same_int, same_text, stable, stable_from, is_reader_name}
 
 -- ---- one entry
 
 correction-stable : (print : List ℕ) (row : NamedCorr) → ¬ ¬ IsSoundCorrection print row → IsSoundCorrection print row
-correction-stable print row twice = record {
-  kind = stable_from (same_int row.entry.kind (pos 0)) (λ (s : IsSoundCorrection print row). s.kind) twice;
-  start = stable_from (is_le (pos 0) row.entry.start) (λ (s : IsSoundCorrection print row). s.start) twice;
-  len = stable_from (is_le (pos 0) row.entry.len) (λ (s : IsSoundCorrection print row). s.len) twice;
-  span = stable_from (is_le (row.entry.start +ℤ row.entry.len) (pos (length print))) (λ (s : IsSoundCorrection print row). s.span) twice;
-  text = stable_from (is_unbarred (chars row.entry.body)) (λ (s : IsSoundCorrection print row). s.text) twice;
-  who = IsProofreaderName-stable (chars row.who) (lifted (λ (s : IsSoundCorrection print row). s.who) twice);
-}
+correction-stable print row twice =
+    let parts : IsDecidable (IsSoundCorrection print row) = hlevel (decisions, same_int, is_le, is_unbarred, is_reader_name) in
+    stable parts.decided twice
 
 undo-stable : (before : List Entry) (row : NamedCorr) → ¬ ¬ IsSoundUndo before row → IsSoundUndo before row
 undo-stable before row twice =
@@ -72,18 +66,10 @@ entry-stable original sorted index row twice = record {
 abbrev seq : NamedCorr → ℤ
 seq row = row.entry.seq
 
-pub seqs-numbers : (n : ℕ) (rows : List NamedCorr) → ((i : ℕ) (row : NamedCorr) → slice_get rows i ≡ Some row → seq row ≡ pos (n + i)) → map seq rows ≡ numbers n (length rows)
-seqs-numbers n [] each = refl
-seqs-numbers n (row ∷ rows) each =
-    let own : n + 0 ≡ n = omega arith in
-    let first : seq row ≡ pos n = each 0 row refl ∙ ap pos own in
-    let rest = seqs-numbers (n + 1) rows (λ i other at. let next : n + suc i ≡ n + 1 + i = omega arith in each (suc i) other at ∙ ap pos next) in
-    λ i. first i ∷ rest i
-
-seqs-sorted : (n : ℕ) (rows : List NamedCorr) → map seq rows ≡ numbers 1 n → IsStrictlySortedBy nat_cmp (map (λ row. number (seq row)) rows)
+pub seqs-sorted : (n : ℕ) (rows : List NamedCorr) → map seq rows ≡ numbers 1 n → IsStrictlySortedBy nat_cmp (map (λ row. number (seq row)) rows)
 seqs-sorted n rows is =
     let range : map (λ row. number (seq row)) rows ≡ range_with_len 1 n =
-    sym (map-map number seq rows) ∙ (ap (map number) is ∙ (map-map number pos (range_with_len 1 n) ∙ map-id (range_with_len 1 n))) in
+    sym (map-map number seq rows) ∙ (ap (map number) is ∙ numbers_back (range_with_len 1 n)) in
     subst (IsStrictlySortedBy nat_cmp) (sym range) (range_sorted 1 n)
 
 module _ (entries : List NamedCorr) (para : Para) (twice : ¬ ¬ HasSoundEntries entries para) where
@@ -93,11 +79,10 @@ module _ (entries : List NamedCorr) (para : Para) (twice : ¬ ¬ HasSoundEntries
   module _ (h : HasSoundEntries entries para) where
     given-seqs : map seq h.sorted ≡ numbers 1 (length its_own)
     given-seqs =
-        seqs-numbers 1 h.sorted (λ i row at. let next : i + 1 ≡ 1 + i = omega arith in (h.each i row at).number ∙ ap pos next)
-        ∙ ap (numbers 1) (length_permutation its_own h.sorted h.its_own)
+        keys-counted seq h.sorted (λ i row at. (h.each i row at).number) ∙ ap (numbers 1) (length_permutation _ _ h.its_own)
 
     given-numbers : IsPermutation (map seq its_own) (numbers 1 (length its_own))
-    given-numbers = subst (IsPermutation (map seq its_own)) given-seqs (IsPermutation-map seq its_own h.sorted h.its_own)
+    given-numbers = subst (IsPermutation (map seq its_own)) given-seqs (IsPermutation-map seq _ _ h.its_own)
 
     given-once : AreOnce (map seq its_own)
     given-once = once-keys seq its_own (λ row c.
@@ -130,8 +115,8 @@ module _ (entries : List NamedCorr) (para : Para) (twice : ¬ ¬ HasSoundEntries
       sorted_same nat_cmp nat_cmp_total (λ (row : NamedCorr). number (seq row)) h.sorted sorted
       (seqs-sorted (length its_own) h.sorted (given-seqs h))
       (seqs-sorted (length its_own) sorted (sym (in_order seq its_own (length its_own) numbered).2))
-      (λ z c. Contains-permutation its_own sorted z moved-own (Contains-permutation h.sorted its_own z (IsPermutation-sym its_own h.sorted h.its_own) c))
-      (λ z c. Contains-permutation its_own h.sorted z h.its_own (Contains-permutation sorted its_own z (IsPermutation-sym its_own sorted moved-own) c))
+      (λ z c. Contains-permutation _ _ z moved-own (Contains-permutation _ _ z (IsPermutation-sym _ _ h.its_own) c))
+      (λ z c. Contains-permutation _ _ z h.its_own (Contains-permutation _ _ z (IsPermutation-sym _ _ moved-own) c))
 
   -- those of a paragraph that can't but have sound entries
   pub entries-stable : HasSoundEntries entries para
@@ -139,8 +124,7 @@ module _ (entries : List NamedCorr) (para : Para) (twice : ¬ ¬ HasSoundEntries
     sorted = sorted;
     its_own = moved-own;
     each = λ index row at.
-        entry-stable (chars para.original) sorted index row
-        (lifted (λ (h : HasSoundEntries entries para).
+        entry-stable (chars para.original) sorted index row (lifted (λ (h : HasSoundEntries entries para).
         subst (λ rows. IsSoundEntryRow (chars para.original) rows index row) (same-order h)
         (h.each index row (subst (λ rows. slice_get rows index ≡ Some row) (sym (same-order h)) at))) twice);
     print = stable_from (same_text (corrected_print (chars para.original) (history_of sorted)) (chars para.print))

@@ -1,5 +1,5 @@
 -- Rows without damage are sound, table by table.
-use Rattle.std.proofs.Common.{◌≡◌, ◌⊎◌, ℕ, ◌+◌, ◌<◌, ◌≤◌, ℤ, pos, ◌+ℤ◌, ◌≤ℤ◌, Bool, false, List, [], ◌∷◌, filter, length, Some, Contains, refl, sym, ap, subst, ◌∙◌, arith, inl, inr, IsPermutation, slice_get, chars, int_eq}
+use Rattle.std.proofs.Common.{◌≡◌, ◌⊎◌, ℕ, ◌+◌, ◌<◌, ◌≤◌, ℤ, pos, ◌+ℤ◌, ◌≤ℤ◌, Bool, false, List, [], ◌∷◌, filter, length, Some, Contains, refl, sym, ap, subst, ◌∙◌, arith, inl, inr, IsPermutation, slice_get, chars, int_eq, map}
 use Rattle.std.specs.Cmp.{signed_Decides}
 use Rattle.std.proofs.lemmas.Bool.{cond-false, false_from_ne_true}
 use Rattle.std.proofs.lemmas.Option.{slice_get-get_or}
@@ -11,14 +11,18 @@ use Rattle.louis_translate.specs.Position.{AreDefined}
 use Rattle.louis_translate.proofs.Tilings.{one_tiling}
 use Rattle.desk_parts.specs.declared.rows.BookRow.{BookRow}
 use Rattle.desk_model.specs.Damage.{IsDamagedBook, IsDamagedCache, IsDamagedMark, IsDamagedPara, IsDamagedTab, IsNumber, IsPrintText, IsSoundBookRow, IsSoundCacheRow, IsSoundMarkRow, IsSoundParaRow, IsSoundTabRow, IsSpanned, rows_with}
-use Rattle.desk_model.specs.Limits.{most_marks, most_paragraphs, most_print, most_tables, most_version}
+use Rattle.desk_model.specs.Limits.{most_marks, most_paragraphs, most_print, most_tables}
 use Rattle.desk_parts.specs.Rows.{Mark, Para, ParaCells, Tab}
-use Rattle.desk_model.proofs.Commands.Accepted.{IsTableName-stable}
 use Rattle.desk_model.proofs.Lists.Decisions.{Decided, IsDecidable, at_most, decisions, below, both, either, implied}
 use Rattle.desk_model.proofs.Commands.FirstUndefined.{defined_or_first}
 use Rattle.desk_model.proofs.Lists.Members.{Contains-behind, Contains-here}
 use Rattle.desk_model.proofs.Rows.SortedTabs.{AreInOrder-rises, AreNamesApart, RisesTabs, tabs_in_order}
-use Rattle.desk_model.proofs.Lists.Stable.{among, is_flag, is_le, is_unbarred, is_within, lifted, same_int, same_nat, same_text, stable, stable_from}
+use Rattle.desk_model.proofs.Lists.Stable.{among, is_flag, is_le, is_unbarred, is_within, same_int, same_nat, same_text, stable, stable_from, at_least, le_from, is_table_name}
+use Rattle.std.proofs.lemmas.List.{length-map}
+use Rattle.std.proofs.lemmas.List.Sorted.{Contains-permutation, IsPermutation-sym}
+use Rattle.desk_model.proofs.Lists.NumberedRows.{AreOnce, AreUpTo, in_order, keys-numbers, number-of, once-map, once-one, pigeonholes}
+use Rattle.desk_model.proofs.Lists.RowNumbers.{Contains-from_map, numbers}
+use Rattle.desk_model.proofs.Damage.FirstDamage.{le_antisymm}
 
 -- ---- lists and meanings
 
@@ -83,15 +87,9 @@ module _ (books : List BookRow) (none : (id : ℤ) → ¬ IsDamagedBook books id
                 let both_one = sym one ∙ is in
                 let same : only ≡ row = cc in
                 unsound (subst IsSoundBookRow same sound),
-          ) in (
-            row,
-            is,
-            record {
-              id = stable_from (same_int row.id (pos 1)) (λ s. s.id) twice;
-              format = stable_from (is_le (pos 1) row.format) (λ s. s.format) twice;
-              version = stable_from (is_within 0 most_version row.version) (λ s. s.version) twice;
-            },
-          )
+          ) in
+          let parts : IsDecidable (IsSoundBookRow row) = hlevel (decisions, same_int, is_le, is_within) in
+          (row, is, stable parts.decided twice)
 
 -- ---- tab
 
@@ -111,7 +109,7 @@ module _ (tabs : List Tab) (none : (id : ℤ) → ¬ IsDamagedTab tabs id) where
       λ unsound. none (pos (index + 1)) (sorted_tabs, tabs-moved, AreInOrder-rises sorted_tabs tabs-rise, (index, row, at, refl, unsound)) in
       let means = stable_from (meaning_of row.body) (λ (s : IsSoundTabRow sorted_tabs index row). (s.meaning, s.means)) twice in
       record {
-        named = IsTableName-stable (chars row.name) (lifted (λ (s : IsSoundTabRow sorted_tabs index row). s.named) twice);
+        named = stable_from (is_table_name (chars row.name)) (λ (s : IsSoundTabRow sorted_tabs index row). s.named) twice;
         meaning = means.0;
         means = means.1;
         room = stable_from (below index most_tables) (λ (s : IsSoundTabRow sorted_tabs index row). s.room) twice;
@@ -156,6 +154,45 @@ module _ (tabs : List Tab) (paras : List Para) (none : (id : ℤ) → ¬ IsDamag
         struck = stable_from (is_flag row.struck) (λ (s : IsSoundParaRow tabs paras row). s.struck) twice;
       }
 
+  -- ---- their ids and their places
+
+  abbrev id_of : Para → ℤ
+  id_of para = para.id
+
+  abbrev place_of : Para → ℤ
+  place_of para = para.place
+
+  pub ids-numbered : IsPermutation (map id_of paras) (numbers 1 (length paras))
+  ids-numbered = keys-numbers id_of most_paragraphs paras (λ para c. (sound-para para c).number)
+
+  pub id-number : (para : Para) → Contains paras para → (k : ℕ) × (para.id ≡ pos k) × (1 ≤ k) × (k ≤ most_paragraphs)
+  id-number = number-of id_of most_paragraphs paras (λ para c. (sound-para para c).number)
+
+  -- two rows with one place have one id
+  same-id : (one other : Para) → Contains paras one → Contains paras other → one.place ≡ other.place → one.id ≡ other.id
+  same-id one other in_one in_other same =
+      le_antisymm one.id other.id ((sound-para one in_one).own other in_other (sym same)) ((sound-para other in_other).own one in_one same)
+
+  once-places : AreOnce (map place_of paras)
+  once-places = once-map place_of paras (λ para other others moved c same.
+      let back = IsPermutation-sym _ _ moved in
+      let there = Contains-permutation _ _ para back (Contains-here para others) in
+      let among = Contains-permutation _ _ other back (Contains-behind para other others c) in
+      once-one id_of paras others para other (sound-para para there).number.once moved c (same-id other para among there same))
+
+  places-within : AreUpTo (length paras) (map place_of paras)
+  places-within z c =
+      let found = Contains-from_map place_of paras z c in
+      let within = (sound-para found.0 found.1).place in
+      let k = at_least 1 found.0.place within.0 in
+      (k.0, sym found.2 ∙ k.1, k.2, le_from k.0 (length paras) (subst (λ (y : ℤ). y ≤ℤ pos (length paras)) k.1 within.1))
+
+  -- the rows in the order of their places
+  pub by_place : (sorted : List Para) × IsPermutation paras sorted × (numbers 1 (length paras) ≡ map place_of sorted)
+  by_place =
+      in_order place_of paras (length paras)
+      ((pigeonholes (length paras) (map place_of paras) once-places places-within).1 (length-map paras place_of))
+
 -- ---- mark
 
 module _ (paras : List Para) (marks : List Mark) (none : (id : ℤ) → ¬ IsDamagedMark paras marks id) where
@@ -173,8 +210,7 @@ module _ (paras : List Para) (marks : List Mark) (none : (id : ℤ) → ¬ IsDam
   pub sound-mark : (row : Mark) → Contains marks row → IsSoundMarkRow paras marks row
   sound-mark row c =
       let number = is_number (λ (other : Mark). other.id) most_marks marks row.id in
-      let span = spanned row in
-      let parts : IsDecidable (IsSoundMarkRow paras marks row) = hlevel (decisions, number, span, is_flag, at_most, is_unbarred) in
+      let parts : IsDecidable (IsSoundMarkRow paras marks row) = hlevel (decisions, number, spanned row, is_flag, at_most, is_unbarred) in
       stable parts.decided (λ unsound. none row.id (row, c, refl, unsound))
 
 -- ---- cache
@@ -189,9 +225,7 @@ module _ (tabs : List Tab) (paras : List Para) (caches : List ParaCells) (none :
   is_translated : (row : ParaCells) → Decided ((para : Para) × Contains paras para × ((para.id ≡ row.para) × ((table : Tab) × Contains tabs table × Translates row para table)))
   is_translated row =
       among (λ (para : Para). (para.id ≡ row.para) × ((table : Tab) × Contains tabs table × Translates row para table))
-      (λ para. both (same_int para.id row.para)
-      (among (Translates row para)
-      (λ table. both (same_text table.name para.tab)
+      (λ para. both (same_int para.id row.para) (among (Translates row para) (λ table. both (same_text table.name para.tab)
       (meant (λ m. row.cells ≡ braille m (chars para.print) (one_tiling m (chars para.print)).0)
       (λ m. same_text row.cells (braille m (chars para.print) (one_tiling m (chars para.print)).0)) table.body)) tabs)) paras
 

@@ -2,7 +2,7 @@
 use Rattle.std.proofs.Common.{◌≡◌, ◌⊎◌, ℕ, ◌<◌, ◌≤◌, Bool, true, false, List, [], ◌∷◌, Option, Some, None, refl, sym, subst, arith, inl, inr, All, IsSomeAnd}
 use Rattle.std.proofs.lemmas.Bool.{cases_lt}
 use Rattle.std.proofs.lemmas.List.Elements.{All-cons, All-head, All-nil, All-tail}
-use Rattle.desk_model.proofs.Commands.Ranks.{same_some}
+use Rattle.std.proofs.lemmas.Option.{same_Some}
 
 -- it holds or not
 abbrev pub Decided : Type 0 → Type 0
@@ -28,6 +28,13 @@ below n m = elim (cases_lt n m) [ inl h ↦ inl h | inr h ↦ inr (λ less. omeg
 pub at_most : (n m : ℕ) → Decided (n ≤ m)
 at_most n m = elim (cases_lt m n) [ inl h ↦ inr (λ le. omega arith) | inr h ↦ inl h ]
 
+-- what isn't at a limit is below it, and what isn't over one is no greater
+pub below_unless : (n most : ℕ) → ¬ (most ≤ n) → n < most
+below_unless n most room = elim (cases_lt n most) [ inl h ↦ h | inr full ↦ absurd (room full) ]
+
+pub at_most_unless : (n most : ℕ) → ¬ (most < n) → n ≤ most
+at_most_unless n most room = elim (cases_lt most n) [ inl over ↦ absurd (room over) | inr h ↦ h ]
+
 pub is_so : (b : Bool) → Decided (b ≡ true)
 is_so true = inl refl
 is_so false = inr (λ e. cc e)
@@ -38,13 +45,12 @@ isnt_so false = inl refl
 
 pub all : {X : Type 0} (P : X → Type 0) → ((x : X) → Decided (P x)) → (xs : List X) → Decided (All P xs)
 all P test [] = inl (All-nil P)
-all P test (x ∷ xs) =
-    implied (λ h. All-cons P x xs h.0 h.1) (λ h. (All-head P x xs h, All-tail P x xs h)) (both (test x) (all P test xs))
+all P test (x ∷ xs) = implied (λ h. All-cons P x xs h.0 h.1) (λ h. (All-head P x xs h, All-tail P x xs h)) (both (test x) (all P test xs))
 
 -- something that an option gives and that holds of it
 pub given : {X : Type 0} (P : X → Type 0) → ((x : X) → Decided (P x)) → (o : Option X) → Decided ((x : X) × (o ≡ Some x) × P x)
 given P test None = inr (λ h. cc h.1)
-given P test (Some x) = implied (λ p. (x, refl, p)) (λ h. subst P (sym (same_some x h.0 h.1)) h.2) (test x)
+given P test (Some x) = implied (λ p. (x, refl, p)) (λ h. subst P (sym (same_Some x h.0 h.1)) h.2) (test x)
 
 -- an option gives something, and it holds of that
 pub of_given : {X : Type 0} (P : X → Type 0) → ((x : X) → Decided (P x)) → (o : Option X) → Decided (IsSomeAnd o P)

@@ -34,11 +34,9 @@ slice_get-set_same (x ∷ xs) zero y within = refl
 slice_get-set_same (x ∷ xs) (suc i) y within = slice_get-set_same xs i y (omega arith)
 
 pub slice_get-set_other : {X : Type 0} (xs : List X) (i j : ℕ) (y : X) → j ≢ i → slice_get (set xs i y) j ≡ slice_get xs j
-slice_get-set_other [] i j y apart = refl
 slice_get-set_other (x ∷ xs) zero zero y apart = absurd (apart refl)
-slice_get-set_other (x ∷ xs) zero (suc j) y apart = refl
-slice_get-set_other (x ∷ xs) (suc i) zero y apart = refl
 slice_get-set_other (x ∷ xs) (suc i) (suc j) y apart = slice_get-set_other xs i j y (λ same. apart (ap suc same))
+slice_get-set_other xs i j y apart = refl
 
 -- the item at a place of a list is there
 pub slice_get-there : {X : Type 0} (xs : List X) (i : ℕ) → i < length xs → (x : X) × (slice_get xs i ≡ Some x)
@@ -112,13 +110,12 @@ each-push P xs x each last i y at =
 pub set-cases : {X : Type 0} (xs : List X) (j i : ℕ) (new x : X) → slice_get (set xs j new) i ≡ Some x → ((i ≡ j) × (x ≡ new)) ⊎ (¬ (i ≡ j) × (slice_get xs i ≡ Some x))
 set-cases [] j i new x at = absurd (cc)
 set-cases (y ∷ xs) zero zero new x at = inl (refl, cc)
-set-cases (y ∷ xs) zero (suc i) new x at = inr (λ same. omega arith, at)
-set-cases (y ∷ xs) (suc j) zero new x at = inr (λ same. omega arith, at)
 set-cases (y ∷ xs) (suc j) (suc i) new x at =
     elim (set-cases xs j i new x at) [
       | inl here ↦ inl (ap suc here.0, here.1)
       | inr other ↦ let apart = other.0 in inr (λ same. apart (omega arith), other.1)
     ]
+set-cases xs j i new x at = inr (λ same. omega arith, at)
 
 pub here-at : {X : Type 0} (xs ys : List X) (x : X) → slice_get (xs ++ x ∷ ys) (length xs) ≡ Some x
 here-at [] ys x = refl

@@ -32,18 +32,16 @@ module _ (n : ℕ) (ids : List ℕ) (moved : IsPermutation (range_with_len 1 n) 
   IsDistinct-numbers = IsDistinct-IsPermutation nat_eq (λ x y. nat_eq_equiv.symm x y) (range_with_len 1 n) ids moved (IsDistinct-range 1 n)
 
   pub Contains-numbers : (id : ℕ) → 1 ≤ id → id ≤ n → Contains ids id
-  Contains-numbers id from to = Contains-permutation (range_with_len 1 n) ids id moved (Contains-range 1 n id from (omega arith))
+  Contains-numbers id from to = Contains-permutation _ _ id moved (Contains-range 1 n id from (omega arith))
 
   pub within-numbers : (id : ℕ) → Contains ids id → (1 ≤ id) × (id ≤ n)
   within-numbers id c =
-      let within = within-range 1 n id (Contains-permutation ids (range_with_len 1 n) id (IsPermutation-sym (range_with_len 1 n) ids moved) c) in
+      let within = within-range 1 n id (Contains-permutation _ _ id (IsPermutation-sym _ _ moved) c) in
       (within.0, omega arith)
 
   -- with the next number before them, they are again
   pub next-number : IsPermutation (range_with_len 1 (n + 1)) ((n + 1) ∷ ids)
   next-number =
       let next : range_with_len 1 (n + 1) ≡ range_with_len 1 n ++ (n + 1) ∷ [] = range_with_len-push 1 n ∙ ap (λ (k : ℕ). range_with_len 1 n ++ k ∷ []) (omega arith) in
-      subst (λ (xs : List ℕ). IsPermutation xs ((n + 1) ∷ ids)) (sym next)
-      (IsPermutation-trans (range_with_len 1 n ++ (n + 1) ∷ []) ((n + 1) ∷ range_with_len 1 n) ((n + 1) ∷ ids)
-      (IsPermutation-to_front (range_with_len 1 n) (n + 1))
-      (IsPermutation-cons (n + 1) (range_with_len 1 n) ids moved))
+      subst (λ (xs : List ℕ). IsPermutation xs ((n + 1) ∷ ids)) (sym next) (IsPermutation-trans _ _ _
+      (IsPermutation-to_front (range_with_len 1 n) (n + 1)) (IsPermutation-cons (n + 1) _ _ moved))

@@ -13,3 +13,8 @@ IsSomeAnd-value P is h = subst (λ a. IsSomeAnd a P) is h
 pub IsSomeAnd-some : {X : Type 0} (P : X → Type 0) (o : Option X) → IsSomeAnd o P → is_some o ≡ true
 IsSomeAnd-some P None h = absurd h
 IsSomeAnd-some P (Some x) h = refl
+
+-- a value is given unless there is none
+pub given_unless : {X : Type 0} (o : Option X) → ¬ (o ≡ None) → (x : X) × (o ≡ Some x)
+given_unless None some = absurd (some refl)
+given_unless (Some x) some = (x, refl)

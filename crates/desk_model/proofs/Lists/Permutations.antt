@@ -11,8 +11,7 @@ IsPermutation-exchange x y xs = IsPermutation-middle (x ∷ []) y xs
 
 -- A relation holds along each permutation if it is reflexive and transitive, goes under a head, and over an exchange of two heads.
 module _ {X : Type 0} (R : List X → List X → Type 0) (same : (xs : List X) → R xs xs)
-    (under : (x : X) (xs ys : List X) → R xs ys → R (x ∷ xs) (x ∷ ys))
-    (exchange : (x y : X) (xs : List X) → R (x ∷ y ∷ xs) (y ∷ x ∷ xs))
+    (under : (x : X) (xs ys : List X) → R xs ys → R (x ∷ xs) (x ∷ ys)) (exchange : (x y : X) (xs : List X) → R (x ∷ y ∷ xs) (y ∷ x ∷ xs))
     (chain : (xs ys zs : List X) → R xs ys → R ys zs → R xs zs) where
   to_head : (l : List X) (j : ℕ) (x d : X) → j < length l → R (x ∷ l) (get_or l j d ∷ set l j x)
   to_head [] j x d h = absurd (omega arith)
@@ -71,14 +70,13 @@ module _ {A B : Type 0} (f : A → B) where
       let head : x ≡ f a = cc in
       let tail : xs ≡ map f from = cc in
       let later = rest from tail in
-      (a ∷ later.0, IsPermutation-cons a from later.0 later.1, λ i. head i ∷ later.2 i)
+      (a ∷ later.0, IsPermutation-cons a _ _ later.1, λ i. head i ∷ later.2 i)
 
   heads_exchanged : (x y : B) (xs : List B) → PullsBack (x ∷ y ∷ xs) (y ∷ x ∷ xs)
-  heads_exchanged x y xs [] is = absurd (cc)
-  heads_exchanged x y xs (a ∷ []) is = absurd (cc)
   heads_exchanged x y xs (a ∷ b ∷ from) is = (b ∷ a ∷ from, IsPermutation-exchange a b from, cc)
+  heads_exchanged x y xs o is = absurd (cc)
 
   pub pull_back : (xs ys : List B) → IsPermutation xs ys → PullsBack xs ys
   pull_back =
       along_permutation PullsBack (λ xs from is. (from, IsPermutation-refl from, is)) under_head heads_exchanged
-      (λ xs ys zs p q from is. let mid = p from is in let last = q mid.0 mid.2 in (last.0, IsPermutation-trans from mid.0 last.0 mid.1 last.1, last.2))
+      (λ xs ys zs p q from is. let mid = p from is in let last = q mid.0 mid.2 in (last.0, IsPermutation-trans _ _ _ mid.1 last.1, last.2))

@@ -40,10 +40,8 @@ module _ {X Y : Type 0} (key : X → ℤ) (id : Y → ℤ) where
           | inl same ↦ absurd (other (sym same))
           | inr later ↦
               let rest = one-more x xs ys (once-rest (map id (y ∷ ys)) (map id ys) (id y) once (IsPermutation-refl (map id (y ∷ ys)))) later in
-              IsPermutation-trans (x ∷ (group xs y ++ flat_map (group xs) ys)) (group xs y ++ x ∷ flat_map (group xs) ys) (group (x ∷ xs) y ++ flat_map (group (x ∷ xs)) ys)
-              (IsPermutation-sym (group xs y ++ x ∷ flat_map (group xs) ys) (x ∷ (group xs y ++ flat_map (group xs) ys)) (IsPermutation-middle (group xs y) x (flat_map (group xs) ys)))
-              (IsPermutation-append (group xs y) (group (x ∷ xs) y) (x ∷ flat_map (group xs) ys) (flat_map (group (x ∷ xs)) ys)
-              (IsPermutation-same (group xs y) (group (x ∷ xs) y) (sym (group-other x xs y other))) rest)
+              IsPermutation-trans _ _ _ (IsPermutation-sym _ _ (IsPermutation-middle (group xs y) x (flat_map (group xs) ys)))
+              (IsPermutation-append _ _ _ _ (IsPermutation-same (group xs y) (group (x ∷ xs) y) (sym (group-other x xs y other))) rest)
         ]
       ]
 
@@ -55,6 +53,5 @@ module _ {X Y : Type 0} (key : X → ℤ) (id : Y → ℤ) where
   pub all-grouped : (xs : List X) (ys : List Y) → AreOnce (map id ys) → ((x : X) → Contains xs x → Contains (map id ys) (key x)) → IsPermutation xs (flat_map (group xs) ys)
   all-grouped [] ys once each = IsPermutation-same [] (flat_map (group []) ys) (sym (no-groups ys))
   all-grouped (x ∷ xs) ys once each =
-      IsPermutation-trans (x ∷ xs) (x ∷ flat_map (group xs) ys) (flat_map (group (x ∷ xs)) ys)
-      (IsPermutation-cons x xs (flat_map (group xs) ys) (all-grouped xs ys once (λ other c. each other (Contains-behind x other xs c))))
+      IsPermutation-trans _ _ _ (IsPermutation-cons x _ _ (all-grouped xs ys once (λ other c. each other (Contains-behind x other xs c))))
       (one-more x xs ys once (each x (Contains-here x xs)))

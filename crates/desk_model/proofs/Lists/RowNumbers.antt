@@ -1,5 +1,5 @@
 -- Rows whose keys are the numbers from one on, in some order.
-use Rattle.std.proofs.Common.{◌≡◌, ℕ, zero, suc, ◌+◌, ◌-◌, ◌<◌, ◌≤◌, ℤ, pos, ◌+ℤ◌, ◌≤ℤ◌, Bool, true, false, cond, List, [], ◌∷◌, map, filter, length, Contains, refl, sym, ap, subst, ◌∙◌, arith, inl, inr, IsPermutation, int_eq, T, nat_eq}
+use Rattle.std.proofs.Common.{◌≡◌, ℕ, zero, suc, ◌+◌, ◌-◌, ◌<◌, ◌≤◌, ℤ, pos, ◌+ℤ◌, ◌≤ℤ◌, Bool, true, false, cond, List, [], ◌∷◌, map, filter, length, Contains, refl, sym, ap, subst, ◌∙◌, arith, inl, inr, IsPermutation, int_eq, T, nat_eq, slice_get, Some}
 use Rattle.std.specs.Cmp.{signed_Decides}
 use Rattle.std.specs.List.{enumerate_from, range_with_len}
 use Rattle.std.proofs.lemmas.Bool.{cases_Bool, cases_lt, cond-false, cond-true, eqb-false, eqb-true, false_from_ne_true, le-leb}
@@ -48,9 +48,7 @@ from_enumerate {X} n (y ∷ xs) k x c =
           (subst (Contains (y ∷ xs)) (ap (λ (e : ℕ × X). e.1) same) (Contains-here y xs), omega (arith, number), omega (arith, number))
       | inr later ↦
           let rest = from_enumerate (n + 1) xs k x later in
-          let low = rest.1 in
-          let high = rest.2 in
-          (Contains-behind y x xs rest.0, omega (arith, low), omega (arith, high))
+          (Contains-behind y x xs rest.0, omega (arith, rest.1), omega (arith, rest.2))
     ]
 
 -- one number has one item
@@ -62,14 +60,12 @@ enumerate-same {X} n (z ∷ xs) k x y c d =
         | inl second ↦ sym (ap (λ (e : ℕ × X). e.1) first) ∙ ap (λ (e : ℕ × X). e.1) second
         | inr later ↦
             let number : n ≡ k = ap (λ (e : ℕ × X). e.0) first in
-            let low = (from_enumerate (n + 1) xs k y later).1 in
-            absurd (omega (arith, number, low))
+            absurd (omega (arith, number, (from_enumerate (n + 1) xs k y later).1))
       ]
       | inr later ↦ elim (Contains-cases (n, z) (k, y) (enumerate_from (n + 1) xs) d) [
         | inl second ↦
             let number : n ≡ k = ap (λ (e : ℕ × X). e.0) second in
-            let low = (from_enumerate (n + 1) xs k x later).1 in
-            absurd (omega (arith, number, low))
+            absurd (omega (arith, number, (from_enumerate (n + 1) xs k x later).1))
         | inr other ↦ enumerate-same (n + 1) xs k x y later other
       ]
     ]
@@ -94,6 +90,17 @@ those k zs = filter (λ z. int_eq z (pos k)) zs
 
 abbrev pub numbers : ℕ → ℕ → List ℤ
 numbers a n = map pos (range_with_len a n)
+
+counted-from : {X : Type 0} (key : X → ℤ) (n : ℕ) (xs : List X) → ((i : ℕ) (x : X) → slice_get xs i ≡ Some x → key x ≡ pos (n + i)) → map key xs ≡ numbers n (length xs)
+counted-from key n [] each = refl
+counted-from key n (x ∷ xs) each =
+    let first : key x ≡ pos n = each 0 x refl ∙ ap pos (let own : n + 0 ≡ n = omega arith in own) in
+    let rest = counted-from key (n + 1) xs (λ i other at. let next : n + suc i ≡ n + 1 + i = omega arith in each (suc i) other at ∙ ap pos next) in
+    λ i. first i ∷ rest i
+
+-- keys that count from one on
+pub keys-counted : {X : Type 0} (key : X → ℤ) (xs : List X) → ((i : ℕ) (x : X) → slice_get xs i ≡ Some x → key x ≡ pos (i + 1)) → map key xs ≡ numbers 1 (length xs)
+keys-counted key xs each = counted-from key 1 xs (λ i x at. let next : i + 1 ≡ 1 + i = omega arith in each i x at ∙ ap pos next)
 
 apart : (a k : ℕ) → ¬ (a ≡ k) → int_eq (pos a) (pos k) ≡ false
 apart a k other = false_from_ne_true (int_eq (pos a) (pos k)) (λ e. other (same_number a k ((signed_Decides (pos a) (pos k)).0 e)))
@@ -120,23 +127,20 @@ one-of_range a (suc n) k low high =
 module _ {X : Type 0} (key : X → ℤ) (xs : List X) (n : ℕ) (moved : IsPermutation (map key xs) (map pos (range_with_len 1 n))) where
   pub key-number : (x : X) → Contains xs x → (k : ℕ) × (key x ≡ pos k) × (1 ≤ k) × (k ≤ n)
   key-number x c =
-      let found = Contains-from_map pos (range_with_len 1 n) (key x) (Contains-permutation (map key xs) (map pos (range_with_len 1 n)) (key x) moved (Contains-map key xs x c)) in
+      let found = Contains-from_map pos (range_with_len 1 n) (key x) (Contains-permutation _ _ (key x) moved (Contains-map key xs x c)) in
       let within = within-range 1 n found.0 found.1 in
       (found.0, sym found.2, within.0, (let high = within.1 in omega (arith, high)))
 
   pub number-key : (k : ℕ) → 1 ≤ k → k ≤ n → (x : X) × Contains xs x × (key x ≡ pos k)
   number-key k low high =
-      Contains-from_map key xs (pos k)
-      (Contains-permutation (map pos (range_with_len 1 n)) (map key xs) (pos k) (IsPermutation-sym (map key xs) (map pos (range_with_len 1 n)) moved)
+      Contains-from_map key xs (pos k) (Contains-permutation _ _ (pos k) (IsPermutation-sym _ _ moved)
       (Contains-map pos (range_with_len 1 n) k (Contains-range 1 n k low (omega arith))))
 
   pub key-once : (k : ℕ) → 1 ≤ k → k ≤ n → rows_with key (pos k) xs ≡ 1
   key-once k low high =
-      let seen = ap length (filter-map (λ z. int_eq z (pos k)) key xs) in
-      let long = length-map (filter (λ x. int_eq (key x) (pos k)) xs) key in
-      let same = length_permutation (those k (map key xs)) (those k (numbers 1 n)) (IsPermutation-filter (λ z. int_eq z (pos k)) (map key xs) (numbers 1 n) moved) in
+      let same = length_permutation _ _ (IsPermutation-filter (λ z. int_eq z (pos k)) _ _ moved) in
       let one = one-of_range 1 n k low (omega arith) in
-      omega (arith, seen, long, same, one)
+      omega (arith, ap length (filter-map (λ z. int_eq z (pos k)) key xs), length-map (filter (λ x. int_eq (key x) (pos k)) xs) key, same, one)
 
   pub IsNumber-key : (last : ℕ) → n ≤ last → (x : X) → Contains xs x → IsNumber key last xs (key x)
   IsNumber-key last few x c =

@@ -1,14 +1,16 @@
 -- What can't fail, holds: of numbers, texts and pairs.
-use Rattle.std.proofs.Common.{◌≡◌, ℕ, ◌≤◌, ℤ, pos, negsuc, ◌≤ℤ◌, nat_abs, false, List, [], ◌∷◌, Contains, refl, sym, subst, inl, inr, leb→le, int_eq, T, nat_eq}
+use Rattle.std.proofs.Common.{◌≡◌, ℕ, ◌≤◌, ℤ, pos, negsuc, ◌≤ℤ◌, nat_abs, false, List, [], ◌∷◌, Contains, refl, sym, subst, inl, inr, leb→le, int_eq, T, nat_eq, length, true}
 use Rattle.std.specs.Cmp.{signed_Decides}
 use Rattle.std.specs.Cmp.Lexicographic.{pointwise}
 use Rattle.std.proofs.lemmas.Bool.{cases_Bool, cases_eq, both_ways, le-leb}
 use Rattle.desk_model.specs.Damage.{IsFlag, IsWithin}
 use Rattle.desk_model.specs.NormalForm.{IsUnbarred, is_barred}
-use Rattle.desk_model.proofs.Lists.Decisions.{Decided, all, at_most, both, either, isnt_so}
+use Rattle.desk_model.proofs.Lists.Decisions.{Decided, all, at_most, both, either, isnt_so, below, implied, is_so}
 use Rattle.desk_model.proofs.Lists.Members.{Contains-behind, Contains-cases, Contains-here, Contains-none}
 use Rattle.desk_model.proofs.Lists.RowNumbers.{pos_le}
 use Rattle.desk_model.proofs.Lists.TableEntries.{Decides-name}
+use Rattle.desk_model.specs.Limits.{most_name, most_proofreader}
+use Rattle.desk_model.specs.Name.{IsProofreaderName, IsTableName, is_name_character, is_proofreader_character}
 
 abbrev pub Stable : Type 0 → Type 0
 Stable P = ¬ ¬ P → P
@@ -80,6 +82,18 @@ is_flag z = either (same_int z (pos 0)) (same_int z (pos 1))
 
 pub is_unbarred : (text : List ℕ) → Decided (IsUnbarred text)
 is_unbarred text = all (λ c. is_barred c ≡ false) (λ c. isnt_so (is_barred c)) text
+
+-- ---- names
+
+pub is_table_name : (name : List ℕ) → Decided (IsTableName name)
+is_table_name name =
+    implied (λ h. record { nonempty = h.0.0; short = h.0.1; characters = h.1 }) (λ h. ((h.nonempty, h.short), h.characters))
+    (both (both (below 0 (length name)) (at_most (length name) most_name)) (all (λ c. is_name_character c ≡ true) (λ c. is_so (is_name_character c)) name))
+
+pub is_reader_name : (name : List ℕ) → Decided (IsProofreaderName name)
+is_reader_name name =
+    implied (λ h. record { short = h.0; characters = h.1 }) (λ h. (h.short, h.characters))
+    (both (at_most (length name) most_proofreader) (all (λ c. is_proofreader_character c ≡ true) (λ c. is_so (is_proofreader_character c)) name))
 
 -- ---- lists
 

@@ -1,4 +1,4 @@
--- Entries in the order of their keys: what is found among them, and what they are after one is put.
+-- Entries in the order of their keys: what is found among them, and what they are with one more.
 use Rattle.std.proofs.Common.{◌≡◌, ℕ, ◌+◌, Bool, true, false, cond, List, [], ◌∷◌, map, length, Option, Some, None, Ordering, Contains, refl, sym, ap, subst, ◌∙◌, T, ◌&&◌, ◌≢◌, nat_eq, is_some, Decides, Less, Equal, Greater}
 use Rattle.std.specs.Cmp.{Equal-is, IsTotalOrder, unsigned_ties, unsigned_Decides}
 use Rattle.std.specs.Cmp.Lexicographic.{pointwise, pointwise_decides, slice_cmp, lists_ties}
@@ -18,8 +18,7 @@ use Rattle.std.proofs.lemmas.Map.Views.{Contains-from_lookup, lookup-from_Contai
 
 less_and : (o : Ordering) (b : Bool) → T (is_lt o && b) → (o ≡ Less) × T b
 less_and Less b h = (refl, h)
-less_and Equal b h = absurd h
-less_and Greater b h = absurd h
+less_and o b h = absurd h
 
 both_parts : (a b : Bool) → T (a && b) → T a × T b
 both_parts true b h = (tt, h)
@@ -138,6 +137,5 @@ Contains-text name text tables = Contains-from_lookup (λ x y. (Decides-name x y
 pub text-there : (name text : List ℕ) (tables : List (List ℕ × List ℕ)) → IsStrictlySortedBy (slice_cmp nat_cmp) (map (λ entry. entry.0) tables)
     → Contains tables (name, text) → text_among name tables ≡ Some text
 text-there name text tables sorted there =
-    (λ i. lookup (λ other. names_tie name other i) tables)
-    ∙ lookup-from_Contains (eq_by_cmp_equiv nat_list_cmp_total) name text tables
+    (λ i. lookup (λ other. names_tie name other i) tables) ∙ lookup-from_Contains (eq_by_cmp_equiv nat_list_cmp_total) name text tables
     (IsDistinct-from_sorted (slice_cmp nat_cmp) (map (λ entry. entry.0) tables) sorted) there

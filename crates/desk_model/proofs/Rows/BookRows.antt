@@ -178,8 +178,7 @@ module _ (book : Book) (sound : IsSound book) where
         there = is.0;
         named = refl;
         cells = (is.1.meaning, tiled.0, record { text = is.1.text; found = is.1.found; means = is.1.means; tiles = tiled.1 }, refl);
-      })
-      (cached-cells ps (All-tail IsIn p ps all))
+      }) (cached-cells ps (All-tail IsIn p ps all))
 
   all-in : All IsIn book.paragraphs
   all-in = λ k d within. (All-contains_itself book.paragraphs k d within, sound.paragraphs k d within)

@@ -1,12 +1,12 @@
 -- Rows of a new file show the empty book, and rows that show a book show it still once they are brought to the second
 -- format, or get the braille of its paragraphs.
 use Rattle.std.proofs.Common.{◌≡◌, ℕ, ◌<◌, pos, true, false, List, [], ◌∷◌, ◌++◌, map, length, get_or, Option, None, Some, append-nil, refl, sym, ap, ap₂, subst, ◌∙◌, arith, IsPermutation, int_eq, IsNone, IsSome, nat_eq, not}
-use Rattle.std.specs.List.{All, IsDistinct}
+use Rattle.std.specs.List.{IsDistinct}
 use Rattle.std.specs.Option.{ForSome}
 use Rattle.std.specs.Cmp.{int_eq_equiv}
 use Rattle.std.proofs.lemmas.List.{get_or-map, length-map}
 use Rattle.std.proofs.lemmas.Simd.{map-map}
-use Rattle.std.proofs.lemmas.List.Elements.{All-append, All-cons, All-head, All-map, All-nil, All-tail, All-from_recursion}
+use Rattle.std.proofs.lemmas.List.Elements.{All-append, All-cons, All-map, All-nil, All-from_recursion, All-weaker}
 use Rattle.std.proofs.lemmas.List.Sorted.{IsPermutation-map, IsPermutation-middle, IsPermutation-refl, IsPermutation-sym, IsPermutation-trans}
 use Rattle.std.proofs.lemmas.Map.Keys.{IsDistinct-from_apart, IsDistinct-head, IsDistinct-IsPermutation, IsDistinct-tail, apart_from_distinct}
 use Rattle.desk_model.specs.declared.new_tables.NewTables.{NewTables}
@@ -23,11 +23,12 @@ use Rattle.desk_model.specs.Sound.{IsSound}
 use Rattle.desk_model.proofs.Rows.BookRows.{book_caches, some_rows, some_unnamed_rows}
 use Rattle.desk_model.proofs.Rows.PutRows.{filter-all}
 use Rattle.desk_model.proofs.Books.ParagraphLists.{ids_of}
-use Rattle.desk_model.proofs.Commands.Ranks.{same_some}
 use Rattle.desk_model.proofs.Lists.RowNumbers.{int_eq-pos}
 use Rattle.desk_model.proofs.Rows.SameRows.{AreCached-moved, AreEntriesOf-moved}
 use Rattle.desk_model.proofs.Books.SoundBooks.{paragraphs-apart}
 use Rattle.desk_model.proofs.Books.SoundSteps.{IsSound-empty}
+use Rattle.std.proofs.lemmas.Option.{same_Some}
+use Rattle.desk_model.proofs.Lists.Items.{All-from_map}
 
 -- ---- a new file
 
@@ -49,16 +50,7 @@ new-shown = record {
 module _ (rows : FileRows) (book : Book) (shown : Shows rows book) where
   with-others : (books : List BookRow) (entries : EntryRows) (caches : Option (List ParaCells)) → books ≡ book_row_of (format_of entries) book.version ∷ []
       → AreEntriesOf book (entries_in entries) → ForSome caches (AreCached book) → Shows (record rows { books = books; entries = entries; caches = caches }) book
-  with-others books entries caches row are cached = record {
-    sound = shown.sound;
-    texts = record { tabs = shown.texts.tabs; paras = shown.texts.paras; entries = are.0; marks = shown.texts.marks };
-    row = row;
-    tables = shown.tables;
-    paragraphs = shown.paragraphs;
-    entries = are.1;
-    marks = shown.marks;
-    caches = cached;
-  }
+  with-others books entries caches row are cached = assumption
 
   its-entries : AreEntriesOf book (entries_in rows.entries)
   its-entries = (shown.texts.entries, shown.entries)
@@ -70,7 +62,7 @@ module _ (rows : FileRows) (book : Book) (shown : Shows rows book) where
 
   pub cached-shown : (caches : List ParaCells) → AreCached book caches → Shows (with_caches caches rows) book
   cached-shown caches are =
-      with-others rows.books rows.entries (Some caches) shown.row its-entries (λ others same. subst (AreCached book) (same_some caches others same) are)
+      with-others rows.books rows.entries (Some caches) shown.row its-entries (λ others same. subst (AreCached book) (same_Some caches others same) are)
 
   -- without rows of braille
   bare-shown : Shows (record rows { caches = None }) book
@@ -88,8 +80,7 @@ put-entries rows [] done = (done, IsPermutation-refl done, refl)
 put-entries rows (entry ∷ entries) done =
     let rest = put-entries rows entries (entry ∷ done) in (
       rest.0,
-      IsPermutation-trans (entry ∷ entries ++ done) (entries ++ entry ∷ done) rest.0
-          (IsPermutation-sym (entries ++ entry ∷ done) (entry ∷ entries ++ done) (IsPermutation-middle entries entry done)) rest.1,
+      IsPermutation-trans _ _ _ (IsPermutation-sym _ _ (IsPermutation-middle entries entry done)) rest.1,
       rest.2,
     )
 
@@ -120,20 +111,14 @@ AreDistinct caches = IsDistinct int_eq (map (λ c. c.para) caches)
 -- a row of another paragraph than those that are there
 added : (row : ParaCells) (done : List ParaCells) → AreDistinct (row ∷ done) → put_by_key (λ (c : ParaCells). int_eq c.para row.para) row done ≡ row ∷ done
 added row done apart =
-    ap (λ (others : List ParaCells). row ∷ others)
-    (filter-all (λ (c : ParaCells). not (int_eq c.para row.para)) done
-    (others done (All-from_recursion (λ id. int_eq row.para id ≡ false) (map (λ c. c.para) done) (IsDistinct-head int_eq row.para (map (λ c. c.para) done) apart))))
-  where
-    others : (caches : List ParaCells) → All (λ id. int_eq row.para id ≡ false) (map (λ c. c.para) caches) → All (λ c. not (int_eq c.para row.para) ≡ true) caches
-    others [] all = All-nil (λ c. not (int_eq c.para row.para) ≡ true)
-    others (c ∷ caches) all =
-        All-cons (λ c. not (int_eq c.para row.para) ≡ true) c caches
-        (ap not (int_eq_equiv.symm c.para row.para ∙ All-head (λ id. int_eq row.para id ≡ false) c.para (map (λ c. c.para) caches) all))
-        (others caches (All-tail (λ id. int_eq row.para id ≡ false) c.para (map (λ c. c.para) caches) all))
+    let others = All-from_map (λ id. int_eq row.para id ≡ false) (λ (c : ParaCells). c.para) done
+    (All-from_recursion (λ id. int_eq row.para id ≡ false) (map (λ c. c.para) done) (IsDistinct-head int_eq row.para (map (λ c. c.para) done) apart)) in
+    ap (λ (others : List ParaCells). row ∷ others) (filter-all (λ (c : ParaCells). not (int_eq c.para row.para)) done
+    (All-weaker (λ c. int_eq row.para c.para ≡ false) (λ c. not (int_eq c.para row.para) ≡ true) (λ c e. ap not (int_eq_equiv.symm c.para row.para ∙ e)) done others))
 
 AreDistinct-moved : (xs ys : List ParaCells) → IsPermutation xs ys → AreDistinct xs → AreDistinct ys
 AreDistinct-moved xs ys moved =
-    IsDistinct-IsPermutation int_eq (λ x y. int_eq_equiv.symm x y) (map (λ c. c.para) xs) (map (λ c. c.para) ys) (IsPermutation-map (λ (c : ParaCells). c.para) xs ys moved)
+    IsDistinct-IsPermutation int_eq (λ x y. int_eq_equiv.symm x y) (map (λ c. c.para) xs) (map (λ c. c.para) ys) (IsPermutation-map (λ (c : ParaCells). c.para) _ _ moved)
 
 AreDistinct-front : (xs ys : List ParaCells) → AreDistinct (xs ++ ys) → AreDistinct ys
 AreDistinct-front [] ys apart = apart
@@ -144,11 +129,11 @@ put-caches : (rows : FileRows) (caches done : List ParaCells) → AreDistinct (c
 put-caches rows [] done apart = (done, IsPermutation-refl done, refl)
 put-caches rows (row ∷ caches) done apart =
     let moved : IsPermutation (row ∷ caches ++ done) (caches ++ row ∷ done) =
-    IsPermutation-sym (caches ++ row ∷ done) (row ∷ caches ++ done) (IsPermutation-middle caches row done) in
+    IsPermutation-sym _ _ (IsPermutation-middle caches row done) in
     let onward = AreDistinct-moved (row ∷ caches ++ done) (caches ++ row ∷ done) moved apart in
     let rest = put-caches rows caches (row ∷ done) onward in (
       rest.0,
-      IsPermutation-trans (row ∷ caches ++ done) (caches ++ row ∷ done) rest.0 moved rest.1,
+      IsPermutation-trans _ _ _ moved rest.1,
       ap (λ (all : List ParaCells). with_puts (put_rows tables.Cache caches) (with_caches all rows)) (added row done (AreDistinct-front caches (row ∷ done) onward)) ∙ rest.2,
     )
 
@@ -163,7 +148,7 @@ module _ (book : Book) (sound : IsSound book) (caches : List ParaCells) (are : A
   cached-apart : AreDistinct caches
   cached-apart =
       IsDistinct-IsPermutation int_eq (λ x y. int_eq_equiv.symm x y) (map (λ (p : Paragraph). pos p.id) book.paragraphs) (map (λ c. c.para) caches)
-      (IsPermutation-sym (map (λ c. c.para) caches) (map (λ (p : Paragraph). pos p.id) book.paragraphs) are.one_each)
+      (IsPermutation-sym _ _ are.one_each)
       (subst (IsDistinct int_eq) (map-map pos (λ (p : Paragraph). p.id) book.paragraphs) (IsDistinct-pos (ids_of book.paragraphs) (paragraphs-apart book sound)))
 
   -- the rows with these put, one by one, where none was

@@ -1,5 +1,5 @@
 -- Rows show at most one book.
-use Rattle.std.proofs.Common.{◌≡◌, ℕ, zero, suc, ◌+◌, ◌<◌, ℤ, pos, negsuc, Bool, true, false, cond, List, [], ◌∷◌, map, length, Ordering, Some, Contains, refl, sym, ap, ap₂, subst, ◌∙◌, arith, inl, inr, nat_eq, Less, Greater}
+use Rattle.std.proofs.Common.{◌≡◌, ℕ, zero, suc, ◌+◌, ◌<◌, ℤ, pos, negsuc, Bool, true, false, cond, List, [], ◌∷◌, map, length, Ordering, Some, Contains, refl, sym, ap, ap₂, subst, ◌∙◌, arith, inl, inr, nat_eq, Less, Greater, map-id}
 use Rattle.std.specs.Cmp.{IsTotalOrder, nat_cmp_is}
 use Rattle.std.specs.Cmp.Lexicographic.{slice_cmp}
 use Rattle.std.specs.Coded.{Coded, code_by, coded_ℤ, codes}
@@ -73,6 +73,9 @@ abbrev pub number : ℤ → ℕ
 number (pos n) = n
 number (negsuc n) = 0
 
+pub numbers_back : (ids : List ℕ) → map number (map pos ids) ≡ ids
+numbers_back ids = map-map number pos ids ∙ map-id ids
+
 less_by : (m n : ℕ) → m < n → nat_cmp m n ≡ Less
 less_by m n less = sym (nat_cmp_is m n Less less)
 
@@ -105,9 +108,8 @@ one_table a b same = ap (λ (t : Tab). (t.name, t.body)) same
 module _ {X Y : Type 0} (f : X → Y) (apart : (x y : X) → f x ≡ f y → x ≡ y) where
   same_from : (xs ys : List X) → map f xs ≡ map f ys → xs ≡ ys
   same_from [] [] same = refl
-  same_from [] (y ∷ ys) same = absurd (cc)
-  same_from (x ∷ xs) [] same = absurd (cc)
   same_from (x ∷ xs) (y ∷ ys) same = ap₂ (λ (z : X) zs. z ∷ zs) (apart x y (cc)) (same_from xs ys (cc))
+  same_from xs ys same = absurd (cc)
 
 abbrev pub to_flag : ℤ → Bool
 to_flag z = cond (int_eq z (pos 0)) false true
@@ -222,8 +224,6 @@ same_history ps qs p q apart_p apart_q to back in_ps in_qs same =
 same_paragraphs : (n : ℕ) (ps qs : List Paragraph) → map para_of (enumerate_from n ps) ≡ map para_of (enumerate_from n qs)
     → ((p q : Paragraph) → Contains ps p → Contains qs q → p.id ≡ q.id → p.history ≡ q.history) → ps ≡ qs
 same_paragraphs n [] [] rows histories = refl
-same_paragraphs n [] (q ∷ qs) rows histories = absurd (cc)
-same_paragraphs n (p ∷ ps) [] rows histories = absurd (cc)
 same_paragraphs n (p ∷ ps) (q ∷ qs) rows histories =
     let first : para_of (n, p) ≡ para_of (n, q) = cc in
     let others : map para_of (enumerate_from (n + 1) ps) ≡ map para_of (enumerate_from (n + 1) qs) = cc in
@@ -231,12 +231,13 @@ same_paragraphs n (p ∷ ps) (q ∷ qs) rows histories =
     let one : p ≡ q = sym (paragraph_back n p) ∙ ((λ i. to_paragraph (first i) (history i)) ∙ paragraph_back n q) in
     let rest = same_paragraphs (n + 1) ps qs others (λ a b c d. histories a b (Contains-behind p a ps c) (Contains-behind q b qs d)) in
     λ i. one i ∷ rest i
+same_paragraphs n ps qs rows histories = absurd (cc)
 
 -- ---- lists of the same rows
 
 module _ {X : Type 0} (xs ys zs : List X) (p : IsPermutation xs ys) (q : IsPermutation xs zs) where
   onto : (z : X) → Contains ys z → Contains zs z
-  onto z c = Contains-permutation xs zs z q (Contains-permutation ys xs z (IsPermutation-sym xs ys p) c)
+  onto z c = Contains-permutation _ _ z q (Contains-permutation _ _ z (IsPermutation-sym _ _ p) c)
 
 -- tables in the order of their names
 pub tables_same : (ta tb : List (List ℕ × List ℕ)) (rows : List Tab)
@@ -281,8 +282,7 @@ module _ (rows : FileRows) (a b : Book) (shown_a : Shows rows a) (shown_b : Show
       let pb = paras_of b.paragraphs in
       let ca = flat_map entry_rows_of a.paragraphs in
       let cb = flat_map entry_rows_of b.paragraphs in
-      same_paragraphs 1 a.paragraphs b.paragraphs
-      (sorted_same nat_cmp nat_cmp_total (λ (p : Para). number p.place) pa pb
+      same_paragraphs 1 a.paragraphs b.paragraphs (sorted_same nat_cmp nat_cmp_total (λ (p : Para). number p.place) pa pb
       (numbered_sorted para_of (λ (p : Para). number p.place) (λ n p. refl) 1 a.paragraphs)
       (numbered_sorted para_of (λ (p : Para). number p.place) (λ n p. refl) 1 b.paragraphs)
       (onto (map (spelled file.Para) rows.paras) pa pb shown_a.paragraphs shown_b.paragraphs) (onto (map (spelled file.Para) rows.paras) pb pa shown_b.paragraphs shown_a.paragraphs))

@@ -50,8 +50,7 @@ map-both f g to same (x ∷ xs) = λ i. same x i ∷ map-both f g to same xs i
 pub IsPermutation-set : {X : Type 0} (spelled set to : X → X) → ((x : X) → spelled (set x) ≡ to (spelled x)) → (xs ys : List X)
     → IsPermutation (map spelled xs) ys → IsPermutation (map spelled (map set xs)) (map to ys)
 IsPermutation-set spelled set to same xs ys moved =
-    subst (λ (zs : List _). IsPermutation zs (map to ys)) (sym (map-both spelled set to same xs))
-    (IsPermutation-map to (map spelled xs) ys moved)
+    subst (λ (zs : List _). IsPermutation zs (map to ys)) (sym (map-both spelled set to same xs)) (IsPermutation-map to _ _ moved)
 
 -- ---- a row in place of those with its key
 
@@ -86,9 +85,8 @@ IsPermutation-put_number rows row old new ids was =
     let apart : ℤ → Bool = λ n. not (int_eq n row.para) in
     let left : List ParaCells = filter (λ c. apart (key c)) rows in
     let keys : map key left ≡ filter apart (map key rows) = sym (filter-map apart key rows) in
-    subst (λ (ns : List ℤ). IsPermutation (row.para ∷ ns) new) (sym keys)
-    (IsPermutation-trans (row.para ∷ filter apart (map key rows)) (row.para ∷ filter apart old) new
-    (IsPermutation-cons row.para (filter apart (map key rows)) (filter apart old) (IsPermutation-filter apart (map key rows) old was)) ids)
+    subst (λ (ns : List ℤ). IsPermutation (row.para ∷ ns) new) (sym keys) (IsPermutation-trans _ _ _
+    (IsPermutation-cons row.para _ _ (IsPermutation-filter apart _ _ was)) ids)
 
 -- ---- the braille of paragraphs
 
@@ -123,7 +121,7 @@ module _ (book next : Book) where
   pub AreCached-same : (rows : List ParaCells) → IsPermutation (map id_number book.paragraphs) (map id_number next.paragraphs)
       → ((row : ParaCells) → IsCached book row → IsCached next row) → AreCached book rows → AreCached next rows
   AreCached-same rows ids same is = record {
-    one_each = IsPermutation-trans (map (λ (row : ParaCells). row.para) rows) (map id_number book.paragraphs) (map id_number next.paragraphs) is.one_each ids;
+    one_each = IsPermutation-trans _ _ _ is.one_each ids;
     cells = All-weaker (IsCached book) (IsCached next) same rows is.cells;
   }
 

@@ -31,7 +31,7 @@ module _ {X : Type 0} (lt : X → X → Bool) (other_way : (x y : X) → lt x y 
         | inl less ↦
             let rest = inserted x ys rises.1 in (
               y ∷ rest.0,
-              IsPermutation-trans (x ∷ y ∷ ys) (y ∷ x ∷ ys) (y ∷ rest.0) (IsPermutation-exchange x y ys) (IsPermutation-cons y (x ∷ ys) rest.0 rest.1),
+              IsPermutation-trans _ _ _ (IsPermutation-exchange x y ys) (IsPermutation-cons y _ _ rest.1),
               (rest.3 y rises.0 (other_way y x less), rest.2),
               λ w follows first. follows,
             )
@@ -43,16 +43,15 @@ module _ {X : Type 0} (lt : X → X → Bool) (other_way : (x y : X) → lt x y 
   arranged (x ∷ xs) =
       let rest = arranged xs in
       let all = inserted x rest.0 rest.2 in
-      (all.0, IsPermutation-trans (x ∷ xs) (x ∷ rest.0) all.0 (IsPermutation-cons x xs rest.0 rest.1) all.1, all.2)
+      (all.0, IsPermutation-trans _ _ _ (IsPermutation-cons x _ _ rest.1) all.1, all.2)
 
   pub rises-sorted : (xs : List X) → Rises xs → IsSortedBy lt xs
-  rises-sorted [] rises k d low less = absurd (omega arith)
-  rises-sorted (x ∷ []) rises k d low less = absurd (omega arith)
   rises-sorted (x ∷ y ∷ ys) rises zero d low less = rises.0
   rises-sorted (x ∷ y ∷ ys) rises (suc k) d low less =
       let next : suc (k + 1) ≡ suc k + 1 = omega arith in
       subst (λ i. lt (slice_index_or (x ∷ y ∷ ys) i d) (slice_index_or (y ∷ ys) k d) ≡ false) next
       (rises-sorted (y ∷ ys) rises.1 k d (omega arith) (omega arith))
+  rises-sorted xs rises k d low less = absurd (omega arith)
 
 -- ---- the order of tables
 
@@ -66,11 +65,9 @@ abbrev pub tab_less : Tab → Tab → Bool
 tab_less a b = is_lt (ordering_then (by_name a b) (by_body a b))
 
 flipped : (first second : Ordering) → is_lt (ordering_then first second) ≡ true → is_lt (ordering_then (ordering_reverse first) (ordering_reverse second)) ≡ false
-flipped Less second h = refl
-flipped Equal Less h = refl
-flipped Equal Equal h = refl
 flipped Equal Greater h = absurd (cc)
 flipped Greater second h = absurd (cc)
+flipped first second h = refl
 
 pub other_way : (a b : Tab) → tab_less a b ≡ true → tab_less b a ≡ false
 other_way a b less =

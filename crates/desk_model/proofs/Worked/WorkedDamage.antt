@@ -2,7 +2,7 @@
 use Rattle.std.proofs.Common.{◌≡◌, ◌⊎◌, ℕ, ◌+◌, ℤ, pos, ◌≤◌, ◌+ℤ◌, ◌≤ℤ◌, false, List, [], ◌∷◌, length, Some, Contains, refl, sym, ap, subst, ◌∙◌, arith, inl, inr, chars}
 use Rattle.std.proofs.lemmas.List.Elements.{All-nil}
 use Rattle.std.proofs.lemmas.List.Sorted.{IsPermutation-refl, length_permutation}
-use Rattle.std.proofs.lemmas.Option.{slice_get_within}
+use Rattle.std.proofs.lemmas.Option.{slice_get_within, same_Some}
 use Rattle.std.proofs.lemmas.Str.{chars-nil}
 use Rattle.louis_table.specs.Meaning.{Meaning}
 use Rattle.louis_table.specs.Table.{Means}
@@ -18,7 +18,6 @@ use Rattle.desk_model.specs.Book.{new_mark}
 use Rattle.desk_model.specs.NormalForm.{IsUnbarred, is_barred}
 use Rattle.desk_model.proofs.Damage.FirstDamage.{IsWholeBefore, before-book, before-cache, before-entries, before-mark, before-para, before-tab}
 use Rattle.desk_model.proofs.Lists.Members.{Contains-behind, Contains-cases, Contains-here, Contains-none}
-use Rattle.desk_model.proofs.Commands.Ranks.{same_some}
 use Rattle.desk_model.proofs.Lists.RowNumbers.{pos_le, same_number}
 use Rattle.desk_model.proofs.Lists.Stable.{le_from}
 
@@ -95,8 +94,7 @@ sound-books id (at, unsound) = unsound (
 
 no-tabs : (id : ℤ) → ¬ IsDamagedTab [] id
 no-tabs id (sorted, moved, ordered, (index, row, at, told, unsound)) =
-    let within = slice_get_within sorted index row at in
-    omega (arith, length_permutation [] sorted moved, within)
+    omega (arith, length_permutation _ _ moved, slice_get_within sorted index row at)
 
 no-paras : (tabs : List Tab) (id : ℤ) → ¬ IsDamagedPara tabs [] id
 no-paras tabs id (row, c, named, unsound) = Contains-none row c
@@ -173,7 +171,7 @@ marks-first = record {
 
 cells-ids : (caches : List ParaCells) (id : ℤ) → Some (stray_cells ∷ []) ≡ Some caches → IsDamagedCache [] [] caches id → pos 9 ≤ℤ id
 cells-ids caches id is (inl (row, c, named, unsound)) =
-    let own : stray_cells ∷ [] ≡ caches = same_some _ _ is in
+    let own : stray_cells ∷ [] ≡ caches = same_Some _ _ is in
     let same = only stray_cells row (subst (λ (rows : List ParaCells). Contains rows row) (sym own) c) in
     subst (λ z. pos 9 ≤ℤ z) (ap (λ (r : ParaCells). r.para) same ∙ named) (pos_le 9 9 (omega arith))
 cells-ids caches id is (inr ((para, c, named), none)) = absurd (Contains-none para c)

@@ -99,7 +99,7 @@ after-it = refl
 around-it : mark_moved (put 0 9 []) (look 5 8 false) ≡ look 0 0 true
 around-it = refl
 
--- taken back, what comes again stands after the empty mark
+-- taken back, what is restored stands after the empty mark
 came-again : mark_moved_back (put 0 9 []) (look 0 0 true) ≡ look 0 0 true
 came-again = refl
 
@@ -115,7 +115,7 @@ at-the-edges-again : map (mark_moved_back (put 2 2 (98 ∷ []))) (look 0 2 false
     ≡ look 0 2 false ∷ look 1 4 true ∷ look 2 4 true ∷ look 2 5 true ∷ look 4 6 false ∷ look 0 6 true ∷ []
 at-the-edges-again = refl
 
--- an empty mark stays before what comes at its place, and is touched only from both sides
+-- an empty mark stays before what is new at its place, and is touched only from both sides
 empty-mark : map (λ r. mark_moved r (look 1 1 false)) (put 1 0 (99 ∷ []) ∷ put 0 1 (98 ∷ 98 ∷ []) ∷ put 1 1 [] ∷ put 0 2 [] ∷ [])
     ≡ look 1 1 false ∷ look 2 2 false ∷ look 1 1 false ∷ look 0 0 true ∷ []
 empty-mark = refl

@@ -4,8 +4,7 @@ use Rattle.desk_memory.proofs.braille.cells_of.Goals as goal
 
 pub loop-piece-init : goal.loop-piece-init
 loop-piece-init c =
-    rw c.new-cells.ensures.items
-    (CellsSoFar-start c.args.rules.now c.args.print.now _
+    rw c.new-cells.ensures.items (CellsSoFar-start c.args.rules.now c.args.print.now _
     (λ choices tiles. c.into_iter-piece-iterator.ensures.into_iter_gives ∙ c.new-piece-items.ensures choices tiles))
 
 pub loop-piece-preserved : goal.loop-piece-preserved

@@ -80,10 +80,9 @@ returns-in_err-give_cells-clause-damaged c =
     let no_para = c.in_ok-items.ensures.whole rows.tabs tables in
     let of = c.in_ok-items.ensures.items rows.tabs tables in
     let with_history = history_of at.In_ok-give_histories in
-    let with_marks = marks_of at.In_ok-marks with_history in
     IfErr-exit c.from_residual-in_err-give_cells.result c.in_err-give_cells.field-0.0 (IsFaultOf rows) c.from_residual-in_err-give_cells.ensures.1
     (cache-fault c.args.parts within c.in_ok-tables.ensures.whole no_para (c.in_ok-give_histories.ensures.whole rows.paras of) (c.in_ok-marks.ensures.whole rows.paras with_history)
-    c.in_err-give_cells.field-0.0 (c.in_err-give_cells.ensures.damaged rows.tabs rows.paras tables with_marks no_para))
+    c.in_err-give_cells.field-0.0 (c.in_err-give_cells.ensures.damaged rows.tabs rows.paras tables (marks_of at.In_ok-marks with_history) no_para))
 
 pub kept_book-requires-clause-order : goal.kept_book-requires-clause-order
 kept_book-requires-clause-order c =

@@ -12,9 +12,8 @@ cells_for-requires c =
 
 pub returns-clause-cells : goal.returns-clause-cells
 returns-clause-cells c = λ tabs paras are of whole.
-    let items = c.args.items.now.items in
     subst (λ (all : List KeptParagraph). All (HasCells tabs all) paras) (sym c.give.ensures)
-    (has-cells tabs paras c.args.tables.now items are of whole c.in_ok-cells.cells.items
+    (has-cells tabs paras c.args.tables.now c.args.items.now.items are of whole c.in_ok-cells.cells.items
     (subst (λ (all : List KeptParagraph). AreTheirCells c.args.tables.now all c.in_ok-cells.cells.items) c.deref.ensures.value c.in_ok-cells.ensures))
 
 pub returns-clause-same : goal.returns-clause-same

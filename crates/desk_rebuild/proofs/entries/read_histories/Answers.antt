@@ -18,7 +18,6 @@ step : (c : After-index_mut) → (c.in-Some.index ≡ length c.loop-index.yielde
     × (slice_get c.loop-index.items.items (length c.loop-index.yielded) ≡ Some c.index_mut.result.now)
 step c =
     let groups = c.args.groups.items in
-    let lists = map (λ group. group.items) groups in
     let now = c.loop-index.items.items in
     let n = length c.loop-index.yielded in
     let source : c.into_iter-index-iterator.result.iter ≡ c.into_iter.result = cc in
@@ -26,7 +25,7 @@ step c =
     let step = YieldsList-turn road c.loop-index.yielded c.loop-index.index-iterator c.loop-index.yielded_by c.next.result c.next.new.self (c.in-Some.index, c.in-Some.rows) c.in-Some.is c.next.ensures.steps in
     let found = at-enumerate groups n c.in-Some.index c.in-Some.rows step.0 step.1 in
     let within = slice_get_within groups n c.in-Some.rows found.1 in
-    let long = as-long lists c.args.items.now.items now n c.loop-index.invariant in
+    let long = as-long (map (λ group. group.items) groups) c.args.items.now.items now n c.loop-index.invariant in
     let bound : c.in-Some.index < length now = (let here = found.0 in let all = c.requires in omega (arith, within, long, all, here)) in
     let at = slice_get_read now (length now) c.in-Some.index c.index_mut.result.now refl bound c.index_mut.ensures.value in
     (found.0, within, slice_get-map (λ group. group.items) groups n ∙ ap (option_map (λ group. group.items)) found.1, ap (slice_get now) (sym found.0) ∙ at)

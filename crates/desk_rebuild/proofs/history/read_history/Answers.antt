@@ -20,7 +20,7 @@ returns-then-not-is_print-clause-damaged c =
     inr (
       ap Damaged (to_z-of_z w64 c.args.id c.ranges.id),
       λ (h : CanBeRead c.args.rows.items c.args.paragraph.now.original c.args.paragraph.now.print).
-          let empty = nil_from_length h.sorted (length_permutation c.args.rows.items h.sorted h.same ∙ ap length none) in
+          let empty = nil_from_length h.sorted (length_permutation _ _ h.same ∙ ap length none) in
           let same = ap (λ (t : List NamedCorr). corrected_print c.args.paragraph.now.original (history_of t)) (sym empty) ∙ h.print_is in
           both_ways c.is_print.result c.if-not-is_print.true (c.is_print.ensures.1 (c.as_str.ensures ∙ (same ∙ sym c.as_slice.ensures))),
     )
@@ -54,17 +54,15 @@ returns-then-ne-clause-damaged c =
 
 pub returns-clause-read : goal.returns-clause-read
 returns-clause-read c =
-    let sound = c.in_ok-reading.ensures.read.0 in
     let read = c.in_ok-reading.ensures.read.1 in
-    let original = c.args.paragraph.now.original in
     let sorted = c.sort_by_key.new.self.items in
-    let made : c.in_ok-reading.reading.print.items ≡ corrected_print original (history_of sorted) =
+    let made : c.in_ok-reading.reading.print.items ≡ corrected_print c.args.paragraph.now.original (history_of sorted) =
     read.left.print_is ∙ (ap (corrected_print (chars c.as_str-2.result.now)) read.entries ∙ ap (λ (t : List ℕ). corrected_print t (history_of sorted)) c.as_str-2.ensures) in
     let same = (same-print c.as_slice-2.result.now c.as_slice-3.result.now c.ne.result c.ne.ensures).0 c.if-ne.false in
     record {
       sorted = sorted;
       same = c.in_ok-sort_by_key.ensures.permutation;
-      each = subst (λ (t : List ℕ). AreSoundRows t sorted) c.as_str-2.ensures sound;
+      each = subst (λ (t : List ℕ). AreSoundRows t sorted) c.as_str-2.ensures c.in_ok-reading.ensures.read.0;
       history = ap entries_kept c.in_ok-paragraph.ensures ∙ read.entries;
       taken = subst (λ (t : List ℕ). HaveTaken t c.in_ok-paragraph.field-0) c.as_str-2.ensures (subst (HaveTaken (chars c.as_str-2.result.now)) (sym c.in_ok-paragraph.ensures) read.left.taken);
       print = sym made ∙ (sym c.as_slice-2.ensures.value ∙ (same ∙ c.as_slice-3.ensures));

@@ -28,13 +28,12 @@ returns c =
     let fits_stop : SFits w64 c.row.inside.stop = search rules in
     let para = to_z-of_z w64 c.row.inside.para fits_para in
     let start = to_z-of_z w64 c.row.inside.start fits_start in
-    let stop = to_z-of_z w64 c.row.inside.stop fits_stop in
     let kept = c.in_ok-paragraph.paragraph.now in
     let found : HasId c.args.items.now c.row.inside.para kept = subst (λ z. HasId c.args.items.now z kept) para c.in_ok-paragraph.ensures in
     let given : IsSpan (length c.as_slice.result.now) (to_z w64 (of_z w64 c.row.inside.start)) (to_z w64 (of_z w64 c.row.inside.stop))
     × (pos c.in_ok-start.start ≡ to_z w64 (of_z w64 c.row.inside.start)) × (pos c.in_ok-start.end ≡ to_z w64 (of_z w64 c.row.inside.stop)) = c.in_ok-start.ensures in
     let span : IsSpan (length c.as_slice.result.now) c.row.inside.start c.row.inside.stop =
-    subst (λ z. IsSpan (length c.as_slice.result.now) c.row.inside.start z) stop
+    subst (λ z. IsSpan (length c.as_slice.result.now) c.row.inside.start z) (to_z-of_z w64 c.row.inside.stop fits_stop)
     (subst (λ z. IsSpan (length c.as_slice.result.now) z (to_z w64 (of_z w64 c.row.inside.stop))) start given.0) in
     let text : IsNoteText (chars (string_bytes c.row.inside.note)) = search rules in
     let own : pos (nat_abs (to_z w64 (of_z w64 c.row.inside.para))) ≡ c.row.inside.para = ap (λ z. pos (nat_abs z)) para ∙ subst (λ z. pos (nat_abs z) ≡ z) (sym found.is) refl in

@@ -58,8 +58,7 @@ index_mut-requires c =
     subst (λ order. IsFree order c.in-Some.row.place c.in-Some-free_index.index) c.deref.ensures.value
     (subst (λ z. IsFree c.deref.result.now z c.in-Some-free_index.index) place c.in-Some-free_index.ensures.free) in
     let less = slice_get_within c.loop-row.order.items c.in-Some-free_index.index 0 free.free in
-    let long = c.loop-row.order.ok.0 in
-    omega (arith, less, long)
+    omega (arith, less, c.loop-row.order.ok.0)
 
 pub loop-row-preserved : goal.loop-row-preserved
 loop-row-preserved c =

@@ -27,7 +27,8 @@ returns c =
       whole = λ tabs are. read (λ judged. IsWhole (IsDamagedPara tabs rows)) (λ judged have. whole tabs tables are rows sorted moved c.sort.ensures.sorted have.kept.sound);
       items = λ tabs are. read (λ judged. AreOf rows judged.items.items) (λ judged have. are-of tables rows sorted moved judged.items.items judged.order.items have);
       unmarked = read (λ judged. All (λ (kept : KeptParagraph). kept.marks ≡ []) judged.items.items) (λ judged have. unmarked tables rows sorted moved judged.items.items judged.order.items have);
-      order = λ tabs are. read (λ judged. AreInPlaces rows judged.order.items) (λ judged have. in-places tables rows sorted moved judged.items.items judged.order.items have);
+      order = λ tabs are. read (λ judged. AreInPlaces rows judged.order.items) (λ judged have.
+          in-places tables rows sorted moved judged.items.items judged.order.items have tabs (whole tabs tables are rows sorted moved c.sort.ensures.sorted have.kept.sound));
       damaged = λ tabs are. first-of-table ParaTable c.paragraphs_of.result c.of_table.result c.of_table.ensures (para_rule tables sorted) sorted (IsDamagedPara tabs rows)
           (tells tabs tables are rows sorted moved c.sort.ensures.sorted) c.paragraphs_of.ensures.damaged;
     }

@@ -10,7 +10,7 @@ use Rattle.desk_rebuild.proofs.ReadTabs.{are-tables, tells, whole}
 use Rattle.desk_rebuild.proofs.tabs.read_tabs.Goals as goal
 
 moved : (rows sorted : List StoredTab) → IsPermutation rows sorted → IsPermutation (rows_of rows) (rows_of sorted)
-moved rows sorted same = IsPermutation-map (λ (s : StoredTab). s.row) rows sorted same
+moved rows sorted same = IsPermutation-map (λ (s : StoredTab). s.row) _ _ same
 
 pub returns-clause-whole : goal.returns-clause-whole
 returns-clause-whole c =

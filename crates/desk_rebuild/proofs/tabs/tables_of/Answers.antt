@@ -40,11 +40,10 @@ loop-stored-preserved c =
     let taken = c.loop-stored.yielded in
     let left = into_iter_items c.next.new.self in
     let next = c.in-Some.stored in
-    let pushed = map-append row_of taken (next ∷ []) in
     let read = c.in_ok-add.ensures.read (rows_of taken) (rows_of left) (before at) in (
       tt,
       tt,
-      subst (λ done. AreRead (rows_of c.args.rows.items) done c.add.new.tables) (sym pushed)
+      subst (λ done. AreRead (rows_of c.args.rows.items) done c.add.new.tables) (sym (map-append row_of taken (next ∷ [])))
           (subst (λ (t : Tab). AreRead (rows_of c.args.rows.items) (rows_of taken ++ t ∷ []) c.add.new.tables) (ap row_of c.stored.view_is)
           (subst (λ rows. AreRead rows (rows_of taken ++ c.stored.inside.row ∷ []) c.add.new.tables) (rows_are at) read)),
       append_assoc taken (next ∷ []) left ∙ stored_is at,

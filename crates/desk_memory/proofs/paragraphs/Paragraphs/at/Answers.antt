@@ -21,8 +21,7 @@ returns-in_err-id c =
     let order = c.self.inside.order in
     let none : slice_get order c.args.place ≡ None =
     sym (option_copied-item c.as_slice-order.result.now c.args.place None c.in_err-id.ensures.lookup ∙ ap (λ list. slice_get list c.args.place) c.as_slice-order.ensures) in
-    rw c.from_residual.ensures
-    (sym (sym (ap (λ list. slice_get list c.args.place) c.self.view_is)
+    rw c.from_residual.ensures (sym (sym (ap (λ list. slice_get list c.args.place) c.self.view_is)
     ∙ slice_get_none-in_order items order c.args.place (AreUpTo-order (length items) order c.self.invariant) none))
 
 pub overflow_sub-result : goal.overflow_sub-result
@@ -33,14 +32,12 @@ overflow_sub-result c =
 pub bounds-items-id : goal.bounds-items-id
 bounds-items-id c =
     let there = id-at c.as_slice-order.result.now c.self.inside.order c.args.place c.in_ok-id.field-0 c.in_ok-id.ensures.lookup c.as_slice-order.ensures (length c.self.inside.items) c.self.invariant in
-    let long = ap length c.as_slice-items.ensures in
-    omega (arith, there.1.0, there.1.1, long)
+    omega (arith, there.1.0, there.1.1, ap length c.as_slice-items.ensures)
 
 pub offset_bounds-items-id : goal.offset_bounds-items-id
 offset_bounds-items-id c =
     let there = id-at c.as_slice-order.result.now c.self.inside.order c.args.place c.in_ok-id.field-0 c.in_ok-id.ensures.lookup c.as_slice-order.ensures (length c.self.inside.items) c.self.invariant in
-    let long = ap length c.as_slice-items.ensures in
-    omega (arith, there.1.0, there.1.1, long, c.as_slice-items.type_inv.1)
+    omega (arith, there.1.0, there.1.1, ap length c.as_slice-items.ensures, c.as_slice-items.type_inv.1)
 
 pub returns : goal.returns
 returns c =

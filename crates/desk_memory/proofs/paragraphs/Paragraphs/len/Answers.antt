@@ -3,6 +3,4 @@ use Rattle.desk_memory.proofs.Arranging.{length-in_order}
 use Rattle.desk_memory.proofs.paragraphs.Paragraphs.len.Goals as goal
 
 pub returns : goal.returns
-returns c =
-    let permutes = c.self.invariant in
-    c.len.ensures ∙ (sym (length-in_order c.self.inside.items c.self.inside.order permutes) ∙ ap length c.self.view_is)
+returns c = c.len.ensures ∙ (sym (length-in_order c.self.inside.items c.self.inside.order c.self.invariant) ∙ ap length c.self.view_is)

@@ -37,11 +37,10 @@ pub returns-in-Some-clause-within : goal.returns-in-Some-clause-within
 returns-in-Some-clause-within c =
     let order = c.self.inside.order in
     let count = length-shown c.self.inside.items c.self.inside.order c.args.self.now c.self.invariant c.self.view_is in
-    let ordered = length-order (length c.self.inside.items) order c.self.invariant in
     let found : position (λ other. nat_eq other c.in-Para.id) order ≡ Some c.in-Some.place =
     sym (c.place_of.ensures ∙ ap (position (λ other. nat_eq other c.in-Para.id)) c.as_slice.ensures) ∙ c.in-Some.is in
     let at = position-at c.in-Para.id c.in-Some.place order found in
-    omega (arith, count, ordered, at.0)
+    omega (arith, count, length-order (length c.self.inside.items) order c.self.invariant, at.0)
 
 pub returns-in-Some-clause-place : goal.returns-in-Some-clause-place
 returns-in-Some-clause-place c = λ new.

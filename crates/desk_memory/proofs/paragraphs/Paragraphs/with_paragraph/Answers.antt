@@ -37,8 +37,7 @@ invariant_of-result c =
     let items = c.self.inside.items in
     let order = c.self.inside.order in
     let count = length-shown items order c.args.self c.self.invariant c.self.view_is in
-    let long = length-append items (c.args.paragraph ∷ []) in
-    let more : length c.args.self + 1 ≡ length (items ++ c.args.paragraph ∷ []) = omega (arith, count, long) in
+    let more : length c.args.self + 1 ≡ length (items ++ c.args.paragraph ∷ []) = omega (arith, count, length-append items (c.args.paragraph ∷ [])) in
     let put = ap₂ (λ list n. insert list c.args.place (n + 1)) (ids-shown items order c.args.self c.self.invariant c.self.view_is) (sym c.len.ensures) in
     rw (c.push.ensures, c.with_item_at-order.ensures)
     (subst (λ n. IsPermutation (range_with_len 1 n) (insert order c.args.place (c.len.result + 1))) more

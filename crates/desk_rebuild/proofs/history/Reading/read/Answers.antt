@@ -23,9 +23,8 @@ returns-then-count-ge-MOST_ENTRIES-clause-damaged c original rows is =
             | then-count-ge-MOST_ENTRIES-via-else-count-ge-MOST_ENTRIES+then-row-count w ↦
                 let few = w.if-count-ge-MOST_ENTRIES.false in
                 let view : c.row-inside.inside.0.0.seq ≡ c.args.row.entry.seq = ap (λ (x : Inside). x.entry.seq) c.row-inside.view_is ∙ ap (λ (r : NamedCorr). r.entry.seq) c.row.view_is in
-                let number = view ∙ sound.number in
                 let next : pos (length rows + 1) ≡ to_z w64 c.len-count.result +ℤ pos 1 = omega (arith, ints, same, long, few) in
-                w.if-row-count.true (ap (of_z w64) (number ∙ next))
+                w.if-row-count.true (ap (of_z w64) ((view ∙ sound.number) ∙ next))
           ],
     )
 
