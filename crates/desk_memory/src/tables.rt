@@ -1,6 +1,6 @@
 //! The tables of a book.
 ghost use Rattle.louis_table.specs.Table.{Means};
-ghost use Rattle.louis_table.specs.Tells.{Tells};
+ghost use Rattle.louis_table.specs.ReportedFault.{IsReportedOf};
 ghost use Rattle.std.specs.Cmp.Lexicographic.{pointwise};
 ghost use Rattle.std.specs.Map.{lookup};
 ghost use Rattle.std.specs.Prelude.{option_copied, ◌≡◌, ◌<◌, ◌≤◌, [], None, IfErr, IfOk, IsSome, OnOk, length, nat_eq};
@@ -31,7 +31,7 @@ impl Drop for BookTable {
 /// Reads the rules in the text of a table.
 fn read_rules(alloc: Global, text: &[u8]) -> Result<RuleIndex, ReadFault>
     ensures means { IfOk result (Means text.now) }
-    ensures bad { IfErr result (Tells text.now) }
+    ensures bad { IfErr result (IsReportedOf text.now) }
 {
     let table = Table::read(alloc, text)?;
     match RuleIndex::new(alloc, table) {
@@ -46,7 +46,7 @@ impl BookTable {
     pub fn read(alloc: Global, text: &[u8]) -> Result<Self, ReadFault>
         ensures text { IfOk result (λ table. table.text ≡ text.now) }
         ensures means { IfOk result (λ table. Means text.now table.rules) }
-        ensures bad { IfErr result (Tells text.now) }
+        ensures bad { IfErr result (IsReportedOf text.now) }
     {
         let rules = read_rules(alloc, text)?;
         let copy = Vec::from_slice(alloc, text).map_err(|_| ReadFault::NoMemory)?;

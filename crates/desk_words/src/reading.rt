@@ -47,7 +47,7 @@ fn reading_of<'a>(alloc: Global, error: &Error) -> Reading<'a>
     let Ok(text) = text_of(alloc, error) else {
         return Reading::NoMemory;
     };
-    told_as(error.kind(), text)
+    shown_as(error.kind(), text)
 }
 
 /// What is shown of an error of the parse. It is never empty.
@@ -62,7 +62,7 @@ fn text_of(alloc: Global, error: &Error) -> Result<String, AllocError>
 }
 
 /// What an error of this kind comes to, of which this text is shown.
-fn told_as<'a>(kind: ErrorKind, text: String) -> Reading<'a>
+fn shown_as<'a>(kind: ErrorKind, text: String) -> Reading<'a>
     ensures { IsShownAs kind text result }
 {
     match kind {

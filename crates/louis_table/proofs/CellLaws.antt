@@ -12,7 +12,7 @@ use Rattle.louis_table.specs.Characters.{Spells}
 use Rattle.louis_table.specs.Fields.{HasFields}
 use Rattle.louis_table.specs.Meaning.{Meaning, HasCells, definition_of, fold_of}
 use Rattle.louis_table.specs.Profile.{Profile}
-use Rattle.louis_table.specs.Table.{Entry, Defines, Pairs, Replaces, Announces, Collects, PairDots, RuleDots, Gives, definition_line, pair_line, rule_line, sign_line, set_line, GiveFrom, definitions_in, cells_in_definition, rule_cells, rules_in, IsLacking, MeansIn}
+use Rattle.louis_table.specs.Table.{Entry, Defines, Pairs, Replaces, Announces, Collects, PairDots, RuleDots, GivesEntry, definition_line, pair_line, rule_line, sign_line, set_line, GiveFrom, definitions_in, cells_in_definition, rule_cells, rules_in, IsLacking, MeansIn}
 
 -- ---- what a line gives
 
@@ -44,7 +44,7 @@ rule_dots : (dots : List ℕ) (cells : Option (List ℕ)) → RuleDots dots cell
 rule_dots dots None h written e = cc
 rule_dots dots (Some cells) h written e = let same : cells ≡ written = cc in λ none. some_dots dots cells h (same ∙ none)
 
-gives-cells : (profile : Profile) (line : List ℕ) (entry : Entry) → Gives profile line entry → MakesCells entry
+gives-cells : (profile : Profile) (line : List ℕ) (entry : Entry) → GivesEntry profile line entry → MakesCells entry
 gives-cells profile line entry (definition_line class characters dots c cells has h s d e) = subst MakesCells (sym e) (some_dots dots cells d)
 gives-cells profile line entry (pair_line characters dots upper lower upper_cells lower_cells has h s d e) = subst MakesCells (sym e) (pair_dots dots upper_cells lower_cells d)
 gives-cells profile line entry (rule_line kind characters dots text cells has h s d e) =

@@ -17,7 +17,7 @@ use Rattle.louis_table.specs.Characters.{Spells}
 use Rattle.louis_table.specs.Fields.{Begins, HasFields}
 use Rattle.louis_table.specs.Meaning.{Meaning, definition_of, fold_of, sign_cells}
 use Rattle.louis_table.specs.Profile.{Profile}
-use Rattle.louis_table.specs.Table.{Entry, Defines, Pairs, Replaces, Announces, Collects, PairDots, RuleDots, Gives, definition_line, pair_line, rule_line, sign_line, set_line, GiveFrom, IsFault, long_line, line_too_many, HasCause, on_line, definitions_in, cells_in_definition, cells_for, rule_cells, rules_in, is_same_sign, MeansIn, text_lines, most_lines, most_line_characters}
+use Rattle.louis_table.specs.Table.{Entry, Defines, Pairs, Replaces, Announces, Collects, PairDots, RuleDots, GivesEntry, definition_line, pair_line, rule_line, sign_line, set_line, GiveFrom, IsFault, long_line, line_too_many, HasCause, on_line, definitions_in, cells_in_definition, cells_for, rule_cells, rules_in, is_same_sign, MeansIn, text_lines, most_lines, most_line_characters}
 use Rattle.louis_table.proofs.CharacterLaws.{Writes-some}
 use Rattle.louis_table.proofs.MeaningLaws.{sign_cells-map}
 
@@ -82,7 +82,7 @@ rule-dots-few dots (Some cells) short d written e =
     let same : cells ≡ written = cc in
     omega (arith, cells-short dots cells d, ap length same, short)
 
-gives-few : (profile : Profile) (line : List ℕ) (entry : Entry) → length line ≤ 1000 → Gives profile line entry → FewCells entry
+gives-few : (profile : Profile) (line : List ℕ) (entry : Entry) → length line ≤ 1000 → GivesEntry profile line entry → FewCells entry
 gives-few profile line entry short (definition_line class characters dots c cells has h s d e) =
     let few = cells-short dots cells d in
     let field = third-short line _ characters dots [] h in

@@ -6,7 +6,7 @@ use Rattle.std.specs.Char.{digit_value}
 use lib.Utf8.{scalar}
 use Rattle.std.proofs.lemmas.Bool.{eqb-true, eqb-false, ne_eqb, ltb-true, ltb-false, lt-ltb, le-ltb}
 use Rattle.std.proofs.lemmas.List.{take-append-drop, length-take, length-append, take_at, drop_at}
-use Rattle.louis_table.specs.Characters.{escape_character, digits_behind, spelled_behind, Writes, itself, escape, number, Spells}
+use Rattle.louis_table.specs.Characters.{escape_character, escape_digits, spelled_after, Writes, itself, escape, number, Spells}
 use Rattle.louis_table.specs.Steps.Characters.{with_rest, hex_value, scalar_from, number_at, escape_by, character_at, characters_within, characters_in}
 
 -- which way a test went
@@ -19,7 +19,7 @@ chosen false x y z e = inr (refl, e)
 abbrev AreDigits : List ℕ → Type 0
 AreDigits = AllByRecursion (λ d. digit_value d < 16)
 
-hex_value-spelled : (n : ℕ) (digits : List ℕ) (v : ℕ) → hex_value n digits ≡ Some v → AreDigits digits × (spelled_behind n digits ≡ v)
+hex_value-spelled : (n : ℕ) (digits : List ℕ) (v : ℕ) → hex_value n digits ≡ Some v → AreDigits digits × (spelled_after n digits ≡ v)
 hex_value-spelled n [] v e = (tt, cc)
 hex_value-spelled n (d ∷ ds) v e =
     elim (chosen (ltb (digit_value d) 16) _ _ _ e) [
@@ -27,7 +27,7 @@ hex_value-spelled n (d ∷ ds) v e =
       | inr p ↦ absurd cc
     ]
 
-spelled-hex_value : (n : ℕ) (digits : List ℕ) → AreDigits digits → hex_value n digits ≡ Some (spelled_behind n digits)
+spelled-hex_value : (n : ℕ) (digits : List ℕ) → AreDigits digits → hex_value n digits ≡ Some (spelled_after n digits)
 spelled-hex_value n [] h = refl
 spelled-hex_value n (d ∷ ds) h = rw (lt-ltb (digit_value d) 16 h.0) (spelled-hex_value (16 * n + digit_value d) ds h.1)
 
@@ -49,7 +49,7 @@ with_rest-Some (Some v) rest c back e =
 abbrev pub ReadsFront : List ℕ → ℕ → List ℕ → Type 0
 ReadsFront text character rest = (front : List ℕ) × (text ≡ front ++ rest) × Writes front character
 
-number_at-reads : (letter count : ℕ) (text : List ℕ) (c : ℕ) (rest : List ℕ) → digits_behind letter ≡ Some count → number_at count text ≡ Some (c, rest)
+number_at-reads : (letter count : ℕ) (text : List ℕ) (c : ℕ) (rest : List ℕ) → escape_digits letter ≡ Some count → number_at count text ≡ Some (c, rest)
     → ReadsFront (92 ∷ letter ∷ text) c rest
 number_at-reads letter count text c rest b e =
     elim (chosen (ltb (length text) count) _ _ _ e) [
@@ -67,7 +67,7 @@ number_at-reads letter count text c rest b e =
           )
     ]
 
-escape_by-reads : (letter c : ℕ) (text rest : List ℕ) (o d : Option ℕ) → escape_character letter ≡ o → digits_behind letter ≡ d → escape_by o d text ≡ Some (c, rest)
+escape_by-reads : (letter c : ℕ) (text rest : List ℕ) (o d : Option ℕ) → escape_character letter ≡ o → escape_digits letter ≡ d → escape_by o d text ≡ Some (c, rest)
     → ReadsFront (92 ∷ letter ∷ text) c rest
 escape_by-reads letter c text rest (Some v) d e f h =
     let w = with_rest-Some (Some v) text c rest h in
@@ -77,7 +77,7 @@ escape_by-reads letter c text rest None None e f h = absurd cc
 
 escape_at-reads : (c : ℕ) (text rest : List ℕ) → character_at (92 ∷ text) ≡ Some (c, rest) → ReadsFront (92 ∷ text) c rest
 escape_at-reads c [] rest e = absurd cc
-escape_at-reads c (letter ∷ text) rest e = escape_by-reads letter c text rest (escape_character letter) (digits_behind letter) refl refl e
+escape_at-reads c (letter ∷ text) rest e = escape_by-reads letter c text rest (escape_character letter) (escape_digits letter) refl refl e
 
 pub character_at-reads : (text : List ℕ) (c : ℕ) (rest : List ℕ) → character_at text ≡ Some (c, rest) → ReadsFront text c rest
 character_at-reads [] c rest e = absurd cc
@@ -91,8 +91,8 @@ character_at-reads (x ∷ text) c rest e =
     ]
 
 -- an escape by number has no letter of a shorter one
-digits_behind-escaped : (letter count : ℕ) → digits_behind letter ≡ Some count → escape_character letter ≡ None
-digits_behind-escaped letter count e =
+escape_digits-escaped : (letter count : ℕ) → escape_digits letter ≡ Some count → escape_character letter ≡ None
+escape_digits-escaped letter count e =
     elim (chosen (eqb letter 120) _ _ _ e) [
       | inl p ↦ ap escape_character (eqb-true letter 120 p.0)
       | inr p ↦ elim (chosen (eqb letter 121) _ _ _ p.1) [
@@ -106,10 +106,10 @@ digits_behind-escaped letter count e =
 
 pub character_at-Writes : (front rest : List ℕ) (c : ℕ) → Writes front c → character_at (front ++ rest) ≡ Some (c, rest)
 character_at-Writes front rest c (itself ne e) = rw e (rw (ne_eqb c 92 ne) refl)
-character_at-Writes front rest c (escape letter s e) = rw e (ap (λ (o : Option ℕ). escape_by o (digits_behind letter) rest) s)
+character_at-Writes front rest c (escape letter s e) = rw e (ap (λ (o : Option ℕ). escape_by o (escape_digits letter) rest) s)
 character_at-Writes front rest c (number letter digits counted are v s e) =
     rw e
-    (ap (λ (o : Option ℕ). escape_by o (digits_behind letter) (digits ++ rest)) (digits_behind-escaped letter (length digits) counted)
+    (ap (λ (o : Option ℕ). escape_by o (escape_digits letter) (digits ++ rest)) (escape_digits-escaped letter (length digits) counted)
     ∙ (ap (λ (o : Option ℕ). escape_by None o (digits ++ rest)) counted ∙ whole))
   where
     long : length digits ≤ length (digits ++ rest)

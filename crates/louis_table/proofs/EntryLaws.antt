@@ -24,7 +24,7 @@ use Rattle.louis_table.specs.Steps.Characters.{characters_in}
 use Rattle.louis_table.specs.Steps.Opcode.{opcode_among, opcodes, opcode_named}
 use Rattle.louis_table.specs.Steps.Dots.{pair_in, rule_in, are_many, are_many_written}
 use Rattle.louis_table.specs.Steps.Line.{or_cause, entry_from, with_dots, both_from, both_at, entry_of_both, entry_of_one, entry_of_set, entry_at, as_some, opcode_gives, fields_give, line_gives, is_large}
-use Rattle.louis_table.specs.Table.{Entry, Defines, Pairs, Replaces, Announces, Collects, AreCharactersFor, HasCharacters, HasDots, HasOperands, AreTooManyFor, RuleDots, IsDotsFor, WritesCells, most_rule_characters, IsComment, SaysNothing, blank, comment, Gives, definition_line, pair_line, rule_line, sign_line, set_line, IsFault, unknown_opcode, missing_operand, bad_characters, bad_dots, many_characters, many_cells}
+use Rattle.louis_table.specs.Table.{Entry, Defines, Pairs, Replaces, Announces, Collects, AreCharactersFor, HasCharacters, HasDots, HasOperands, AreTooManyFor, RuleDots, IsDotsFor, WritesCells, most_rule_characters, IsComment, SaysNothing, blank, comment, GivesEntry, definition_line, pair_line, rule_line, sign_line, set_line, IsFault, unknown_opcode, missing_operand, bad_characters, bad_dots, many_characters, many_cells}
 use Rattle.louis_table.proofs.FieldLaws.{field_at-Begins, Begins-field_at, IsGap-field_at, field_at-gap, gap_without_field}
 use Rattle.louis_table.proofs.CharacterLaws.{chosen, map_some, characters_in-Spells, Spells-characters_in}
 use Rattle.louis_table.proofs.OperandLaws.{pair_in-PairDots, PairDots-pair_in, rule_in-RuleDots, RuleDots-rule_in}
@@ -99,14 +99,14 @@ front_field line name characters dots h = (h.0, h.1, (h.2.0, h.2.1, tt))
 -- what a verdict on the fields of a line says of it
 abbrev pub Says : List ℕ → Result (Option Entry) ℕ → Type 0
 Says line (Ok None) = SaysNothing line
-Says line (Ok (Some entry)) = Gives WithNumericMode line entry
+Says line (Ok (Some entry)) = GivesEntry WithNumericMode line entry
 Says line (Err cause) = (before : List (List ℕ)) → IsFault WithNumericMode before line cause
 
 map_none : {A B : Type 0} (f : A → B) (o : Option A) → option_map f o ≡ None → o ≡ None
 map_none f None e = refl
 map_none f (Some x) e = absurd cc
 
-or_cause_says : (line : List ℕ) (cause : ℕ) (o : Option Entry) → ((entry : Entry) → o ≡ Some entry → Gives WithNumericMode line entry) → (o ≡ None → (before : List (List ℕ)) → IsFault WithNumericMode before line cause)
+or_cause_says : (line : List ℕ) (cause : ℕ) (o : Option Entry) → ((entry : Entry) → o ≡ Some entry → GivesEntry WithNumericMode line entry) → (o ≡ None → (before : List (List ℕ)) → IsFault WithNumericMode before line cause)
     → Says line (as_some (or_cause cause o))
 or_cause_says line cause None g f = f refl
 or_cause_says line cause (Some entry) g f = g entry refl
@@ -354,7 +354,7 @@ line_gives-nothing line (comment field rest b h) = first_gives line field rest b
 some_entry : {A : Type 0} (f : A → Entry) (cause : ℕ) (o : Option A) (x : A) (entry : Entry) → o ≡ Some x → entry ≡ f x → as_some (or_cause cause (option_map f o)) ≡ Ok (Some entry)
 some_entry f cause o x entry e s = ap (λ p. as_some (or_cause cause (option_map f p))) e ∙ ap (λ (y : Entry). Ok (Some y)) (sym s)
 
-pub line_gives-entry : (line : List ℕ) (entry : Entry) → Gives WithNumericMode line entry → line_gives line ≡ Ok (Some entry)
+pub line_gives-entry : (line : List ℕ) (entry : Entry) → GivesEntry WithNumericMode line entry → line_gives line ≡ Ok (Some entry)
 line_gives-entry line entry (definition_line class characters dots c cells has h s d e) =
     text_gives line characters dots (c ∷ []) (Define class) tt h s
     ∙ some_entry (λ (cells : List ℕ). Defines c (record { class = class; cells = cells })) 4 (cells_in dots) cells entry (cells_in-from_Dots dots cells d) e
@@ -576,7 +576,7 @@ many_cells_large line dots cells (Collect set) h w lt = absurd h
 many_cells_large line dots cells opcode h w lt = two_cells_large line dots cells opcode tt h w lt
 
 -- an entry with an operand beyond its limit is a fault
-pub large_fault : (before : List (List ℕ)) (line : List ℕ) (entry : Entry) → Gives WithNumericMode line entry → is_large entry ≡ true → IsFault WithNumericMode before line 8
+pub large_fault : (before : List (List ℕ)) (line : List ℕ) (entry : Entry) → GivesEntry WithNumericMode line entry → is_large entry ≡ true → IsFault WithNumericMode before line 8
 large_fault before line entry (definition_line class characters dots c cells has h s d e) t =
     many_cells (Define class) dots cells (has_opcode (Define class)) (characters, h) d (ltb-true _ _ (sym (ap is_large e) ∙ t)) refl
 large_fault before line entry (pair_line characters dots upper lower upper_cells lower_cells has h s d e) t =

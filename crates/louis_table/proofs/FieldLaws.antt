@@ -4,7 +4,7 @@ use Rattle.std.specs.List.{AllByRecursion, prefix_len}
 use Rattle.std.proofs.lemmas.Bool.{cases_Bool, not-true, not-false}
 use Rattle.std.proofs.lemmas.List.{take-append-drop, take_at, drop_at, append-nil, drop_all}
 use Rattle.louis_table.specs.Fields.{is_gap, IsGap, IsField, IsApart, Begins}
-use Rattle.louis_table.specs.Steps.Fields.{behind_gap, field_len, field_at}
+use Rattle.louis_table.specs.Steps.Fields.{after_gap, field_len, field_at}
 
 -- the text is nothing, or begins with what fails the test
 abbrev pub Stops : (ℕ → Bool) → List ℕ → Type 0
@@ -61,16 +61,16 @@ field_at-Begins text ne =
     record {
       gap = take (prefix_len is_gap text) text;
       is_gap = front_passes is_gap text;
-      is_field = is_field_from (field_at text).0 ne (all_not (field_at text).0 (front_passes no_gap (behind_gap text)));
-      is_apart = stops_apart (field_at text).1 (rest_stops no_gap (behind_gap text));
-      parts = sym (ap (λ (t : List ℕ). take (prefix_len is_gap text) text ++ t) (take-append-drop (field_len (behind_gap text)) (behind_gap text)) ∙ take-append-drop (prefix_len is_gap text) text);
+      is_field = is_field_from (field_at text).0 ne (all_not (field_at text).0 (front_passes no_gap (after_gap text)));
+      is_apart = stops_apart (field_at text).1 (rest_stops no_gap (after_gap text));
+      parts = sym (ap (λ (t : List ℕ). take (prefix_len is_gap text) text ++ t) (take-append-drop (field_len (after_gap text)) (after_gap text)) ∙ take-append-drop (prefix_len is_gap text) text);
     }
 
 -- a field between gaps is read
 pub Begins-field_at : (text field rest : List ℕ) → Begins text field rest → ((field_at text).0 ≡ field) × ((field_at text).1 ≡ rest)
 Begins-field_at text field rest b = (ap (λ (t : List ℕ). take (field_len t) t) behind ∙ first, ap (λ (t : List ℕ). drop (field_len t) t) behind ∙ second)
   where
-    behind : behind_gap text ≡ field ++ rest
+    behind : after_gap text ≡ field ++ rest
     behind = rw b.parts (rw (prefix_at is_gap b.gap (field ++ rest) b.is_gap (field_stops field rest b.is_field)) (drop_at b.gap (field ++ rest) (length b.gap) refl))
 
     len : field_len (field ++ rest) ≡ length field
@@ -94,13 +94,13 @@ no_front p q (c ∷ text) f s e = let t = f c s in no_cons c (take (prefix_len q
 
 -- a text without a field is a gap
 pub IsGap-field_at : (text : List ℕ) → (field_at text).0 ≡ [] → IsGap text
-IsGap-field_at text e = all_passes is_gap text (no_front is_gap no_gap (behind_gap text) (λ c h. ap not h) (rest_stops is_gap text) e)
+IsGap-field_at text e = all_passes is_gap text (no_front is_gap no_gap (after_gap text) (λ c h. ap not h) (rest_stops is_gap text) e)
 
 -- a gap has no field
 pub field_at-gap : (text : List ℕ) → IsGap text → (field_at text).0 ≡ []
 field_at-gap text h =
     let len : prefix_len is_gap text ≡ length text = ap (prefix_len is_gap) (sym (append-nil text)) ∙ prefix_at is_gap text [] h tt in
-    let nothing : behind_gap text ≡ [] = drop_all (prefix_len is_gap text) text (omega arith) in
+    let nothing : after_gap text ≡ [] = drop_all (prefix_len is_gap text) text (omega arith) in
     ap (λ (t : List ℕ). take (field_len t) t) nothing
 
 -- a gap begins with no field

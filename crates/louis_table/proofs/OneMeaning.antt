@@ -18,9 +18,9 @@ use Rattle.louis_table.specs.Profile.{Profile, WithNumericMode}
 use Rattle.louis_table.specs.Steps.Table.{no_meaning, with_given, is_known}
 use Rattle.louis_table.specs.Steps.Draft.{written_in}
 use Rattle.louis_table.specs.Steps.Pending.{are_defined, complete_rules, first_lacking, is_complete, line_of}
-use Rattle.louis_table.specs.Steps.Read.{Gathers, LinesGive, LinesMean, IsTold, IsLackingIn, LinesTell, judge}
-use Rattle.louis_table.specs.Table.{Entry, Defines, Pairs, Replaces, Announces, Collects, Gives, definition_line, pair_line, rule_line, sign_line, set_line, GiveFrom, rules_in, IsToldNoLater, text_lines, line_of_stop, without_byte_order_mark, IsMadeOf, IsLacking, Bad, BadIn, no_text, bad_line, undefined_character, Means, MeansIn}
-use Rattle.louis_table.specs.Tells.{Tells}
+use Rattle.louis_table.specs.Steps.Read.{Gathers, LinesGive, LinesMean, IsReported, IsLackingIn, LinesReport, judge}
+use Rattle.louis_table.specs.Table.{Entry, Defines, Pairs, Replaces, Announces, Collects, GivesEntry, definition_line, pair_line, rule_line, sign_line, set_line, GiveFrom, rules_in, IsReportedNoLater, text_lines, line_of_stop, without_byte_order_mark, IsMadeOf, IsLacking, Bad, BadIn, no_text, bad_line, undefined_character, Means, MeansIn}
+use Rattle.louis_table.specs.ReportedFault.{IsReportedOf}
 use Rattle.louis_table.specs.declared.opcode.Opcode.TheVariants.{Define, UpLow, Replace, Announce, Collect}
 use Rattle.louis_table.proofs.EntryLaws.{has_opcode}
 use Rattle.louis_table.proofs.VerdictLaws.{one_entry, nothing_or_entry}
@@ -30,7 +30,7 @@ use Rattle.louis_table.proofs.RuleLaws.{finished_entries, first_in, first_lackin
 -- ---- one meaning
 
 -- what a line gives in a profile it gives in the last one too
-pub in_last : (profile : Profile) (line : List ℕ) (entry : Entry) → Gives profile line entry → Gives WithNumericMode line entry
+pub in_last : (profile : Profile) (line : List ℕ) (entry : Entry) → GivesEntry profile line entry → GivesEntry WithNumericMode line entry
 in_last profile line entry (definition_line class characters dots c cells has h s d e) = definition_line class characters dots c cells (has_opcode (Define class)) h s d e
 in_last profile line entry (pair_line characters dots upper lower upper_cells lower_cells has h s d e) = pair_line characters dots upper lower upper_cells lower_cells (has_opcode UpLow) h s d e
 in_last profile line entry (rule_line kind characters dots text cells has h s d e) = rule_line kind characters dots text cells (has_opcode (Replace kind)) h s d e
@@ -99,7 +99,7 @@ one_meaning = one_meaning_in WithNumericMode
 
 -- ---- one fault
 
-told_once : (n c m d : ℕ) → IsToldNoLater n c m d → IsToldNoLater m d n c → (n ≡ m) × (c ≡ d)
+told_once : (n c m d : ℕ) → IsReportedNoLater n c m d → IsReportedNoLater m d n c → (n ≡ m) × (c ≡ d)
 told_once n c m d (inl lt) (inl gt) = absurd (omega arith)
 told_once n c m d (inl lt) (inr (e, le)) = absurd (omega arith)
 told_once n c m d (inr (e, le)) (inl gt) = absurd (omega arith)
@@ -186,9 +186,9 @@ module _ (bytes rest : List ℕ) (u : IsUtf8 bytes) (e : rest ≡ without_byte_o
             is_complete = λ n rule c. first_in-None meaning g.entries n rule complete c;
           }
 
-  pub IsTold-Bad : (n cause : ℕ) → IsTold (map chars (lines_of rest)) n cause → Bad bytes n cause
-  IsTold-Bad n cause t =
-      let told : IsTold (text_lines bytes) n cause = subst (λ (ls : List (List ℕ)). IsTold ls n cause) lines_same t in
+  pub IsReported-Bad : (n cause : ℕ) → IsReported (map chars (lines_of rest)) n cause → Bad bytes n cause
+  IsReported-Bad n cause t =
+      let told : IsReported (text_lines bytes) n cause = subst (λ (ls : List (List ℕ)). IsReported ls n cause) lines_same t in
       bad_line u told.has told.first
 
   pub IsLackingIn-Bad : (n cause : ℕ) → IsLackingIn (map chars (lines_of rest)) n → cause ≡ 7 → Bad bytes n cause
@@ -211,15 +211,15 @@ module _ (bytes rest : List ℕ) (u : IsUtf8 bytes) (e : rest ≡ without_byte_o
           first.rule first.among (lacking_by l.meaning finished_meaning first.rule refl refl first.lacking)
           (λ m other c h. first.first m other c (lacking_by finished_meaning l.meaning other refl refl h)) s
 
-  pub LinesTell-Tells : (fault : ReadFault) → LinesTell (map chars (lines_of rest)) fault → Tells bytes fault
-  LinesTell-Tells (faults.Table fault) (inl t) = IsTold-Bad fault.line fault.cause t
-  LinesTell-Tells (faults.Table fault) (inr (l, s)) = IsLackingIn-Bad fault.line fault.cause l s
-  LinesTell-Tells faults.NoMemory t = tt
+  pub LinesReport-IsReportedOf : (fault : ReadFault) → LinesReport (map chars (lines_of rest)) fault → IsReportedOf bytes fault
+  LinesReport-IsReportedOf (faults.Table fault) (inl t) = IsReported-Bad fault.line fault.cause t
+  LinesReport-IsReportedOf (faults.Table fault) (inr (l, s)) = IsLackingIn-Bad fault.line fault.cause l s
+  LinesReport-IsReportedOf faults.NoMemory t = tt
 
 -- ---- a meaning or a fault
 
 abbrev Outcome : List (List ℕ) → Type 0
-Outcome lines = ((t : Meaning) × (rules : List PendingEntry) × LinesGive lines t rules) ⊎ ((n : ℕ) × (c : ℕ) × IsTold lines n c)
+Outcome lines = ((t : Meaning) × (rules : List PendingEntry) × LinesGive lines t rules) ⊎ ((n : ℕ) × (c : ℕ) × IsReported lines n c)
 
 pub outcome_from : (lines before rest : List (List ℕ)) (meaning : Meaning) (rules : List PendingEntry) → Reached lines before rest meaning rules → Outcome lines
 outcome_from lines before [] meaning rules r = inl (meaning, rules, Reached-all lines before meaning rules r)
@@ -309,5 +309,5 @@ some_meaning bytes =
     text u =
         elim (outcome_from (text_lines bytes) [] (text_lines bytes) no_meaning [] (Reached-none (text_lines bytes) no_meaning [] refl refl)) [
           | inl (t, rules, l) ↦ given u t rules l
-          | inr (n, c, b) ↦ inr (n, c, IsTold-Bad bytes (without_byte_order_mark bytes) u refl n c b)
+          | inr (n, c, b) ↦ inr (n, c, IsReported-Bad bytes (without_byte_order_mark bytes) u refl n c b)
         ]

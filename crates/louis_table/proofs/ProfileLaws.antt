@@ -15,7 +15,7 @@ use Rattle.louis_table.specs.Opcode.{name_of, HasOpcode}
 use Rattle.louis_table.specs.Profile.{Profile, WithoutNumericMode, WithNumericMode}
 use Rattle.louis_table.specs.Steps.Opcode.{opcode_named}
 use Rattle.louis_table.specs.Steps.Line.{as_some}
-use Rattle.louis_table.specs.Table.{Entry, SaysNothing, Gives, definition_line, pair_line, rule_line, sign_line, set_line, GiveFrom, SomeGives, cells_for, characters_for, is_same_sign, HasCharacters, HasDots, IsFault, unknown_opcode, missing_operand, bad_characters, bad_dots, defined_before, defined_twice, given_before, long_line, line_too_many, many_characters, many_cells, HasCause, on_line, text_lines, Means, MeansIn}
+use Rattle.louis_table.specs.Table.{Entry, SaysNothing, GivesEntry, definition_line, pair_line, rule_line, sign_line, set_line, GiveFrom, SomeGives, cells_for, characters_for, is_same_sign, HasCharacters, HasDots, IsFault, unknown_opcode, missing_operand, bad_characters, bad_dots, defined_before, defined_twice, given_before, long_line, line_too_many, many_characters, many_cells, HasCause, on_line, text_lines, Means, MeansIn}
 use Rattle.louis_table.proofs.FieldLaws.{Begins-field_at}
 use Rattle.louis_table.proofs.EntryLaws.{has_opcode, opcode_named-name_of, opcode_line, line_gives-nothing}
 use Rattle.louis_table.proofs.MeaningLaws.{same_sign, sign_cells-map, set_characters-map}
@@ -24,7 +24,7 @@ use Rattle.louis_table.proofs.OneMeaning.{in_last}
 
 -- the line says nothing, or gives an entry without numeric mode
 abbrev pub IsEarly : List ℕ → Type 0
-IsEarly line = SaysNothing line ⊎ ((entry : Entry) × Gives WithoutNumericMode line entry)
+IsEarly line = SaysNothing line ⊎ ((entry : Entry) × GivesEntry WithoutNumericMode line entry)
 
 -- no later opcode stands at the front of the line
 abbrev pub StartsEarly : List ℕ → Type 0
@@ -39,7 +39,7 @@ same_opcode one other e =
     cc
 
 -- a line that gives an entry begins with an opcode of the profile
-begins_with : (profile : Profile) (line : List ℕ) (entry : Entry) → Gives profile line entry
+begins_with : (profile : Profile) (line : List ℕ) (entry : Entry) → GivesEntry profile line entry
     → (opcode : Opcode) × (rest : List ℕ) × HasOpcode profile opcode × Begins line (name_of opcode) rest
 begins_with profile line entry (definition_line class characters dots c cells has h s d e) = (Define class, h.0, has, h.1)
 begins_with profile line entry (pair_line characters dots upper lower upper_cells lower_cells has h s d e) = (UpLow, h.0, has, h.1)
@@ -71,7 +71,7 @@ dots_begin line dots (Announce sign) h = (h.0, h.1)
 dots_begin line dots (Collect set) h = absurd h
 
 -- what such a line gives, it gives without numeric mode
-pub early_entry : (line : List ℕ) (entry : Entry) → StartsEarly line → Gives WithNumericMode line entry → Gives WithoutNumericMode line entry
+pub early_entry : (line : List ℕ) (entry : Entry) → StartsEarly line → GivesEntry WithNumericMode line entry → GivesEntry WithoutNumericMode line entry
 early_entry line entry early (definition_line class characters dots c cells has h s d e) =
     definition_line class characters dots c cells (early (Define class) h.0 h.1) h s d e
 early_entry line entry early (pair_line characters dots upper lower upper_cells lower_cells has h s d e) =
@@ -153,7 +153,7 @@ all_in_last profile n (line ∷ lines) entries (inl (s, g)) = inl (s, all_in_las
 all_in_last profile n (line ∷ lines) entries (inr (entry, rest, gives, e, g)) = inr (entry, rest, in_last profile line entry gives, e, all_in_last profile (n + 1) lines rest g)
 
 -- what no such line gives, the lines don't give together
-none_together : (f : Entry → List ℕ) → ((line : List ℕ) (entry : Entry) → Gives WithoutNumericMode line entry → f entry ≡ [])
+none_together : (f : Entry → List ℕ) → ((line : List ℕ) (entry : Entry) → GivesEntry WithoutNumericMode line entry → f entry ≡ [])
     → (n : ℕ) (lines : List (List ℕ)) (entries : List (ℕ × Entry)) → GiveFrom WithoutNumericMode n lines entries → flat_map (λ e. f e.1) entries ≡ []
 none_together f none n [] entries g = ap (flat_map (λ e. f e.1)) g
 none_together f none n (line ∷ lines) entries (inl (s, g)) = none_together f none (n + 1) lines entries g
@@ -172,14 +172,14 @@ no_set : (set : CharacterSet) → ¬ HasOpcode WithoutNumericMode (Collect set)
 no_set sets.NumericMode has = has
 no_set sets.NoContraction has = has
 
-no_cells : (line : List ℕ) (entry : Entry) → Gives WithoutNumericMode line entry → cells_for NoContraction entry ≡ []
+no_cells : (line : List ℕ) (entry : Entry) → GivesEntry WithoutNumericMode line entry → cells_for NoContraction entry ≡ []
 no_cells line entry (definition_line class characters dots c cells has h s d e) = ap (cells_for NoContraction) e
 no_cells line entry (pair_line characters dots upper lower upper_cells lower_cells has h s d e) = ap (cells_for NoContraction) e
 no_cells line entry (rule_line kind characters dots text cells has h s d e) = ap (cells_for NoContraction) e
 no_cells line entry (sign_line sign dots cells has h d e) = ap (cells_for NoContraction) e ∙ ap (λ (b : Bool). cond b cells []) (other_sign sign has)
 no_cells line entry (set_line set characters text has h s e) = absurd (no_set set has)
 
-no_characters : (set : CharacterSet) (line : List ℕ) (entry : Entry) → Gives WithoutNumericMode line entry → characters_for set entry ≡ []
+no_characters : (set : CharacterSet) (line : List ℕ) (entry : Entry) → GivesEntry WithoutNumericMode line entry → characters_for set entry ≡ []
 no_characters set line entry (definition_line class characters dots c cells has h s d e) = ap (characters_for set) e
 no_characters set line entry (pair_line characters dots upper lower upper_cells lower_cells has h s d e) = ap (characters_for set) e
 no_characters set line entry (rule_line kind characters dots text cells has h s d e) = ap (characters_for set) e

@@ -12,8 +12,8 @@ use Rattle.louis_table.specs.Profile.{Profile, WithoutNumericMode, WithNumericMo
 use Rattle.louis_table.specs.Steps.Fields.{field_at}
 use Rattle.louis_table.specs.Steps.Opcode.{opcode_named}
 use Rattle.louis_table.specs.Steps.Table.{no_meaning}
-use Rattle.louis_table.specs.Steps.Read.{IsTold}
-use Rattle.louis_table.specs.Table.{Entry, GiveFrom, comment, IsFault, unknown_opcode, missing_operand, bad_characters, bad_dots, defined_before, defined_twice, given_before, long_line, line_too_many, many_characters, many_cells, HasCause, on_line, IsToldNoLater, text_lines, line_of_stop, Bad, BadIn, no_text, bad_line, undefined_character, Means, MeansIn}
+use Rattle.louis_table.specs.Steps.Read.{IsReported}
+use Rattle.louis_table.specs.Table.{Entry, GiveFrom, comment, IsFault, unknown_opcode, missing_operand, bad_characters, bad_dots, defined_before, defined_twice, given_before, long_line, line_too_many, many_characters, many_cells, HasCause, on_line, IsReportedNoLater, text_lines, line_of_stop, Bad, BadIn, no_text, bad_line, undefined_character, Means, MeansIn}
 use Rattle.louis_table.proofs.FieldLaws.{Begins-field_at, field_at-Begins}
 use Rattle.louis_table.proofs.EntryLaws.{opcode_named-name_of, opcode_named-Some, opcode_line, line_gives-nothing}
 use Rattle.louis_table.proofs.VerdictLaws.{only_one}
@@ -155,47 +155,47 @@ module _ (lines before rest : List (List ℕ)) (parts : lines ≡ before ++ rest
       on_line front line after e at (early_fault front line h.0 h.1 cause f)
 
 -- this fault of the lines is reported without numeric mode
-pub record IsToldEarly (lines : List (List ℕ)) (n cause : ℕ) : Type 0 where
+pub record IsReportedEarly (lines : List (List ℕ)) (n cause : ℕ) : Type 0 where
   pub has : HasCause WithoutNumericMode lines n cause
-  pub first : (m other : ℕ) → HasCause WithoutNumericMode lines m other → IsToldNoLater n cause m other
+  pub first : (m other : ℕ) → HasCause WithoutNumericMode lines m other → IsReportedNoLater n cause m other
 
 module _ (lines : List (List ℕ)) (f : FirstLate lines) where
   -- if the lines before have no fault, the later opcode is reported
-  tell_opcode : ((m other : ℕ) → HasCause WithNumericMode lines m other → length f.before < m) → IsToldEarly lines (length f.before + 1) 1
+  tell_opcode : ((m other : ℕ) → HasCause WithNumericMode lines m other → length f.before < m) → IsReportedEarly lines (length f.before + 1) 1
   tell_opcode none =
       record { has = on_line f.before f.line f.after f.parts refl (late_unknown f.before f.line f.late); first = λ m other h. first m other h (cases_lt (length f.before) m) }
     where
       least : (m other : ℕ) → HasCause WithoutNumericMode lines m other → 1 ≤ other
       least m other (on_line front line after e at g) = least_cause WithoutNumericMode front line other g
 
-      beyond : (m other : ℕ) → HasCause WithoutNumericMode lines m other → length f.before < m → (length f.before + 1 < m) ⊎ (m ≤ length f.before + 1) → IsToldNoLater (length f.before + 1) 1 m other
+      beyond : (m other : ℕ) → HasCause WithoutNumericMode lines m other → length f.before < m → (length f.before + 1 < m) ⊎ (m ≤ length f.before + 1) → IsReportedNoLater (length f.before + 1) 1 m other
       beyond m other h past (inl lt) = inl lt
       beyond m other h past (inr le) = inr (omega arith, least m other h)
 
-      first : (m other : ℕ) → HasCause WithoutNumericMode lines m other → (length f.before < m) ⊎ (m ≤ length f.before) → IsToldNoLater (length f.before + 1) 1 m other
+      first : (m other : ℕ) → HasCause WithoutNumericMode lines m other → (length f.before < m) ⊎ (m ≤ length f.before) → IsReportedNoLater (length f.before + 1) 1 m other
       first m other h (inl past) = beyond m other h past (cases_lt (length f.before + 1) m)
       first m other h (inr le) = let past = none m other (to_last lines f.before (f.line ∷ f.after) f.parts f.early m other le h) in absurd (omega arith)
 
   -- a fault before it is reported first
-  tell_before : (n cause : ℕ) → IsTold lines n cause → n ≤ length f.before → IsToldEarly lines n cause
+  tell_before : (n cause : ℕ) → IsReported lines n cause → n ≤ length f.before → IsReportedEarly lines n cause
   tell_before n cause told le =
       record {
         has = from_last lines f.before (f.line ∷ f.after) f.parts f.early n cause le told.has;
         first = λ m other h. first m other h (cases_lt (length f.before) m);
       }
     where
-      first : (m other : ℕ) → HasCause WithoutNumericMode lines m other → (length f.before < m) ⊎ (m ≤ length f.before) → IsToldNoLater n cause m other
+      first : (m other : ℕ) → HasCause WithoutNumericMode lines m other → (length f.before < m) ⊎ (m ≤ length f.before) → IsReportedNoLater n cause m other
       first m other h (inl past) = inl (omega arith)
       first m other h (inr within) = told.first m other (to_last lines f.before (f.line ∷ f.after) f.parts f.early m other within h)
 
-  after_told : (n cause : ℕ) → IsTold lines n cause → length f.before < n → (m other : ℕ) → HasCause WithNumericMode lines m other → length f.before < m
+  after_told : (n cause : ℕ) → IsReported lines n cause → length f.before < n → (m other : ℕ) → HasCause WithNumericMode lines m other → length f.before < m
   after_told n cause told past m other h = by (told.first m other h)
     where
-      by : IsToldNoLater n cause m other → length f.before < m
+      by : IsReportedNoLater n cause m other → length f.before < m
       by (inl lt) = omega arith
       by (inr (e, le)) = omega arith
 
-  first_told : (n : ℕ) × (cause : ℕ) × IsToldEarly lines n cause
+  first_told : (n : ℕ) × (cause : ℕ) × IsReportedEarly lines n cause
   first_told =
       elim (outcome_from lines [] lines no_meaning [] (Reached-none lines no_meaning [] refl refl)) [
         | inl (t, rules, l) ↦ (length f.before + 1, 1, tell_opcode (λ m other h. absurd (l.is_sound m other h)))

@@ -17,9 +17,9 @@ use Rattle.louis_table.specs.Lines.{lines_of}
 use Rattle.louis_table.specs.Meaning.{Meaning, every_sign, every_set}
 use Rattle.louis_table.specs.Steps.Table.{no_meaning, HasDefinedPartners, signs_with, sets_with, with_given}
 use Rattle.louis_table.specs.Steps.Draft.{written_in, written_by}
-use Rattle.louis_table.specs.Steps.Read.{Gathers, LinesGive, IsTold, judge}
+use Rattle.louis_table.specs.Steps.Read.{Gathers, LinesGive, IsReported, judge}
 use Rattle.louis_table.specs.Profile.{WithNumericMode}
-use Rattle.louis_table.specs.Table.{most_lines, Entry, Pairs, SaysNothing, Gives, GiveFrom, definitions_in, partners_in, cells_for, characters_for, IsFault, HasCause, on_line, IsToldNoLater}
+use Rattle.louis_table.specs.Table.{most_lines, Entry, Pairs, SaysNothing, GivesEntry, GiveFrom, definitions_in, partners_in, cells_for, characters_for, IsFault, HasCause, on_line, IsReportedNoLater}
 use Rattle.louis_table.proofs.EntryLaws.{Says}
 use Rattle.louis_table.proofs.MeaningLaws.{signs_with-each, sets_with-each}
 use Rattle.louis_table.proofs.VerdictLaws.{any_gives, lookup-flat_map, judge-Fault, IsFault-judge, judge-few, judge-given, none_from}
@@ -31,7 +31,7 @@ GiveFrom-nothing n [] line entries g s = inl (s, g)
 GiveFrom-nothing n (l ∷ lines) line entries (inl (t, g)) s = inl (t, GiveFrom-nothing (n + 1) lines line entries g s)
 GiveFrom-nothing n (l ∷ lines) line entries (inr (entry, rest, gives, e, g)) s = inr (entry, rest, gives, e, GiveFrom-nothing (n + 1) lines line rest g s)
 
-GiveFrom-entry : (n k : ℕ) (lines : List (List ℕ)) (line : List ℕ) (entries : List (ℕ × Entry)) (entry : Entry) → k ≡ n + length lines → GiveFrom WithNumericMode n lines entries → Gives WithNumericMode line entry
+GiveFrom-entry : (n k : ℕ) (lines : List (List ℕ)) (line : List ℕ) (entries : List (ℕ × Entry)) (entry : Entry) → k ≡ n + length lines → GiveFrom WithNumericMode n lines entries → GivesEntry WithNumericMode line entry
     → GiveFrom WithNumericMode n (lines ++ line ∷ []) (entries ++ (k, entry) ∷ [])
 GiveFrom-entry n k [] line entries entry at g s =
     let same : k ≡ n = omega arith in
@@ -167,7 +167,7 @@ module _ (lines before rest : List (List ℕ)) (line : List ℕ) (meaning : Mean
           let more : n ≢ length before + 1 = λ e. no_fault cause (here n cause h e) in
           omega (arith, length_push before line)
 
-  pub Reached-fault : (cause : ℕ) → judge meaning (length before) line ≡ Err cause → IsTold lines (length before + 1) cause
+  pub Reached-fault : (cause : ℕ) → judge meaning (length before) line ≡ Err cause → IsReported lines (length before + 1) cause
   Reached-fault cause j =
       record {
         has = on_line before line rest r.parts refl (judge-Fault before line meaning rules r.gathered cause j);
@@ -181,11 +181,11 @@ module _ (lines before rest : List (List ℕ)) (line : List ℕ) (meaning : Mean
           let le : k.0 ≤ other = k.2 in
           omega arith
 
-      by : (m other : ℕ) → HasCause WithNumericMode lines m other → (m ≡ length before + 1) ⊎ (length before + 1 < m) → IsToldNoLater (length before + 1) cause m other
+      by : (m other : ℕ) → HasCause WithNumericMode lines m other → (m ≡ length before + 1) ⊎ (length before + 1 < m) → IsReportedNoLater (length before + 1) cause m other
       by m other h (inl e) = inr (sym e, least other (here m other h e))
       by m other h (inr lt) = inl lt
 
-      told : (m other : ℕ) → HasCause WithNumericMode lines m other → IsToldNoLater (length before + 1) cause m other
+      told : (m other : ℕ) → HasCause WithNumericMode lines m other → IsReportedNoLater (length before + 1) cause m other
       told m other h =
           let past : length before < m = r.sound m other h in
           by m other h (elim (cases_lt (length before + 1) m) [ inl lt ↦ inr lt | inr le ↦ inl (omega arith) ])
@@ -225,9 +225,9 @@ module _ (text : List ℕ) (count : ℕ) (rest line next characters : List ℕ) 
   reached_line : Reached (map chars (lines_of text)) r.before (characters ∷ map chars (lines_of next)) meaning rules
   reached_line = subst (λ (ls : List (List ℕ)). Reached (map chars (lines_of text)) r.before ls meaning rules) (ap (map chars) l ∙ ap (λ (x : List ℕ). x ∷ map chars (lines_of next)) (sym c)) r.reached
 
-  pub ReadsOn-fault : (cause : ℕ) → judge meaning count characters ≡ Err cause → IsTold (map chars (lines_of text)) (count + 1) cause
+  pub ReadsOn-fault : (cause : ℕ) → judge meaning count characters ≡ Err cause → IsReported (map chars (lines_of text)) (count + 1) cause
   ReadsOn-fault cause j =
-      subst (λ (n : ℕ). IsTold (map chars (lines_of text)) (n + 1) cause) (sym r.counted)
+      subst (λ (n : ℕ). IsReported (map chars (lines_of text)) (n + 1) cause) (sym r.counted)
       (Reached-fault (map chars (lines_of text)) r.before (map chars (lines_of next)) characters meaning rules reached_line cause
       (ap (λ (n : ℕ). judge meaning n characters) (sym r.counted) ∙ j))
 

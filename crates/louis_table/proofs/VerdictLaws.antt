@@ -18,20 +18,20 @@ use Rattle.louis_table.specs.Steps.Table.{is_known, IsNewFor, CanTake, HasDefine
 use Rattle.louis_table.specs.Steps.Line.{as_some, repeats, announces, is_large, verdict_by, entry_verdict, line_verdict, line_gives, judge_line}
 use Rattle.louis_table.specs.Steps.Read.{Gathers, within_limits, judge}
 use Rattle.louis_table.specs.Profile.{WithNumericMode}
-use Rattle.louis_table.specs.Table.{most_lines, most_line_characters, Entry, Defines, Pairs, Replaces, Announces, Collects, SaysNothing, Gives, definition_line, pair_line, rule_line, sign_line, set_line, GiveFrom, definitions_in, cells_for, characters_for, IsDefinedIn, GivesAgain, SomeGives, IsFault, unknown_opcode, missing_operand, bad_characters, bad_dots, defined_before, defined_twice, given_before, long_line, line_too_many, many_characters, many_cells}
+use Rattle.louis_table.specs.Table.{most_lines, most_line_characters, Entry, Defines, Pairs, Replaces, Announces, Collects, SaysNothing, GivesEntry, definition_line, pair_line, rule_line, sign_line, set_line, GiveFrom, definitions_in, cells_for, characters_for, IsDefinedIn, GivesAgain, SomeGives, IsFault, unknown_opcode, missing_operand, bad_characters, bad_dots, defined_before, defined_twice, given_before, long_line, line_too_many, many_characters, many_cells}
 use Rattle.louis_table.proofs.CharacterLaws.{chosen}
 use Rattle.louis_table.proofs.EntryLaws.{Says, FailsBy, IsLargeBy, or_right, or_left, or_cases, line_gives-Says, line_gives-nothing, line_gives-entry, unknown_fails, missing_fails, characters_fail, dots_fail, many_characters_large, many_cells_large, large_fault}
 use Rattle.louis_table.proofs.MeaningLaws.{own_sign, own_set, same_sign, same_set, sign_cells-map, set_characters-map}
 
 -- ---- lines and entries
 
-pub one_entry : (line : List ℕ) (e f : Entry) → Gives WithNumericMode line e → Gives WithNumericMode line f → e ≡ f
+pub one_entry : (line : List ℕ) (e f : Entry) → GivesEntry WithNumericMode line e → GivesEntry WithNumericMode line f → e ≡ f
 one_entry line e f g h =
     let one : line_gives line ≡ Ok (Some e) = line_gives-entry line e g in
     let other : line_gives line ≡ Ok (Some f) = line_gives-entry line f h in
     cc
 
-pub nothing_or_entry : (line : List ℕ) (e : Entry) → SaysNothing line → ¬ Gives WithNumericMode line e
+pub nothing_or_entry : (line : List ℕ) (e : Entry) → SaysNothing line → ¬ GivesEntry WithNumericMode line e
 nothing_or_entry line e s g =
     let one : line_gives line ≡ Ok None = line_gives-nothing line s in
     let other : line_gives line ≡ Ok (Some e) = line_gives-entry line e g in
@@ -62,19 +62,19 @@ pub SomeGives-any_gives : (p : Entry → Bool) (n : ℕ) (lines : List (List ℕ
 SomeGives-any_gives p n [] entries g (l, entry, (k, lt, e), gives, t) = absurd (omega arith)
 SomeGives-any_gives p n (line ∷ lines) entries (inl (s, g)) (l, entry, m, gives, t) =
     elim (Contains-append_cases (line ∷ []) lines l m) [
-      | inl here ↦ absurd (nothing_or_entry line entry s (subst (λ (x : List ℕ). Gives WithNumericMode x entry) (sym (only_one line l here)) gives))
+      | inl here ↦ absurd (nothing_or_entry line entry s (subst (λ (x : List ℕ). GivesEntry WithNumericMode x entry) (sym (only_one line l here)) gives))
       | inr there ↦ SomeGives-any_gives p (n + 1) lines entries g (l, entry, there, gives, t)
     ]
 SomeGives-any_gives p n (line ∷ lines) entries (inr (given, rest, i, e, g)) (l, entry, m, gives, t) =
     ap (any_gives p) e ∙
     elim (Contains-append_cases (line ∷ []) lines l m) [
       | inl here ↦
-          let same : entry ≡ given = one_entry line entry given (subst (λ (x : List ℕ). Gives WithNumericMode x entry) (sym (only_one line l here)) gives) i in
+          let same : entry ≡ given = one_entry line entry given (subst (λ (x : List ℕ). GivesEntry WithNumericMode x entry) (sym (only_one line l here)) gives) i in
           or_left (p given) (any_gives p rest) (sym (ap p same) ∙ t)
       | inr there ↦ or_right (p given) (any_gives p rest) (SomeGives-any_gives p (n + 1) lines rest g (l, entry, there, gives, t))
     ]
 
-map_SomeGives : (lines : List (List ℕ)) (P Q : Entry → Type 0) → SomeGives WithNumericMode lines P → ((line : List ℕ) (entry : Entry) → Gives WithNumericMode line entry → P entry → Q entry) → SomeGives WithNumericMode lines Q
+map_SomeGives : (lines : List (List ℕ)) (P Q : Entry → Type 0) → SomeGives WithNumericMode lines P → ((line : List ℕ) (entry : Entry) → GivesEntry WithNumericMode line entry → P entry → Q entry) → SomeGives WithNumericMode lines Q
 map_SomeGives lines P Q (line, entry, m, gives, h) f = (line, entry, m, gives, f line entry gives h)
 
 -- ---- the characters that entries define
@@ -180,21 +180,21 @@ Spells-some [] text f s = absurd f
 Spells-some (x ∷ characters) [] f s = absurd cc
 Spells-some (x ∷ characters) (c ∷ text) f s = ap not (ne_eqb _ _ (λ e. omega arith))
 
-Gives-some : (line : List ℕ) (entry : Entry) (sign : Sign) (cells : List ℕ) → Gives WithNumericMode line entry → entry ≡ Announces sign cells → are_some cells ≡ true
-Gives-some line entry sign cells (definition_line class characters dots c others has h s d e) same = absurd cc
-Gives-some line entry sign cells (pair_line characters dots upper lower upper_cells lower_cells has h s d e) same = absurd cc
-Gives-some line entry sign cells (rule_line kind characters dots text others has h s d e) same = absurd cc
-Gives-some line entry sign cells (sign_line other dots others has h d e) same =
+GivesEntry-some : (line : List ℕ) (entry : Entry) (sign : Sign) (cells : List ℕ) → GivesEntry WithNumericMode line entry → entry ≡ Announces sign cells → are_some cells ≡ true
+GivesEntry-some line entry sign cells (definition_line class characters dots c others has h s d e) same = absurd cc
+GivesEntry-some line entry sign cells (pair_line characters dots upper lower upper_cells lower_cells has h s d e) same = absurd cc
+GivesEntry-some line entry sign cells (rule_line kind characters dots text others has h s d e) same = absurd cc
+GivesEntry-some line entry sign cells (sign_line other dots others has h d e) same =
     let equal : others ≡ cells = cc in
     ap are_some (sym equal) ∙ Dots-some dots others d
-Gives-some line entry sign cells (set_line set characters text has h s e) same = absurd cc
+GivesEntry-some line entry sign cells (set_line set characters text has h s e) same = absurd cc
 
-Gives-some_text : (line : List ℕ) (entry : Entry) (set : CharacterSet) (text : List ℕ) → Gives WithNumericMode line entry → entry ≡ Collects set text → are_some text ≡ true
-Gives-some_text line entry set text (definition_line class characters dots c others has h s d e) same = absurd cc
-Gives-some_text line entry set text (pair_line characters dots upper lower upper_cells lower_cells has h s d e) same = absurd cc
-Gives-some_text line entry set text (rule_line kind characters dots others cells has h s d e) same = absurd cc
-Gives-some_text line entry set text (sign_line other dots others has h d e) same = absurd cc
-Gives-some_text line entry set text (set_line other characters others has h s e) same =
+GivesEntry-some_text : (line : List ℕ) (entry : Entry) (set : CharacterSet) (text : List ℕ) → GivesEntry WithNumericMode line entry → entry ≡ Collects set text → are_some text ≡ true
+GivesEntry-some_text line entry set text (definition_line class characters dots c others has h s d e) same = absurd cc
+GivesEntry-some_text line entry set text (pair_line characters dots upper lower upper_cells lower_cells has h s d e) same = absurd cc
+GivesEntry-some_text line entry set text (rule_line kind characters dots others cells has h s d e) same = absurd cc
+GivesEntry-some_text line entry set text (sign_line other dots others has h d e) same = absurd cc
+GivesEntry-some_text line entry set text (set_line other characters others has h s e) same =
     let equal : others ≡ text = cc in
     ap are_some (sym equal) ∙ Spells-some characters others h.2.1.is_field s
 
@@ -225,12 +225,12 @@ module _ (lines : List (List ℕ)) (meaning : Meaning) (written : List PendingEn
       sign_cells-any sign
       ∙ SomeGives-any_gives (λ entry. are_some (cells_for sign entry)) 1 lines g.entries g.given
       (map_SomeGives lines (GivesAgain (Announces sign cells)) (λ entry. are_some (cells_for sign entry) ≡ true) s
-      (λ line entry gives h. ap (λ (x : Entry). are_some (cells_for sign x)) h.1 ∙ (ap are_some (cells_for-own sign h.0) ∙ Gives-some line entry sign h.0 gives h.1)))
+      (λ line entry gives h. ap (λ (x : Entry). are_some (cells_for sign x)) h.1 ∙ (ap are_some (cells_for-own sign h.0) ∙ GivesEntry-some line entry sign h.0 gives h.1)))
   SomeGives-announces (Collects set text) s =
       set_characters-any set
       ∙ SomeGives-any_gives (λ entry. are_some (characters_for set entry)) 1 lines g.entries g.given
       (map_SomeGives lines (GivesAgain (Collects set text)) (λ entry. are_some (characters_for set entry) ≡ true) s
-      (λ line entry gives h. ap (λ (x : Entry). are_some (characters_for set x)) h.1 ∙ (ap are_some (characters_for-own set h.0) ∙ Gives-some_text line entry set h.0 gives h.1)))
+      (λ line entry gives h. ap (λ (x : Entry). are_some (characters_for set x)) h.1 ∙ (ap are_some (characters_for-own set h.0) ∙ GivesEntry-some_text line entry set h.0 gives h.1)))
   SomeGives-announces entry s = absurd (nobody_again s)
 
 -- ---- a verdict against a line is a fault
@@ -264,23 +264,23 @@ module _ (before : List (List ℕ)) (line : List ℕ) (meaning : Meaning) (writt
         | inr p ↦ absurd cc
       ]
 
-  repeats_fault : (entry : Entry) → Gives WithNumericMode line entry → repeats meaning entry ≡ true → IsFault WithNumericMode before line 5
+  repeats_fault : (entry : Entry) → GivesEntry WithNumericMode line entry → repeats meaning entry ≡ true → IsFault WithNumericMode before line 5
   repeats_fault (Defines k definition) g t =
       defined_before (Defines k definition) k g (0, omega arith, refl) (is_known-SomeGives before meaning written gathered k t) refl
   repeats_fault (Pairs u uc l lc) g t =
       elim (or_cases (eqb u l || is_known meaning u) (is_known meaning l) t) [
         | inl p ↦ elim (or_cases (eqb u l) (is_known meaning u) p) [
-          | inl q ↦ defined_twice u uc lc (subst (λ (x : ℕ). Gives WithNumericMode line (Pairs u uc x lc)) (sym (eqb-true u l q)) g) refl
+          | inl q ↦ defined_twice u uc lc (subst (λ (x : ℕ). GivesEntry WithNumericMode line (Pairs u uc x lc)) (sym (eqb-true u l q)) g) refl
           | inr q ↦ defined_before (Pairs u uc l lc) u g (0, omega arith, refl) (is_known-SomeGives before meaning written gathered u q) refl
         ]
         | inr p ↦ defined_before (Pairs u uc l lc) l g (1, omega arith, refl) (is_known-SomeGives before meaning written gathered l p) refl
       ]
   repeats_fault entry g t = absurd cc
 
-  announces_fault : (entry : Entry) → Gives WithNumericMode line entry → announces meaning entry ≡ true → IsFault WithNumericMode before line 6
+  announces_fault : (entry : Entry) → GivesEntry WithNumericMode line entry → announces meaning entry ≡ true → IsFault WithNumericMode before line 6
   announces_fault entry g t = given_before entry g (announces-SomeGives before meaning written gathered entry t) refl
 
-  entry_fault : (entry : Entry) (c : ℕ) → Gives WithNumericMode line entry → (r a l : Bool) → repeats meaning entry ≡ r → announces meaning entry ≡ a → is_large entry ≡ l
+  entry_fault : (entry : Entry) (c : ℕ) → GivesEntry WithNumericMode line entry → (r a l : Bool) → repeats meaning entry ≡ r → announces meaning entry ≡ a → is_large entry ≡ l
       → within_limits (length before) line (as_some (verdict_by r a l entry)) ≡ Err c → IsFault WithNumericMode before line c
   entry_fault entry c g true a l x y z e = subst (IsFault WithNumericMode before line) (sym (err_is 5 c e)) (repeats_fault entry g x)
   entry_fault entry c g false true l x y z e = subst (IsFault WithNumericMode before line) (sym (err_is 6 c e)) (announces_fault entry g y)
@@ -313,14 +313,14 @@ module _ (before : List (List ℕ)) (line : List ℕ) (meaning : Meaning) (writt
   unfolding judge judge_line entry_verdict
   entry_judged entry e = ap (λ (v : Result (Option Entry) ℕ). within_limits (length before) line (line_verdict meaning v)) e
 
-  repeats_judged : (entry : Entry) → Gives WithNumericMode line entry → repeats meaning entry ≡ true → IsJudged 5
+  repeats_judged : (entry : Entry) → GivesEntry WithNumericMode line entry → repeats meaning entry ≡ true → IsJudged 5
   repeats_judged entry g t = (5, entry_judged entry (line_gives-entry line entry g) ∙ by (repeats meaning entry) t, lit≤ tt)
     where
       by : (r : Bool) → r ≡ true → within_limits (length before) line (as_some (verdict_by r (announces meaning entry) (is_large entry) entry)) ≡ Err 5
       by true t = refl
       by false t = absurd cc
 
-  announces_judged : (entry : Entry) → Gives WithNumericMode line entry → announces meaning entry ≡ true → IsJudged 6
+  announces_judged : (entry : Entry) → GivesEntry WithNumericMode line entry → announces meaning entry ≡ true → IsJudged 6
   announces_judged entry g t =
       let b = by (repeats meaning entry) (announces meaning entry) t in
       (b.0, entry_judged entry (line_gives-entry line entry g) ∙ b.1, b.2)

@@ -19,24 +19,24 @@ escape_character letter =
     else None
 
 -- how many hexadecimal digits follow the letter of an escape by number: \x four, \y five, \z eight
-abbrev pub digits_behind : ℕ → Option ℕ
-digits_behind letter =
+abbrev pub escape_digits : ℕ → Option ℕ
+escape_digits letter =
     if letter == 120 then Some 4
     else if letter == 121 then Some 5
     else if letter == 122 then Some 8
     else None
 
 -- the number that hexadecimal digits of either case spell, after those that spelled n
-abbrev pub spelled_behind : ℕ → List ℕ → ℕ
-spelled_behind n [] = n
-spelled_behind n (digit ∷ digits) = spelled_behind (16 * n + digit_value digit) digits
+abbrev pub spelled_after : ℕ → List ℕ → ℕ
+spelled_after n [] = n
+spelled_after n (digit ∷ digits) = spelled_after (16 * n + digit_value digit) digits
 
 -- one character as it is written: itself, an escape, or an escape by its number
 pub data Writes (text : List ℕ) (character : ℕ) : Type 0 where
   itself : character ≢ 92 → text ≡ character ∷ [] → Writes text character
   escape : (letter : ℕ) → escape_character letter ≡ Some character → text ≡ 92 ∷ letter ∷ [] → Writes text character
-  number : (letter : ℕ) (digits : List ℕ) → digits_behind letter ≡ Some (length digits)
-      → AllByRecursion (λ d. digit_value d < 16) digits → spelled_behind 0 digits ≡ character → IsScalar character
+  number : (letter : ℕ) (digits : List ℕ) → escape_digits letter ≡ Some (length digits)
+      → AllByRecursion (λ d. digit_value d < 16) digits → spelled_after 0 digits ≡ character → IsScalar character
       → text ≡ 92 ∷ letter ∷ digits → Writes text character
 
 -- the text is these characters as they are written, one after another

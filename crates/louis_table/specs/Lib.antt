@@ -5,7 +5,7 @@ pub mod Profile
 pub mod Opcode
 pub mod Meaning
 pub mod Table
-pub mod Tells
+pub mod ReportedFault
 pub mod Steps
 pub mod Places
 pub mod SuppliedTable

@@ -255,8 +255,8 @@ IsLacking meaning (Collects set text) =
 
 -- a fault of line n is reported no later than one of line m: the smaller line first, for one line
 -- the smaller cause
-abbrev pub IsToldNoLater : ℕ → ℕ → ℕ → ℕ → Type 0
-IsToldNoLater n cause m other = (n < m) ⊎ ((n ≡ m) × (cause ≤ other))
+abbrev pub IsReportedNoLater : ℕ → ℕ → ℕ → ℕ → Type 0
+IsReportedNoLater n cause m other = (n < m) ⊎ ((n ≡ m) × (cause ≤ other))
 
 -- the line on which bytes stop being UTF-8: one more than the line feeds in the longest front that
 -- is
@@ -270,25 +270,25 @@ module _ (profile : Profile) where
 
   -- the line is of a form of the profile that gives the entry; what follows its last operand is a
   -- comment
-  pub data Gives (line : List ℕ) (entry : Entry) : Type 0 where
+  pub data GivesEntry (line : List ℕ) (entry : Entry) : Type 0 where
     definition_line : (class : Class) (characters dots : List ℕ) (character : ℕ) (cells : List ℕ)
         → HasOpcode profile (Define class) → HasFields line (name_of (Define class) ∷ characters ∷ dots ∷ [])
         → Spells characters (character ∷ []) → Dots dots cells
-        → entry ≡ Defines character (record { class = class; cells = cells }) → Gives line entry
+        → entry ≡ Defines character (record { class = class; cells = cells }) → GivesEntry line entry
     pair_line : (characters dots : List ℕ) (upper lower : ℕ) (upper_cells lower_cells : List ℕ)
         → HasOpcode profile UpLow → HasFields line (name_of UpLow ∷ characters ∷ dots ∷ [])
         → Spells characters (upper ∷ lower ∷ []) → PairDots dots upper_cells lower_cells
-        → entry ≡ Pairs upper upper_cells lower lower_cells → Gives line entry
+        → entry ≡ Pairs upper upper_cells lower lower_cells → GivesEntry line entry
     rule_line : (kind : RuleKind) (characters dots text : List ℕ) (cells : Option (List ℕ))
         → HasOpcode profile (Replace kind) → HasFields line (name_of (Replace kind) ∷ characters ∷ dots ∷ [])
         → Spells characters text → RuleDots dots cells
-        → entry ≡ Replaces kind text cells → Gives line entry
+        → entry ≡ Replaces kind text cells → GivesEntry line entry
     sign_line : (sign : Sign) (dots cells : List ℕ)
         → HasOpcode profile (Announce sign) → HasFields line (name_of (Announce sign) ∷ dots ∷ []) → Dots dots cells
-        → entry ≡ Announces sign cells → Gives line entry
+        → entry ≡ Announces sign cells → GivesEntry line entry
     set_line : (set : CharacterSet) (characters text : List ℕ)
         → HasOpcode profile (Collect set) → HasFields line (name_of (Collect set) ∷ characters ∷ [])
-        → Spells characters text → entry ≡ Collects set text → Gives line entry
+        → Spells characters text → entry ≡ Collects set text → GivesEntry line entry
 
   -- these entries and no others are what the lines from number n on give, each with its line's
   -- number
@@ -296,13 +296,13 @@ module _ (profile : Profile) where
   GiveFrom n [] entries = entries ≡ []
   GiveFrom n (line ∷ lines) entries =
       (SaysNothing line × GiveFrom (n + 1) lines entries)
-      ⊎ ((entry : Entry) × (rest : List (ℕ × Entry)) × Gives line entry × (entries ≡ (n, entry) ∷ rest)
+      ⊎ ((entry : Entry) × (rest : List (ℕ × Entry)) × GivesEntry line entry × (entries ≡ (n, entry) ∷ rest)
       × GiveFrom (n + 1) lines rest)
 
   -- one of the lines gives an entry of which this holds
   abbrev pub SomeGives : List (List ℕ) → (Entry → Type 0) → Type 0
   SomeGives lines Holds =
-      (line : List ℕ) × (entry : Entry) × Contains lines line × Gives line entry × Holds entry
+      (line : List ℕ) × (entry : Entry) × Contains lines line × GivesEntry line entry × Holds entry
 
   -- ---- faults
 
@@ -326,13 +326,13 @@ module _ (profile : Profile) where
     bad_dots : (opcode : Opcode) (dots : List ℕ) → HasOpcode profile opcode → HasDots line opcode dots
         → ¬ IsDotsFor opcode dots → cause ≡ 4 → IsFault before line cause
     -- an earlier line defines a character of this one, or this one defines it twice
-    defined_before : (entry : Entry) (character : ℕ) → Gives line entry → IsDefinedIn character entry
+    defined_before : (entry : Entry) (character : ℕ) → GivesEntry line entry → IsDefinedIn character entry
         → SomeGives before (IsDefinedIn character) → cause ≡ 5 → IsFault before line cause
     defined_twice : (character : ℕ) (upper_cells lower_cells : List ℕ)
-        → Gives line (Pairs character upper_cells character lower_cells)
+        → GivesEntry line (Pairs character upper_cells character lower_cells)
         → cause ≡ 5 → IsFault before line cause
     -- an earlier line gives the sign or the set too
-    given_before : (entry : Entry) → Gives line entry → SomeGives before (GivesAgain entry)
+    given_before : (entry : Entry) → GivesEntry line entry → SomeGives before (GivesAgain entry)
         → cause ≡ 6 → IsFault before line cause
     -- the line is too long or one too many, an operand has too many characters, or too many written
     -- cells
@@ -355,7 +355,7 @@ module _ (profile : Profile) where
   pub data BadIn (bytes : List ℕ) (n cause : ℕ) : Type 0 where
     no_text : ¬ IsUtf8 bytes → n ≡ line_of_stop bytes → cause ≡ 9 → BadIn bytes n cause
     bad_line : IsUtf8 bytes → HasCause (text_lines bytes) n cause
-        → ((m other : ℕ) → HasCause (text_lines bytes) m other → IsToldNoLater n cause m other)
+        → ((m other : ℕ) → HasCause (text_lines bytes) m other → IsReportedNoLater n cause m other)
         → BadIn bytes n cause
     undefined_character : IsUtf8 bytes → ((m other : ℕ) → ¬ HasCause (text_lines bytes) m other)
         → (entries : List (ℕ × Entry)) (meaning : Meaning)

@@ -1,5 +1,5 @@
 //! Characters as they are written in an operand, with escapes.
-ghost use Rattle.louis_table.specs.Characters.{digits_behind, escape_character};
+ghost use Rattle.louis_table.specs.Characters.{escape_digits, escape_character};
 ghost use Rattle.louis_table.specs.Steps.Characters.{character_at, characters_in, hex_value};
 ghost use Rattle.louis_table.specs.Steps.Characters.{number_at, only_character, only_pair};
 ghost use Rattle.std.specs.Prelude.{◌≡◌, ◌≤◌, ◌<◌, ◌+◌, IfOk, IfSome, length, option_map};
@@ -24,8 +24,8 @@ fn escape_character(letter: char) -> Option<char>
 }
 
 /// How many hexadecimal digits follow the letter of an escape by number.
-fn digits_behind(letter: char) -> Option<usize>
-    ensures value { result ≡ digits_behind letter }
+fn escape_digits(letter: char) -> Option<usize>
+    ensures value { result ≡ escape_digits letter }
     ensures few { IfSome result (λ count. count ≤ 8) }
 {
     match letter {
@@ -73,7 +73,7 @@ fn next_character(text: &[char]) -> Option<(char, &[char])>
         ['\\'] => None,
         ['\\', letter, rest @ ..] => match escape_character(*letter) {
             Some(character) => Some((character, rest)),
-            None => read_number(rest, digits_behind(*letter)?),
+            None => read_number(rest, escape_digits(*letter)?),
         },
         [first, rest @ ..] => Some((*first, rest)),
     }

@@ -11,7 +11,7 @@ use std::alloc::AllocError;
 const BYTE_ORDER_MARK: &str = "\u{FEFF}";
 
 /// The text without one byte order mark at its front, if it has one.
-pub(crate) fn behind_byte_order_mark(text: &str) -> &str
+pub(crate) fn without_byte_order_mark(text: &str) -> &str
     ensures { result.now ≡ without_byte_order_mark text.now }
 {
     text.strip_prefix(BYTE_ORDER_MARK).unwrap_or(text)

@@ -1,9 +1,9 @@
 //! Reads a table text, line by line.
 ghost use Rattle.louis_table.specs.Lines.{lines_of};
-ghost use Rattle.louis_table.specs.Steps.Read.{LinesGive, LinesMean, LinesTell, LinesTellEarly, TakesLine, judge};
+ghost use Rattle.louis_table.specs.Steps.Read.{LinesGive, LinesMean, LinesReport, LinesReportEarly, TakesLine, judge};
 ghost use Rattle.louis_table.specs.Steps.Table.{HasDefinedPartners};
 ghost use Rattle.louis_table.specs.Table.{Means};
-ghost use Rattle.louis_table.specs.Tells.{Tells, not_utf_8};
+ghost use Rattle.louis_table.specs.ReportedFault.{IsReportedOf, not_utf_8};
 ghost use Rattle.std.specs.Prelude.{◌≡◌, ◌+◌, ◌==◌, ◌≤◌, count_by, length, map, take, Err, IfOk, IfErr};
 ghost use Rattle.std.specs.Str.{chars, IsUtf8};
 ghost use Rattle.std.specs.Str.Lossy.{utf8_valid_len};
@@ -11,7 +11,7 @@ ghost use Rattle.std.specs.Str.Lossy.{utf8_valid_len};
 use super::draft::Draft;
 use super::fault::{Cause, LineFault, ReadFault, TableFault};
 use super::line_entry::read_line;
-use super::lines::{behind_byte_order_mark, next_line, replace_characters};
+use super::lines::{next_line, replace_characters, without_byte_order_mark};
 use super::pending::finish_all;
 use super::table::Table;
 use std::alloc::Global;
@@ -53,7 +53,7 @@ fn take_line(
 /// What the lines of a text give.
 fn read_lines(alloc: Global, text: &str) -> Result<Draft, ReadFault>
     ensures ok { IfOk result (λ draft. LinesGive (map chars (lines_of text.now)) draft.table draft.written.items) }
-    ensures err { IfErr result (LinesTellEarly (map chars (lines_of text.now))) }
+    ensures err { IfErr result (LinesReportEarly (map chars (lines_of text.now))) }
 {
     let mut draft = Draft::new(alloc);
     let mut characters = Vec::new(alloc);
@@ -83,7 +83,7 @@ fn read_lines(alloc: Global, text: &str) -> Result<Draft, ReadFault>
 /// Reads a text without a byte order mark.
 fn read_text(alloc: Global, text: &str) -> Result<Table, ReadFault>
     ensures ok { IfOk result (LinesMean (map chars (lines_of text.now))) }
-    ensures err { IfErr result (LinesTell (map chars (lines_of text.now))) }
+    ensures err { IfErr result (LinesReport (map chars (lines_of text.now))) }
 {
     let draft = read_lines(alloc, text)?;
     let written = draft.written;
@@ -105,11 +105,11 @@ impl Table {
     /// allocation failed; a text that isn't UTF-8 is reported without any allocation.
     pub fn read(alloc: Global, text: &[u8]) -> Result<Table, ReadFault>
         ensures ok { IfOk result (Means text.now) }
-        ensures err { IfErr result (Tells text.now) }
+        ensures err { IfErr result (IsReportedOf text.now) }
         ensures not_utf_8 { ¬ IsUtf8 text.now → result ≡ Err (not_utf_8 text.now) }
     {
         match str::from_utf8(text) {
-            Ok(text) => read_text(alloc, behind_byte_order_mark(text)),
+            Ok(text) => read_text(alloc, without_byte_order_mark(text)),
             Err(stop) => Err(ReadFault::Table(TableFault {
                 line: line_of_byte(text, stop.valid_up_to()),
                 cause: Cause::NotText.number(),

@@ -4,7 +4,7 @@ use Rattle.std.specs.Prelude.{length, take, drop, Option, Some, None, option_map
 use Rattle.std.specs.Char.{digit_value}
 use Rattle.std.specs.Option.{option_and_then}
 use lib.Utf8.{scalar}
-use Rattle.louis_table.specs.Characters.{digits_behind, escape_character}
+use Rattle.louis_table.specs.Characters.{escape_digits, escape_character}
 
 -- ---- escapes
 
@@ -39,7 +39,7 @@ escape_by None None rest = None
 -- the character of the escape at the front, without its backslash, and what follows it
 abbrev pub escape_at : List ℕ → Option (ℕ × List ℕ)
 escape_at [] = None
-escape_at (letter ∷ rest) = escape_by (escape_character letter) (digits_behind letter) rest
+escape_at (letter ∷ rest) = escape_by (escape_character letter) (escape_digits letter) rest
 
 -- ---- operands
 

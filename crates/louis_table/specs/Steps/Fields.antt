@@ -4,8 +4,8 @@ use Rattle.std.specs.List.{prefix_len}
 use Rattle.louis_table.specs.Fields.{is_gap}
 
 -- after the gap
-abbrev pub behind_gap : List ℕ → List ℕ
-behind_gap text = drop (prefix_len is_gap text) text
+abbrev pub after_gap : List ℕ → List ℕ
+after_gap text = drop (prefix_len is_gap text) text
 
 -- how long the field at the front is
 abbrev pub field_len : List ℕ → ℕ
@@ -14,4 +14,4 @@ field_len text = prefix_len (λ c. not (is_gap c)) text
 -- the next field, which is empty if there is none, and what follows it
 abbrev pub field_at : List ℕ → List ℕ × List ℕ
 field_at text =
-    (take (field_len (behind_gap text)) (behind_gap text), drop (field_len (behind_gap text)) (behind_gap text))
+    (take (field_len (after_gap text)) (after_gap text), drop (field_len (after_gap text)) (after_gap text))

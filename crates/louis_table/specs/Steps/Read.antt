@@ -11,7 +11,7 @@ use Rattle.louis_table.specs.declared.fault.ReadFault.TheVariants as faults
 use Rattle.louis_table.specs.Meaning.{Meaning, every_sign, every_set}
 use Rattle.louis_table.specs.Profile.{WithNumericMode}
 use Rattle.louis_table.specs.Table.{most_lines, most_line_characters, Entry, GiveFrom, HasCause}
-use Rattle.louis_table.specs.Table.{IsToldNoLater, definitions_in, partners_in, cells_for, characters_for}
+use Rattle.louis_table.specs.Table.{IsReportedNoLater, definitions_in, partners_in, cells_for, characters_for}
 use Rattle.louis_table.specs.Steps.Fault.{cause_number}
 use Rattle.louis_table.specs.Steps.Line.{judge_line}
 use Rattle.louis_table.specs.Steps.Draft.{written_by, Adds}
@@ -63,9 +63,9 @@ pub record LinesMean (lines : List (List ℕ)) (meaning : Meaning) : Type 0 wher
 -- ---- what is reported
 
 -- this fault of the lines is reported
-pub record IsTold (lines : List (List ℕ)) (n cause : ℕ) : Type 0 where
+pub record IsReported (lines : List (List ℕ)) (n cause : ℕ) : Type 0 where
   pub has : HasCause WithNumericMode lines n cause
-  pub first : (m other : ℕ) → HasCause WithNumericMode lines m other → IsToldNoLater n cause m other
+  pub first : (m other : ℕ) → HasCause WithNumericMode lines m other → IsReportedNoLater n cause m other
 
 -- a rule or a set of lines without a fault lacks a definition
 pub record IsLackingIn (lines : List (List ℕ)) (n : ℕ) : Type 0 where
@@ -75,12 +75,12 @@ pub record IsLackingIn (lines : List (List ℕ)) (n : ℕ) : Type 0 where
   pub lacking : first_lacking meaning all ≡ Some n
 
 -- what is reported of the lines before their rules are finished
-abbrev pub LinesTellEarly : List (List ℕ) → ReadFault → Type 0
-LinesTellEarly lines (faults.Table fault) = IsTold lines fault.line fault.cause
-LinesTellEarly lines faults.NoMemory = Unit {0}
+abbrev pub LinesReportEarly : List (List ℕ) → ReadFault → Type 0
+LinesReportEarly lines (faults.Table fault) = IsReported lines fault.line fault.cause
+LinesReportEarly lines faults.NoMemory = Unit {0}
 
 -- what is reported of the lines
-abbrev pub LinesTell : List (List ℕ) → ReadFault → Type 0
-LinesTell lines (faults.Table fault) =
-    IsTold lines fault.line fault.cause ⊎ (IsLackingIn lines fault.line × (fault.cause ≡ 7))
-LinesTell lines faults.NoMemory = Unit {0}
+abbrev pub LinesReport : List (List ℕ) → ReadFault → Type 0
+LinesReport lines (faults.Table fault) =
+    IsReported lines fault.line fault.cause ⊎ (IsLackingIn lines fault.line × (fault.cause ≡ 7))
+LinesReport lines faults.NoMemory = Unit {0}

@@ -1,6 +1,6 @@
 use Rattle.std.proofs.Common.{◌≡◌, ℕ, ℤ, List, SFits, refl, rules, subst, sym, w64}
 use Rattle.std.proofs.lemmas.Int.{to_z-of_z}
-use Rattle.louis_table.specs.Tells.{Tells}
+use Rattle.louis_table.specs.ReportedFault.{IsReportedOf}
 use Rattle.louis_table.specs.declared.fault.ReadFault.{ReadFault}
 use Rattle.louis_table.specs.declared.fault.ReadFault.TheVariants as reading
 use Rattle.louis_table.specs.declared.fault.TableFault.{TableFault}
@@ -10,7 +10,7 @@ use Rattle.desk_rebuild.specs.declared.damage.RowsFault.{RowsFault}
 use Rattle.desk_rebuild.specs.declared.damage.RowsFault.TheVariants.{Damaged, NoMemory}
 use Rattle.desk_rebuild.proofs.tabs.read_body.Goals as goal
 
-told-at : (body : List ℕ) (id number : ℤ) → number ≡ id → (fault : ReadFault) (told : RowsFault) → Tells body fault
+told-at : (body : List ℕ) (id number : ℤ) → number ≡ id → (fault : ReadFault) (told : RowsFault) → IsReportedOf body fault
     → ((bad : TableFault) → fault ≡ reading.Table bad → told ≡ Damaged number) → (fault ≡ reading.NoMemory → told ≡ NoMemory)
     → TellsNoMeaning body id told
 told-at body id number same (reading.Table bad) told tells damage memory =

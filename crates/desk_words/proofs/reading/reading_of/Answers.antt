@@ -13,4 +13,4 @@ shown kind text (Refused other) some is = (is.0, is.1, subst (λ (s : String Glo
 shown kind text NoMemory some is = tt
 
 pub returns : goal.returns
-returns c = shown _ c.in-Ok.text c.told_as.result c.in-Ok.ensures (rw c.kind.ensures at c.told_as.ensures)
+returns c = shown _ c.in-Ok.text c.shown_as.result c.in-Ok.ensures (rw c.kind.ensures at c.shown_as.ensures)

@@ -1,8 +1,8 @@
 use Rattle.std.proofs.Common.{◌+◌, ℕ, Result, Ok, Err, ap, ◌∙◌, eqb, take}
 use Rattle.std.specs.Prelude.{IfOk, IfErr, count_by}
 use Rattle.louis_table.specs.Table.{no_text, Means, without_byte_order_mark}
-use Rattle.louis_table.specs.Tells.{Tells}
-use Rattle.louis_table.proofs.OneMeaning.{LinesMean-Means, LinesTell-Tells}
+use Rattle.louis_table.specs.ReportedFault.{IsReportedOf}
+use Rattle.louis_table.proofs.OneMeaning.{LinesMean-Means, LinesReport-IsReportedOf}
 use Rattle.louis_table.proofs.table.Table.read.Goals as goal
 
 at_ok : {T E : Type 0} (r : Result T E) (P Q : T → Type 0) → IfOk r P → ((x : T) → P x → Q x) → IfOk r Q
@@ -16,12 +16,12 @@ at_err (Err e) P Q h f = f e h
 pub returns-in-Ok-clause-ok : goal.returns-in-Ok-clause-ok
 returns-in-Ok-clause-ok c =
     at_ok c.read_text.result _ (Means c.args.text.now) c.read_text.ensures.ok
-    (λ meaning. LinesMean-Means c.args.text.now c.behind_byte_order_mark.result.now c.in-Ok.ensures.cases.1 (c.behind_byte_order_mark.ensures ∙ ap without_byte_order_mark c.in-Ok.ensures.cases.0) meaning)
+    (λ meaning. LinesMean-Means c.args.text.now c.without_byte_order_mark.result.now c.in-Ok.ensures.cases.1 (c.without_byte_order_mark.ensures ∙ ap without_byte_order_mark c.in-Ok.ensures.cases.0) meaning)
 
 pub returns-in-Ok-clause-err : goal.returns-in-Ok-clause-err
 returns-in-Ok-clause-err c =
-    at_err c.read_text.result _ (Tells c.args.text.now) c.read_text.ensures.err
-    (λ fault. LinesTell-Tells c.args.text.now c.behind_byte_order_mark.result.now c.in-Ok.ensures.cases.1 (c.behind_byte_order_mark.ensures ∙ ap without_byte_order_mark c.in-Ok.ensures.cases.0) fault)
+    at_err c.read_text.result _ (IsReportedOf c.args.text.now) c.read_text.ensures.err
+    (λ fault. LinesReport-IsReportedOf c.args.text.now c.without_byte_order_mark.result.now c.in-Ok.ensures.cases.1 (c.without_byte_order_mark.ensures ∙ ap without_byte_order_mark c.in-Ok.ensures.cases.0) fault)
 
 pub returns-in-Err-clause-err : goal.returns-in-Err-clause-err
 returns-in-Err-clause-err c =

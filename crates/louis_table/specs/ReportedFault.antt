@@ -9,6 +9,6 @@ abbrev pub not_utf_8 : List ℕ → ReadFault
 not_utf_8 bytes = faults.Table (record { line = line_of_stop bytes; cause = 9 })
 
 -- the fault is the one that is reported of the text; a failed allocation says nothing of it
-abbrev pub Tells : List ℕ → ReadFault → Type 0
-Tells bytes (faults.Table fault) = Bad bytes fault.line fault.cause
-Tells bytes faults.NoMemory = Unit {0}
+abbrev pub IsReportedOf : List ℕ → ReadFault → Type 0
+IsReportedOf bytes (faults.Table fault) = Bad bytes fault.line fault.cause
+IsReportedOf bytes faults.NoMemory = Unit {0}
