@@ -5,7 +5,7 @@ use Rattle.std.specs.Prelude.{◌≡◌, ℕ, ◌+◌, ◌-◌, ◌/◌, ◌%◌
 abbrev pub dot_value : ℕ → ℕ
 dot_value k = 2 ^ (k - 1)
 
--- dot k is one of the cell with this mask
+-- the cell with this mask has dot k
 abbrev pub HasDot : ℕ → ℕ → Type 0
 HasDot mask k = (mask / dot_value k) % 2 ≡ 1
 

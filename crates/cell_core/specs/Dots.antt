@@ -18,7 +18,7 @@ pub data SpellsCell (text : List ℕ) (mask : ℕ) : Type 0 where
   blank : text ≡ 48 ∷ [] → mask ≡ 0 → SpellsCell text mask
   dotted : text ≢ [] → ListsDots text mask → SpellsCell text mask
 
--- one cell or more, joined by hyphens; no cells at all have no such text
+-- one cell or more, joined by hyphens; a list of no cells has no such text
 abbrev pub Dots : List ℕ → List ℕ → Type 0
 Dots text [] = ⊥
 Dots text (cell ∷ []) = SpellsCell text cell

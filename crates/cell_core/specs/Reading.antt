@@ -29,7 +29,7 @@ cell_in (digit ∷ next ∷ digits) = with_digits 0 (digit ∷ next ∷ digits)
 abbrev pub is_hyphen : ℕ → Bool
 is_hyphen c = c == 45
 
--- the masks of cells that are apart
+-- the masks of the cells that pieces of a text spell, if each spells one
 abbrev pub cells_of : List (List ℕ) → Option (List ℕ)
 cells_of [] = Some []
 cells_of (piece ∷ pieces) =

@@ -50,7 +50,7 @@ pub record UsesWaiting (old new : Input) (bytes : List ℕ) : Type 0 where
 abbrev pub IsStopped : Type 0 → Input → Type 0
 IsStopped CanFail input = CanFail ⊎ (most_input ≤ input.total)
 
--- more bytes were read; there are none at the end, and none where a read failed
+-- more bytes were read; there are none at the end, and none if a read failed
 abbrev pub FillsInput : Type 0 → (left_old left_new : Option (List ℕ)) → (old new : Input)
     → Result Bool Failure → Type 0
 FillsInput CanFail left_old left_new old new (Ok true) =
@@ -74,7 +74,7 @@ PassesLine true old new was line =
 PassesLine false old new was line =
     UsesWaiting old new old.waiting × (new.waiting ≡ []) × (line ≡ with_bytes was old.waiting) × HasNoFeed old.waiting
 
--- how a line ends: with a line feed, at the end of the input, or where a read failed
+-- how a line ends: with a line feed, at the end of the input, or because a read failed
 abbrev pub LineEnds : Type 0 → Input → List ℕ → Result Bool Failure → Type 0
 LineEnds CanFail new bytes (Ok true) = IsFed bytes
 LineEnds CanFail new bytes (Ok false) = HasNoFeed bytes × (new.is_over ≡ true) × (new.waiting ≡ [])

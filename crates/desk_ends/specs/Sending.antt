@@ -4,8 +4,8 @@ use Rattle.std.specs.Io.KnownBytes.{Appends}
 use Rattle.desk_ends.specs.declared.ends.Sink.{Ghosts}
 use Rattle.desk_ends.specs.Ends.{IsFlushed}
 
--- a beginning of the text went out; at true all of it but what is held back, and only what can fail
--- gives false
+-- a beginning of the text went out; if all went well, all of it but what is held back, and if not,
+-- the sink can fail
 pub record Transmits (CanFail : Type 0) (old new : Option (List ℕ)) (text held : List ℕ) (whole : Bool)
     : Type 0 where
   pub out : List ℕ
@@ -17,12 +17,12 @@ pub record Transmits (CanFail : Type 0) (old new : Option (List ℕ)) (text held
 
 -- ---- by the sink
 
--- the text went to the sink so, and this part of it is held back
+-- the text was sent to the sink, and this part of it is held back
 abbrev pub Puts : {K : Type 0} → Ghosts K → K → K → List ℕ → List ℕ → Bool → Type 0
 Puts sink old new text held whole =
     Transmits sink.can_fail (sink.contents old) (sink.contents new) text held whole
 
--- the text went to the sink so, with nothing held back
+-- the text was sent to the sink, with nothing held back
 abbrev pub Sends : {K : Type 0} → Ghosts K → K → K → List ℕ → Bool → Type 0
 Sends sink old new text whole = Puts sink old new text [] whole
 

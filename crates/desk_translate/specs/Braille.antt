@@ -6,8 +6,8 @@ use Rattle.desk_ends.specs.Cells.{text_of}
 use Rattle.desk_ends.specs.Sending.{Puts}
 use Rattle.desk_ends.specs.declared.ends.Sink.{Ghosts}
 
--- some first pieces of those that were left are taken, and their cells went after the block to the
--- sink so
+-- some of the pieces that were left are taken, from the front, and their cells put after the block
+-- and sent to the sink
 pub record PutsFirst {K : Type 0} (sink : Ghosts K) (old new : K) (block held : List ℕ) (left others : List PieceItem)
     (whole : Bool) : Type 0 where
   pub taken : List PieceItem

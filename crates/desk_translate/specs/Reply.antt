@@ -12,7 +12,7 @@ use Rattle.louis_translate.specs.Braille.{braille}
 
 -- ---- the limit of a line
 
--- its characters; how many bytes it may have, `desk_ends` says
+-- how many characters a line may have; `desk_ends` says how many bytes
 abbrev pub most_characters : ℕ
 most_characters = 4000
 

@@ -22,7 +22,7 @@ abbrev pub whole_lines : List ℕ → List ℕ
 whole_lines [] = []
 whole_lines (b ∷ bytes) = whole_from b (whole_lines bytes)
 
--- the text is out and something more, or nothing more
+-- the bytes are a beginning of the text, or all of it
 abbrev pub IsBeginning : List ℕ → List ℕ → Type 0
 IsBeginning out text = (rest : List ℕ) × (out ++ rest ≡ text)
 
@@ -58,7 +58,7 @@ AnswersBeginning meaning read_old write_old write_new =
 
 -- ---- how it ended
 
--- a run ends early only if so many bytes were taken, or an end can fail
+-- a run ends early only if it took as many bytes as a run may, or an end can fail
 abbrev pub IsHonest : Ended → ℕ → Type 0 → Type 0 → Type 0
 IsHonest Done taken ReadsFail WritesFail = Unit {0}
 IsHonest Input taken ReadsFail WritesFail = (most_input ≤ taken) ⊎ ReadsFail

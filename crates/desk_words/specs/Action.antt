@@ -13,7 +13,7 @@ use Rattle.desk_words.specs.declared.action.Action.TheVariants.{Check, Export, N
 abbrev pub Names : List Row → Text → Text → Type 0
 Names rows id text = first_of id rows ≡ Some text
 
--- it is the number of 64 bits that decimal digits write, with or without a plus before them
+-- the argument with this id is a number of 64 bits in decimal digits, perhaps after a plus
 pub record Counts (rows : List Row) (id : Text) (number : ℕ) : Type 0 where
   pub text : Text
   pub given : one_of id rows ≡ Some text
@@ -47,7 +47,7 @@ pub record IsExportable (volume width lines : ℕ) : Type 0 where
   pub lines_from : 5 ≤ lines
   pub lines_to : lines ≤ 40
 
--- unless the argument with this id was given, the number is this one
+-- the number is the default, unless the argument with this id was given
 abbrev pub HasDefault : List Row → Text → (number default : ℕ) → Type 0
 HasDefault rows id number default = is_given id rows ≡ false → number ≡ default
 

@@ -10,7 +10,7 @@ use Rattle.clap.specs.declared.builder.value_parser.ValueParser.TheVariants.{Uns
 abbrev pub operand : Text → Rule
 operand id = record (new_rule id) { required = true; action = Some Set; value_names = 1 }
 
--- a number after its name, or this one
+-- a number that follows its name, or this one if it is left out
 abbrev pub size : Text → Text → Rule
 size id value = record (new_rule id) {
   long = Some id;
@@ -56,11 +56,11 @@ bare = record {
   subs = [];
 }
 
--- with these actions
+-- the program with these actions
 abbrev pub program : List Shape → App
 program actions = record { top = record bare.top { is_leaf = false }; subs = actions }
 
--- with all that it does
+-- the program with all its actions
 abbrev pub whole : App
 whole = program
     (on_file (codes "new") ∷ on_file (codes "session") ∷ export ∷ translate

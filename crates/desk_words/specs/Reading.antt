@@ -15,7 +15,7 @@ pub record NamesAction (app : App) (words : List Text) (action : ActionTerm) : T
   pub taken : fault_of app words ≡ []
   pub asked : IsSomeAnd (subcommand_of app words) (λ found. Asks found.0 found.1 action)
 
--- and its numbers are within their limits, or the defaults if the words don't give them
+-- the same, with its numbers within their limits, or the defaults if the words don't give them
 abbrev pub NamesWithinLimits : App → List Text → ActionTerm → Type 0
 NamesWithinLimits app words action =
     NamesAction app words action
@@ -45,21 +45,21 @@ pub record AreRefused (app : App) (words : List Text) : Type 0 where
   pub other : kind ≢ DisplayHelp
   pub among : IsAmong kind (fault_of app words)
 
--- The words are read so. The text of help, and that of a refusal, isn't empty.
+-- What the words are read as. The text of help, and that of a refusal, isn't empty.
 abbrev pub IsReading : App → List Text → Reading → Type 0
 IsReading app words (Asked action) = NamesWithinLimits app words action
 IsReading app words (Help text) = AskForHelp app words × (string_bytes text ≢ [])
 IsReading app words (Refused text) = AreRefused app words × (string_bytes text ≢ [])
 IsReading app words NoMemory = Unit {0}
 
--- an error of this kind is read so
+-- what an error of this kind is read as
 abbrev pub IsError : ErrorKind → Reading → Type 0
 IsError kind (Asked action) = ⊥
 IsError kind (Help text) = (kind ≡ DisplayHelp) × (string_bytes text ≢ [])
 IsError kind (Refused text) = (kind ≢ DisplayHelp) × (kind ≢ OutOfMemory) × (string_bytes text ≢ [])
 IsError kind NoMemory = Unit {0}
 
--- an error of this kind, of which this text is shown, comes to just this
+-- what an error of this kind is read as, if this text is shown of it
 abbrev pub IsShownAs : ErrorKind → String Global → Reading → Type 0
 IsShownAs kind text (Asked action) = ⊥
 IsShownAs kind text (Help shown) = (kind ≡ DisplayHelp) × (shown ≡ text)

@@ -8,9 +8,9 @@ use Rattle.louis_table.specs.declared.rule.Rule.{Rule}
 use Rattle.louis_table.specs.declared.sign.Sign.{Sign}
 use Rattle.louis_table.specs.declared.sign.Sign.TheVariants as signs
 
--- the definitions of characters and the lower characters of capitals, each in the order of their
--- lines, the rules, their characters folded, in the order of theirs, the cells of each sign, and
--- the characters of each set as they are written; a sign or a set that the table lacks is empty
+-- the definitions of characters and the lower characters of capitals, both in the order of their
+-- lines; the rules in that order, with their characters folded; the cells of each sign; the
+-- characters of each set as they are written. A sign or a set that the table lacks is empty.
 pub record Meaning : Type 0 where
   pub definitions : List (ℕ × Definition)
   pub partners : List (ℕ × ℕ)
@@ -42,7 +42,7 @@ set_place sets.NoContraction = 1
 abbrev pub definition_of : Meaning → ℕ → Option Definition
 definition_of meaning character = lookup (nat_eq character) meaning.definitions
 
--- the lower character of a capital, if it is one
+-- the lower character that belongs to a character, if that is a capital
 abbrev pub partner_of : Meaning → ℕ → Option ℕ
 partner_of meaning character = lookup (nat_eq character) meaning.partners
 

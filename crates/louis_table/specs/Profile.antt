@@ -1,11 +1,11 @@
 -- The profiles of the table language.
 
--- what came first, and what numeric mode adds
+-- the language without numeric mode, and the language with it
 pub data Profile : Type 0 where
   WithoutNumericMode : Profile
   WithNumericMode : Profile
 
--- what came with the one profile is in the other
+-- the first profile has what the second one has
 abbrev pub Includes : Profile → Profile → Type 0
 Includes WithoutNumericMode WithoutNumericMode = Unit {0}
 Includes WithoutNumericMode WithNumericMode = ⊥

@@ -1,10 +1,10 @@
--- What a fault says of a table text.
+-- Which fault is reported of a table text.
 use Rattle.std.specs.Prelude.{ℕ, List}
 use Rattle.louis_table.specs.Table.{Bad, line_of_stop}
 use Rattle.louis_table.specs.declared.fault.ReadFault.{ReadFault}
 use Rattle.louis_table.specs.declared.fault.ReadFault.TheVariants as faults
 
--- what is reported of bytes that are not UTF-8
+-- the fault that is reported of bytes that are not UTF-8
 abbrev pub not_utf_8 : List ℕ → ReadFault
 not_utf_8 bytes = faults.Table (record { line = line_of_stop bytes; cause = 9 })
 

@@ -10,17 +10,17 @@ use Rattle.louis_table.specs.declared.sign.Sign.{Sign}
 use Rattle.louis_table.specs.declared.sign.Sign.TheVariants.{Number, Capital, CapitalWord, NoContraction}
 use Rattle.louis_table.specs.Meaning.{Meaning, every_sign, every_set}
 
--- a character of a class, by these cells
+-- a character with its definition: this class and these cells
 abbrev pub defined : Class → ℕ × List ℕ → ℕ × Definition
 defined class entry = (entry.0, record { class = class; cells = entry.1 })
 
--- the letters from A on: the mask of each
+-- the masks of the letters from A on
 abbrev pub letter_masks : List ℕ
 letter_masks =
     1 ∷ 3 ∷ 9 ∷ 25 ∷ 17 ∷ 11 ∷ 27 ∷ 19 ∷ 10 ∷ 26 ∷ 5 ∷ 7 ∷ 13 ∷
     29 ∷ 21 ∷ 15 ∷ 31 ∷ 23 ∷ 14 ∷ 30 ∷ 37 ∷ 39 ∷ 58 ∷ 45 ∷ 61 ∷ 53 ∷ []
 
--- a capital and its small letter, both by one cell
+-- the definitions of capitals, each followed by its small letter, with one cell for both
 abbrev pub both_letters : ℕ → List ℕ → List (ℕ × Definition)
 both_letters capital [] = []
 both_letters capital (mask ∷ masks) =
@@ -31,7 +31,7 @@ abbrev pub small_letters : ℕ → List ℕ → List (ℕ × ℕ)
 small_letters capital [] = []
 small_letters capital (mask ∷ masks) = (capital, capital + 32) ∷ small_letters (capital + 1) masks
 
--- 1 to 9 and 0
+-- the digits, 1 to 9 and then 0
 abbrev pub digits : List (ℕ × List ℕ)
 digits =
     (49, 1 ∷ []) ∷ (50, 3 ∷ []) ∷ (51, 9 ∷ []) ∷ (52, 25 ∷ []) ∷ (53, 17 ∷ []) ∷

@@ -23,25 +23,25 @@ use Rattle.louis_table.specs.Meaning.{Meaning, every_sign, sign_place, every_set
 
 -- ---- the limits
 
--- lines of a text
+-- how many lines a text may have
 abbrev pub most_lines : ℕ
 most_lines = 20000
 
--- characters of a line, comments too
+-- how many characters a line may have, those of a comment included
 abbrev pub most_line_characters : ℕ
 most_line_characters = 1000
 
--- characters of a rule
+-- how many characters a rule may have
 abbrev pub most_rule_characters : ℕ
 most_rule_characters = 60
 
--- characters of a set
+-- how many characters a set may have
 abbrev pub most_set_characters : ℕ
 most_set_characters = 60
 
 -- ---- the lines
 
--- U+FEFF in UTF-8
+-- the byte order mark, U+FEFF, in UTF-8
 abbrev pub byte_order_mark : List ℕ
 byte_order_mark = 0xEF ∷ 0xBB ∷ 0xBF ∷ []
 
@@ -111,7 +111,7 @@ abbrev pub RuleDots : List ℕ → Option (List ℕ) → Type 0
 RuleDots dots None = dots ≡ codes "="
 RuleDots dots (Some cells) = Dots dots cells
 
--- the dots operand is one for the opcode
+-- the dots operand is of the form that the opcode takes
 abbrev pub IsDotsFor : Opcode → List ℕ → Type 0
 IsDotsFor (Define class) dots = (cells : List ℕ) × Dots dots cells
 IsDotsFor UpLow dots = (upper : List ℕ) × (lower : List ℕ) × PairDots dots upper lower
@@ -169,11 +169,11 @@ partners_in (Replaces kind text cells) = []
 partners_in (Announces sign cells) = []
 partners_in (Collects set text) = []
 
--- the two signs are one
+-- the two signs are the same
 abbrev pub is_same_sign : Sign → Sign → Bool
 is_same_sign one other = nat_eq (sign_place one) (sign_place other)
 
--- the two sets are one
+-- the two sets are the same
 abbrev pub is_same_set : CharacterSet → CharacterSet → Bool
 is_same_set one other = nat_eq (set_place one) (set_place other)
 
@@ -218,8 +218,8 @@ rules_in meaning (n, Replaces kind text cells) =
 rules_in meaning (n, Announces sign cells) = []
 rules_in meaning (n, Collects set text) = []
 
--- all that a table has is that of the entries, in their order: rules with their characters folded,
--- and sets of characters as they are written
+-- the meaning has all that the entries give, in their order, and nothing else: rules with their
+-- characters folded, and sets of characters as they are written
 pub record IsMadeOf (entries : List (ℕ × Entry)) (meaning : Meaning) : Type 0 where
   pub definitions : meaning.definitions ≡ flat_map (λ e. definitions_in e.1) entries
   pub partners : meaning.partners ≡ flat_map (λ e. partners_in e.1) entries
@@ -253,13 +253,13 @@ IsLacking meaning (Collects set text) =
 
 -- ---- which fault is reported
 
--- a fault of line n is reported no later than one of line m: the smaller line first, for one line
--- the smaller cause
+-- a fault of line n is reported no later than one of line m: the smaller line first, and for the
+-- same line the smaller cause
 abbrev pub IsReportedNoLater : ℕ → ℕ → ℕ → ℕ → Type 0
 IsReportedNoLater n cause m other = (n < m) ⊎ ((n ≡ m) × (cause ≤ other))
 
--- the line on which bytes stop being UTF-8: one more than the line feeds in the longest front that
--- is
+-- the line on which bytes stop being UTF-8: one more than the line feeds in their longest front
+-- that is UTF-8
 abbrev pub line_of_stop : List ℕ → ℕ
 line_of_stop bytes = count_by (λ b. b == 10) (take (utf8_valid_len bytes) bytes) + 1
 
@@ -317,12 +317,12 @@ module _ (profile : Profile) where
     -- the line lacks one of its operands
     missing_operand : (opcode : Opcode) (rest : List ℕ) → HasOpcode profile opcode → Begins line (name_of opcode) rest
         → ¬ HasOperands line opcode → cause ≡ 2 → IsFault before line cause
-    -- the characters operand isn't one for the opcode
+    -- the characters operand isn't of the form that the opcode takes
     bad_characters : (opcode : Opcode) (characters : List ℕ)
         → HasOpcode profile opcode → HasCharacters line opcode characters
         → ((text : List ℕ) → AreCharactersFor opcode text → ¬ Spells characters text)
         → cause ≡ 3 → IsFault before line cause
-    -- the dots operand isn't one for the opcode
+    -- the dots operand isn't of the form that the opcode takes
     bad_dots : (opcode : Opcode) (dots : List ℕ) → HasOpcode profile opcode → HasDots line opcode dots
         → ¬ IsDotsFor opcode dots → cause ≡ 4 → IsFault before line cause
     -- an earlier line defines a character of this one, or this one defines it twice

@@ -84,7 +84,7 @@ module _ (meaning : Meaning) (print : List ℕ) where
   abbrev pub IsPrintPlace : List Choice → ℕ → ℕ → Type 0
   IsPrintPlace = IsPrintPlaceBy (sign_at meaning print) meaning print
 
-  -- where the print ends that a cell stands for: the end of the choice that made it
+  -- the place after the print that a cell stands for: the end of the choice that made it
   abbrev pub IsPrintEnd : List Choice → ℕ → ℕ → Type 0
   IsPrintEnd choices cell end = (choice : Choice) × MakesCell choices choice cell × (end ≡ choice.end)
 

@@ -57,8 +57,8 @@ module _ (meaning : Meaning) (print : List ℕ) where
   abbrev pub IsCandidate : ℕ → Option ℕ → Type 0
   IsCandidate = IsCandidateBy (sign_at meaning print) meaning print
 
-  -- it is the candidate at place i to which all others yield: shorter ones, and as long ones that
-  -- are later
+  -- it is the candidate at place i to which all others yield: shorter ones, and later ones of the
+  -- same length
   abbrev pub IsChosen : ℕ → Option ℕ → Type 0
   IsChosen = IsChosenBy (sign_at meaning print) meaning print
 

@@ -3,7 +3,7 @@ use Rattle.std.specs.Prelude.{◌≡◌, ℕ, Bool, true, false, List, IsSome, s
 use Rattle.std.specs.Option.{option_map_or}
 use Rattle.louis_table.specs.Meaning.{Meaning, definition_of}
 
--- what a list says of a character, at the place of its code, and no past the list's end
+-- what a list says of a character, at the index of its code; past its end it says no
 abbrev pub is_known : List Bool → ℕ → Bool
 is_known known character = option_map_or (λ said. said) (slice_get known character) false
 

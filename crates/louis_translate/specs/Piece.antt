@@ -30,7 +30,7 @@ AreLoneCells meaning cells =
 -- ---- places
 
 -- no sign after a number can stand at a place: the table has none, or no number reaches the place;
--- after a lone cell at such a place the next place is one too
+-- after a lone cell at such a place, the next place is free too
 abbrev pub IsFree : Meaning → List ℕ → ℕ → Type 0
 IsFree meaning print i = (sign_cells meaning NoContraction ≡ []) ⊎ (follows_number meaning print i ≡ false)
 
@@ -47,7 +47,7 @@ pub record IsLoneAt (meaning : Meaning) (print : List ℕ) (i cell : ℕ) : Type
 abbrev pub one_character : ℕ → Choice
 one_character i = record { rule = None; start = i; end = i + 1 }
 
--- what is left begins with a lone cell, without a sign, and goes on so
+-- what is left begins with a lone cell without a sign, and goes on with the others
 abbrev pub BeginsWithLone : List PieceItem → List PieceItem → ℕ → Type 0
 BeginsWithLone left others cell =
     (choice : Choice) × (left ≡ record { choice = choice; sign = []; own = cell ∷ [] } ∷ others)

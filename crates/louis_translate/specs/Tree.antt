@@ -25,7 +25,7 @@ abbrev pub LeadTo : RuleTree → Option ℕ → List ℕ → Option ℕ → Type
 LeadTo tree from [] to = from ≡ to
 LeadTo tree from (c ∷ cs) to = (n : ℕ) × (leads tree from c ≡ Some n) × LeadTo tree (Some n) cs to
 
--- a list has a number somewhere
+-- the number is in the list
 abbrev pub IsAt : List ℕ → ℕ → Type 0
 IsAt here j = (y : ℕ) × (slice_get here y ≡ Some j)
 

@@ -13,7 +13,7 @@ abbrev pub with_rest : Option ℕ → List ℕ → Option (ℕ × List ℕ)
 with_rest None rest = None
 with_rest (Some character) rest = Some (character, rest)
 
--- the number that hexadecimal digits spell after others, unless one isn't a digit
+-- the number that hexadecimal digits spell after others that spelled n, unless one isn't a digit
 abbrev pub hex_value : ℕ → List ℕ → Option ℕ
 hex_value n [] = Some n
 hex_value n (digit ∷ digits) =
@@ -24,7 +24,7 @@ abbrev pub scalar_from : Option ℕ → Option ℕ
 scalar_from None = None
 scalar_from (Some number) = if scalar number then Some number else None
 
--- the character that so many digits at the front number, and what follows them
+-- the character whose number this many digits at the front spell, and what follows them
 abbrev pub number_at : ℕ → List ℕ → Option (ℕ × List ℕ)
 number_at count text =
     if nat_lt (length text) count then None
@@ -48,7 +48,7 @@ abbrev pub character_at : List ℕ → Option (ℕ × List ℕ)
 character_at [] = None
 character_at (c ∷ rest) = if c == 92 then escape_at rest else Some (c, rest)
 
--- the characters of an operand, of which there are at most so many
+-- the characters of an operand, if it has no bad escape and at most this many of them
 abbrev pub characters_within : ℕ → List ℕ → Option (List ℕ)
 characters_within n [] = Some []
 characters_within zero (c ∷ text) = None
@@ -60,13 +60,13 @@ characters_within (suc n) (c ∷ text) =
 unfoldable pub characters_in : List ℕ → Option (List ℕ)
 characters_in text = characters_within (length text) text
 
--- the character of a text of one
+-- the character of a text that has exactly one
 abbrev pub only_character : List ℕ → Option ℕ
 only_character [] = None
 only_character (c ∷ []) = Some c
 only_character (c ∷ d ∷ text) = None
 
--- the characters of a text of two
+-- the characters of a text that has exactly two
 abbrev pub only_pair : List ℕ → Option (ℕ × ℕ)
 only_pair [] = None
 only_pair (c ∷ []) = None

@@ -15,12 +15,12 @@ written_by n (Replaces kind text cells) =
 written_by n (Announces sign cells) = []
 written_by n (Collects set text) = pending.Set (record { line = n; characters = text }) ∷ []
 
--- the same of what a line gives
+-- the same for what a line gives
 abbrev pub written_in : ℕ → Option Entry → List PendingEntry
 written_in n None = []
 written_in n (Some entry) = written_by n entry
 
--- the draft has what the line gives as well
+-- the new draft is the old one with what line n gives
 pub record Adds (old new : Draft) (n : ℕ) (given : Option Entry) : Type 0 where
   pub table : new.table ≡ with_given old.table given
   pub written : new.written.items ≡ old.written.items ++ written_in n given

@@ -3,7 +3,7 @@ use Rattle.std.specs.Prelude.{ℕ, not, List, take, drop}
 use Rattle.std.specs.List.{prefix_len}
 use Rattle.louis_table.specs.Fields.{is_gap}
 
--- after the gap
+-- the text without the gap at its front
 abbrev pub after_gap : List ℕ → List ℕ
 after_gap text = drop (prefix_len is_gap text) text
 

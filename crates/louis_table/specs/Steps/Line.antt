@@ -27,24 +27,24 @@ abbrev pub with_dots : Option (List ℕ) → List ℕ → Result (List ℕ × Li
 with_dots None dots = Err 3
 with_dots (Some text) dots = Ok (text, dots)
 
--- the same of the texts of two operands, either of which may be missing
+-- the same for the texts of two operands, either of which may be missing
 abbrev pub both_from : List ℕ → List ℕ → Result (List ℕ × List ℕ) ℕ
 both_from [] dots = Err 2
 both_from (c ∷ characters) [] = Err 2
 both_from (c ∷ characters) (d ∷ dots) = with_dots (characters_in (c ∷ characters)) (d ∷ dots)
 
--- the same of what follows an opcode
+-- the same for what follows an opcode
 abbrev pub both_at : List ℕ → Result (List ℕ × List ℕ) ℕ
 both_at rest = both_from (field_at rest).0 (field_at (field_at rest).1).0
 
 -- ---- what a line gives
 
--- the entry, or this cause where there is none
+-- the entry, or this cause if there is none
 abbrev pub or_cause : ℕ → Option Entry → Result Entry ℕ
 or_cause cause None = Err cause
 or_cause cause (Some entry) = Ok entry
 
--- what the characters and the dots operand give to the opcode
+-- the entry that an opcode makes of its characters and its dots operand, or the cause
 abbrev pub entry_from : Opcode → List ℕ → List ℕ → Result Entry ℕ
 entry_from (Define class) [] dots = Err 3
 entry_from (Define class) (character ∷ []) dots =
@@ -82,12 +82,12 @@ entry_at (Replace kind) rest = entry_of_both (Replace kind) (both_at rest)
 entry_at (Announce sign) rest = entry_of_one (Announce sign) (field_at rest).0
 entry_at (Collect set) rest = entry_of_set set (field_at rest).0
 
--- a line that gives an entry
+-- the same for a line, which gives an entry or has the cause
 abbrev pub as_some : Result Entry ℕ → Result (Option Entry) ℕ
 as_some (Ok entry) = Ok (Some entry)
 as_some (Err cause) = Err cause
 
--- what a line with this opcode gives; without one it has cause 1
+-- what a line with this opcode gives; a line without an opcode has cause 1
 abbrev pub opcode_gives : Option Opcode → List ℕ → Result (Option Entry) ℕ
 opcode_gives None rest = Err 1
 opcode_gives (Some opcode) rest = as_some (entry_at opcode rest)
@@ -103,11 +103,11 @@ line_gives line = fields_give (field_at line).0 (field_at line).1
 
 -- ---- a line after others
 
--- one of the two is defined, or both are the same
+-- one of two characters is defined already, or they are the same
 abbrev pub is_taken : Meaning → ℕ → ℕ → Bool
 is_taken meaning upper lower = (upper == lower) || is_known meaning upper || is_known meaning lower
 
--- the entry defines a character that is defined
+-- the entry defines a character that is defined already
 abbrev pub repeats : Meaning → Entry → Bool
 repeats meaning (Defines character definition) = is_known meaning character
 repeats meaning (Pairs upper upper_cells lower lower_cells) = is_taken meaning upper lower
@@ -115,7 +115,7 @@ repeats meaning (Replaces kind text cells) = false
 repeats meaning (Announces sign cells) = false
 repeats meaning (Collects set text) = false
 
--- the entry gives a sign or a set that is given
+-- the entry gives a sign or a set that was given before
 abbrev pub announces : Meaning → Entry → Bool
 announces meaning (Defines character definition) = false
 announces meaning (Pairs upper upper_cells lower lower_cells) = false
@@ -154,7 +154,7 @@ judge_opcode meaning opcode rest = line_verdict meaning (as_some (entry_at opcod
 unfoldable pub judge_line : Meaning → List ℕ → Result (Option Entry) ℕ
 judge_line meaning line = line_verdict meaning (line_gives line)
 
--- ---- what is said of the code
+-- ---- what contracts say
 
 -- the entry of a line that was read
 abbrev pub entry_in : LineEntry → Option Entry

@@ -19,7 +19,7 @@ use Rattle.louis_table.specs.Steps.Pending.{complete_rules, first_lacking}
 
 -- ---- one more line
 
--- what a line gives, or 8 where the line is too long or one too many and has no smaller cause
+-- what a line gives, or cause 8 if it is too long or one too many and has no smaller cause
 abbrev pub within_limits : ℕ → List ℕ → Result (Option Entry) ℕ → Result (Option Entry) ℕ
 within_limits before line (Ok given) =
     if nat_lt most_line_characters (length line) || nat_le most_lines before then Err 8 else Ok given
@@ -48,12 +48,12 @@ pub record Gathers (lines : List (List ℕ)) (meaning : Meaning) (all : List Pen
   pub sets : meaning.sets ≡ map (λ set. flat_map (λ e. characters_for set e.1) entries) every_set
   pub written : all ≡ flat_map (λ e. written_by e.0 e.1) entries
 
--- lines without a fault that give this
+-- the lines have no fault and give this
 pub record LinesGive (lines : List (List ℕ)) (meaning : Meaning) (all : List PendingEntry) : Type 0 where
   pub is_sound : (n cause : ℕ) → ¬ HasCause WithNumericMode lines n cause
   pub gathered : Gathers lines meaning all
 
--- lines without a fault, in whose rules and sets every character is defined, mean this
+-- the lines have no fault, define each character of their rules and sets, and mean this
 pub record LinesMean (lines : List (List ℕ)) (meaning : Meaning) : Type 0 where
   pub all : List PendingEntry
   pub gives : LinesGive lines meaning all
@@ -62,12 +62,12 @@ pub record LinesMean (lines : List (List ℕ)) (meaning : Meaning) : Type 0 wher
 
 -- ---- what is reported
 
--- this fault of the lines is reported
+-- of the faults of the lines this one is reported
 pub record IsReported (lines : List (List ℕ)) (n cause : ℕ) : Type 0 where
   pub has : HasCause WithNumericMode lines n cause
   pub first : (m other : ℕ) → HasCause WithNumericMode lines m other → IsReportedNoLater n cause m other
 
--- a rule or a set of lines without a fault lacks a definition
+-- the lines have no fault, but line n has a rule or a set with a character that is not defined
 pub record IsLackingIn (lines : List (List ℕ)) (n : ℕ) : Type 0 where
   pub meaning : Meaning
   pub all : List PendingEntry

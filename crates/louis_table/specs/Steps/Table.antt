@@ -12,7 +12,7 @@ is_known meaning character = is_some (definition_of meaning character)
 
 -- ---- what entries add
 
--- what no entries give
+-- the meaning that no entries give
 abbrev pub no_meaning : Meaning
 no_meaning =
     record {
@@ -62,7 +62,7 @@ with_entry meaning entry = record {
   sets = sets_with meaning.sets entry;
 }
 
--- the same of what a line gives
+-- the same for what a line gives
 abbrev pub with_given : Meaning → Option Entry → Meaning
 with_given meaning None = meaning
 with_given meaning (Some entry) = with_entry meaning entry
