@@ -13,13 +13,6 @@ pub record ReadSoFar (pieces : List (List ℕ)) (row : List ℕ) (count : ℕ) :
   pub kept : take count row ≡ take (length row) cells
   pub left : cells_of pieces ≡ option_map (λ more. cells ++ more) (cells_of (drop count pieces))
 
-option_map_nil : (o : Option (List ℕ)) → o ≡ option_map (λ more. [] ++ more) o
-option_map_nil None = refl
-option_map_nil (Some cells) = refl
-
-take_nil : (n : ℕ) → [] ≡ take {A = ℕ} n []
-take_nil n = sym (take_all n [] (omega arith))
-
 -- a piece that stands at a place, at the head of what is left
 cells_of-drop : (pieces : List (List ℕ)) (count : ℕ) (piece : List ℕ) → count < length pieces → piece ≡ get_or pieces count piece → cells_of (drop count pieces) ≡ cells_of (piece ∷ drop (count + 1) pieces)
 cells_of-drop pieces count piece within is =
