@@ -1,37 +1,17 @@
 -- Each definition and each rule of a table that a text means has at least one cell.
-use Rattle.std.proofs.Common.{◌≡◌, ◌≢◌, ℕ, zero, suc, ◌+◌, List, [], ◌∷◌, ◌++◌, Option, Some, None, Contains, refl, sym, subst, ◌∙◌, inl, inr, arith}
+use Rattle.std.proofs.Common.{◌≡◌, ◌≢◌, ℕ, zero, suc, ◌+◌, List, [], ◌∷◌, ◌++◌, Option, Some, None, Contains, refl, sym, subst, inl, inr, arith, rules}
 use Rattle.std.specs.Prelude.{map, nat_eq, slice_get}
 use Rattle.std.specs.List.{AllByRecursion, flat_map}
 use Rattle.std.proofs.lemmas.List.Elements.{Contains-append_right}
 use Rattle.std.specs.Map.{lookup}
 use Rattle.std.proofs.lemmas.Bool.{cases_Bool}
-use Rattle.cell_core.specs.Dots.{Dots}
 use Rattle.louis_table.specs.declared.definition.Definition.{Definition}
 use Rattle.louis_table.specs.declared.rule.Rule.{Rule}
-use Rattle.louis_table.specs.Characters.{Spells}
-use Rattle.louis_table.specs.Fields.{HasFields}
 use Rattle.louis_table.specs.Meaning.{Meaning, HasCells, definition_of, fold_of}
 use Rattle.louis_table.specs.Profile.{Profile}
-use Rattle.louis_table.specs.Table.{Entry, Defines, Pairs, Replaces, Announces, Collects, PairDots, RuleDots, GivesEntry, definition_line, pair_line, rule_line, sign_line, set_line, GiveFrom, definitions_in, cells_in_definition, rule_cells, rules_in, IsLacking, MeansIn}
+use Rattle.louis_table.specs.Table.{Entry, Defines, Pairs, Replaces, Announces, Collects, GiveFrom, definitions_in, cells_in_definition, rule_cells, rules_in, IsLacking, MeansIn}
 
 -- ---- what a line gives
-
-some_dots : (text cells : List ℕ) → Dots text cells → cells ≢ []
-some_dots text [] dots = absurd dots
-some_dots text (cell ∷ cells) dots = λ e. cc
-
-pair_dots : (dots upper lower : List ℕ) → PairDots dots upper lower → (upper ≢ []) × (lower ≢ [])
-pair_dots dots upper lower (inl (h, e)) = (some_dots dots upper h, λ none. some_dots dots upper h (sym e ∙ none))
-pair_dots dots upper lower (inr (first, second, e, h, k)) = (some_dots first upper h, some_dots second lower k)
-
--- a field spells at least one character
-some_characters : (field text : List ℕ) → field ≢ [] → Spells field text → text ≢ []
-some_characters field [] some spells = λ e. some spells
-some_characters field (c ∷ text) some spells = λ e. cc
-
-second_field : (line name field : List ℕ) (fields : List (List ℕ)) → HasFields line (name ∷ field ∷ fields) → field ≢ []
-second_field line name [] fields h = absurd h.2.1.is_field
-second_field line name (c ∷ field) fields h = λ e. cc
 
 abbrev MakesCells : Entry → Type 0
 MakesCells (Defines character defined) = defined.cells ≢ []
@@ -39,18 +19,6 @@ MakesCells (Pairs upper upper_cells lower lower_cells) = (upper_cells ≢ []) ×
 MakesCells (Replaces kind text cells) = (text ≢ []) × ((written : List ℕ) → cells ≡ Some written → written ≢ [])
 MakesCells (Announces sign cells) = Unit {0}
 MakesCells (Collects set text) = Unit {0}
-
-rule_dots : (dots : List ℕ) (cells : Option (List ℕ)) → RuleDots dots cells → (written : List ℕ) → cells ≡ Some written → written ≢ []
-rule_dots dots None h written e = cc
-rule_dots dots (Some cells) h written e = let same : cells ≡ written = cc in λ none. some_dots dots cells h (same ∙ none)
-
-gives-cells : (profile : Profile) (line : List ℕ) (entry : Entry) → GivesEntry profile line entry → MakesCells entry
-gives-cells profile line entry (definition_line class characters dots c cells has h s d e) = subst MakesCells (sym e) (some_dots dots cells d)
-gives-cells profile line entry (pair_line characters dots upper lower upper_cells lower_cells has h s d e) = subst MakesCells (sym e) (pair_dots dots upper_cells lower_cells d)
-gives-cells profile line entry (rule_line kind characters dots text cells has h s d e) =
-    subst MakesCells (sym e) (some_characters characters text (second_field line _ characters (dots ∷ []) h) s, rule_dots dots cells d)
-gives-cells profile line entry (sign_line sign dots cells has h d e) = subst MakesCells (sym e) tt
-gives-cells profile line entry (set_line set characters text has h s e) = subst MakesCells (sym e) tt
 
 -- ---- what the lines give
 
@@ -71,9 +39,7 @@ entries-cells : (profile : Profile) (n : ℕ) (lines : List (List ℕ)) (entries
     → AllByRecursion (λ e. MakesCells e.1) entries
 entries-cells profile n [] entries h = subst (AllByRecursion (λ (e : ℕ × Entry). MakesCells e.1)) (sym h) tt
 entries-cells profile n (line ∷ lines) entries (inl (says, h)) = entries-cells profile (n + 1) lines entries h
-entries-cells profile n (line ∷ lines) entries (inr (entry, rest, gives, e, h)) =
-    subst (AllByRecursion (λ (e : ℕ × Entry). MakesCells e.1)) (sym e)
-    (gives-cells profile line entry gives, entries-cells profile (n + 1) lines rest h)
+entries-cells profile n (line ∷ lines) entries (inr (entry, rest, gives, e, h)) = search (rules, (entries-cells profile (n + 1) lines rest h))
 
 abbrev HasSome : Definition → Type 0
 HasSome defined = defined.cells ≢ []
@@ -86,9 +52,7 @@ definition-cells entry h = tt
 definitions-cells : (entries : List (ℕ × Entry)) → AllByRecursion (λ e. MakesCells e.1) entries
     → AllByRecursion (λ d. HasSome d.1) (flat_map (λ e. definitions_in e.1) entries)
 definitions-cells [] h = tt
-definitions-cells (e ∷ entries) h =
-    all_append (λ (d : ℕ × Definition). HasSome d.1) (definitions_in e.1) (flat_map (λ e. definitions_in e.1) entries)
-    (definition-cells e.1 h.0) (definitions-cells entries h.1)
+definitions-cells (e ∷ entries) h = search (rules, definition-cells, (definitions-cells entries h.1))
 
 found-cells : (c : ℕ) (definitions : List (ℕ × Definition)) (defined : Definition) → AllByRecursion (λ d. HasSome d.1) definitions
     → lookup (nat_eq c) definitions ≡ Some defined → HasSome defined

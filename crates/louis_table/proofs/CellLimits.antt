@@ -1,5 +1,5 @@
 -- A table that a text means has few cells in each definition, each rule and each sign: none has more than its lines can hold.
-use Rattle.std.proofs.Common.{◌≡◌, ℕ, zero, suc, ◌+◌, ◌*◌, ◌<◌, ◌≤◌, Bool, true, false, cond, List, [], ◌∷◌, ◌++◌, length, map, Option, Some, None, refl, sym, ap, subst, ◌∙◌, inl, inr, append_assoc, length-append, arith}
+use Rattle.std.proofs.Common.{◌≡◌, ℕ, zero, suc, ◌+◌, ◌*◌, ◌<◌, ◌≤◌, Bool, true, false, cond, List, [], ◌∷◌, ◌++◌, length, map, Option, Some, None, refl, sym, ap, subst, ◌∙◌, inl, inr, append_assoc, length-append, arith, rules}
 use Rattle.std.specs.Prelude.{nat_eq, All, IfSome}
 use Rattle.std.specs.List.{flat_map}
 use Rattle.std.proofs.lemmas.Bool.{cases_lt}
@@ -8,8 +8,8 @@ use Rattle.std.proofs.lemmas.List.Concat.{length-flat_map}
 use Rattle.std.proofs.lemmas.List.Elements.{All-nil, All-cons, All-head, All-tail, All-append, All-weaker}
 use Rattle.std.proofs.lemmas.List.Sums.{sum_by-le}
 use Rattle.std.proofs.lemmas.Map.Entries.{All-lookup}
+use Rattle.std.proofs.lemmas.Grind.{common_steps}
 use Rattle.cell_core.specs.Dots.{Dots, blank, dotted}
-use Rattle.louis_table.specs.declared.definition.Class.TheVariants.{Letter}
 use Rattle.louis_table.specs.declared.definition.Definition.{Definition}
 use Rattle.louis_table.specs.declared.rule.Rule.{Rule}
 use Rattle.louis_table.specs.declared.sign.Sign.{Sign}
@@ -18,7 +18,6 @@ use Rattle.louis_table.specs.Fields.{Begins, HasFields}
 use Rattle.louis_table.specs.Meaning.{Meaning, definition_of, fold_of, sign_cells}
 use Rattle.louis_table.specs.Profile.{Profile}
 use Rattle.louis_table.specs.Table.{Entry, Defines, Pairs, Replaces, Announces, Collects, PairDots, RuleDots, GivesEntry, definition_line, pair_line, rule_line, sign_line, set_line, GiveFrom, IsFault, long_line, line_too_many, HasCause, on_line, definitions_in, cells_in_definition, cells_for, rule_cells, rules_in, is_same_sign, MeansIn, text_lines, most_lines, most_line_characters}
-use Rattle.louis_table.proofs.CharacterLaws.{Writes-some}
 use Rattle.louis_table.proofs.MeaningLaws.{sign_cells-map}
 
 split_at : {X : Type 0} (n : ℕ) (xs : List X) → n < length xs → (before : List X) × (x : X) × (after : List X) × (xs ≡ before ++ x ∷ after) × (length before ≡ n)
@@ -35,20 +34,14 @@ cells-short text [] dots = absurd dots
 cells-short text (cell ∷ []) (blank e mask) = let size = ap length e in omega (arith, size)
 cells-short [] (cell ∷ []) (dotted some lists) = absurd (some refl)
 cells-short (c ∷ text) (cell ∷ []) (dotted some lists) = omega arith
-cells-short text (cell ∷ next ∷ cells) (first, rest, e, here, dots) =
-    omega (arith, cells-short rest (next ∷ cells) dots, ap length e ∙ length-append first (45 ∷ rest))
+cells-short text (cell ∷ next ∷ cells) (first, rest, e, here, dots) = search (rules, length-append, (cells-short rest (next ∷ cells) dots))
 
 characters-short : (text characters : List ℕ) → Spells text characters → length characters ≤ length text
 characters-short text [] e = omega arith
-characters-short text (character ∷ characters) (front, rest, e, here, spells) =
-    omega (arith, Writes-some front character here, characters-short rest characters spells, ap length e ∙ length-append front rest)
+characters-short text (character ∷ characters) (front, rest, e, here, spells) = search (rules, length-append, (characters-short rest characters spells))
 
 begins-short : (text field rest : List ℕ) → Begins text field rest → (length field ≤ length text) × (length rest ≤ length text)
-begins-short text field rest b =
-    let size = ap length b.parts in
-    let behind = length-append b.gap (field ++ rest) in
-    let both = length-append field rest in
-    (omega (arith, size, behind, both), omega (arith, size, behind, both))
+begins-short text field rest b = search (rules, length-append)
 
 second-short : (line name field : List ℕ) (fields : List (List ℕ)) → HasFields line (name ∷ field ∷ fields) → length field ≤ length line
 second-short line name field fields h = omega (arith, (begins-short line name h.0 h.1).1, (begins-short h.0 field h.2.0 h.2.1).0)
@@ -66,39 +59,20 @@ FewCells (Announces sign cells) = length cells ≤ 1000
 FewCells (Collects set text) = Unit {0}
 
 pair-few : (dots upper lower : List ℕ) → length dots ≤ 1000 → PairDots dots upper lower → (length upper ≤ 1000) × (length lower ≤ 1000)
-pair-few dots upper lower short (inl (d, e)) =
-    let one = cells-short dots upper d in
-    let same = ap length e in
-    (omega (arith, one, short), omega (arith, one, short, same))
-pair-few dots upper lower short (inr (first, second, e, d, d')) =
-    let one = cells-short first upper d in
-    let two = cells-short second lower d' in
-    let size = ap length e ∙ length-append first (44 ∷ second) in
-    (omega (arith, one, size, short), omega (arith, two, size, short))
+pair-few dots upper lower short (inl (d, e)) = search (rules, cells-short)
+pair-few dots upper lower short (inr (first, second, e, d, d')) = search (rules, cells-short, length-append)
 
 rule-dots-few : (dots : List ℕ) (cells : Option (List ℕ)) → length dots ≤ 1000 → RuleDots dots cells → (written : List ℕ) → cells ≡ Some written → length written ≤ 1000
 rule-dots-few dots None short d written e = cc
-rule-dots-few dots (Some cells) short d written e =
-    let same : cells ≡ written = cc in
-    omega (arith, cells-short dots cells d, ap length same, short)
+rule-dots-few dots (Some cells) short d written e = search (rules, cells-short)
 
 gives-few : (profile : Profile) (line : List ℕ) (entry : Entry) → length line ≤ 1000 → GivesEntry profile line entry → FewCells entry
-gives-few profile line entry short (definition_line class characters dots c cells has h s d e) =
-    let few = cells-short dots cells d in
-    let field = third-short line _ characters dots [] h in
-    subst FewCells (sym e) (omega (arith, few, field, short))
+gives-few profile line entry short (definition_line class characters dots c cells has h s d e) = grind (arith, common_steps, cells-short, third-short)
 gives-few profile line entry short (pair_line characters dots upper lower upper_cells lower_cells has h s d e) =
     let field = third-short line _ characters dots [] h in
     subst FewCells (sym e) (pair-few dots upper_cells lower_cells (omega (arith, field, short)) d)
-gives-few profile line entry short (rule_line kind characters dots text cells has h s d e) =
-    let field = third-short line _ characters dots [] h in
-    let other = second-short line _ characters (dots ∷ []) h in
-    let few = characters-short characters text s in
-    subst FewCells (sym e) (omega (arith, few, other, short), rule-dots-few dots cells (omega (arith, field, short)) d)
-gives-few profile line entry short (sign_line sign dots cells has h d e) =
-    let few = cells-short dots cells d in
-    let field = second-short line _ dots [] h in
-    subst FewCells (sym e) (omega (arith, few, field, short))
+gives-few profile line entry short (rule_line kind characters dots text cells has h s d e) = grind (arith, common_steps, third-short, second-short, characters-short, rule-dots-few)
+gives-few profile line entry short (sign_line sign dots cells has h d e) = grind (arith, common_steps, cells-short, second-short)
 gives-few profile line entry short (set_line set characters text has h s e) = subst FewCells (sym e) tt
 
 module _ (profile : Profile) (all : List (List ℕ)) (sound : (n cause : ℕ) → HasCause profile all n cause → ⊥) where
@@ -135,8 +109,7 @@ module _ (profile : Profile) (all : List (List ℕ)) (sound : (n cause : ℕ) �
 entries-count : (profile : Profile) (n : ℕ) (lines : List (List ℕ)) (entries : List (ℕ × Entry)) → GiveFrom profile n lines entries → length entries ≤ length lines
 entries-count profile n [] entries h = let e = ap length h in omega (arith, e)
 entries-count profile n (line ∷ lines) entries (inl (says, h)) = let few = entries-count profile (n + 1) lines entries h in omega (arith, few)
-entries-count profile n (line ∷ lines) entries (inr (entry, rest, gives, e, h)) =
-    omega (arith, entries-count profile (n + 1) lines rest h, ap length e)
+entries-count profile n (line ∷ lines) entries (inr (entry, rest, gives, e, h)) = search (rules, (entries-count profile (n + 1) lines rest h))
 
 -- ---- the table that entries make
 
@@ -153,10 +126,7 @@ FewDefined d = length d.1.cells ≤ 1000
 
 definition-few : (entry : Entry) → FewCells entry → All FewDefined (definitions_in entry)
 definition-few (Defines character defined) h = All-cons FewDefined (character, defined) [] h (All-nil FewDefined)
-definition-few (Pairs upper upper_cells lower lower_cells) h =
-    let first : ℕ × Definition = (upper, record { class = Letter; cells = upper_cells }) in
-    let second : ℕ × Definition = (lower, record { class = Letter; cells = lower_cells }) in
-    All-cons FewDefined first (second ∷ []) h.0 (All-cons FewDefined second [] h.1 (All-nil FewDefined))
+definition-few (Pairs upper upper_cells lower lower_cells) h = search rules
 definition-few entry h = All-nil FewDefined
 
 sign-few : (sign : Sign) (entry : Entry) → FewCells entry → length (cells_for sign entry) ≤ 1000

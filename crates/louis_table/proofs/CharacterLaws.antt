@@ -1,5 +1,5 @@
 -- The characters that are read are those that are spelled.
-use Rattle.std.proofs.Common.{◌≡◌, ℕ, zero, suc, ◌+◌, ◌*◌, ◌<◌, ◌≤◌, Bool, true, false, cond, eqb, ltb, List, [], ◌∷◌, ◌++◌, length, take, drop, Option, Some, None, option_map, refl, sym, ap, subst, ◌∙◌, ◌⊎◌, inl, inr, arith, append_assoc}
+use Rattle.std.proofs.Common.{◌≡◌, ℕ, zero, suc, ◌+◌, ◌*◌, ◌<◌, ◌≤◌, Bool, true, false, cond, eqb, ltb, List, [], ◌∷◌, ◌++◌, length, take, drop, Option, Some, None, option_map, refl, sym, ap, subst, ◌∙◌, ◌⊎◌, inl, inr, arith, append_assoc, rules}
 use Rattle.std.specs.List.{AllByRecursion}
 use Rattle.std.specs.Option.{option_and_then}
 use Rattle.std.specs.Char.{digit_value}
@@ -33,17 +33,11 @@ spelled-hex_value n (d ∷ ds) h = rw (lt-ltb (digit_value d) 16 h.0) (spelled-h
 
 scalar_from-Some : (o : Option ℕ) (c : ℕ) → scalar_from o ≡ Some c → (o ≡ Some c) × (scalar c ≡ true)
 scalar_from-Some None c e = absurd cc
-scalar_from-Some (Some v) c e =
-    elim (chosen (scalar v) _ _ _ e) [
-      | inl p ↦ let same : v ≡ c = cc in (ap Some same, subst (λ (x : ℕ). scalar x ≡ true) same p.0)
-      | inr p ↦ absurd cc
-    ]
+scalar_from-Some (Some v) c e = search rules
 
 with_rest-Some : (o : Option ℕ) (rest : List ℕ) (c : ℕ) (back : List ℕ) → with_rest o rest ≡ Some (c, back) → (o ≡ Some c) × (rest ≡ back)
 with_rest-Some None rest c back e = absurd cc
-with_rest-Some (Some v) rest c back e =
-    let q : (v, rest) ≡ (c, back) = cc in
-    (ap (λ (r : ℕ × List ℕ). Some r.0) q, ap (λ (r : ℕ × List ℕ). r.1) q)
+with_rest-Some (Some v) rest c back e = search rules
 
 -- the character was read as it is written at the front
 abbrev pub ReadsFront : List ℕ → ℕ → List ℕ → Type 0
@@ -92,17 +86,7 @@ character_at-reads (x ∷ text) c rest e =
 
 -- an escape by number has no letter of a shorter one
 escape_digits-escaped : (letter count : ℕ) → escape_digits letter ≡ Some count → escape_character letter ≡ None
-escape_digits-escaped letter count e =
-    elim (chosen (eqb letter 120) _ _ _ e) [
-      | inl p ↦ ap escape_character (eqb-true letter 120 p.0)
-      | inr p ↦ elim (chosen (eqb letter 121) _ _ _ p.1) [
-        | inl q ↦ ap escape_character (eqb-true letter 121 q.0)
-        | inr q ↦ elim (chosen (eqb letter 122) _ _ _ q.1) [
-          | inl r ↦ ap escape_character (eqb-true letter 122 r.0)
-          | inr r ↦ absurd cc
-        ]
-      ]
-    ]
+escape_digits-escaped letter count e = search rules
 
 pub character_at-Writes : (front rest : List ℕ) (c : ℕ) → Writes front c → character_at (front ++ rest) ≡ Some (c, rest)
 character_at-Writes front rest c (itself ne e) = rw e (rw (ne_eqb c 92 ne) refl)

@@ -1,8 +1,6 @@
 -- What is read of a line is what it says.
-use Rattle.std.proofs.Common.{◌≡◌, ◌≢◌, ℕ, ◌<◌, ◌≤◌, Bool, true, false, ◌||◌, eqb, ltb, List, [], ◌∷◌, length, Option, Some, None, option_map, Result, Ok, Err, refl, sym, ap, subst, ◌∙◌, ◌⊎◌, inl, inr, arith, lit≤}
-use Rattle.std.specs.Str.{bytes_eq}
+use Rattle.std.proofs.Common.{◌≡◌, ◌≢◌, ℕ, ◌<◌, ◌≤◌, Bool, true, false, ◌||◌, eqb, ltb, List, [], ◌∷◌, length, Option, Some, None, option_map, Result, Ok, Err, refl, sym, ap, subst, ◌∙◌, ◌⊎◌, inl, inr, arith, lit≤, rules}
 use Rattle.std.proofs.lemmas.Bool.{cases_Bool, eqb-true, eqb-false, eq-eqb, ne_eqb, lt-ltb, ltb-true}
-use Rattle.std.proofs.lemmas.Slice.Eq.{bytes_eq-Decides}
 use Rattle.cell_core.specs.Dots.{most_cells}
 use Rattle.cell_core.specs.Reading.{cells_in}
 use Rattle.cell_core.proofs.DotsLaws.{Dots-from_cells_in, cells_in-from_Dots}
@@ -21,12 +19,12 @@ use Rattle.louis_table.specs.Profile.{Profile, WithoutNumericMode, WithNumericMo
 use Rattle.louis_table.specs.Opcode.{name_of, profile_of, HasOpcode}
 use Rattle.louis_table.specs.Steps.Fields.{field_at}
 use Rattle.louis_table.specs.Steps.Characters.{characters_in}
-use Rattle.louis_table.specs.Steps.Opcode.{opcode_among, opcodes, opcode_named}
+use Rattle.louis_table.specs.Steps.Opcode.{opcode_named}
 use Rattle.louis_table.specs.Steps.Dots.{pair_in, rule_in, are_many, are_many_written}
 use Rattle.louis_table.specs.Steps.Line.{or_cause, entry_from, with_dots, both_from, both_at, entry_of_both, entry_of_one, entry_of_set, entry_at, as_some, opcode_gives, fields_give, line_gives, is_large}
 use Rattle.louis_table.specs.Table.{Entry, Defines, Pairs, Replaces, Announces, Collects, AreCharactersFor, HasCharacters, HasDots, HasOperands, AreTooManyFor, RuleDots, IsDotsFor, WritesCells, most_rule_characters, IsComment, SaysNothing, blank, comment, GivesEntry, definition_line, pair_line, rule_line, sign_line, set_line, IsFault, unknown_opcode, missing_operand, bad_characters, bad_dots, many_characters, many_cells}
 use Rattle.louis_table.proofs.FieldLaws.{field_at-Begins, Begins-field_at, IsGap-field_at, field_at-gap, gap_without_field}
-use Rattle.louis_table.proofs.CharacterLaws.{chosen, map_some, characters_in-Spells, Spells-characters_in}
+use Rattle.louis_table.proofs.CharacterLaws.{map_some, characters_in-Spells, Spells-characters_in}
 use Rattle.louis_table.proofs.OperandLaws.{pair_in-PairDots, PairDots-pair_in, rule_in-RuleDots, RuleDots-rule_in}
 
 -- ---- opcodes
@@ -47,23 +45,9 @@ opcode_named-name_of (Announce signs.Number) = refl
 opcode_named-name_of (Collect sets.NumericMode) = refl
 opcode_named-name_of opcode = refl
 
--- the opcodes of the list stand beside their names
-abbrev AreNamed : List (List ℕ × Opcode) → Type 0
-AreNamed [] = Unit {0}
-AreNamed (opcode ∷ opcodes) = (opcode.0 ≡ name_of opcode.1) × AreNamed opcodes
-
-opcode_among-Some : (opcodes : List (List ℕ × Opcode)) (field : List ℕ) (opcode : Opcode) → AreNamed opcodes → opcode_among opcodes field ≡ Some opcode → field ≡ name_of opcode
-opcode_among-Some [] field opcode named e = absurd cc
-opcode_among-Some (first ∷ opcodes) field opcode named e =
-    elim (chosen (bytes_eq field first.0) _ _ _ e) [
-      | inl p ↦ let same : first.1 ≡ opcode = cc in (bytes_eq-Decides field first.0).0 p.0 ∙ (named.0 ∙ ap name_of same)
-      | inr p ↦ opcode_among-Some opcodes field opcode named.1 p.1
-    ]
-
 pub opcode_named-Some : (field : List ℕ) (opcode : Opcode) → opcode_named field ≡ Some opcode → field ≡ name_of opcode
 unfolding opcode_named
-opcode_named-Some field opcode e =
-    opcode_among-Some opcodes field opcode (refl, (refl, (refl, (refl, (refl, (refl, (refl, (refl, (refl, (refl, (refl, (refl, (refl, (refl, (refl, (refl, tt)))))))))))))))) e
+opcode_named-Some field opcode e = search rules
 
 opcode_named-None : (field : List ℕ) → opcode_named field ≡ None → (opcode : Opcode) → HasOpcode WithNumericMode opcode → field ≢ name_of opcode
 opcode_named-None field e opcode has h = let s : opcode_named field ≡ Some opcode = ap opcode_named h ∙ opcode_named-name_of opcode in absurd cc
@@ -117,9 +101,7 @@ unread o x e s = absurd cc
 -- a text of the wrong length for the opcode
 wrong_length : (opcode : Opcode) (characters text : List ℕ) → characters_in characters ≡ Some text → ¬ AreCharactersFor opcode text
     → (other : List ℕ) → AreCharactersFor opcode other → ¬ Spells characters other
-wrong_length opcode characters text e n other a s =
-    let same : other ≡ text = let read : characters_in characters ≡ Some other = Spells-characters_in characters other s in cc in
-    n (subst (AreCharactersFor opcode) same a)
+wrong_length opcode characters text e n other a s = search (rules, Spells-characters_in)
 
 module _ (line characters dots : List ℕ) where
   wrong_says : (opcode : Opcode) (text : List ℕ) → TakesBoth opcode → HasFields line (name_of opcode ∷ characters ∷ dots ∷ []) → characters_in characters ≡ Some text
@@ -570,8 +552,7 @@ two_cells_large line dots cells opcode two h w lt =
     by (Some text) = cells_large opcode text dots cells w lt
 
 pub many_cells_large : (line dots cells : List ℕ) (opcode : Opcode) → HasDots line opcode dots → WritesCells opcode dots cells → most_cells < length cells → IsLargeBy line
-many_cells_large line dots cells (Announce sign) h w lt =
-    large_line line (entry_from (Announce sign) [] dots) (one_gives line dots sign h) (cells_large (Announce sign) [] dots cells w lt)
+many_cells_large line dots cells (Announce sign) h w lt = search (rules, large_line, one_gives, cells_large)
 many_cells_large line dots cells (Collect set) h w lt = absurd h
 many_cells_large line dots cells opcode h w lt = two_cells_large line dots cells opcode tt h w lt
 

@@ -1,5 +1,5 @@
 -- The lines of a text, one after another.
-use Rattle.std.proofs.Common.{◌≡◌, ◌≢◌, ℕ, ◌+◌, false, eqb, List, [], ◌∷◌, ◌++◌, take, drop, refl, sym, ap, ◌∙◌, inl, inr, one-add, add-one}
+use Rattle.std.proofs.Common.{◌≡◌, ◌≢◌, ℕ, ◌+◌, false, eqb, List, [], ◌∷◌, ◌++◌, take, drop, refl, ap, ◌∙◌, inl, inr, one-add, add-one, rules}
 use Rattle.std.specs.Prelude.{map}
 use Rattle.std.specs.List.{onto_first, before_first, after_first, position_or_len}
 use Rattle.std.specs.Io.BufRead.{strip_last}
@@ -37,7 +37,4 @@ lines_of-split bytes ne = ap (map (strip_last 13)) (pieces_of-split bytes ne)
 
 pub lines_of-next : (text piece line rest : List ℕ) → text ≢ [] → piece ≡ before_first (λ b. eqb b 10) text → line ≡ strip_last 13 piece
     → rest ≡ after_first (λ b. eqb b 10) text → lines_of text ≡ line ∷ lines_of rest
-lines_of-next text piece line rest ne p l r =
-    lines_of-split text ne
-    ∙ (ap (λ (x : List ℕ). x ∷ lines_of (after_first (λ b. eqb b 10) text)) (ap (strip_last 13) (sym p) ∙ sym l)
-    ∙ ap (λ (x : List ℕ). line ∷ lines_of x) (sym r))
+lines_of-next text piece line rest ne p l r = search (rules, lines_of-split)

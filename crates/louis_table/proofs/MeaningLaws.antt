@@ -1,10 +1,10 @@
 -- What a definition more leaves as it was, and where signs and sets stand.
-use Rattle.std.proofs.Common.{◌≡◌, ◌≢◌, ℕ, Bool, true, false, cond, List, [], ◌∷◌, ◌++◌, Some, None, refl, sym, ap, ◌∙◌}
+use Rattle.std.proofs.Common.{◌≡◌, ◌≢◌, ℕ, Bool, true, false, cond, List, [], ◌∷◌, ◌++◌, Some, None, refl, sym, ap, ◌∙◌, rules}
 use Rattle.std.specs.Prelude.{map, nat_eq, slice_index_or}
 use Rattle.std.specs.Map.{lookup}
 use Rattle.std.proofs.Math.Path.{fun_ext}
 use Rattle.std.proofs.lemmas.List.{append-nil}
-use Rattle.std.proofs.lemmas.Bool.{eq-eqb, eqb-true, ne_eqb}
+use Rattle.std.proofs.lemmas.Bool.{eq-eqb, ne_eqb}
 use Rattle.louis_table.specs.declared.definition.Definition.{Definition}
 use Rattle.louis_table.specs.declared.character_set.CharacterSet.{CharacterSet}
 use Rattle.louis_table.specs.declared.character_set.CharacterSet.TheVariants as sets
@@ -12,7 +12,7 @@ use Rattle.louis_table.specs.declared.sign.Sign.{Sign}
 use Rattle.louis_table.specs.declared.sign.Sign.TheVariants as signs
 use Rattle.louis_table.specs.Meaning.{Meaning, every_sign, sign_place, every_set, set_place, definition_of, sign_cells, set_characters}
 use Rattle.louis_table.specs.Table.{Entry, Announces, Collects, is_same_sign, is_same_set, cells_for, characters_for}
-use Rattle.louis_table.specs.Steps.Table.{with_definition, with_more, signs_with, sets_with}
+use Rattle.louis_table.specs.Steps.Table.{with_definition, signs_with, sets_with}
 
 lookup-absent : {X : Type 0} (p : ℕ → Bool) (xs ys : List (ℕ × X)) → lookup p xs ≡ None → lookup p (xs ++ ys) ≡ lookup p ys
 lookup-absent p [] ys e = refl
@@ -42,35 +42,16 @@ module _ {X : Type 0} (none : X) where
   at_set f sets.NumericMode = refl
   at_set f sets.NoContraction = refl
 
--- more at the place of a sign is more of its own
-more_at_sign : (f : Sign → List ℕ) (sign : Sign) (more : List ℕ)
-    → with_more (map f every_sign) (sign_place sign) more ≡ map (λ other. cond (is_same_sign other sign) (f other ++ more) (f other)) every_sign
-more_at_sign f signs.Number more = refl
-more_at_sign f signs.Capital more = refl
-more_at_sign f signs.CapitalWord more = refl
-more_at_sign f signs.NoContraction more = refl
-
-more_at_set : (f : CharacterSet → List ℕ) (set : CharacterSet) (more : List ℕ)
-    → with_more (map f every_set) (set_place set) more ≡ map (λ other. cond (is_same_set other set) (f other ++ more) (f other)) every_set
-more_at_set f sets.NumericMode more = refl
-more_at_set f sets.NoContraction more = refl
-
-more_if : (b : Bool) (xs more : List ℕ) → cond b (xs ++ more) xs ≡ xs ++ cond b more []
-more_if true xs more = refl
-more_if false xs more = sym (append-nil xs)
-
 nothing_more : {K : Type 0} (f : K → List ℕ) (keys : List K) → map f keys ≡ map (λ key. f key ++ []) keys
 nothing_more {K} f keys = ap (λ (g : K → List ℕ). map g keys) (fun_ext (λ key. sym (append-nil (f key))))
 
 -- an entry adds to each sign and each set what it gives to it
 pub signs_with-each : (f : Sign → List ℕ) (entry : Entry) → signs_with (map f every_sign) entry ≡ map (λ sign. f sign ++ cells_for sign entry) every_sign
-signs_with-each f (Announces sign cells) =
-    more_at_sign f sign cells ∙ ap (λ (g : Sign → List ℕ). map g every_sign) (fun_ext (λ other. more_if (is_same_sign other sign) (f other) cells))
+signs_with-each f (Announces sign cells) = search rules
 signs_with-each f entry = nothing_more f every_sign
 
 pub sets_with-each : (f : CharacterSet → List ℕ) (entry : Entry) → sets_with (map f every_set) entry ≡ map (λ set. f set ++ characters_for set entry) every_set
-sets_with-each f (Collects set text) =
-    more_at_set f set text ∙ ap (λ (g : CharacterSet → List ℕ). map g every_set) (fun_ext (λ other. more_if (is_same_set other set) (f other) text))
+sets_with-each f (Collects set text) = search rules
 sets_with-each f entry = nothing_more f every_set
 
 -- a meaning with these cells for each sign has them for this one
@@ -88,13 +69,7 @@ own_set set = eq-eqb _ _ refl
 
 -- signs at one place are one
 pub same_sign : (one other : Sign) → is_same_sign one other ≡ true → one ≡ other
-same_sign one other e =
-    let place : sign_place one ≡ sign_place other = eqb-true _ _ e in
-    sym (at_sign one (λ sign. sign) one)
-    ∙ (ap (λ (k : ℕ). slice_index_or (map (λ sign. sign) every_sign) k one) place ∙ at_sign one (λ sign. sign) other)
+same_sign one other e = search rules
 
 pub same_set : (one other : CharacterSet) → is_same_set one other ≡ true → one ≡ other
-same_set one other e =
-    let place : set_place one ≡ set_place other = eqb-true _ _ e in
-    sym (at_set one (λ set. set) one)
-    ∙ (ap (λ (k : ℕ). slice_index_or (map (λ set. set) every_set) k one) place ∙ at_set one (λ set. set) other)
+same_set one other e = search rules

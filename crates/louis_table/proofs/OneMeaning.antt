@@ -1,5 +1,5 @@
 -- A text has one meaning, or one fault that is reported.
-use Rattle.std.proofs.Common.{◌≡◌, ℕ, ◌+◌, ◌≤◌, Bool, false, cond, List, [], ◌∷◌, ◌++◌, length, Option, Some, None, Result, Ok, Err, Contains, refl, sym, ap, subst, ◌∙◌, ◌⊎◌, inl, inr, arith, true≢false}
+use Rattle.std.proofs.Common.{◌≡◌, ℕ, ◌+◌, ◌≤◌, Bool, false, cond, List, [], ◌∷◌, ◌++◌, length, Option, Some, None, Result, Ok, Err, Contains, refl, sym, ap, subst, ◌∙◌, ◌⊎◌, inl, inr, arith, true≢false, rules}
 use Rattle.std.specs.List.{flat_map}
 use Rattle.std.specs.Prelude.{map, nat_eq, unwrap_or}
 use Rattle.std.specs.Map.{lookup}
@@ -52,12 +52,7 @@ abbrev whole : List (ℕ × Definition) → List (ℕ × ℕ) → List Rule → 
 whole definitions partners rules signs sets = record { definitions = definitions; partners = partners; rules = rules; signs = signs; sets = sets }
 
 same_parts : (t u : Meaning) → t.definitions ≡ u.definitions → t.partners ≡ u.partners → t.rules ≡ u.rules → t.signs ≡ u.signs → t.sets ≡ u.sets → t ≡ u
-same_parts t u d p r s c =
-    ap (λ x. whole x t.partners t.rules t.signs t.sets) d
-    ∙ (ap (λ x. whole u.definitions x t.rules t.signs t.sets) p
-    ∙ (ap (λ x. whole u.definitions u.partners x t.signs t.sets) r
-    ∙ (ap (λ x. whole u.definitions u.partners u.rules x t.sets) s
-    ∙ ap (λ x. whole u.definitions u.partners u.rules u.signs x) c)))
+same_parts t u d p r s c = search rules
 
 -- rules depend only on the definitions and the partners
 rules_by : (t u : Meaning) (entries : List (ℕ × Entry)) → t.definitions ≡ u.definitions → t.partners ≡ u.partners → flat_map (rules_in t) entries ≡ flat_map (rules_in u) entries
@@ -87,9 +82,7 @@ made_once entries t u m n =
 -- what the lines give makes one meaning
 given_once : (profile : Profile) (n : ℕ) (lines : List (List ℕ)) (es fs : List (ℕ × Entry)) (t u : Meaning) → GiveFrom profile n lines es → GiveFrom profile n lines fs → IsMadeOf es t → IsMadeOf fs u
     → (es ≡ fs) × (t ≡ u)
-given_once profile n lines es fs t u g h m k =
-    let same = same_entries profile n lines es fs g h in
-    (same, made_once fs t u (subst (λ (xs : List (ℕ × Entry)). IsMadeOf xs t) same m) k)
+given_once profile n lines es fs t u g h m k = search (rules, same_entries, made_once)
 
 pub one_meaning_in : (profile : Profile) (bytes : List ℕ) (t u : Meaning) → MeansIn profile bytes t → MeansIn profile bytes u → t ≡ u
 one_meaning_in profile bytes t u m n = (given_once profile 1 (text_lines bytes) m.entries n.entries t u m.given n.given m.made n.made).1
@@ -146,14 +139,7 @@ same_rules : (meaning : Meaning) (rules : List Rule) (entries : List (ℕ × Ent
 same_rules meaning rules entries = rules_by meaning (record meaning { rules = rules }) entries refl refl
 
 made_of : (lines : List (List ℕ)) (meaning : Meaning) (rules : List PendingEntry) (g : Gathers lines meaning rules) → meaning.rules ≡ flat_map (complete_rules meaning) rules → IsMadeOf g.entries meaning
-made_of lines meaning rules g e =
-    record {
-      definitions = g.definitions;
-      partners = g.partners;
-      signs = g.signs;
-      sets = g.sets;
-      rules = e ∙ (ap (flat_map (complete_rules meaning)) g.written ∙ finished_entries meaning g.entries);
-    }
+made_of lines meaning rules g e = grind (arith, finished_entries)
 
 -- what a rule lacks doesn't depend on rules
 lacking_by : (t w : Meaning) (rule : Entry) → t.definitions ≡ w.definitions → t.partners ≡ w.partners → IsLacking t rule → IsLacking w rule
@@ -235,19 +221,7 @@ outcome_from lines before (line ∷ rest) meaning rules r = by (judge meaning (l
 -- the rules of a meaning are not among what its lines give directly
 pub LinesGive-rules : (lines : List (List ℕ)) (meaning : Meaning) (written : List PendingEntry) (rules : List Rule) → LinesGive lines meaning written
     → LinesGive lines (record meaning { rules = rules }) written
-LinesGive-rules lines meaning written rules l =
-    record {
-      is_sound = l.is_sound;
-      gathered = record {
-        entries = l.gathered.entries;
-        given = l.gathered.given;
-        definitions = l.gathered.definitions;
-        partners = l.gathered.partners;
-        signs = l.gathered.signs;
-        sets = l.gathered.sets;
-        written = l.gathered.written;
-      };
-    }
+LinesGive-rules lines meaning written rules l = search rules
 
 defined_again : (meaning : Meaning) (rules : List Rule) (text : List ℕ) → are_defined (record meaning { rules = rules }) text ≡ are_defined meaning text
 defined_again meaning rules [] = refl

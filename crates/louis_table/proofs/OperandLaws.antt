@@ -1,7 +1,6 @@
 -- The cells that are read of a dots operand are those that it writes.
-use Rattle.std.proofs.Common.{◌≡◌, ◌≢◌, ℕ, suc, ◌+◌, ◌<◌, Bool, true, not, eqb, List, [], ◌∷◌, ◌++◌, length, take, drop, get_or, Option, Some, None, option_map, codes, refl, sym, ap, subst, ◌∙◌, inl, inr, arith, append_assoc, add-one}
+use Rattle.std.proofs.Common.{◌≡◌, ◌≢◌, ℕ, suc, ◌+◌, ◌<◌, Bool, true, not, eqb, List, [], ◌∷◌, ◌++◌, length, take, drop, get_or, Option, Some, None, option_map, codes, refl, sym, ap, subst, ◌∙◌, inl, inr, arith, append_assoc, add-one, rules}
 use Rattle.std.specs.List.{AllByRecursion}
-use Rattle.std.specs.Str.{bytes_eq}
 use Rattle.std.proofs.lemmas.Bool.{cases_Bool, eqb-true, eqb-false, eq-eqb, ne_eqb, cond-true, cond-false, not-false}
 use Rattle.std.proofs.lemmas.Slice.Eq.{bytes_eq-Decides}
 use Rattle.std.proofs.lemmas.List.{append-nil, take-append-drop, take_at, drop_at, length_push, length-append}
@@ -29,9 +28,7 @@ HasNoComma-append (x ∷ xs) ys h k = (h.0, HasNoComma-append xs ys h.1 k)
 
 ListsDots-no_comma : (digits : List ℕ) (mask : ℕ) → ListsDots digits mask → HasNoComma digits
 ListsDots-no_comma [] mask lists = tt
-ListsDots-no_comma (digit ∷ digits) mask lists =
-    let other : digit ≢ 44 = λ e. omega arith in
-    (ap not (ne_eqb digit 44 other), ListsDots-no_comma digits lists.1 lists.5)
+ListsDots-no_comma (digit ∷ digits) mask lists = search (rules, (ListsDots-no_comma digits lists.1 lists.5))
 
 SpellsCell-no_comma : (text : List ℕ) (mask : ℕ) → SpellsCell text mask → HasNoComma text
 SpellsCell-no_comma text mask (blank is none) = subst HasNoComma (sym is) (refl, tt)
@@ -40,8 +37,7 @@ SpellsCell-no_comma text mask (dotted some lists) = ListsDots-no_comma text mask
 Dots-no_comma : (text cells : List ℕ) → Dots text cells → HasNoComma text
 Dots-no_comma text [] dots = absurd dots
 Dots-no_comma text (cell ∷ []) dots = SpellsCell-no_comma text cell dots
-Dots-no_comma text (cell ∷ next ∷ cells) dots =
-    subst HasNoComma (sym dots.2) (HasNoComma-append dots.0 (45 ∷ dots.1) (SpellsCell-no_comma dots.0 cell dots.3) (refl, Dots-no_comma dots.1 (next ∷ cells) dots.4))
+Dots-no_comma text (cell ∷ next ∷ cells) dots = search (rules, HasNoComma-append, SpellsCell-no_comma, (Dots-no_comma dots.1 (next ∷ cells) dots.4))
 
 pair_parts-whole : (dots : List ℕ) → part_len dots ≡ length dots → pair_parts dots ≡ (dots, dots)
 pair_parts-whole dots e = cond-true _ _ _ (eq-eqb _ _ e)
@@ -81,9 +77,7 @@ comma_between dots ne =
 both_of-Some : (o p : Option (List ℕ)) (upper lower : List ℕ) → both_of o p ≡ Some (upper, lower) → (o ≡ Some upper) × (p ≡ Some lower)
 both_of-Some None p upper lower e = absurd cc
 both_of-Some (Some x) None upper lower e = absurd cc
-both_of-Some (Some x) (Some y) upper lower e =
-    let same : (x, y) ≡ (upper, lower) = cc in
-    (ap (λ (r : List ℕ × List ℕ). Some r.0) same, ap (λ (r : List ℕ × List ℕ). Some r.1) same)
+both_of-Some (Some x) (Some y) upper lower e = search rules
 
 pair_in-parts : (dots first second : List ℕ) → pair_parts dots ≡ (first, second) → pair_in dots ≡ both_of (cells_in first) (cells_in second)
 unfolding pair_in
@@ -119,24 +113,9 @@ map_Some (Some written) cells e = (written, refl, cc)
 
 pub rule_in-RuleDots : (dots : List ℕ) (cells : Option (List ℕ)) → rule_in dots ≡ Some cells → RuleDots dots cells
 unfolding rule_in
-rule_in-RuleDots dots cells e =
-    elim (cases_Bool (bytes_eq dots (codes "="))) [
-      | inl t ↦
-          let none : None ≡ cells = let h : Some None ≡ Some cells = sym (cond-true _ _ _ t) ∙ e in cc in
-          subst (RuleDots dots) none ((bytes_eq-Decides dots (codes "=")).0 t)
-      | inr f ↦
-          let m = map_Some (cells_in dots) cells (sym (cond-false _ _ _ f) ∙ e) in
-          subst (RuleDots dots) (sym m.2) (Dots-from_cells_in dots m.0 m.1)
-    ]
+rule_in-RuleDots dots cells e = search (rules, cond-true, bytes_eq-Decides, map_Some, cond-false, Dots-from_cells_in)
 
 pub RuleDots-rule_in : (dots : List ℕ) (cells : Option (List ℕ)) → RuleDots dots cells → rule_in dots ≡ Some cells
 unfolding rule_in
 RuleDots-rule_in dots None e = cond-true _ _ _ ((bytes_eq-Decides dots (codes "=")).1 e)
-RuleDots-rule_in dots (Some cells) d =
-    elim (cases_Bool (bytes_eq dots (codes "="))) [
-      | inl t ↦
-          let none : cells_in dots ≡ None = ap cells_in ((bytes_eq-Decides dots (codes "=")).0 t) in
-          let some : cells_in dots ≡ Some cells = cells_in-from_Dots dots cells d in
-          absurd cc
-      | inr f ↦ cond-false _ _ _ f ∙ ap (option_map Some) (cells_in-from_Dots dots cells d)
-    ]
+RuleDots-rule_in dots (Some cells) d = search (rules, bytes_eq-Decides, cells_in-from_Dots, cond-false, option_map)

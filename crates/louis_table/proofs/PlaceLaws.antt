@@ -1,5 +1,5 @@
 -- The places of the first characters, in a map without entries and as entries come.
-use Rattle.std.proofs.Common.{◌≡◌, ◌≢◌, ℕ, zero, suc, ◌<◌, ◌≤◌, Bool, true, ◌&&◌, eqb, List, [], ◌∷◌, ◌++◌, length, set, Some, None, refl, sym, ap, subst, ◌∙◌, arith, inl, inr, add-one}
+use Rattle.std.proofs.Common.{◌≡◌, ◌≢◌, ℕ, zero, suc, ◌<◌, ◌≤◌, Bool, true, ◌&&◌, eqb, List, [], ◌∷◌, ◌++◌, length, set, Some, None, refl, sym, ap, subst, ◌∙◌, arith, inl, inr, add-one, rules}
 use Rattle.std.specs.Prelude.{slice_index, slice_get, nat_eq}
 use Rattle.std.specs.Map.{lookup}
 use Rattle.std.proofs.lemmas.Bool.{cases_Bool, eqb-true, eqb-false, ne_eqb}
@@ -18,8 +18,7 @@ zero_at (x ∷ xs) zero e = elim (cases_Bool (eqb x 0)) [ inl t ↦ eqb-true x 0
 zero_at (x ∷ xs) (suc i) e = elim (cases_Bool (eqb x 0)) [ inl t ↦ zero_at xs i (rw t at e) | inr f ↦ let g = rw f at e in absurd cc ]
 
 pub AreIn-none : {V : Type 0} (places : List ℕ) (entries : List (ℕ × V)) → length places ≡ 128 → are_zero places ≡ true → entries ≡ [] → AreIn places entries
-AreIn-none {V} places entries count e none =
-    record { count = count; each = λ c lt. subst (λ (p : ℕ). IsPlaceOf p entries c) (sym (zero_at places c e)) (ap (lookup (nat_eq c)) none) }
+AreIn-none {V} places entries count e none = search (rules, zero_at)
 
 -- ---- one more entry
 

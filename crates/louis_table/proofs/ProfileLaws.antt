@@ -1,7 +1,6 @@
 -- What is a table without numeric mode is the same table with it.
-use Rattle.std.proofs.Common.{◌≡◌, ℕ, ◌+◌, Bool, false, cond, List, [], ◌∷◌, ◌++◌, Some, None, Result, Ok, Err, Contains, refl, sym, ap, subst, ◌∙◌, ◌⊎◌, inl, inr, arith}
+use Rattle.std.proofs.Common.{◌≡◌, ℕ, ◌+◌, Bool, false, cond, List, [], ◌∷◌, ◌++◌, None, Result, Ok, Err, Contains, refl, sym, ap, subst, ◌∙◌, ◌⊎◌, inl, inr, arith, rules}
 use Rattle.std.specs.List.{flat_map}
-use Rattle.std.proofs.lemmas.Bool.{cases_Bool}
 use Rattle.std.proofs.lemmas.List.Elements.{Contains-append_left, Contains-append_right, Contains-append_cases}
 use Rattle.louis_table.specs.declared.character_set.CharacterSet.{CharacterSet}
 use Rattle.louis_table.specs.declared.character_set.CharacterSet.TheVariants as sets
@@ -13,12 +12,11 @@ use Rattle.louis_table.specs.Fields.{Begins}
 use Rattle.louis_table.specs.Meaning.{Meaning, sign_cells, set_characters}
 use Rattle.louis_table.specs.Opcode.{name_of, HasOpcode}
 use Rattle.louis_table.specs.Profile.{Profile, WithoutNumericMode, WithNumericMode}
-use Rattle.louis_table.specs.Steps.Opcode.{opcode_named}
 use Rattle.louis_table.specs.Steps.Line.{as_some}
 use Rattle.louis_table.specs.Table.{Entry, SaysNothing, GivesEntry, definition_line, pair_line, rule_line, sign_line, set_line, GiveFrom, SomeGives, cells_for, characters_for, is_same_sign, HasCharacters, HasDots, IsFault, unknown_opcode, missing_operand, bad_characters, bad_dots, defined_before, defined_twice, given_before, long_line, line_too_many, many_characters, many_cells, HasCause, on_line, text_lines, Means, MeansIn}
 use Rattle.louis_table.proofs.FieldLaws.{Begins-field_at}
-use Rattle.louis_table.proofs.EntryLaws.{has_opcode, opcode_named-name_of, opcode_line, line_gives-nothing}
-use Rattle.louis_table.proofs.MeaningLaws.{same_sign, sign_cells-map, set_characters-map}
+use Rattle.louis_table.proofs.EntryLaws.{has_opcode, opcode_line, line_gives-nothing}
+use Rattle.louis_table.proofs.MeaningLaws.{sign_cells-map, set_characters-map}
 use Rattle.louis_table.proofs.VerdictLaws.{only_one}
 use Rattle.louis_table.proofs.OneMeaning.{in_last}
 
@@ -33,10 +31,7 @@ StartsEarly line = (opcode : Opcode) (rest : List ℕ) → Begins line (name_of 
 -- ---- the opcodes of such lines
 
 pub same_opcode : (one other : Opcode) → name_of one ≡ name_of other → one ≡ other
-same_opcode one other e =
-    let first : opcode_named (name_of one) ≡ Some one = opcode_named-name_of one in
-    let second : opcode_named (name_of one) ≡ Some other = ap opcode_named e ∙ opcode_named-name_of other in
-    cc
+same_opcode one other e = search rules
 
 -- a line that gives an entry begins with an opcode of the profile
 begins_with : (profile : Profile) (line : List ℕ) (entry : Entry) → GivesEntry profile line entry
@@ -162,11 +157,7 @@ none_together f none n (line ∷ lines) entries (inr (entry, rest, gives, e, g))
     ∙ (ap (λ (xs : List ℕ). xs ++ flat_map (λ e. f e.1) rest) (none line entry gives) ∙ none_together f none (n + 1) lines rest g)
 
 other_sign : (sign : Sign) → HasOpcode WithoutNumericMode (Announce sign) → is_same_sign NoContraction sign ≡ false
-other_sign sign has =
-    elim (cases_Bool (is_same_sign NoContraction sign)) [
-      | inl same ↦ absurd (subst (λ (s : Sign). HasOpcode WithoutNumericMode (Announce s)) (sym (same_sign NoContraction sign same)) has)
-      | inr other ↦ other
-    ]
+other_sign sign has = search rules
 
 no_set : (set : CharacterSet) → ¬ HasOpcode WithoutNumericMode (Collect set)
 no_set sets.NumericMode has = has

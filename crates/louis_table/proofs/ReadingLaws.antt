@@ -1,5 +1,5 @@
 -- Line by line, the text is read as it means.
-use Rattle.std.proofs.Common.{◌≡◌, ◌≢◌, ℕ, ◌+◌, ◌<◌, ◌≤◌, Bool, true, false, cond, ◌||◌, List, [], ◌∷◌, ◌++◌, length, Option, Some, None, Ok, Err, is_some, refl, sym, ap, subst, ◌∙◌, ◌⊎◌, append_assoc, inl, inr, arith, lit≤}
+use Rattle.std.proofs.Common.{◌≡◌, ◌≢◌, ℕ, ◌+◌, ◌<◌, ◌≤◌, Bool, true, false, cond, ◌||◌, List, [], ◌∷◌, ◌++◌, length, Option, Some, None, Ok, Err, is_some, refl, sym, ap, subst, ◌∙◌, ◌⊎◌, append_assoc, inl, inr, arith, lit≤, rules}
 use Rattle.std.specs.List.{flat_map}
 use Rattle.std.specs.Map.{lookup}
 use Rattle.std.specs.Prelude.{map, nat_eq}
@@ -41,8 +41,7 @@ GiveFrom-entry n k (l ∷ lines) line entries entry at (inr (other, rest, gives,
     inr (other, rest ++ (k, entry) ∷ [], gives, ap (λ (es : List (ℕ × Entry)). es ++ (k, entry) ∷ []) e, GiveFrom-entry (n + 1) k lines line rest entry (omega arith) g s)
 
 flat_map-push : {X A : Type 0} (f : X → List A) (xs : List X) (x : X) (old : List A) → old ≡ flat_map f xs → old ++ f x ≡ flat_map f (xs ++ x ∷ [])
-flat_map-push {A = A} f xs x old e =
-    ap (λ (ys : List A). ys ++ f x) e ∙ (ap (λ (ys : List A). flat_map f xs ++ ys) (sym (append-nil (f x))) ∙ sym (flat_map-append f xs (x ∷ [])))
+flat_map-push {A = A} f xs x old e = search (rules, flat_map-append)
 
 -- what the line gives is gathered with the rest
 Gathers-more : (before : List (List ℕ)) (line : List ℕ) (old new : Meaning) (rules all : List PendingEntry) (given : Option Entry) → Gathers before old rules → Says line (Ok given)

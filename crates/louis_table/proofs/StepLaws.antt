@@ -1,5 +1,5 @@
 -- What the steps of reading a line come to.
-use Rattle.std.proofs.Common.{◌≡◌, ◌≢◌, ℕ, Bool, true, false, ◌||◌, eqb, List, [], ◌∷◌, length, get_or, Option, Some, None, option_map, Result, Ok, Err, codes, refl, sym, ap, subst, ◌∙◌, ◌⊎◌, inl, inr, arith, true≢false}
+use Rattle.std.proofs.Common.{◌≡◌, ◌≢◌, ℕ, Bool, true, false, ◌||◌, eqb, List, [], ◌∷◌, length, get_or, Option, Some, None, option_map, Result, Ok, Err, codes, refl, sym, ap, subst, ◌∙◌, ◌⊎◌, inl, inr, arith, true≢false, rules}
 use Rattle.std.specs.Option.{option_zip}
 use Rattle.std.specs.Result.{OnOk, is_err}
 use Rattle.std.specs.Str.{encode_utf8_all, bytes_eq}
@@ -27,7 +27,7 @@ use Rattle.louis_table.specs.Steps.Dots.{pair_parts, pair_in, rule_in, both_of, 
 use Rattle.louis_table.specs.Steps.Line.{or_cause, entry_from, entry_of_both, entry_of_one, entry_of_set, entry_at, both_at, as_some, opcode_gives, fields_give, line_gives, repeats, announces, is_large, verdict_by, entry_verdict, line_verdict, judge_opcode, judge_line, FailsOperands, IsVerdict}
 use Rattle.louis_table.specs.Steps.Read.{judge, TakesLine}
 use Rattle.louis_table.specs.declared.draft.Draft.{Draft}
-use Rattle.louis_table.proofs.EntryLaws.{TakesBoth, or_left, or_right, entry_at-both, entry_at-sign, entry_at-set, wrong_entry}
+use Rattle.louis_table.proofs.EntryLaws.{TakesBoth, or_left, or_right, entry_at-both, entry_at-sign, entry_at-set}
 use Rattle.louis_table.proofs.VerdictLaws.{judge-from_line}
 
 -- ---- lists and tests
@@ -119,18 +119,13 @@ operands_fault meaning opcode operands line_faults.NoMemory two h = tt
 -- too many characters, or too few
 pub characters_fault : (meaning : Meaning) (opcode : Opcode) (operands text dots : List ℕ) → TakesBoth opcode → both_at operands ≡ Ok (text, dots) → ¬ AreCharactersFor opcode text
     → judge_opcode meaning opcode operands ≡ Err 3
-characters_fault meaning opcode operands text dots two e n =
-    judge_by meaning opcode operands _ (entry_then opcode operands _ two e ∙ wrong_entry opcode text dots two n)
+characters_fault meaning opcode operands text dots two e n = search (rules, judge_by, entry_then)
 
 -- a verdict on an entry, by its tests
 pub judged : (meaning : Meaning) (opcode : Opcode) (operands : List ℕ) (entry : Entry) (r a l : Bool) → entry_at opcode operands ≡ Ok entry → repeats meaning entry ≡ r → announces meaning entry ≡ a → is_large entry ≡ l
     → judge_opcode meaning opcode operands ≡ as_some (verdict_by r a l entry)
 unfolding entry_verdict
-judged meaning opcode operands entry r a l e x y z =
-    judge_by meaning opcode operands _ e
-    ∙ (ap (λ (b : Bool). as_some (verdict_by b (announces meaning entry) (is_large entry) entry)) x
-    ∙ (ap (λ (b : Bool). as_some (verdict_by r b (is_large entry) entry)) y
-    ∙ ap (λ (b : Bool). as_some (verdict_by r a b entry)) z))
+judged meaning opcode operands entry r a l e x y z = search (rules, judge_by)
 
 -- ---- definitions
 

@@ -1,5 +1,5 @@
 -- What the supplied table means, by reading it line by line.
-use Rattle.std.proofs.Common.{◌≡◌, ℕ, ◌+◌, ◌<◌, true, List, [], ◌∷◌, ◌++◌, Option, Some, None, Result, Ok, Err, length, refl, sym, ap, subst, ◌∙◌, inl, inr}
+use Rattle.std.proofs.Common.{◌≡◌, ℕ, ◌+◌, ◌<◌, true, List, [], ◌∷◌, ◌++◌, Option, Some, None, Result, Ok, Err, length, refl, sym, ap, subst, ◌∙◌, inl, inr, rules, arith}
 use Rattle.std.specs.Prelude.{map, nat_lt}
 use Rattle.std.specs.List.{All, list_all}
 use Rattle.std.specs.Str.{chars}
@@ -8,6 +8,7 @@ use Rattle.std.proofs.lemmas.List.{length_push}
 use Rattle.std.proofs.lemmas.List.Elements.{All-cons, All-nil}
 use Rattle.std.proofs.lemmas.Str.{chars-IsAscii, IsUtf8-from_ascii}
 use Rattle.std.proofs.lemmas.Str.Ascii.{IsAscii-from_all}
+use Rattle.std.proofs.lemmas.Grind.{common_steps}
 use Rattle.louis_table.specs.declared.character_set.CharacterSet.TheVariants.{NumericMode, NoContraction}
 use Rattle.louis_table.specs.declared.en.TheConstants.{EN}
 use Rattle.louis_table.specs.declared.pending.PendingEntry.{PendingEntry}
@@ -63,11 +64,7 @@ after_lines-give lines before (line ∷ rest) read r all e =
 
 are_ascii : (bytes : List ℕ) → list_all (λ b. nat_lt b 128) bytes ≡ true → All (λ b. b < 128) bytes
 are_ascii [] h = All-nil (λ c. c < 128)
-are_ascii (b ∷ bytes) h =
-    elim (cases_Bool (nat_lt b 128)) [
-      | inl holds ↦ All-cons (λ c. c < 128) b bytes (ltb-true b 128 holds) (are_ascii bytes (rw holds at h))
-      | inr fails ↦ let never = rw fails at h in absurd (both_ways _ refl never)
-    ]
+are_ascii (b ∷ bytes) h = grind (arith, common_steps, cases_Bool, nat_lt, All-cons, ltb-true, both_ways)
 
 same_lines : (lines : List (List ℕ)) → list_all (list_all (λ b. nat_lt b 128)) lines ≡ true → map chars lines ≡ lines
 same_lines [] h = refl
@@ -89,9 +86,6 @@ english_read : after_lines (Some (no_meaning, [])) 0 (lines_of EN.now) ≡ Some 
 unfolding english_sets judge judge_line line_gives opcode_named entry_at characters_in entry_verdict pair_in
 english_read = refl
 
-english_ascii : list_all (λ b. nat_lt b 128) EN.now ≡ true
-english_ascii = refl
-
 english_lines : text_lines EN.now ≡ lines_of EN.now
 english_lines = same_lines (lines_of EN.now) refl
 
@@ -107,5 +101,4 @@ english_lines_mean =
     }
 
 pub english_means : Means EN.now english
-english_means =
-    LinesMean-Means EN.now EN.now (IsUtf8-from_ascii EN.now (IsAscii-from_all EN.now (are_ascii EN.now english_ascii))) refl english english_lines_mean
+english_means = search (rules, LinesMean-Means, IsUtf8-from_ascii, IsAscii-from_all, are_ascii, english_lines_mean)

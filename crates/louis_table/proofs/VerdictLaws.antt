@@ -1,9 +1,9 @@
 -- The verdict on a line after others gives its smallest cause.
-use Rattle.std.proofs.Common.{◌≡◌, ℕ, ◌+◌, ◌<◌, ◌≤◌, Bool, true, false, not, cond, ◌||◌, eqb, ltb, leb, List, [], ◌∷◌, ◌++◌, length, Option, Some, None, Result, Ok, Err, is_some, Contains, refl, sym, ap, subst, ◌∙◌, ◌⊎◌, inl, inr, arith, lit≤, true≢false}
+use Rattle.std.proofs.Common.{◌≡◌, ℕ, ◌+◌, ◌<◌, ◌≤◌, Bool, true, false, not, cond, ◌||◌, eqb, ltb, leb, List, [], ◌∷◌, ◌++◌, length, Option, Some, None, Result, Ok, Err, is_some, Contains, refl, sym, ap, subst, ◌∙◌, ◌⊎◌, inl, inr, arith, lit≤, rules}
 use Rattle.std.specs.Prelude.{nat_eq, map}
 use Rattle.std.specs.Map.{lookup}
 use Rattle.std.specs.List.{flat_map, list_any}
-use Rattle.std.proofs.lemmas.Bool.{cases_lt, eqb-true, eqb-false, eq-eqb, ne_eqb, ltb-true, leb-true, lt-ltb, le-leb, not-false, or_parts}
+use Rattle.std.proofs.lemmas.Bool.{eqb-true, eq-eqb, ne_eqb, lt-ltb, le-leb, not-false}
 use Rattle.std.proofs.lemmas.List.{nil_from_length}
 use Rattle.std.proofs.lemmas.List.Elements.{Contains-append_left, Contains-append_right, Contains-push_cases, Contains-append_cases}
 use Rattle.cell_core.specs.Dots.{Dots}
@@ -13,7 +13,7 @@ use Rattle.louis_table.specs.declared.character_set.CharacterSet.{CharacterSet}
 use Rattle.louis_table.specs.declared.pending.PendingEntry.{PendingEntry}
 use Rattle.louis_table.specs.Fields.{IsField}
 use Rattle.louis_table.specs.Characters.{Spells}
-use Rattle.louis_table.specs.Meaning.{Meaning, definition_of, sign_cells, set_characters}
+use Rattle.louis_table.specs.Meaning.{Meaning, sign_cells, set_characters}
 use Rattle.louis_table.specs.Steps.Table.{is_known, IsNewFor, CanTake, HasDefinedPartners}
 use Rattle.louis_table.specs.Steps.Line.{as_some, repeats, announces, is_large, verdict_by, entry_verdict, line_verdict, line_gives, judge_line}
 use Rattle.louis_table.specs.Steps.Read.{Gathers, within_limits, judge}
@@ -141,10 +141,7 @@ are_some xs = not (eqb (length xs) 0)
 
 are_some-append : (xs ys : List ℕ) → are_some (xs ++ ys) ≡ (are_some xs || are_some ys)
 are_some-append [] ys = refl
-are_some-append (x ∷ xs) ys =
-    let one : eqb (length (x ∷ xs ++ ys)) 0 ≡ false = ne_eqb _ _ (λ e. omega arith) in
-    let other : eqb (length (x ∷ xs)) 0 ≡ false = ne_eqb _ _ (λ e. omega arith) in
-    ap not one ∙ sym (or_left _ _ (ap not other))
+are_some-append (x ∷ xs) ys = search rules
 
 are_some-flat_map : (f : Entry → List ℕ) (entries : List (ℕ × Entry)) → are_some (flat_map (λ e. f e.1) entries) ≡ any_gives (λ entry. are_some (f entry)) entries
 are_some-flat_map f [] = refl
@@ -184,9 +181,7 @@ GivesEntry-some : (line : List ℕ) (entry : Entry) (sign : Sign) (cells : List 
 GivesEntry-some line entry sign cells (definition_line class characters dots c others has h s d e) same = absurd cc
 GivesEntry-some line entry sign cells (pair_line characters dots upper lower upper_cells lower_cells has h s d e) same = absurd cc
 GivesEntry-some line entry sign cells (rule_line kind characters dots text others has h s d e) same = absurd cc
-GivesEntry-some line entry sign cells (sign_line other dots others has h d e) same =
-    let equal : others ≡ cells = cc in
-    ap are_some (sym equal) ∙ Dots-some dots others d
+GivesEntry-some line entry sign cells (sign_line other dots others has h d e) same = search (rules, Dots-some)
 GivesEntry-some line entry sign cells (set_line set characters text has h s e) same = absurd cc
 
 GivesEntry-some_text : (line : List ℕ) (entry : Entry) (set : CharacterSet) (text : List ℕ) → GivesEntry WithNumericMode line entry → entry ≡ Collects set text → are_some text ≡ true
@@ -194,9 +189,7 @@ GivesEntry-some_text line entry set text (definition_line class characters dots 
 GivesEntry-some_text line entry set text (pair_line characters dots upper lower upper_cells lower_cells has h s d e) same = absurd cc
 GivesEntry-some_text line entry set text (rule_line kind characters dots others cells has h s d e) same = absurd cc
 GivesEntry-some_text line entry set text (sign_line other dots others has h d e) same = absurd cc
-GivesEntry-some_text line entry set text (set_line other characters others has h s e) same =
-    let equal : others ≡ text = cc in
-    ap are_some (sym equal) ∙ Spells-some characters others h.2.1.is_field s
+GivesEntry-some_text line entry set text (set_line other characters others has h s e) same = search (rules, Spells-some)
 
 module _ (lines : List (List ℕ)) (meaning : Meaning) (written : List PendingEntry) (g : Gathers lines meaning written) where
   sign_cells-any : (sign : Sign) → are_some (sign_cells meaning sign) ≡ any_gives (λ entry. are_some (cells_for sign entry)) g.entries
@@ -243,8 +236,7 @@ abbrev is_long : ℕ → List ℕ → Bool
 is_long before line = ltb most_line_characters (length line) || leb most_lines before
 
 is_long-IsLong : (before : ℕ) (line : List ℕ) → is_long before line ≡ true → IsLong before line
-is_long-IsLong before line e =
-    elim (or_cases (ltb most_line_characters (length line)) (leb most_lines before) e) [ inl t ↦ inl (ltb-true _ _ t) | inr t ↦ inr (leb-true _ _ t) ]
+is_long-IsLong before line e = search rules
 
 IsLong-is_long : (before : ℕ) (line : List ℕ) → IsLong before line → is_long before line ≡ true
 IsLong-is_long before line (inl h) = or_left _ _ (lt-ltb _ _ h)
@@ -406,14 +398,11 @@ as_some-Ok (Err c) given e = absurd cc
 line_verdict-Ok : (meaning : Meaning) (v : Result (Option Entry) ℕ) (given : Option Entry) → line_verdict meaning v ≡ Ok given → v ≡ Ok given
 unfolding entry_verdict
 line_verdict-Ok meaning (Ok None) given e = e
-line_verdict-Ok meaning (Ok (Some entry)) given e =
-    let s = as_some-Ok (verdict_by (repeats meaning entry) (announces meaning entry) (is_large entry) entry) given e in
-    ap (λ (x : Entry). Ok (Some x)) (verdict_by-Ok _ _ _ entry s.0 s.1).0 ∙ ap (λ (o : Option Entry). Ok o) (sym s.2)
+line_verdict-Ok meaning (Ok (Some entry)) given e = search rules
 line_verdict-Ok meaning (Err c) given e = absurd cc
 
 within_limits-Ok : (before : ℕ) (line : List ℕ) (v : Result (Option Entry) ℕ) (given : Option Entry) → within_limits before line v ≡ Ok given → (v ≡ Ok given) × (is_long before line ≡ false)
-within_limits-Ok before line (Ok other) given e =
-    elim (chosen (is_long before line) _ _ _ e) [ inl p ↦ absurd cc | inr p ↦ (p.1, p.0) ]
+within_limits-Ok before line (Ok other) given e = search rules
 within_limits-Ok before line (Err c) given e = absurd cc
 
 pub judge-given : (meaning : Meaning) (before : ℕ) (line : List ℕ) (given : Option Entry) → judge meaning before line ≡ Ok given → Says line (Ok given)
@@ -424,11 +413,7 @@ judge-given meaning before line given e =
 -- a line that is accepted isn't one too many
 pub judge-few : (meaning : Meaning) (before : ℕ) (line : List ℕ) (given : Option Entry) → judge meaning before line ≡ Ok given → before < most_lines
 unfolding judge
-judge-few meaning before line given e =
-    elim (cases_lt before most_lines) [
-      | inl lt ↦ lt
-      | inr le ↦ absurd (true≢false (sym (IsLong-is_long before line (inr le)) ∙ (within_limits-Ok before line (judge_line meaning line) given e).1))
-    ]
+judge-few meaning before line given e = search rules
 
 -- ---- steps of the code
 
@@ -457,11 +442,7 @@ none_from (Some x) e = absurd cc
 
 IsNewFor-tests : (meaning : Meaning) (entry : Entry) → HasDefinedPartners meaning → repeats meaning entry ≡ false → announces meaning entry ≡ false → IsNewFor meaning entry
 IsNewFor-tests meaning (Defines k definition) p r a = none_from _ r
-IsNewFor-tests meaning (Pairs u uc l lc) p r a =
-    let both = or_parts (eqb u l || is_known meaning u) (is_known meaning l) r in
-    let upper = or_parts (eqb u l) (is_known meaning u) both.0 in
-    let absent : definition_of meaning u ≡ None = none_from _ upper.1 in
-    (absent, none_from _ both.1, eqb-false u l upper.0, p u absent)
+IsNewFor-tests meaning (Pairs u uc l lc) p r a = search rules
 IsNewFor-tests meaning (Replaces kind text cells) p r a = tt
 IsNewFor-tests meaning (Announces sign cells) p r a = nil_from_length _ (eqb-true _ _ (not-false _ a))
 IsNewFor-tests meaning (Collects set text) p r a = nil_from_length _ (eqb-true _ _ (not-false _ a))

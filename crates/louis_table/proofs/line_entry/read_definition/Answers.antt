@@ -1,4 +1,4 @@
-use Rattle.std.proofs.Common.{◌≡◌, ◌∷◌, [], List, ℕ, length, true, false, refl, Some, Ok, Err, sym, ap, subst, ◌∙◌}
+use Rattle.std.proofs.Common.{◌≡◌, ◌∷◌, [], List, ℕ, length, true, false, refl, Some, Ok, Err, sym, ap, subst, ◌∙◌, rules}
 use Rattle.std.proofs.lemmas.Result.{err_from_is_err_and}
 use Rattle.louis_table.specs.declared.opcode.Opcode.TheVariants.{Define}
 use Rattle.louis_table.specs.Table.{Defines}
@@ -8,10 +8,7 @@ use Rattle.louis_table.proofs.StepLaws.{only_character-Some, only_character-None
 use Rattle.louis_table.proofs.line_entry.read_definition.Goals as goal
 
 pub returns-in_err-characters : goal.returns-in_err-characters
-returns-in_err-characters c =
-    let exit = err_from_is_err_and c.from_residual.result c.from_residual.ensures.1 in
-    subst (λ r. IsVerdict r (judge_opcode c.args.table.now (Define c.args.class) c.args.operands.now)) (sym (exit.1 ∙ ap (λ e. Err e) exit.2))
-    (operands_fault c.args.table.now (Define c.args.class) c.args.operands.now c.in_err-characters.field-0.0 tt c.in_err-characters.ensures.err)
+returns-in_err-characters c = search (rules, operands_fault)
 
 pub returns-in_default : goal.returns-in_default
 returns-in_default c =

@@ -1,4 +1,4 @@
-use Rattle.std.proofs.Common.{◌≡◌, ◌<◌, ◌≤◌, List, ℕ, Option, length, true, false, ltb, refl, arith, Some, Ok, Err, sym, ap, subst, ◌∙◌}
+use Rattle.std.proofs.Common.{◌≡◌, ◌<◌, ◌≤◌, List, ℕ, Option, length, true, false, ltb, refl, arith, Some, Ok, Err, sym, ap, subst, ◌∙◌, rules}
 use Rattle.std.proofs.lemmas.Bool.{lt-ltb, le-ltb}
 use Rattle.std.proofs.lemmas.Result.{err_from_is_err_and}
 use Rattle.louis_table.specs.declared.opcode.Opcode.TheVariants.{Replace}
@@ -10,10 +10,7 @@ use Rattle.louis_table.proofs.StepLaws.{neither, operands_fault, judged, rule_ba
 use Rattle.louis_table.proofs.line_entry.read_rule.Goals as goal
 
 pub returns-in_err-characters : goal.returns-in_err-characters
-returns-in_err-characters c = λ meaning.
-    let exit = err_from_is_err_and c.from_residual.result c.from_residual.ensures.1 in
-    subst (λ r. IsVerdict r (judge_opcode meaning (Replace c.args.kind) c.args.operands.now)) (sym (exit.1 ∙ ap (λ e. Err e) exit.2))
-    (operands_fault meaning (Replace c.args.kind) c.args.operands.now c.in_err-characters.field-0.0 tt c.in_err-characters.ensures.err)
+returns-in_err-characters c = search (rules, operands_fault)
 
 pub returns-in_err-cells : goal.returns-in_err-cells
 returns-in_err-cells c = λ meaning.

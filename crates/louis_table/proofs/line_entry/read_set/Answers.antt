@@ -1,19 +1,16 @@
-use Rattle.std.proofs.Common.{◌≡◌, ◌<◌, ◌≤◌, List, ℕ, length, true, false, not, eqb, refl, arith, Some, Ok, sym, ap, subst, ◌∙◌}
+use Rattle.std.proofs.Common.{◌≡◌, ◌<◌, ◌≤◌, List, ℕ, length, true, false, not, eqb, refl, arith, Some, Ok, sym, ap, subst, ◌∙◌, rules}
 use Rattle.std.proofs.lemmas.Bool.{lt-ltb, le-ltb}
 use Rattle.louis_table.specs.declared.opcode.Opcode.TheVariants.{Collect}
 use Rattle.louis_table.specs.Table.{Collects, most_set_characters}
 use Rattle.louis_table.specs.Steps.Line.{judge_opcode}
-use Rattle.louis_table.proofs.StepLaws.{nil_from_test, not_nil_from_test, judged, set_missing, set_bad, set_at}
+use Rattle.louis_table.proofs.StepLaws.{not_nil_from_test, judged, set_missing, set_bad, set_at}
 use Rattle.louis_table.proofs.line_entry.read_set.Goals as goal
 
 pub returns-then-is_empty : goal.returns-then-is_empty
-returns-then-is_empty c =
-    set_missing c.args.set c.args.operands.now c.next_field.result.0.now c.next_field.ensures.field c.args.table.now (nil_from_test _ _ c.is_empty.ensures c.if-is_empty.true)
+returns-then-is_empty c = search (rules, set_missing)
 
 pub returns-in_default-read : goal.returns-in_default-read
-returns-in_default-read c =
-    set_bad c.args.set c.args.operands.now c.next_field.result.0.now c.next_field.ensures.field c.args.table.now (not_nil_from_test _ _ c.is_empty.ensures c.if-is_empty.false)
-    (sym (rw c.in_default-read.is at c.in-Ok.ensures))
+returns-in_default-read c = search (rules, set_bad)
 
 pub returns-then-not-is_empty : goal.returns-then-not-is_empty
 returns-then-not-is_empty c =

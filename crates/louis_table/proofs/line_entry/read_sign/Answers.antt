@@ -1,15 +1,14 @@
-use Rattle.std.proofs.Common.{List, ℕ, true, false, not, eqb, length, refl, Some, Err, sym, ap, subst, ◌∙◌}
+use Rattle.std.proofs.Common.{List, ℕ, true, false, not, eqb, length, refl, Some, Err, sym, ap, subst, ◌∙◌, rules}
 use Rattle.std.proofs.lemmas.Result.{err_from_is_err_and}
 use Rattle.louis_table.specs.declared.opcode.Opcode.TheVariants.{Announce}
 use Rattle.louis_table.specs.Table.{Announces}
 use Rattle.louis_table.specs.Steps.Dots.{are_many}
 use Rattle.louis_table.specs.Steps.Line.{IsVerdict, judge_opcode}
-use Rattle.louis_table.proofs.StepLaws.{nil_from_test, not_nil_from_test, judged, sign_missing, sign_fault, sign_at}
+use Rattle.louis_table.proofs.StepLaws.{not_nil_from_test, judged, sign_missing, sign_fault, sign_at}
 use Rattle.louis_table.proofs.line_entry.read_sign.Goals as goal
 
 pub returns-then-is_empty : goal.returns-then-is_empty
-returns-then-is_empty c =
-    sign_missing c.args.sign c.args.operands.now c.next_field.result.0.now c.next_field.ensures.field c.args.table.now (nil_from_test _ _ c.is_empty.ensures c.if-is_empty.true)
+returns-then-is_empty c = search (rules, sign_missing)
 
 pub returns-in_err-cells : goal.returns-in_err-cells
 returns-in_err-cells c =
