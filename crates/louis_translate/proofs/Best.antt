@@ -1,5 +1,5 @@
 -- A scan over the rules.
-use Rattle.std.proofs.Common.{◌≡◌, ℕ, zero, suc, ◌+◌, ◌<◌, ◌≤◌, ◌⊎◌, List, [], ◌∷◌, length, Option, Some, None, refl, sym, ap, subst, ◌∙◌, arith, inl, inr}
+use Rattle.std.proofs.Common.{◌≡◌, ℕ, zero, suc, ◌+◌, ◌<◌, ◌≤◌, ◌⊎◌, List, [], ◌∷◌, length, Option, Some, None, sym, ap, subst, ◌∙◌, arith, inl, inr, rules}
 use Rattle.std.specs.Prelude.{slice_get, IsSomeAnd}
 use Rattle.std.specs.Option.{option_map_or}
 use Rattle.std.proofs.lemmas.Bool.{cases_order}
@@ -16,8 +16,7 @@ pub record BestBelow (meaning : Meaning) (print : List ℕ) (i k : ℕ) (found :
   pub best : (j : ℕ) → j < k → IsCandidate meaning print i (Some j) → YieldsTo meaning (Some j) found
 
 pub BestBelow-none : (meaning : Meaning) (print : List ℕ) (i : ℕ) → BestBelow meaning print i 0 None 1
-BestBelow-none meaning print i =
-    record { candidate = tt; most_is = refl; seen = inl refl; definition = inr (refl, omega arith); best = λ j lt h. absurd (omega arith) }
+BestBelow-none meaning print i = search rules
 
 module _ (meaning : Meaning) (print : List ℕ) (i k : ℕ) (found : Option ℕ) (most : ℕ) (rule : Rule) (there : slice_get meaning.rules k ≡ Some rule) (lt : k < length meaning.rules) (b : BestBelow meaning print i k found most) where
   span_is : span meaning (Some k) ≡ length rule.chars

@@ -1,5 +1,5 @@
 -- The longest front of a tiling that fits in a room.
-use Rattle.std.proofs.Common.{◌≡◌, ℕ, ◌+◌, ◌<◌, ◌≤◌, List, [], ◌∷◌, ◌++◌, length, refl, sym, ap, subst, arith, inl, inr}
+use Rattle.std.proofs.Common.{◌≡◌, ℕ, ◌+◌, ◌<◌, ◌≤◌, List, [], ◌∷◌, ◌++◌, length, refl, sym, ap, subst, arith, inl, inr, rules}
 use Rattle.std.specs.List.{flat_map}
 use Rattle.std.proofs.lemmas.Bool.{cases_order}
 use Rattle.std.proofs.lemmas.List.{append-nil, length-append}
@@ -15,10 +15,7 @@ use Rattle.louis_translate.proofs.Tilings.{Covers-append, choices_from-covers}
 -- a longer front of the same choices has the cells of the next choice too
 longer_has_more : (f : Choice → List ℕ) (t more less rest : List Choice) (c : Choice) → t ++ c ∷ rest ≡ more ++ less → length t < length more → length (flat_map f t) + length (f c) ≤ length (flat_map f more)
 longer_has_more f [] [] less rest c e lt = absurd (omega arith)
-longer_has_more f [] (x ∷ more) less rest c e lt =
-    let same : c ≡ x = cc in
-    let here = ap (λ (y : Choice). length (f y)) same in
-    omega (arith, length-append (f x) (flat_map f more))
+longer_has_more f [] (x ∷ more) less rest c e lt = search (rules, length-append)
 longer_has_more f (y ∷ t) [] less rest c e lt = absurd (omega arith)
 longer_has_more f (y ∷ t) (x ∷ more) less rest c e lt =
     let same : y ≡ x = cc in
@@ -29,20 +26,7 @@ longer_has_more f (y ∷ t) (x ∷ more) less rest c e lt =
 
 -- all choices fit
 pub IsPart-whole : (meaning : Meaning) (print : List ℕ) (room i used : ℕ) (t : List Choice) (cells : List ℕ) → AreDefined meaning print → Covers meaning print 0 t i → i ≡ length print → used ≡ i → cells ≡ braille meaning print t → length cells ≤ room → IsPart meaning print room cells used
-IsPart-whole meaning print room i used t cells defined covers whole end made fits = record {
-  defined = defined;
-  choices = t;
-  front = t;
-  tiles = subst (λ (n : ℕ). Covers meaning print 0 t n) whole covers;
-  is_front = record {
-    others = [];
-    parts = sym (append-nil t);
-    fits = subst (λ (xs : List ℕ). length xs ≤ room) made fits;
-    longest = λ more less e h. let both = length-append more less in let all = ap length e in omega arith;
-  };
-  covers = subst (λ (n : ℕ). Covers meaning print 0 t n) (sym end) covers;
-  cells_are = made;
-}
+IsPart-whole meaning print room i used t cells defined covers whole end made fits = search (rules, append-nil, length-append)
 
 -- the next choice doesn't fit
 pub IsPart-cut : (meaning : Meaning) (print : List ℕ) (room i used : ℕ) (t : List Choice) (c : Choice) (cells : List ℕ) → AreDefined meaning print → Covers meaning print 0 t i → i < length print → IsChoiceAt meaning print i c → used ≡ i → cells ≡ braille meaning print t → length cells ≤ room → room < length cells + length (cells_of meaning print c) → IsPart meaning print room cells used

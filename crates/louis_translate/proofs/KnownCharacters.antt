@@ -1,6 +1,6 @@
 -- Lists of what is known of characters.
-use Rattle.std.proofs.Common.{◌≡◌, ℕ, Bool, false, true, List, Option, Some, None, sym, ap, subst, inl, inr, ◌∙◌}
-use Rattle.std.specs.Prelude.{IsSome, is_some, replicate, slice_set}
+use Rattle.std.proofs.Common.{◌≡◌, ℕ, Bool, false, true, List, Option, Some, None, ap, rules}
+use Rattle.std.specs.Prelude.{is_some, replicate, slice_set}
 use Rattle.std.specs.Option.{option_map_or}
 use Rattle.louis_table.specs.Meaning.{Meaning, definition_of}
 use Rattle.louis_translate.specs.Known.{AreKnown}
@@ -19,8 +19,4 @@ AreKnown-none meaning n = λ character e. let no : false ≡ true = get_replicat
 
 pub AreKnown-set : (meaning : Meaning) (known : List Bool) (code : ℕ) (found : Bool) → AreKnown meaning known
     → found ≡ is_some (definition_of meaning code) → AreKnown meaning (slice_set known code found)
-AreKnown-set meaning known code found are is = λ character e.
-    elim (get_set known code found character true (says_yes _ e)) [
-      | inl h ↦ are character (ap says h)
-      | inr p ↦ subst (λ (k : ℕ). IsSome (definition_of meaning k)) (sym p.0) (sym is ∙ p.1)
-    ]
+AreKnown-set meaning known code found are is = search (rules, get_set, says_yes)

@@ -1,5 +1,5 @@
 -- Lists of lone cells.
-use Rattle.std.proofs.Common.{◌≡◌, ℕ, List, Option, Some, None, sym, subst, inl, inr}
+use Rattle.std.proofs.Common.{◌≡◌, ℕ, List, Option, Some, None, rules}
 use Rattle.std.specs.Prelude.{IfSome, replicate, slice_set}
 use Rattle.louis_table.specs.Meaning.{Meaning}
 use Rattle.louis_translate.specs.Piece.{AreLoneCells, IsLoneCell}
@@ -13,8 +13,4 @@ AreLoneCells-none meaning n = λ character cell e. let none : nothing ≡ Some c
 
 pub AreLoneCells-set : (meaning : Meaning) (cells : List (Option ℕ)) (code : ℕ) (found : Option ℕ) → AreLoneCells meaning cells
     → IfSome found (IsLoneCell meaning code) → AreLoneCells meaning (slice_set cells code found)
-AreLoneCells-set meaning cells code found are is = λ character cell e.
-    elim (get_set cells code found character (Some cell) e) [
-      | inl h ↦ are character cell h
-      | inr p ↦ subst (λ (k : ℕ). IsLoneCell meaning k cell) (sym p.0) (subst (λ (o : Option ℕ). IfSome o (IsLoneCell meaning code)) p.1 is)
-    ]
+AreLoneCells-set meaning cells code found are is = search (rules, get_set)

@@ -1,6 +1,6 @@
 -- The places as lists that grow choice by choice: those of one more choice, and what the lists have at a place. `Braille`
 -- says what the places mean.
-use Rattle.std.proofs.Common.{◌≡◌, ℕ, ◌+◌, ◌-◌, ◌<◌, ◌≤◌, List, [], ◌∷◌, ◌++◌, length, replicate, get_or, refl, sym, ap, subst, ◌∙◌, append_assoc, add_assoc, zero-add, arith, inl, inr}
+use Rattle.std.proofs.Common.{◌≡◌, ℕ, ◌+◌, ◌-◌, ◌<◌, ◌≤◌, List, [], ◌∷◌, ◌++◌, length, replicate, get_or, refl, sym, ap, subst, ◌∙◌, append_assoc, add_assoc, zero-add, arith, inl, inr, rules}
 use Rattle.std.specs.List.{flat_map}
 use Rattle.std.proofs.Math.ListN.{get_or-append}
 use Rattle.std.proofs.lemmas.Bool.{cases_lt}
@@ -29,12 +29,7 @@ flat_map-push {A = A} f xs x = flat_map-append f xs (x ∷ []) ∙ ap (λ (t : L
 
 pub outputs_from-push : (meaning : Meaning) (print : List ℕ) (n : ℕ) (t : List Choice) (c : Choice) → outputs_from meaning print n (t ++ c ∷ []) ≡ outputs_from meaning print n t ++ replicate (c.end - c.start) (n + length (braille meaning print t))
 outputs_from-push meaning print n [] c = append-nil (replicate (c.end - c.start) n) ∙ ap (λ (m : ℕ). replicate (c.end - c.start) m) (omega arith)
-outputs_from-push meaning print n (x ∷ t) c =
-    ap (λ (ys : List ℕ). replicate (x.end - x.start) n ++ ys)
-    (outputs_from-push meaning print (n + length (cells_of meaning print x)) t c
-    ∙ ap (λ (m : ℕ). outputs_from meaning print (n + length (cells_of meaning print x)) t ++ replicate (c.end - c.start) m)
-    (add_assoc n (length (cells_of meaning print x)) (length (braille meaning print t)) ∙ ap (λ (m : ℕ). n + m) (sym (length-append (cells_of meaning print x) (braille meaning print t)))))
-    ∙ sym (append_assoc (replicate (x.end - x.start) n) (outputs_from meaning print (n + length (cells_of meaning print x)) t) (replicate (c.end - c.start) (n + length (braille meaning print (x ∷ t)))))
+outputs_from-push meaning print n (x ∷ t) c = search (rules, add_assoc, length-append, append_assoc, (outputs_from-push meaning print (n + length (cells_of meaning print x)) t c))
 
 -- ---- the places in the lists
 
@@ -85,12 +80,7 @@ outputs-at meaning print n i j k (c ∷ t) h le lt =
 -- the list of print places has as many places as there are cells
 inputs-count : (meaning : Meaning) (print : List ℕ) (t : List Choice) → length (inputs_of meaning print t) ≡ length (braille meaning print t)
 inputs-count meaning print [] = refl
-inputs-count meaning print (c ∷ t) =
-    let made = length (cells_of meaning print c) in
-    length-append (replicate made c.start) (inputs_of meaning print t)
-    ∙ (ap (λ (m : ℕ). m + length (inputs_of meaning print t)) (length-replicate made c.start)
-    ∙ (ap (λ (m : ℕ). made + m) (inputs-count meaning print t)
-    ∙ sym (length-append (cells_of meaning print c) (braille meaning print t))))
+inputs-count meaning print (c ∷ t) = search (rules, length-append, length-replicate, (inputs-count meaning print t))
 
 -- at a cell it has the start of the choice that made it
 inputs-at : (meaning : Meaning) (print : List ℕ) (t : List Choice) (cell : ℕ) → cell < length (braille meaning print t)

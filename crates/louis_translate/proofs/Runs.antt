@@ -1,6 +1,6 @@
 -- Runs of elements that pass a test.
-use Rattle.std.proofs.Common.{◌≡◌, ℕ, zero, suc, ◌+◌, ◌-◌, ◌<◌, ◌≤◌, Bool, true, false, List, [], ◌∷◌, length, take, drop, get_or, refl, ap, ◌∙◌, arith, inl, inr}
-use Rattle.std.specs.Prelude.{◌&&◌, slice_get, nat_le, nat_lt, map, Some}
+use Rattle.std.proofs.Common.{◌≡◌, ℕ, zero, suc, ◌+◌, ◌-◌, ◌<◌, ◌≤◌, Bool, true, false, List, [], ◌∷◌, length, take, drop, get_or, refl, ap, ◌∙◌, arith, inl, inr, rules}
+use Rattle.std.specs.Prelude.{slice_get, nat_le, nat_lt, map, Some}
 use Rattle.std.specs.List.{prefix_len}
 use Rattle.std.specs.Option.{option_map_or}
 use Rattle.std.proofs.Math.Seq.{drop-cons}
@@ -8,9 +8,9 @@ use Rattle.std.proofs.lemmas.Bool.{both_ways, cases_Bool, cases_order, lt-ltb}
 use Rattle.std.proofs.lemmas.Bool.Decides.{nat_tests}
 use Rattle.std.proofs.lemmas.List.{drop-drop}
 use Rattle.std.proofs.Math.Bool.{and-false}
-use Rattle.louis_table.specs.declared.sign.Sign.TheVariants.{Capital, CapitalWord}
+use Rattle.louis_table.specs.declared.sign.Sign.TheVariants.{Capital}
 use Rattle.louis_table.specs.Meaning.{Meaning, sign_cells}
-use Rattle.louis_translate.specs.Sign.{capital_sign, is_capital, is_capital_at, run_end, run_start, sign_at, takes_one_sign}
+use Rattle.louis_translate.specs.Sign.{capital_sign, is_capital, is_capital_at, run_end, run_start, sign_at}
 
 -- a test at a place of a list
 pub passes-below : {X : Type 0} (p : X → Bool) (xs : List X) (i : ℕ) → option_map_or p (slice_get xs i) false ≡ true → i < length xs
@@ -45,8 +45,7 @@ prefix_len-drop_inside p (x ∷ xs) (suc j) h =
 
 -- a capital stands where a run goes on
 pub is_capital_at-run : (meaning : Meaning) (print : List ℕ) (i : ℕ) → is_capital_at meaning print i ≡ nat_lt i (run_end meaning print i)
-is_capital_at-run meaning print i =
-    passes_at (is_capital meaning) print i ∙ grind (arith, nat_tests)
+is_capital_at-run meaning print i = search (rules, passes_at, nat_tests)
 
 -- each place of a run has its end
 pub run_end-inside : (meaning : Meaning) (print : List ℕ) (i k : ℕ) → i ≤ k → k < run_end meaning print i → run_end meaning print k ≡ run_end meaning print i
@@ -72,29 +71,14 @@ sign_at-same meaning table print p i k e f h = rw (e, f, h) refl
 -- characters that a folded print has from a place on begin with the character there
 pub first_folded : (fold : ℕ → ℕ) (print : List ℕ) (i : ℕ) (chars : List ℕ) → i < length print → map fold (take (length chars) (drop i print)) ≡ chars → 0 < length chars → slice_get chars 0 ≡ Some (fold (get_or print i 0))
 first_folded fold print i [] lt e h = absurd (omega arith)
-first_folded fold print i (c ∷ chars) lt e h =
-    let there : fold (get_or print i 0) ∷ map fold (take (length chars) (drop (suc i) print)) ≡ c ∷ chars = rw (drop-cons print i 0) at e in
-    cc
+first_folded fold print i (c ∷ chars) lt e h = search (rules, drop-cons)
 
 -- ---- a capital alone
 
 -- if no capital stands before and none after, the run is no longer than its place
 pub run_end-alone : (meaning : Meaning) (print : List ℕ) (i : ℕ) → is_capital_at meaning print (i + 1) ≡ false → run_end meaning print i ≤ i + 1
-run_end-alone meaning print i off = elim (cases_order (run_end meaning print i) (i + 1)) [
-  | inl e ↦ omega arith
-  | inr ne ↦ elim ne [
-    | inl less ↦ omega arith
-    | inr more ↦
-        let same = run_end-inside meaning print i (i + 1) (omega arith) more in
-        absurd (both_ways _ off (is_capital_at-run meaning print (i + 1) ∙ lt-ltb (i + 1) (run_end meaning print (i + 1)) (omega arith)))
-  ]
-]
+run_end-alone meaning print i off = search (rules, cases_order, run_end-inside, both_ways, is_capital_at-run, lt-ltb)
 
 pub capital_sign-alone : (meaning : Meaning) (print : List ℕ) (i : ℕ) → (run_start meaning print i < i → ⊥) → is_capital_at meaning print (i + 1) ≡ false
     → capital_sign meaning print i ≡ sign_cells meaning Capital
-capital_sign-alone meaning print i first off =
-    let end = run_end-alone meaning print i off in
-    let short : nat_le (run_start meaning print i + 2) (run_end meaning print i) ≡ false = grind (arith, nat_tests) in
-    let some = nat_lt 0 (length (sign_cells meaning CapitalWord)) in
-    let none : (some && takes_one_sign meaning print i) ≡ false = rw short (and-false some) in
-    rw none refl
+capital_sign-alone meaning print i first off = search (rules, run_end-alone, nat_le, nat_tests, nat_lt, and-false)

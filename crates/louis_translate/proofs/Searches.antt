@@ -1,5 +1,5 @@
 -- A walk along the print, down a tree of the rules' characters.
-use Rattle.std.proofs.Common.{◌≡◌, ℕ, zero, suc, ◌+◌, ◌<◌, ◌≤◌, ◌-◌, List, [], ◌∷◌, length, take, drop, map, Option, Some, None, refl, sym, ap, subst, ◌∙◌, arith, inl, inr}
+use Rattle.std.proofs.Common.{◌≡◌, ℕ, zero, suc, ◌+◌, ◌<◌, ◌≤◌, ◌-◌, List, [], ◌∷◌, length, take, drop, map, Option, Some, None, refl, sym, ap, subst, ◌∙◌, arith, inl, inr, rules}
 use Rattle.std.specs.Prelude.{slice_get, IsSomeAnd, option_map}
 use Rattle.std.specs.Option.{option_map_or, option_and_then}
 use Rattle.std.proofs.lemmas.Bool.{cases_order}
@@ -55,11 +55,7 @@ has_within rules j cs h = let p = has_rule rules j cs h in slice_get_within rule
 dead_end : (tree : RuleTree) (text : List ℕ) (n m : ℕ) (from place p : Option ℕ) → LeadTo tree from (take n text) place → LeadTo tree from (take m text) p → n < m → m ≤ length text → option_and_then (leads tree place) (slice_get text n) ≡ None → ⊥
 dead_end tree [] n m from place p a b more le none = absurd (omega arith)
 dead_end tree (c ∷ text) n zero from place p a b more le none = absurd (omega arith)
-dead_end tree (c ∷ text) zero (suc m) from place p a b more le none =
-    let e = b.1 in
-    let f = ap (λ (q : Option ℕ). leads tree q c) a in
-    let g = sym e ∙ (f ∙ none) in
-    absurd cc
+dead_end tree (c ∷ text) zero (suc m) from place p a b more le none = search rules
 dead_end tree (c ∷ text) (suc n) (suc m) from place p a b more le none =
     let e = a.1 in
     let f = b.1 in
@@ -159,14 +155,7 @@ abbrev pub NoneBefore : Meaning → List ℕ → ℕ → List ℕ → ℕ → Ty
 NoneBefore meaning print i here x = (j y : ℕ) → y < x → slice_get here y ≡ Some j → IsCandidate meaning print i (Some j) → ⊥
 
 pub NoneBefore-next : (meaning : Meaning) (print : List ℕ) (i : ℕ) (here : List ℕ) (x k : ℕ) → slice_get here x ≡ Some k → NoneBefore meaning print i here x → (IsCandidate meaning print i (Some k) → ⊥) → NoneBefore meaning print i here (x + 1)
-NoneBefore-next meaning print i here x k there before not j y lt e h =
-    elim (cases_order y x) [
-      | inl same ↦
-          let old : slice_get here x ≡ Some j = ap (slice_get here) (sym same) ∙ e in
-          let is : j ≡ k = cc in
-          not (subst (λ (z : ℕ). IsCandidate meaning print i (Some z)) is h)
-      | inr ne ↦ elim ne [ inl less ↦ before j y less e h | inr gt ↦ absurd (omega arith) ]
-    ]
+NoneBefore-next meaning print i here x k there before not j y lt e h = search rules
 
 pub NoneBefore-all : (meaning : Meaning) (print : List ℕ) (i : ℕ) (here : List ℕ) (x : ℕ) → length here ≤ x → NoneBefore meaning print i here x → IsFirstOf meaning print i here None
 NoneBefore-all meaning print i here x le before j at h = let lt = slice_get_within here at.0 j at.1 in before j at.0 (omega arith) at.1 h

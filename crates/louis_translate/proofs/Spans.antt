@@ -1,9 +1,9 @@
 -- How many characters a chosen rule covers.
-use Rattle.std.proofs.Common.{◌≡◌, ℕ, ◌+◌, ◌<◌, ◌≤◌, List, length, take, drop, Option, Some, None, sym, ap, ◌∙◌, arith, inl, inr}
+use Rattle.std.proofs.Common.{ℕ, ◌+◌, ◌<◌, ◌≤◌, List, length, Option, Some, None, arith, inl, inr, rules}
 use Rattle.std.specs.Prelude.{slice_get, IsSomeAnd}
 use Rattle.std.specs.Option.{option_map_or}
 use Rattle.std.proofs.lemmas.List.{length-map, length-take, length-drop}
-use Rattle.louis_table.specs.Meaning.{Meaning, fold_of}
+use Rattle.louis_table.specs.Meaning.{Meaning}
 use Rattle.louis_table.specs.declared.rule.Rule.{Rule}
 use Rattle.louis_translate.specs.Choice.{Matches, IsCandidate, span, IsChosen}
 
@@ -12,10 +12,7 @@ pub span-positive : (meaning : Meaning) (print : List ℕ) (i : ℕ) (c : Option
 span-positive meaning print i c h = elim (h.first None tt) [ inl p ↦ omega arith | inr p ↦ omega arith ]
 
 Matches-fits : (meaning : Meaning) (print : List ℕ) (i : ℕ) (rule : Rule) → i < length print → Matches meaning print i rule → i + length rule.chars ≤ length print
-Matches-fits meaning print i rule lt m =
-    let same : length (take (length rule.chars) (drop i print)) ≡ length rule.chars =
-    sym (length-map (take (length rule.chars) (drop i print)) (fold_of meaning)) ∙ ap length m.characters in
-    omega (arith, length-take (length rule.chars) (drop i print), length-drop i print)
+Matches-fits meaning print i rule lt m = search (rules, length-map, length-take, length-drop)
 
 -- a choice ends within the print
 pub span-fits : (meaning : Meaning) (print : List ℕ) (i : ℕ) (c : Option ℕ) → i < length print → IsCandidate meaning print i c → i + span meaning c ≤ length print

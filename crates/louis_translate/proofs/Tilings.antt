@@ -1,19 +1,17 @@
 -- Tilings: one for each print.
-use Rattle.std.proofs.Common.{◌≡◌, ℕ, zero, suc, ◌+◌, ◌-◌, ◌<◌, ◌≤◌, ◌⊎◌, List, [], ◌∷◌, ◌++◌, length, take, drop, Option, Some, None, refl, sym, ap, subst, ◌∙◌, arith, inl, inr}
-use Rattle.std.specs.Prelude.{slice_get, map, true, false, ◌&&◌, nat_lt, if◌then◌else◌}
+use Rattle.std.proofs.Common.{◌≡◌, ℕ, zero, suc, ◌+◌, ◌-◌, ◌<◌, ◌≤◌, ◌⊎◌, List, [], ◌∷◌, ◌++◌, length, Option, Some, None, refl, sym, ap, subst, ◌∙◌, arith, inl, inr, rules}
+use Rattle.std.specs.Prelude.{slice_get, true, false, ◌&&◌, nat_lt, if◌then◌else◌}
 use Rattle.std.specs.Bool.{Decides}
 use Rattle.std.specs.List.{list_all, range_with_len}
 use Rattle.std.specs.Option.{option_map_or}
-use Rattle.std.specs.Str.{bytes_eq}
 use Rattle.std.proofs.lemmas.Bool.{cases_order, cases_Bool, both_ways, eqb-true, eq-eqb, ltb-true, lt-ltb}
 use Rattle.std.proofs.lemmas.Bool.Decides.{nat_tests}
 use Rattle.std.proofs.lemmas.Slice.Eq.{bytes_eq-Decides}
 use Rattle.std.proofs.Math.Numerals.{add-one}
 use Rattle.std.proofs.lemmas.List.{nil_from_length}
-use Rattle.louis_table.specs.Meaning.{Meaning, fold_of}
+use Rattle.louis_table.specs.Meaning.{Meaning}
 use Rattle.louis_table.specs.declared.rule.Rule.{Rule}
 use Rattle.louis_translate.specs.declared.choices.Choice.{Choice}
-use Rattle.louis_translate.specs.Position.{fits}
 use Rattle.louis_translate.specs.Sign.{sign_at}
 use Rattle.louis_translate.specs.Choice.{Matches, IsCandidate, span, rank, YieldsTo, IsChosen}
 use Rattle.louis_translate.specs.Left.{has_no_sign, matches, to_beat, goes_before, chosen_of, choice_at, some_from, choices_from}
@@ -31,12 +29,7 @@ same_rank meaning print i (Some a) None h k e = let l = candidate_below meaning 
 same_rank meaning print i (Some a) (Some b) h k e = ap Some e
 
 pub one_chosen : (meaning : Meaning) (print : List ℕ) (i : ℕ) (c d : Option ℕ) → IsChosen meaning print i c → IsChosen meaning print i d → c ≡ d
-one_chosen meaning print i c d h k =
-    same_rank meaning print i c d h.candidate k.candidate
-    (elim (h.first d k.candidate) [
-      | inl p ↦ elim (k.first c h.candidate) [ inl q ↦ absurd (omega arith) | inr q ↦ absurd (omega arith) ]
-      | inr p ↦ elim (k.first c h.candidate) [ inl q ↦ absurd (omega arith) | inr q ↦ omega arith ]
-    ])
+one_chosen meaning print i c d h k = search (rules, same_rank)
 
 pub same_choice : (meaning : Meaning) (print : List ℕ) (i : ℕ) (c d : Choice) → IsChoiceAt meaning print i c → IsChoiceAt meaning print i d → c ≡ d
 same_choice meaning print i c d h k =
@@ -87,20 +80,7 @@ no_signs_decide meaning print i n = (
 
 matches_tells : (meaning : Meaning) (print : List ℕ) (i : ℕ) (rule : Rule)
     → ((matches meaning print i rule ≡ true) × Matches meaning print i rule) ⊎ ((matches meaning print i rule ≡ false) × (Matches meaning print i rule → ⊥))
-matches_tells meaning print i rule =
-    let chars = map (fold_of meaning) (take (length rule.chars) (drop i print)) in
-    let same = bytes_eq-Decides chars rule.chars in
-    let none = no_signs_decide meaning print i (length rule.chars) in
-    elim (cases_Bool (bytes_eq chars rule.chars)) [
-      | inr other ↦ inr (rw other refl, λ m. both_ways _ other (same.1 m.characters))
-      | inl is ↦ elim (cases_Bool (fits meaning print rule.kind i (i + length rule.chars))) [
-        | inr not ↦ inr (rw (is, not) refl, λ m. both_ways _ not m.position)
-        | inl holds ↦ elim (cases_Bool (list_all (has_no_sign meaning print) (range_with_len (i + 1) (length rule.chars - 1)))) [
-          | inr signed ↦ inr (rw (is, holds, signed) refl, λ m. both_ways _ signed (none.1 m.no_sign_inside))
-          | inl free ↦ inl (rw (is, holds, free) refl, record { characters = same.0 is; position = holds; no_sign_inside = none.0 free })
-        ]
-      ]
-    ]
+matches_tells meaning print i rule = search (rules, bytes_eq-Decides, no_signs_decide, cases_Bool, both_ways)
 
 at_place : (rs : List Rule) (k : ℕ) → k < length rs → (r : Rule) × (slice_get rs k ≡ Some r)
 at_place [] k h = absurd (omega arith)
@@ -108,10 +88,7 @@ at_place (r ∷ rs) zero h = (r, refl)
 at_place (r ∷ rs) (suc k) h = at_place rs k (omega arith)
 
 not_less : (a b : ℕ) → nat_lt a b ≡ false → b ≤ a
-not_less a b fails = elim (cases_order a b) [
-  | inl e ↦ omega arith
-  | inr ne ↦ elim ne [ inl less ↦ absurd (both_ways _ fails (lt-ltb a b less)) | inr gt ↦ omega arith ]
-]
+not_less a b fails = search rules
 
 module _ (meaning : Meaning) (print : List ℕ) (i : ℕ) where
   -- what was found, after one more rule

@@ -1,11 +1,12 @@
 -- A tree of the rules' characters, as rules come.
-use Rattle.std.proofs.Common.{◌≡◌, ◌≢◌, ℕ, zero, suc, ◌+◌, ◌<◌, ◌≤◌, ◌⊎◌, List, [], ◌∷◌, ◌++◌, length, take, eqb, Option, Some, None, refl, sym, ap, subst, ◌∙◌, arith, inl, inr, eq-eqb, add-one, get_or, drop, ◌-◌}
+use Rattle.std.proofs.Common.{◌≡◌, ◌≢◌, ℕ, zero, suc, ◌+◌, ◌<◌, ◌≤◌, ◌⊎◌, List, [], ◌∷◌, ◌++◌, length, take, eqb, Option, Some, None, refl, sym, ap, subst, ◌∙◌, arith, inl, inr, eq-eqb, add-one, get_or, drop, ◌-◌, rules}
 use Rattle.std.specs.Prelude.{slice_get, nat_eq, if◌then◌else◌, IsSomeAnd}
 use Rattle.std.specs.Map.{lookup}
-use Rattle.std.proofs.lemmas.Bool.{cases_Bool, cases_order, eqb-true}
+use Rattle.std.proofs.lemmas.Bool.{cases_Bool, cases_order}
 use Rattle.std.proofs.lemmas.Grind.{get_or_after_one}
 use Rattle.std.proofs.lemmas.List.{append-nil, append_assoc, take_rest}
 use Rattle.std.proofs.lemmas.Option.{slice_get_read, slice_get_within}
+use Rattle.std.proofs.lemmas.Grind.{common_steps}
 use Rattle.louis_table.specs.declared.rule.Rule.{Rule}
 use Rattle.louis_translate.specs.declared.rule_tree.Node.{Node}
 use Rattle.louis_translate.specs.declared.rule_tree.RuleTree.{RuleTree}
@@ -30,11 +31,7 @@ lookup_new (e ∷ es) c n h =
     ]
 
 lookup_either : (es : List (ℕ × ℕ)) (k v c n : ℕ) → lookup (nat_eq c) (es ++ (k, v) ∷ []) ≡ Some n → (lookup (nat_eq c) es ≡ Some n) ⊎ ((c ≡ k) × (n ≡ v))
-lookup_either [] k v c n h =
-    elim (cases_Bool (eqb c k)) [
-      | inl t ↦ let g = rw t at h in inr (eqb-true c k t, cc)
-      | inr f ↦ let g = rw f at h in absurd cc
-    ]
+lookup_either [] k v c n h = search rules
 lookup_either (e ∷ es) k v c n h =
     elim (cases_Bool (eqb c e.0)) [
       | inl t ↦ inl (rw t (rw t at h))
@@ -107,9 +104,7 @@ ways_same tree (c ∷ cs) from a b h k =
 
 pub way_next : (tree : RuleTree) (text : List ℕ) (n : ℕ) (from p : Option ℕ) (c x : ℕ) → LeadTo tree from (take n text) p → slice_get text n ≡ Some c → leads tree p c ≡ Some x → LeadTo tree from (take (suc n) text) (Some x)
 way_next tree [] n from p c x way here h = absurd cc
-way_next tree (t ∷ text) zero from p c x way here h =
-    let is : t ≡ c = cc in
-    (x, subst (λ (q : Option ℕ). leads tree q t ≡ Some x) (sym way) (subst (λ (d : ℕ). leads tree p d ≡ Some x) (sym is) h), refl)
+way_next tree (t ∷ text) zero from p c x way here h = search rules
 way_next tree (t ∷ text) (suc n) from p c x way here h = (way.0, way.1, way_next tree text n (Some way.0) p c x way.2 here h)
 
 ways_stay : (tree more : RuleTree) → ((f : Option ℕ) (d m : ℕ) → leads tree f d ≡ Some m → leads more f d ≡ Some m) → (cs : List ℕ) (from to : Option ℕ) → LeadTo tree from cs to → LeadTo more from cs to
@@ -214,11 +209,7 @@ with_text-here text new cs = rw (eq-eqb new new refl) refl
 
 with_text-other : (text : Option ℕ → List ℕ) (new : ℕ) (cs : List ℕ) (p : Option ℕ) → p ≢ Some new → with_text text new cs p ≡ text p
 with_text-other text new cs None ne = refl
-with_text-other text new cs (Some m) ne =
-    elim (cases_Bool (eqb m new)) [
-      | inl t ↦ absurd (ne (ap Some (eqb-true m new t)))
-      | inr f ↦ rw f refl
-    ]
+with_text-other text new cs (Some m) ne = search rules
 
 place_not : (tree : RuleTree) (from : Option ℕ) (n : ℕ) → IsPlace tree from → length tree.nodes.items ≤ n → from ≢ Some n
 place_not tree None n h le = λ e. absurd cc
@@ -440,6 +431,4 @@ first_there text c some e = slice_get_read text (length text) 0 c refl some e
 
 -- a character after the first one
 pub later_there : (text : List ℕ) (x c : ℕ) → x + 1 < length text → c ≡ get_or (take (length text - 1) (drop 1 text)) x c → slice_get text (x + 1) ≡ Some c
-later_there text x c lt e =
-    slice_get_read text (length text) (x + 1) c refl lt
-    (e ∙ (ap (λ (xs : List ℕ). get_or xs x c) (take_rest text 1) ∙ (get_or_after_one text x c ∙ ap (λ (k : ℕ). get_or text k c) (omega arith))))
+later_there text x c lt e = grind (arith, common_steps, slice_get_read, take_rest, get_or_after_one)

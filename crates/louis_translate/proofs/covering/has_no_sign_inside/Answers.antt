@@ -1,6 +1,6 @@
 use Rattle.std.proofs.Common.{◌≡◌, ℕ, ◌+◌, ◌<◌, List, [], length, true, refl, ap, sym, ◌∙◌, arith, inl, inr}
 use Rattle.std.specs.Prelude.{◌==◌}
-use Rattle.std.proofs.lemmas.Bool.{both_ways, cases_order}
+use Rattle.std.proofs.lemmas.Bool.{cases_order}
 use Rattle.std.proofs.lemmas.Bool.Decides.{nat_tests}
 use Rattle.std.proofs.lemmas.List.{nil_from_length}
 use Rattle.std.proofs.lemmas.Option.{slice_get_read}
@@ -20,15 +20,6 @@ further meaning print start place before here k more less =
 
 is_nil : (xs : List ℕ) → (length xs == 0) ≡ true → xs ≡ []
 is_nil xs e = nil_from_length xs (grind (arith, nat_tests))
-
-pub returns-then-not-is_empty : goal.returns-then-not-is_empty
-returns-then-not-is_empty c =
-    let inv = c.loop-place.invariant in
-    let place = c.loop-place.place in
-    let same = c.at.ensures.sign ∙ sign_at-same c.args.table.now _ c.args.print.now _ place _ (sym inv.table_is) (sym inv.print_is) refl in (
-      λ e. absurd cc,
-      λ all. absurd (both_ways _ c.if-not-is_empty.true (c.is_empty.ensures ∙ ap (λ (xs : List ℕ). length xs == 0) (same ∙ all place (omega arith) (omega arith)))),
-    )
 
 pub loop-place-preserved-then-never_has_sign : goal.loop-place-preserved-then-never_has_sign
 loop-place-preserved-then-never_has_sign c =

@@ -1,4 +1,4 @@
-use Rattle.std.proofs.Common.{◌<◌, ◌∙◌, ap, length, refl, inl, inr, arith}
+use Rattle.std.proofs.Common.{◌<◌, ◌∙◌, ap, length, refl, inl, inr, arith, rules}
 use Rattle.std.proofs.lemmas.Bool.{MatchBool-at_true, MatchBool-at_false}
 use Rattle.std.proofs.lemmas.Option.{slice_get_read}
 use Rattle.louis_translate.proofs.Best.{BestBelow-longer, BestBelow-first, BestBelow-pass, YieldsTo-shorter, YieldsTo-empty, YieldsTo-later}
@@ -35,13 +35,4 @@ loop-index-preserved c =
     ]
 
 pub loop-index-preserved-then-not-matches : goal.loop-index-preserved-then-not-matches
-loop-index-preserved-then-not-matches c =
-    let meaning = c.args.table.now in
-    let print = c.args.print.now in
-    let k = c.loop-index.index in
-    let rule = c.rule-item.result in
-    let lt : k < length meaning.rules = rw c.rules-rule-items.ensures at c.loop-index-test.true in
-    let there = slice_get_read meaning.rules (length meaning.rules) k rule refl lt (rw c.rules-rule-items.ensures at c.rule-item.is) in
-    let b = c.loop-index.invariant in
-    BestBelow-pass meaning print c.args.at k c.loop-index.found c.loop-index.most rule there lt b
-    (λ m. YieldsTo-empty meaning print c.args.at k c.loop-index.found c.loop-index.most rule there lt b (c.if-not-matches.ensures.no m))
+loop-index-preserved-then-not-matches c = search (rules, slice_get_read, BestBelow-pass, YieldsTo-empty)

@@ -1,10 +1,9 @@
-use Rattle.std.proofs.Common.{sym, ◌∙◌}
+use Rattle.std.proofs.Common.{sym, ◌∙◌, rules}
 use Rattle.louis_translate.proofs.Numbers.{ends_number-here, ends_number-never}
 use Rattle.louis_translate.proofs.sign.ends_number.Goals as goal
 
 pub returns-then-not-follows : goal.returns-then-not-follows
-returns-then-not-follows c =
-    sym (ends_number-never c.args.table.now c.args.print.now c.args.place c.requires.place c.requires.digit (sym c.requires.follows ∙ c.if-not-follows.true))
+returns-then-not-follows c = search (rules, ends_number-never)
 
 pub returns : goal.returns
 returns c =

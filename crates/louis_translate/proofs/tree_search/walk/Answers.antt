@@ -1,17 +1,13 @@
-use Rattle.std.proofs.Common.{◌≡◌, ◌+◌, ◌-◌, ℕ, subst, arith, sym, ◌∙◌}
+use Rattle.std.proofs.Common.{◌≡◌, ◌+◌, ◌-◌, ℕ, subst, arith, sym, ◌∙◌, rules}
 use Rattle.louis_translate.specs.Search.{IsBestBelow}
 use Rattle.louis_translate.proofs.Searches.{AreThose-on_way, IsOnWay-next, chosen_at_end, node_within}
 use Rattle.louis_translate.proofs.tree_search.walk.Goals as goal
 
 pub better_of-found-requires-clause-rules : goal.better_of-found-requires-clause-rules
-better_of-found-requires-clause-rules c =
-    rw c.rules_at.ensures
-    (AreThose-on_way c.args.index.now c.args.print.now c.args.at c.requires.whole c.loop-end.end c.loop-end.node c.loop-end.invariant.way)
+better_of-found-requires-clause-rules c = search (rules, AreThose-on_way)
 
 pub returns-in_default : goal.returns-in_default
-returns-in_default c =
-    chosen_at_end c.args.index.now c.args.print.now c.args.at c.requires.whole c.loop-end.end c.loop-end.node c.better_of-found.result
-    c.loop-end.invariant.way c.better_of-found.ensures (sym c.next.ensures ∙ c.in_default.is)
+returns-in_default c = search (rules, chosen_at_end)
 
 pub loop-end-preserved : goal.loop-end-preserved
 loop-end-preserved c =

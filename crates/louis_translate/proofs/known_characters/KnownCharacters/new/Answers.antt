@@ -1,3 +1,4 @@
+use Rattle.std.proofs.Common.{rules}
 use Rattle.louis_translate.proofs.KnownCharacters.{AreKnown-none, AreKnown-set}
 use Rattle.louis_translate.proofs.known_characters.KnownCharacters.new.Goals as goal
 
@@ -5,5 +6,4 @@ pub loop-code-init : goal.loop-code-init
 loop-code-init c = AreKnown-none c.args.table.now 256
 
 pub loop-code-preserved : goal.loop-code-preserved
-loop-code-preserved c =
-    AreKnown-set c.args.table.now c.loop-code.known c.loop-code.code c.defines.result c.loop-code.invariant c.defines.ensures
+loop-code-preserved c = search (rules, AreKnown-set)

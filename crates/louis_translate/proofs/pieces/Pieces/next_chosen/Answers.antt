@@ -1,14 +1,12 @@
-use Rattle.std.proofs.Common.{◌≡◌, ◌<◌, ℕ, List, ◌∷◌, length, get_or, Option, refl, sym, ap, subst, ◌∙◌, arith}
+use Rattle.std.proofs.Common.{◌≡◌, ◌<◌, ℕ, List, ◌∷◌, length, get_or, Option, refl, sym, ap, ◌∙◌, arith, rules}
 use Rattle.std.specs.Prelude.{map, option_map}
-use Rattle.std.specs.Option.{option_and_then}
 use Rattle.std.proofs.lemmas.Option.{slice_get-get_or}
 use Rattle.louis_table.specs.declared.definition.Definition.{Definition}
 use Rattle.louis_table.specs.Meaning.{Meaning, definition_of}
-use Rattle.louis_translate.specs.Position.{class_at, class_of}
+use Rattle.louis_translate.specs.Position.{class_at}
 use Rattle.louis_translate.specs.Braille.{chosen_cells, own_cells}
 use Rattle.louis_translate.specs.Items.{PieceItem, made_by}
 use Rattle.louis_translate.specs.Left.{choices_from}
-use Rattle.louis_translate.specs.Piece.{IsFree}
 use Rattle.louis_translate.proofs.LonePieces.{made_is, no_sign, own, own_or_lone}
 use Rattle.louis_translate.proofs.Runs.{sign_at-same}
 use Rattle.louis_translate.proofs.Tilings.{choices_from-next}
@@ -18,49 +16,19 @@ use Rattle.louis_translate.proofs.pieces.Pieces.next_chosen.Goals as goal
 
 class_is : (meaning table : Meaning) (print p : List ℕ) (i : ℕ) (d : Option Definition) → meaning ≡ table → print ≡ p → i < length print → d ≡ definition_of table (get_or p i 0)
     → option_map (λ (x : Definition). x.class) d ≡ class_at meaning print i
-class_is meaning table print p i d e f lt is =
-    let here : d ≡ definition_of meaning (get_or print i 0) = rw (e, f) is in
-    ap (option_map (λ (x : Definition). x.class)) here ∙ sym (ap (option_and_then (class_of meaning)) (slice_get-get_or print i 0 lt))
+class_is meaning table print p i d e f lt is = search (rules, option_map, slice_get-get_or)
 
 own_is : (meaning table : Meaning) (print : List ℕ) (i : ℕ) (rule : Option ℕ) (d : Option Definition) → meaning ≡ table → i < length print → d ≡ definition_of table (get_or print i 0)
     → own_cells table d rule ≡ chosen_cells meaning print i rule
-own_is meaning table print i rule d e lt is =
-    let here : d ≡ definition_of meaning (get_or print i 0) = rw e is in
-    ap (λ (m : Meaning). own_cells m d rule) (sym e)
-    ∙ ap (λ (x : Option Definition). own_cells meaning x rule) (here ∙ sym (ap (option_and_then (definition_of meaning)) (slice_get-get_or print i 0 lt)))
+own_is meaning table print i rule d e lt is = search (rules, slice_get-get_or)
 
 -- ---- the answers
 
 pub at_class-requires-clause-class : goal.at_class-requires-clause-class
-at_class-requires-clause-class g c =
-    let inv = c.self.invariant in
-    let choice = c.choose-choice.result in
-    let start = c.choose-choice.ensures.choice.start in
-    let within = c.choose-choice.ensures.within in
-    let some = c.choose-choice.ensures.some in
-    let lt : choice.start < length c.self.inside.signs.print.now = omega (arith, start, within, some, ap length inv.4) in
-    c.class_of.ensures
-    ∙ class_is c.self.inside.signs.table.now _ c.self.inside.signs.print.now _ choice.start _ (inv.3 ∙ sym c.table-table.ensures) inv.4 lt c.definition-definition.ensures
+at_class-requires-clause-class g c = search (rules, class_is)
 
 pub returns-in-Some : goal.returns-in-Some
-returns-in-Some g c =
-    let meaning = g.B.RuleBook.meaning c.self.inside.book.now in
-    let print = c.self.inside.print.now in
-    let inv = c.self.invariant in
-    let choice = c.choose-choice.result in
-    let start = c.choose-choice.ensures.choice.start in
-    let ends = c.choose-choice.ensures.within in
-    let some = c.choose-choice.ensures.some in
-    let at : c.self.inside.at < length print = omega arith in
-    let lt : choice.start < length print = omega arith in
-    let cell = c.in-Some.cell.now in
-    let lone = c.in-Some.ensures in
-    let there = slice_get-get_or print choice.start 0 lt in
-    let free = subst (IsFree meaning print) (sym start) (inv.2 lone.0) in
-    let step = choices_from-next meaning print c.self.inside.at choice at c.choose-choice.ensures.choice in
-    let sign = sym (no_sign meaning print choice.start _ cell there lone.1 free) in
-    let own = own_or_lone meaning _ print choice.start cell choice.rule _ c.table-table.ensures (own meaning print choice.start _ cell there lone.1) c.own_or_lone.ensures in
-    rw (← c.self.view_is) (ap (map (made_by meaning print)) step ∙ ap (λ (m : PieceItem). m ∷ map (made_by meaning print) (choices_from meaning print choice.end)) (made_is meaning print choice _ _ sign own))
+returns-in-Some g c = search (rules, slice_get-get_or, choices_from-next, no_sign, own, own_or_lone, made_is)
 
 pub returns : goal.returns
 returns g c =

@@ -1,4 +1,4 @@
-use Rattle.std.proofs.Common.{◌≡◌, ℕ, ◌+◌, List, length, take, Some, None, refl, sym, ap, subst, ◌∙◌, arith}
+use Rattle.std.proofs.Common.{◌≡◌, ℕ, ◌+◌, List, length, take, Some, None, refl, sym, ap, subst, ◌∙◌, arith, rules}
 use Rattle.std.proofs.lemmas.Option.{slice_get_read}
 use Rattle.std.proofs.lemmas.List.{take_all}
 use Rattle.std.specs.Prelude.{slice_get}
@@ -24,9 +24,6 @@ loop-character-init c =
       within = tree.nodes None _ _ from.leads_to;
     }
 
-pub enter_child-requires : goal.enter_child-requires
-enter_child-requires c = c.loop-character.invariant.within
-
 pub loop-character-preserved : goal.loop-character-preserved
 loop-character-preserved c =
     let rules = c.args.rules.now in
@@ -47,9 +44,6 @@ loop-character-preserved c =
       within = tree.nodes (Some c.loop-character.node) _ _ from.leads_to;
     }
 
-pub put_rule-requires : goal.put_rule-requires
-put_rule-requires c = c.loop-character.invariant.within
-
 pub returns : goal.returns
 returns c =
     let rules = c.args.rules.now in
@@ -64,14 +58,4 @@ returns c =
     c.in_ok-put_rule.ensures refl there (subst (λ (cs : List ℕ). LeadTo c.loop-character.self None cs (Some c.loop-character.node)) whole (inv.way rule there))
 
 pub returns-in_default : goal.returns-in_default
-returns-in_default c =
-    let rules = c.args.rules.now in
-    let k = c.args.index in
-    let there = slice_get_read rules (length rules) k c.index-rules-index.result refl c.requires.within c.index-rules-index.is in
-    IsTree-empty rules k c.args.self.now c.requires.tree
-    (λ rule is.
-    let same : c.index-rules-index.result ≡ rule = cc in
-    let chars : c.as_slice.result.now ≡ rule.chars = c.as_slice.ensures ∙ ap (λ (r : Rule). r.chars) (sym c.index-rules-index.is ∙ same) in
-    let len = ap (length {A = ℕ}) chars in
-    let below = c.in_default.len_below in
-    omega arith)
+returns-in_default c = search (rules, slice_get_read, IsTree-empty)
