@@ -1,9 +1,8 @@
 -- The characters of cells in UTF-8.
-use Rattle.std.proofs.Common.{◌≡◌, ℕ, ◌+◌, ◌/◌, ◌%◌, ◌<◌, true, false, ltb, List, [], ◌∷◌, ◌++◌, ap, ◌∙◌, arith}
+use Rattle.std.proofs.Common.{◌≡◌, ℕ, ◌+◌, ◌/◌, ◌%◌, ◌<◌, List, [], ◌∷◌, ◌++◌, ap, ◌∙◌, rules}
 use Rattle.std.specs.Char.{encode_utf8}
 use Rattle.std.specs.Prelude.{map}
 use Rattle.std.specs.Str.{encode_utf8_all}
-use Rattle.std.proofs.lemmas.Bool.{lt-ltb, le-ltb}
 use Rattle.std.proofs.lemmas.List.{map-append}
 use Rattle.std.proofs.lemmas.Str.{encodes-append}
 use Rattle.desk_ends.specs.Cells.{text_of}
@@ -11,14 +10,7 @@ use Rattle.cell_core.specs.Cell.{braille_character}
 
 pub encode-braille_character : (mask : ℕ) → mask < 256 → encode_utf8 (braille_character mask) ≡ 226 ∷ (160 + mask / 64) ∷ (128 + mask % 64) ∷ []
 unfolding encode_utf8
-encode-braille_character mask small =
-    let one : ltb (10240 + mask) 128 ≡ false = le-ltb _ _ (omega arith) in
-    let two : ltb (10240 + mask) 2048 ≡ false = le-ltb _ _ (omega arith) in
-    let three : ltb (10240 + mask) 65536 ≡ true = lt-ltb _ _ (omega arith) in
-    let lead : 224 + (10240 + mask) / 4096 ≡ 226 = omega arith in
-    let middle : 128 + ((10240 + mask) / 64) % 64 ≡ 160 + mask / 64 = omega arith in
-    let last : 128 + (10240 + mask) % 64 ≡ 128 + mask % 64 = omega arith in
-    rw (one, two, three, lead, middle, last)
+encode-braille_character mask small = search rules
 
 pub text_of-append : (xs ys : List ℕ) → text_of (xs ++ ys) ≡ text_of xs ++ text_of ys
 text_of-append xs ys = ap encode_utf8_all (map-append braille_character xs ys) ∙ encodes-append (map braille_character xs) (map braille_character ys)

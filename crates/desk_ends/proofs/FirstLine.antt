@@ -1,5 +1,5 @@
 -- The first line of bytes, and what follows it.
-use Rattle.std.proofs.Common.{◌≡◌, ◌≢◌, ℕ, ◌+◌, Bool, eqb, List, [], ◌∷◌, ◌++◌, length, take, drop, refl, sym, ap, ◌∙◌, arith}
+use Rattle.std.proofs.Common.{◌≡◌, ◌≢◌, ℕ, ◌+◌, Bool, eqb, List, [], ◌∷◌, ◌++◌, length, take, drop, refl, sym, ap, ◌∙◌, arith, rules}
 use Rattle.std.specs.Prelude.{EachIndex, slice_index}
 use Rattle.std.specs.List.{after_first, before_first, position_or_len}
 use Rattle.std.proofs.Math.ListN.{drop_of_length-le}
@@ -22,22 +22,18 @@ place-none (b ∷ bytes) none = let h = place-none bytes none.1 in rw none.0 (om
 -- ---- bytes with a line feed
 
 pub before-fed : (front rest : List ℕ) → HasNoFeed front → before_first (λ b. eqb b 10) (front ++ 10 ∷ rest) ≡ front
-before-fed front rest none =
-    ap (λ (n : ℕ). take n (front ++ 10 ∷ rest)) (place-fed front rest none) ∙ take-append_seam front (10 ∷ rest)
+before-fed front rest none = search (rules, place-fed, take-append_seam)
 
 pub after-fed : (front rest : List ℕ) → HasNoFeed front → after_first (λ b. eqb b 10) (front ++ 10 ∷ rest) ≡ rest
-after-fed front rest none =
-    ap (λ (n : ℕ). drop (n + 1) (front ++ 10 ∷ rest)) (place-fed front rest none) ∙ drop-append-add front (10 ∷ rest) 1
+after-fed front rest none = search (rules, place-fed, drop-append-add)
 
 -- ---- bytes without one
 
 pub before-none : (bytes : List ℕ) → HasNoFeed bytes → before_first (λ b. eqb b 10) bytes ≡ bytes
-before-none bytes none =
-    ap (λ (n : ℕ). take n bytes) (place-none bytes none) ∙ take_all (length bytes) bytes (omega arith)
+before-none bytes none = search (rules, place-none, take_all)
 
 pub after-none : (bytes : List ℕ) → HasNoFeed bytes → after_first (λ b. eqb b 10) bytes ≡ []
-after-none bytes none =
-    ap (λ (n : ℕ). drop (n + 1) bytes) (place-none bytes none) ∙ drop_of_length-le bytes (omega arith)
+after-none bytes none = search (rules, place-none, drop_of_length-le)
 
 -- ---- the place of the first one
 

@@ -1,5 +1,5 @@
 -- Lines that are ended by line feeds, counted by them.
-use Rattle.std.proofs.Common.{◌≡◌, ◌≢◌, ◌⊎◌, ℕ, zero, suc, ◌+◌, ◌<◌, ◌≤◌, Bool, true, false, cond, eqb, List, [], ◌∷◌, ◌++◌, length, refl, sym, ap, ◌∙◌, inl, inr, arith}
+use Rattle.std.proofs.Common.{◌≡◌, ◌≢◌, ◌⊎◌, ℕ, zero, suc, ◌+◌, ◌<◌, ◌≤◌, Bool, true, false, cond, eqb, List, [], ◌∷◌, ◌++◌, length, refl, sym, ap, ◌∙◌, inl, inr, arith, rules}
 use Rattle.std.specs.List.{onto_first}
 use Rattle.std.specs.Io.BufRead.{strip_last}
 use Rattle.std.proofs.lemmas.Bool.{cases_Bool, eqb-true}
@@ -23,21 +23,11 @@ onto-few b n (part ∷ parts) few = few
 
 pieces-fed : (front : List ℕ) → length (pieces_of (fed front)) ≡ feeds (fed front)
 pieces-fed [] = refl
-pieces-fed (b ∷ front) =
-    let h = pieces-fed front in
-    elim (cases_Bool (eqb b 10)) [
-      | inl e ↦ rw e (ap suc h)
-      | inr e ↦ rw e (onto-length b (pieces_of (fed front)) (pieces-some front) ∙ h)
-    ]
+pieces-fed (b ∷ front) = search (rules, cases_Bool, onto-length, fed, pieces-some, (pieces-fed front))
 
 pieces-few : (bytes : List ℕ) → length (pieces_of bytes) ≤ suc (feeds bytes)
 pieces-few [] = omega arith
-pieces-few (b ∷ bytes) =
-    let h = pieces-few bytes in
-    elim (cases_Bool (eqb b 10)) [
-      | inl e ↦ rw e (omega arith)
-      | inr e ↦ rw e (onto-few b (feeds bytes) (pieces_of bytes) h)
-    ]
+pieces-few (b ∷ bytes) = search (rules, cases_Bool, onto-few, (pieces-few bytes))
 
 -- bytes that end in a line feed are as many lines as they have line feeds
 pub lines-fed : (front : List ℕ) → length (lines_of (fed front)) ≡ feeds (fed front)
@@ -54,9 +44,7 @@ no-lines (b ∷ bytes) e = absurd (let h = ap length (lines_of-split (b ∷ byte
 
 pub feeds-append : (these those : List ℕ) → feeds (these ++ those) ≡ feeds these + feeds those
 feeds-append [] those = omega arith
-feeds-append (b ∷ these) those =
-    let h = feeds-append these those in
-    elim (cases_Bool (eqb b 10)) [ inl e ↦ rw e (omega arith) | inr e ↦ rw e h ]
+feeds-append (b ∷ these) those = search (rules, cases_Bool, (feeds-append these those))
 
 pub feeds-some : (front : List ℕ) → 0 < feeds (fed front)
 feeds-some front = let h = feeds-append front (10 ∷ []) in omega arith
@@ -67,10 +55,7 @@ no-feeds (b ∷ bytes) none = rw none.0 (no-feeds bytes none.1)
 
 -- a line with its line feed has no other
 pub fed-feeds : (bytes : List ℕ) → IsFed bytes → feeds bytes ≡ 1
-fed-feeds bytes (front, is, none) =
-    let h = feeds-append front (10 ∷ []) in
-    let n = no-feeds front none in
-    ap feeds is ∙ omega arith
+fed-feeds bytes (front, is, none) = search (rules, feeds-append, no-feeds)
 
 feed-first : (b : ℕ) (bytes : List ℕ) → b ≡ 10 → feeds (b ∷ bytes) ≡ suc (feeds bytes)
 feed-first b bytes e = rw e refl
@@ -83,10 +68,8 @@ one-less false x y e = e
 pub same-front : (this that later other : List ℕ) → fed this ++ later ≡ fed that ++ other → feeds (fed this) ≡ feeds (fed that)
     → (fed this ≡ fed that) × (later ≡ other)
 same-front [] [] later other e n = (refl, cc)
-same-front [] (b ∷ that) later other e n =
-    absurd (let first : b ≡ 10 = cc in let h = feed-first b (fed that) first in let some = feeds-some that in omega arith)
-same-front (b ∷ this) [] later other e n =
-    absurd (let first : b ≡ 10 = cc in let h = feed-first b (fed this) first in let some = feeds-some this in omega arith)
+same-front [] (b ∷ that) later other e n = search (rules, feed-first, fed, feeds-some)
+same-front (b ∷ this) [] later other e n = search (rules, feed-first, fed, feeds-some)
 same-front (b ∷ this) (c ∷ that) later other e n =
     let first : b ≡ c = cc in
     let less = one-less (eqb b 10) (feeds (fed this)) (feeds (fed that)) (n ∙ ap (λ (x : ℕ). feeds (x ∷ fed that)) (sym first)) in

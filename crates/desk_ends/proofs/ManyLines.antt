@@ -1,5 +1,5 @@
 -- Lines that are ended by line feeds, and what stands after them.
-use Rattle.std.proofs.Common.{◌≡◌, ◌≢◌, ℕ, eqb, List, [], ◌∷◌, ◌++◌, refl, ap, ◌∙◌, inl, inr}
+use Rattle.std.proofs.Common.{◌≡◌, ◌≢◌, ℕ, List, [], ◌∷◌, ◌++◌, refl, ap, ◌∙◌, rules}
 use Rattle.std.specs.Prelude.{map}
 use Rattle.std.specs.List.{onto_first}
 use Rattle.std.specs.Io.BufRead.{strip_last}
@@ -25,12 +25,7 @@ onto-after b (part ∷ parts) others some = refl
 
 pieces-after : (front later : List ℕ) → pieces_of (fed front ++ later) ≡ pieces_of (fed front) ++ pieces_of later
 pieces-after [] later = refl
-pieces-after (b ∷ front) later =
-    let h = pieces-after front later in
-    elim (cases_Bool (eqb b 10)) [
-      | inl e ↦ rw e (ap (λ (parts : List (List ℕ)). [] ∷ parts) h)
-      | inr e ↦ rw e (ap (onto_first b) h ∙ onto-after b (pieces_of (fed front)) (pieces_of later) (pieces-some front))
-    ]
+pieces-after (b ∷ front) later = search (rules, cases_Bool, onto-after, pieces-some, (pieces-after front later))
 
 -- the lines of what stands after them come after theirs
 pub lines-then : (front later : List ℕ) → lines_of (fed front ++ later) ≡ lines_of (fed front) ++ lines_of later

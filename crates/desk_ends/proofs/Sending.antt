@@ -1,5 +1,5 @@
 -- What several sends do, one after another.
-use Rattle.std.proofs.Common.{◌≡◌, ℕ, Bool, true, false, List, [], ◌++◌, Option, refl, sym, ap, subst, ◌∙◌, append_assoc}
+use Rattle.std.proofs.Common.{◌≡◌, ℕ, Bool, true, false, List, [], ◌++◌, Option, refl, sym, ap, subst, ◌∙◌, append_assoc, rules}
 use Rattle.std.specs.Prelude.{IsErrAnd, Result, Ok, Err, is_ok, OnOk, OnErr}
 use Rattle.std.specs.Io.KnownBytes.{Appends}
 use Rattle.std.proofs.KnownBytes.{Appends-nil, Appends-trans}
@@ -23,8 +23,7 @@ fails-at (Err y) Q h = refl
 
 -- what went out is whole
 pub Transmits-whole : (F : Type 0) (a b : Option (List ℕ)) (text : List ℕ) (ok : Bool) → Appends a b text → ok ≡ true → Transmits F a b text [] ok
-Transmits-whole F a b text ok h t =
-    record { out = text; rest = []; appends = h; begins = append-nil text; holds = λ _. refl; fails = λ f. absurd (both_ways ok f t) }
+Transmits-whole F a b text ok h t = search rules
 
 -- what went out, the block and what is still to come are the whole
 pub record Sending (old now : Option (List ℕ)) (block rest whole : List ℕ) : Type 0 where
@@ -36,8 +35,7 @@ pub Sending-none : (a : Option (List ℕ)) (block rest whole : List ℕ) → blo
 Sending-none a block rest whole e = record { out = []; appends = Appends-nil a; sends = e }
 
 pub Sending-same : (a b : Option (List ℕ)) (block rest rest' whole : List ℕ) → Sending a b block rest whole → rest ≡ rest' → Sending a b block rest' whole
-Sending-same a b block rest rest' whole done e =
-    record { out = done.out; appends = done.appends; sends = ap (λ (t : List ℕ). done.out ++ (block ++ t)) (sym e) ∙ done.sends }
+Sending-same a b block rest rest' whole done e = search rules
 
 module _ (F : Type 0) (a b c : Option (List ℕ)) (block held rest whole : List ℕ) (ok : Bool) (done : Sending a b block rest whole) where
   -- the last piece is sent
@@ -102,12 +100,4 @@ Transmits-same {F} {a} {b} block {held} {this} {that} {ok} e s = subst (λ (t : 
 
 -- all pieces are sent
 pub Sending-done : (F : Type 0) (a b : Option (List ℕ)) (block whole : List ℕ) (ok : Bool) → Sending a b block [] whole → ok ≡ true → Transmits F a b whole block ok
-Sending-done F a b block whole ok done t =
-    record {
-      out = done.out;
-      rest = block;
-      appends = done.appends;
-      begins = ap (λ (r : List ℕ). done.out ++ r) (sym (append-nil block)) ∙ done.sends;
-      holds = λ _. refl;
-      fails = λ f. absurd (both_ways ok f t);
-    }
+Sending-done F a b block whole ok done t = search rules

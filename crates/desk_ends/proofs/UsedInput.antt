@@ -1,5 +1,5 @@
 -- What was used of an input, part after part.
-use Rattle.std.proofs.Common.{◌≡◌, ◌≢◌, ℕ, ◌+◌, ◌-◌, ◌<◌, ◌≤◌, length, List, [], ◌∷◌, ◌++◌, Option, refl, sym, ap, subst, ◌∙◌, append_assoc, arith}
+use Rattle.std.proofs.Common.{◌≡◌, ◌≢◌, ℕ, ◌+◌, ◌-◌, ◌<◌, ◌≤◌, length, List, [], ◌∷◌, ◌++◌, Option, refl, sym, ap, subst, ◌∙◌, append_assoc, arith, rules}
 use Rattle.std.proofs.KnownBytes.{Consumes-nil, Consumes-trans}
 use Rattle.std.proofs.lemmas.List.{append-nil, length-append}
 use Rattle.desk_ends.specs.Input.{Input, KnowsEnd, UsesInput, UsesWaiting, most_total, unread}
@@ -9,27 +9,11 @@ no-parts [] those e = (refl, e)
 no-parts (b ∷ these) those e = absurd (cc)
 
 pub UsesInput-none : (a : Option (List ℕ)) (input : Input) → UsesInput a a input input []
-UsesInput-none a input = record {
-  read = [];
-  consumes = Consumes-nil a;
-  parts = append-nil input.waiting;
-  total = omega arith;
-  bound = λ few. few;
-  over = λ over. (refl, over);
-  ends = λ knows. knows;
-}
+UsesInput-none a input = search rules
 
 -- unused bytes
 pub UsesInput-waiting : (a : Option (List ℕ)) (old new : Input) (bytes : List ℕ) → UsesWaiting old new bytes → UsesInput a a old new bytes
-UsesInput-waiting a old new bytes uses = record {
-  read = [];
-  consumes = Consumes-nil a;
-  parts = append-nil old.waiting ∙ uses.parts;
-  total = let same = uses.total in omega arith;
-  bound = λ few. let same = uses.total in omega arith;
-  over = λ over. (refl, uses.over ∙ over);
-  ends = λ knows over. let end = knows (sym uses.over ∙ over) in (end.0, (no-parts bytes new.waiting (sym uses.parts ∙ end.1)).1);
-}
+UsesInput-waiting a old new bytes uses = search (rules, Consumes-nil, append-nil, no-parts)
 
 module _ (a b c : Option (List ℕ)) (old mid new : Input) (these those : List ℕ) (first : UsesInput a b old mid these) (later : UsesInput b c mid new those) where
   pub UsesInput-then : UsesInput a c old new (these ++ those)

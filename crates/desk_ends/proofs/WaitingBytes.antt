@@ -1,8 +1,9 @@
 -- Bytes that were read, and a line that is passed on from them.
-use Rattle.std.proofs.Common.{◌≡◌, ◌≢◌, ℕ, ◌+◌, ◌-◌, ◌<◌, ◌≤◌, true, List, [], ◌∷◌, ◌++◌, length, take, drop, Option, sym, ap, ◌∙◌, arith}
+use Rattle.std.proofs.Common.{◌≡◌, ◌≢◌, ℕ, ◌+◌, ◌-◌, ◌<◌, ◌≤◌, true, List, [], ◌∷◌, ◌++◌, length, take, drop, Option, sym, ap, ◌∙◌, arith, rules}
 use Rattle.std.specs.Prelude.{EachIndex, slice_index}
 use Rattle.std.proofs.Math.Seq.{take-append-add}
 use Rattle.std.proofs.lemmas.List.{drop-drop, drop-take, length-take, take-append-drop}
+use Rattle.std.proofs.lemmas.Grind.{common_steps}
 use Rattle.desk_ends.specs.Input.{Passes}
 use Rattle.desk_ends.specs.Lines.{IsFed, with_bytes}
 use Rattle.desk_ends.proofs.OneLine.{no-feed}
@@ -24,17 +25,9 @@ pub none-left : (n : ℕ) (xs : List ℕ) → drop n (take n xs) ≡ []
 none-left n xs = let same : n ≡ n + 0 = omega arith in ap (λ (m : ℕ). drop n (take m xs)) same ∙ drop-take n 0 xs
 
 line-fed : (old : List ℕ) (end : ℕ) → end < length old → LacksFeed (take end old) → old ≡ take end old ++ 10 ∷ drop (end + 1) old → IsFed (take (end + 1) old)
-line-fed old end within none parts =
-    let size : length (take end old) ≡ end = omega (arith, length-take end old, within) in
-    let first = take end old in
-    let later = drop (end + 1) old in (
-      first,
-      ap (take (end + 1)) parts ∙ (ap (λ (n : ℕ). take (n + 1) (first ++ 10 ∷ later)) (sym size) ∙ take-append-add first (10 ∷ later) 1),
-      no-feed first none,
-    )
+line-fed old end within none parts = grind (arith, common_steps, length-take, take-append-add, no-feed)
 
 -- a line is passed on
 pub passes-line : (old new : List ℕ) (was line : Option (List ℕ)) (end : ℕ) → end < length old → LacksFeed (take end old) → old ≡ take end old ++ 10 ∷ drop (end + 1) old
     → new ≡ drop (end + 1) old → line ≡ with_bytes was (take (end + 1) old) → Passes true old new was line
-passes-line old new was line end within none parts left held =
-    (take (end + 1) old, sym (take-append-drop (end + 1) old) ∙ ap (λ (t : List ℕ). take (end + 1) old ++ t) (sym left), held, line-fed old end within none parts)
+passes-line old new was line end within none parts left held = search (rules, take-append-drop, line-fed)

@@ -1,6 +1,7 @@
-use Rattle.std.proofs.Common.{[], ◌∷◌, get_or, true, is_ok, refl, ap}
+use Rattle.std.proofs.Common.{[], ◌∷◌, get_or, true, is_ok, ap, arith}
 use Rattle.std.proofs.lemmas.List.{drop_more}
 use Rattle.std.proofs.Math.ListN.{drop_of_length-le}
+use Rattle.std.proofs.lemmas.Grind.{common_steps}
 use Rattle.desk_ends.proofs.Sending.{Sending-done, Sending-fails, Sending-more, fails-at}
 use Rattle.desk_ends.proofs.bytes.put_bytes.Goals as goal
 
@@ -15,6 +16,4 @@ loop-byte-preserved g c =
     (drop_more c.args.bytes.now c.loop-byte.byte-index 0 c.loop-byte-test.true) c.put_byte.ensures (ap is_ok c.in_ok-put_byte.was)
 
 pub returns : goal.returns
-returns g c =
-    Sending-done g.K.Sink.can_fail _ _ c.loop-byte.block _ true
-    (rw (drop_of_length-le c.args.bytes.now c.loop-byte-test.false) at c.loop-byte.invariant) refl
+returns g c = grind (arith, common_steps, Sending-done, drop_of_length-le)

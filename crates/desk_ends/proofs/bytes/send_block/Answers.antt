@@ -1,4 +1,5 @@
-use Rattle.std.proofs.Common.{[], ◌∷◌, is_ok, refl, ap}
+use Rattle.std.proofs.Common.{[], ◌∷◌, is_ok, refl, ap, arith}
+use Rattle.std.proofs.lemmas.Grind.{common_steps}
 use Rattle.desk_ends.proofs.Sending.{Sending-end, Sending-first, Sending-no_first, fails-at}
 use Rattle.desk_ends.proofs.bytes.send_block.Goals as goal
 
@@ -7,6 +8,4 @@ returns-in_err-put_byte g c =
     Sending-no_first c.args.block.now (10 ∷ []) [] refl c.put_byte.ensures (ap is_ok c.in_err-put_byte.was) (fails-at c.from_residual.result _ c.from_residual.ensures.1)
 
 pub returns : goal.returns
-returns g c =
-    Sending-end g.K.Sink.can_fail _ _ _ _ _ [] _ _ (Sending-first c.args.block.now (10 ∷ []) [] refl c.put_byte.ensures (ap is_ok c.in_ok-put_byte.was)) refl
-    (rw c.as_slice.ensures at c.send.ensures)
+returns g c = grind (arith, common_steps, Sending-end, Sending-first, is_ok)

@@ -1,8 +1,9 @@
-use Rattle.std.proofs.Common.{ℕ, ◌+◌, ◌∷◌, drop, true, is_ok, refl, sym, ap, ◌∙◌}
+use Rattle.std.proofs.Common.{ℕ, ◌+◌, ◌∷◌, drop, true, is_ok, sym, ap, ◌∙◌, arith}
 use Rattle.std.proofs.lemmas.List.{drop_more}
 use Rattle.std.proofs.lemmas.Result.{err_from_is_err_and}
 use Rattle.std.proofs.Math.ListN.{drop_of_length-le}
 use Rattle.std.specs.Char.{encode_utf8}
+use Rattle.std.proofs.lemmas.Grind.{common_steps}
 use Rattle.cell_core.specs.Cell.{braille_character}
 use Rattle.desk_ends.specs.Cells.{text_of}
 use Rattle.desk_ends.proofs.Sending.{Sending-done, Sending-fails, Sending-more}
@@ -26,6 +27,4 @@ loop-cell-preserved g c =
     c.put_cell.ensures (ap is_ok c.in_ok-put_cell.was)
 
 pub returns : goal.returns
-returns g c =
-    Sending-done g.K.Sink.can_fail _ _ c.loop-cell.block _ true
-    (rw (drop_of_length-le c.args.cells.now c.loop-cell-test.false) at c.loop-cell.invariant) refl
+returns g c = grind (arith, common_steps, Sending-done, drop_of_length-le)

@@ -1,4 +1,4 @@
-use Rattle.std.proofs.Common.{◌+◌, ap, sym, ◌∙◌}
+use Rattle.std.proofs.Common.{ap, sym, ◌∙◌, rules}
 use Rattle.std.specs.Io.BufRead.{strip_last}
 use Rattle.std.proofs.lemmas.List.{take_rest}
 use Rattle.desk_ends.proofs.FirstLine.{after-at, after-none, before-at, before-none}
@@ -6,13 +6,10 @@ use Rattle.desk_ends.proofs.OneLine.{no-feed}
 use Rattle.desk_ends.proofs.line.split_line.Goals as goal
 
 pub returns-in-Some-clause-line : goal.returns-in-Some-clause-line
-returns-in-Some-clause-line c =
-    c.without_return.ensures
-    ∙ ap (strip_last 13) (before-at c.args.bytes.now c.in-Some.end c.in-Some.ensures.1 c.in-Some.ensures.2)
+returns-in-Some-clause-line c = search (rules, before-at)
 
 pub returns-in-Some-clause-rest : goal.returns-in-Some-clause-rest
-returns-in-Some-clause-rest c =
-    rw (take_rest c.args.bytes.now (c.in-Some.end + 1)) (after-at c.args.bytes.now c.in-Some.end c.in-Some.ensures.1 c.in-Some.ensures.2)
+returns-in-Some-clause-rest c = search (rules, take_rest, after-at)
 
 pub returns-in-None-clause-line : goal.returns-in-None-clause-line
 returns-in-None-clause-line c =

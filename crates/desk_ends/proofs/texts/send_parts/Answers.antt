@@ -1,8 +1,9 @@
-use Rattle.std.proofs.Common.{true, is_ok, refl, ap, []}
+use Rattle.std.proofs.Common.{true, is_ok, ap, [], arith}
 use Rattle.std.specs.List.{flat_map}
 use Rattle.std.proofs.lemmas.List.{drop_more}
 use Rattle.std.proofs.lemmas.Result.{err_from_is_err_and}
 use Rattle.std.proofs.Math.ListN.{drop_of_length-le}
+use Rattle.std.proofs.lemmas.Grind.{common_steps}
 use Rattle.desk_ends.proofs.Sending.{Sending-done, Sending-fails, Sending-more}
 use Rattle.desk_ends.proofs.texts.send_parts.Goals as goal
 
@@ -18,6 +19,4 @@ loop-part-preserved g c =
     Sending-more g.K.Sink.can_fail _ _ _ [] [] _ _ _ c.loop-part.invariant _ _ parts c.send.ensures (ap is_ok c.in_ok-send.was)
 
 pub returns : goal.returns
-returns g c =
-    Sending-done g.K.Sink.can_fail _ _ [] _ true
-    (rw (drop_of_length-le c.args.parts.now c.loop-part-test.false) at c.loop-part.invariant) refl
+returns g c = grind (arith, common_steps, Sending-done, drop_of_length-le)

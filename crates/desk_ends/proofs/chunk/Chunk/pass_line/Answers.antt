@@ -1,4 +1,4 @@
-use Rattle.std.proofs.Common.{ap, ◌∙◌, ℕ, ◌+◌, List, take}
+use Rattle.std.proofs.Common.{ap, ◌∙◌, ℕ, ◌+◌, List, take, rules}
 use Rattle.desk_ends.specs.Lines.{with_bytes}
 use Rattle.desk_ends.proofs.OneLine.{no-feed}
 use Rattle.desk_ends.proofs.WaitingBytes.{later-is, none-left, passes-line, waiting-is}
@@ -13,7 +13,4 @@ returns-in-Some c =
     passes-line c.args.self.now _ c.args.line.now c.extend.new.self c.in-Some.end found.0 found.1 found.2 later (c.extend.ensures ∙ ap (λ (t : List ℕ). with_bytes c.args.line.now (take (c.in-Some.end + 1) t)) is)
 
 pub returns-in-None : goal.returns-in-None
-returns-in-None c =
-    let chunk = c.self.inside in
-    let is = waiting-is chunk.from chunk.to chunk.bytes c.args.self.now c.self.invariant.0 c.self.view_is in
-    (none-left chunk.to chunk.bytes, c.extend-in-None.ensures ∙ ap (with_bytes c.args.line.now) is, no-feed c.args.self.now (rw is at c.in-None.ensures))
+returns-in-None c = search (rules, waiting-is, none-left, no-feed)
