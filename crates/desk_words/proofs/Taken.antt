@@ -1,14 +1,14 @@
 -- Words that an action's own command accepts ask for it.
-use Rattle.std.proofs.Common.{◌≡◌, ◌∙◌, inl, inr, ℕ, Bool, Bor, cond, true, false, not, refl, sym, ap, subst, List, [], ◌∷◌, ◌&&◌, ◌||◌, Option, Some, None, codes, true≢false, arith}
+use Rattle.std.proofs.Common.{◌≡◌, ◌∙◌, inl, inr, ℕ, Bool, Bor, cond, true, false, not, refl, sym, ap, subst, List, [], ◌∷◌, ◌||◌, Option, Some, None, codes, true≢false, rules}
 use Rattle.std.specs.Prelude.{◌≢◌, MatchOption, ◌≤◌, IfSome, IsSomeAnd, find, is_some, option_map, unwrap_or}
 use Rattle.std.specs.Option.{option_map_or}
-use Rattle.std.specs.List.{fold, list_any, AllByRecursion as Each}
+use Rattle.std.specs.List.{fold, AllByRecursion as Each}
 use Rattle.std.specs.Str.{bytes_eq}
 use Rattle.std.specs.Str.Parse.{digits_value, without_leading_plus}
 use Rattle.clap.specs.Kinds.{check_kinds, or_else}
-use Rattle.clap.specs.Facts.{explicit_source, parser_of_value}
+use Rattle.clap.specs.Facts.{parser_of_value}
 use Rattle.clap.specs.Faults.{built_fault, check_fault, entered_fault, fault_of, level_fault}
-use Rattle.clap.specs.Simple.{App, Shape, argument_words, built, built_leaf, entered, label_of, names_of, rows_at, inherited, filled, help_rule, marked_built, with_index, with_leaf_noted, subcommand_of}
+use Rattle.clap.specs.Simple.{App, Shape, argument_words, built, built_leaf, entered, label_of, names_of, rows_at, inherited, filled, help_rule, marked_built, with_index, with_leaf_noted}
 use Rattle.clap.specs.Takes.{is_given}
 use Rattle.clap.specs.Values.{IsUnsignedIn, read_as, reading_of}
 use Rattle.clap.specs.ValueTests.{accepts}
@@ -17,13 +17,12 @@ use Rattle.clap.specs.declared.builder.value_parser.ValueParser.{ValueParser}
 use Rattle.clap.specs.declared.builder.value_parser.ValueParser.TheVariants.{Unsigned}
 use Rattle.clap.specs.declared.error.kind.ErrorKind.{ErrorKind}
 use Rattle.clap.proofs.ValueTestLemmas.{accepts-Accepts}
-use Rattle.desk_words.specs.Action.{Asks, Counts, HasDefault, IsAsked, IsExportable, IsWithinLimits, Names}
+use Rattle.desk_words.specs.Action.{Asks, Counts, HasDefault, IsAsked, IsWithinLimits, Names}
 use Rattle.desk_words.specs.Commands.{acts, export, on_file, operand, size, translate, whole, within}
 use Rattle.desk_words.specs.Reading.{IsNamedByWords, NameAnAction}
 use Rattle.desk_words.specs.declared.action.Action.{Action}
 use Rattle.desk_words.specs.declared.action.Action.TheVariants.{Check, Export, New, Session, Translate}
 use Rattle.clap.specs.declared.parser.matches.ArgMatches.{ArgMatches}
-use Rattle.desk_words.proofs.Asking.{letter_asked, letter_of}
 use Rattle.desk_words.proofs.OneWord.{Finds, IsPlainOf, default_row, found_word, given_row, ones_found, rows_stay}
 use Rattle.desk_words.proofs.Walked.{no_fault}
 
@@ -45,10 +44,7 @@ one_there false rest e = cc
 
 single_is_plain : (name id : Text) → bytes_eq id id ≡ true → bytes_eq id (codes "help") ≡ false
     → Each (IsPlainOf (entered_as (acts name (operand id ∷ []))).rules) (entered_as (acts name (operand id ∷ []))).rules
-single_is_plain name id same other = (
-  (rw same refl, inl (record { action = refl; range = refl; default = inl refl })),
-  ((rw other refl, inr (record { action = refl; default = refl })), tt),
-)
+single_is_plain name id same other = search rules
 
 -- an action with one operand
 single_named : (name id : Text) → bytes_eq id id ≡ true → bytes_eq id (codes "help") ≡ false → (words : List Text)
@@ -76,16 +72,7 @@ abbrev lines_rule : Rule
 lines_rule = filled (within 5 40 (size (codes "lines") (codes "25")))
 
 export_is_plain : Each (IsPlainOf (entered_as export).rules) (entered_as export).rules
-export_is_plain = (
-  (refl, inl (record { action = refl; range = refl; default = inl refl })),
-  (
-    (refl, inl (record { action = refl; range = refl; default = inl refl })),
-    (
-      (refl, inl (record { action = refl; range = refl; default = inr (codes "40", refl) })),
-      ((refl, inl (record { action = refl; range = refl; default = inr (codes "25", refl) })), ((refl, inr (record { action = refl; default = refl })), tt)),
-    ),
-  ),
-)
+export_is_plain = search rules
 
 accepted : (passes : Bool) (k : ErrorKind) → or_else (cond passes [] (k ∷ [])) [] ≡ [] → passes ≡ true
 accepted true k e = refl
@@ -198,9 +185,7 @@ wanted false false missing is e = is
 
 one_entered : (s : Shape) (rows : List Row) (has : Bool) → s.subcommand_required ≡ true → check_fault s rows has ≡ [] → has ≡ true
 one_entered s rows true wants e = refl
-one_entered s rows false wants e =
-    wanted (s.arg_required_else_help && not (list_any (λ (r : Row). explicit_source r.source) rows)) s.subcommand_required
-    (not (s.subcommand_negates_reqs && false) && list_any (λ (a : Rule). a.required && not (is_given a.id rows)) s.rules) wants e
+one_entered s rows false wants e = search rules
 
 one_met : (p : Shape → Bool) (subs : List Shape) → Each NamesOne subs → IfSome (find p subs) NamesOne
 one_met p [] each = tt
@@ -225,12 +210,7 @@ stop_asks a each (Some p) e has = found_asks p.1 (find (λ s. answers_to p.0 (la
 -- words in which a command of such subcommands finds no fault ask for an action
 pub taken_asks : (a : App) → a.top.subcommand_required ≡ true → Each NamesOne a.subs → (words : List Text) → built_fault a nothing_held words ≡ []
     → AsksOne (entered a (stop_after a.top.rules (names_of a) words))
-taken_asks a wants each words e =
-    let stop = stop_after a.top.rules (names_of a) words in
-    let parts = no_fault _ _ e in
-    let then = no_fault (entered_fault a stop) _ parts.1 in
-    let last = no_fault _ _ (no_fault _ _ then.1).1 in
-    stop_asks a each stop then.0 (one_entered a.top (rows_after a.top.rules (names_of a) words) (is_some (entered a stop)) wants last.1)
+taken_asks a wants each words e = search (rules, no_fault, stop_asks, one_entered, is_some)
 
 pub whole_named : (words : List Text) → fault_of whole words ≡ [] → NameAnAction whole words
 whole_named words e =
@@ -239,45 +219,8 @@ whole_named words e =
 
 -- ---- by the matches
 
-counts_same : (rows : List Row) (id : Text) (m n : ℕ) → Counts rows id m → Counts rows id n → m ≡ n
-counts_same rows id m n a b =
-    let same : a.text ≡ b.text = ap (λ (o : Option Text). unwrap_or o []) (sym a.given ∙ b.given) in
-    a.value ∙ (ap (λ (t : Text). digits_value 10 (without_leading_plus t)) same ∙ sym b.value)
-
-other_name : (name : Text) (rows : List Row) (a b : Action) → Asks name rows a → Asks name rows b → letter_of a ≢ letter_of b → ⊥
-other_name name rows a b x y differ = differ (sym (letter_asked name rows a x) ∙ letter_asked name rows b y)
-
--- what asks for one action within the limits asks for no other past them
-limits_same : (name : Text) (rows : List Row) (a b : Action) → Asks name rows a → Asks name rows b → IsWithinLimits rows a → IsWithinLimits rows b
-limits_same name rows (New f) (Export file volume width lines) x y limits = absurd (other_name name rows (New f) (Export file volume width lines) x y (omega arith))
-limits_same name rows (Session f) (Export file volume width lines) x y limits = absurd (other_name name rows (Session f) (Export file volume width lines) x y (omega arith))
-limits_same name rows (Translate t) (Export file volume width lines) x y limits = absurd (other_name name rows (Translate t) (Export file volume width lines) x y (omega arith))
-limits_same name rows (Check f) (Export file volume width lines) x y limits = absurd (other_name name rows (Check f) (Export file volume width lines) x y (omega arith))
-limits_same name rows (Export f v w l) (Export file volume width lines) x y limits =
-    let same_volume = counts_same rows (codes "volume") v volume x.2 y.2 in
-    let same_width = counts_same rows (codes "width") w width x.3 y.3 in
-    let same_lines = counts_same rows (codes "lines") l lines x.4 y.4 in (
-      subst (λ (n : ℕ). IsExportable volume width n) same_lines (subst (λ (n : ℕ). IsExportable volume n l) same_width (subst (λ (n : ℕ). IsExportable n w l) same_volume limits.0)),
-      λ free. sym same_width ∙ limits.1 free,
-      λ free. sym same_lines ∙ limits.2 free,
-    )
-limits_same name rows a b x y limits = tt
-
-abbrev IsAskedOf : Option (Text × List Row) → Action → Type 0
-IsAskedOf entered action = IsSomeAnd entered (λ found. Asks found.0 found.1 action)
-
-entered_limits : (entered : Option (Text × List Row)) (a b : Action) → IsAskedOf entered a → IsAskedOf entered b
-    → IsSomeAnd entered (λ found. IsWithinLimits found.1 a) → IsSomeAnd entered (λ found. IsWithinLimits found.1 b)
-entered_limits None a b x y limits = absurd x
-entered_limits (Some found) a b x y limits = limits_same found.0 found.1 a b x y limits
-
 -- the action that the matches ask for is the one that the words name
 pub named_by_words : (app : App) (m : ArgMatches) (result : Option Action) → MatchOption result ((action : Action) → ¬ IsAsked m action) (IsAsked m)
     → ((words : List Text) → fault_of app words ≡ [] → NameAnAction app words) → IsNamedByWords app m result
-named_by_words app m None none named words are =
-    let n = named words are.taken in
-    none n.0 (subst (λ (o : Option (Text × List Row)). IsAskedOf o n.0) (sym are.subcommand) n.1.0.asked)
-named_by_words app m (Some action) is named words are =
-    let n = named words are.taken in
-    let asked = subst (λ (o : Option (Text × List Row)). IsAskedOf o action) are.subcommand is in
-    (record { taken = are.taken; asked = asked }, entered_limits (subcommand_of app words) n.0 action n.1.0.asked asked n.1.1)
+named_by_words app m None none named words are = search rules
+named_by_words app m (Some action) is named words are = search rules

@@ -1,11 +1,7 @@
-use Rattle.std.proofs.Common.{sym, arith, refl, codes}
+use Rattle.std.proofs.Common.{sym, refl}
 use Rattle.clap.specs.Words.{found_of, rows_of}
-use Rattle.desk_words.proofs.Asking.{asks_no_export, asks_no_file}
+use Rattle.desk_words.proofs.Asking.{asks_no_export}
 use Rattle.desk_words.proofs.action.export_of.Goals as goal
-
-pub returns-in_err-text_of : goal.returns-in_err-text_of
-returns-in_err-text_of c =
-    rw c.from_residual.ensures (asks_no_file (codes "export") (codes "export") (rows_of (found_of c.args.matches.now)) refl (omega arith) (sym c.in_err-text_of.ensures))
 
 pub returns-in_err-number_of : goal.returns-in_err-number_of
 returns-in_err-number_of c =

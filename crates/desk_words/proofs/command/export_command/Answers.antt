@@ -1,7 +1,6 @@
-use Rattle.std.proofs.Common.{◌≡◌, ◌∙◌, ◌||◌, Bool, false, ap, ap₂, codes, rules}
+use Rattle.std.proofs.Common.{◌≡◌, ◌∙◌, ap, ap₂, codes, rules}
 use Rattle.std.proofs.lemmas.Result.{IfOk-weaker}
 use Rattle.clap.specs.Words.{App, app_of, new_app, with_rule}
-use Rattle.clap.specs.declared.builder.command.Command.TheViews.{out-Command}
 use Rattle.desk_words.proofs.command.export_command.Goals as goal
 
 pub returns-clause-shape : goal.returns-clause-shape
@@ -11,11 +10,3 @@ returns-clause-shape c =
     let two = c.in_ok-arg-2.ensures.shape c.volume.ensures.local ∙ ap₂ with_rule one c.volume.ensures.rule in
     let three = c.in_ok-arg-3.ensures.shape c.width.ensures.local ∙ ap₂ with_rule two c.width.ensures.rule in
     IfOk-weaker c.arg-4.result _ _ (λ command h. ap (λ (a : App). a.top) (h.shape c.lines.ensures.local ∙ ap₂ with_rule three c.lines.ensures.rule)) c.arg-4.ensures
-
-pub returns-clause-local : goal.returns-clause-local
-returns-clause-local c =
-    let none : (out-Command c.after_help.result).has_globals ≡ false = search rules in
-    let one = c.in_ok-arg.ensures.globals ∙ ap₂ (λ (a b : Bool). a || b) none c.operand.ensures.local in
-    let two = c.in_ok-arg-2.ensures.globals ∙ ap₂ (λ (a b : Bool). a || b) one c.volume.ensures.local in
-    let three = c.in_ok-arg-3.ensures.globals ∙ ap₂ (λ (a b : Bool). a || b) two c.width.ensures.local in
-    IfOk-weaker c.arg-4.result _ _ (λ command h. h.globals ∙ ap₂ (λ (a b : Bool). a || b) three c.lines.ensures.local) c.arg-4.ensures
