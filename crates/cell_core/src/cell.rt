@@ -86,7 +86,7 @@ impl Cell {
         Some(ASCII_BYTES[usize::from(self.mask)])
     }
 
-    /// The cell of a byte in North American Braille ASCII, if it is one from 0x20 to 0x5F.
+    /// The cell of a byte in North American Braille ASCII, if the byte is between 0x20 and 0x5F.
     pub fn from_ascii(byte: u8) -> Option<Self>
         ensures cell { result ≡ ascii_cell byte }
         ensures some { IsSome result ↔ ((0x20 ≤ byte) × (byte ≤ 0x5F)) }

@@ -19,7 +19,7 @@ pub struct BufferedWriter<W: Write + Drop> {
 }
 
 impl<W: Write + Drop> BufferedWriter<W> {
-    /// An empty buffer of so many bytes in front of the writer.
+    /// An empty buffer of this many bytes in front of the writer.
     pub fn new(alloc: Global, bytes: usize, writer: W) -> Result<Self, AllocError>
         ensures contents { IfOk result
             (λ b. Keeps (W.contents writer) (⟦<BufferedWriter<W> as Sink>⟧.contents b)) }
@@ -83,7 +83,7 @@ fn write_front<W: Write>(writer: &mut W, bytes: &[u8]) -> (usize, Result<(), Fai
     (written, Ok(()))
 }
 
-/// Removes so many bytes from the front.
+/// Removes this many bytes from the front.
 fn remove_front(buffer: &mut Vec<u8>, count: usize)
     requires { count ≤ vec_len buffer.old }
     ensures { buffer.new.items ≡ drop count buffer.old.items }

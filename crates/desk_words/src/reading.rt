@@ -40,7 +40,7 @@ pub fn read_words<'a>(alloc: Global, words: &'a [&'a str]) -> Reading<'a>
     }
 }
 
-/// What an error of the parse comes to.
+/// What an error of the parse is read as.
 fn reading_of<'a>(alloc: Global, error: &Error) -> Reading<'a>
     ensures { IsError (kind_of error.now) result }
 {
@@ -61,7 +61,7 @@ fn text_of(alloc: Global, error: &Error) -> Result<String, AllocError>
     Ok(text)
 }
 
-/// What an error of this kind comes to, of which this text is shown.
+/// What an error of this kind is read as, if this text is shown of it.
 fn shown_as<'a>(kind: ErrorKind, text: String) -> Reading<'a>
     ensures { IsShownAs kind text result }
 {

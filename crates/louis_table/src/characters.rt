@@ -48,7 +48,7 @@ fn read_hexadecimal(digits: &[char]) -> Option<u32>
     Some(value)
 }
 
-/// The character whose number so many digits at the front spell, and what follows them.
+/// The character whose number this many digits at the front spell, and what follows them.
 fn read_number(text: &[char], count: usize) -> Option<(char, &[char])>
     requires { count ≤ 8 }
     ensures value { option_map (λ found. (found.0, found.1.now)) result ≡ number_at count text.now }

@@ -107,7 +107,7 @@ abbrev pub ends_number : Meaning → List ℕ → ℕ → Bool
 ends_number meaning print i =
     follows_number meaning print i && not (is_in_numeric_mode meaning print i) && is_nocontract_char_at meaning print i
 
--- ---- the sign before a place, empty where there is none
+-- ---- the sign before a place, empty if there is none
 
 -- the signs without numeric mode: one for each run of digits, and those before capitals
 abbrev pub plain_sign_at : Meaning → List ℕ → ℕ → List ℕ

@@ -131,7 +131,7 @@ fn fill<B: RuleBook>(
     })
 }
 
-/// The cells of the longest front of a text's choices that fit in a room of so many cells. No
+/// The cells of the longest front of a text's choices that fit in a room of this many cells. No
 /// choice is cut.
 ///
 /// # Errors
