@@ -1,7 +1,6 @@
 -- A row of cells, filled from the pieces of a text one after another.
-use Rattle.std.proofs.Common.{◌≡◌, ℕ, suc, ◌+◌, ◌<◌, ◌≤◌, List, [], ◌∷◌, ◌++◌, length, get_or, take, drop, set, Option, Some, None, refl, sym, ap, ◌∙◌, arith, append_assoc, add-one, length-append, drop-cons}
+use Rattle.std.proofs.Common.{◌≡◌, ℕ, suc, ◌+◌, ◌<◌, ◌≤◌, List, [], ◌∷◌, ◌++◌, length, get_or, take, drop, set, Option, Some, None, refl, sym, ap, ◌∙◌, arith, append_assoc, add-one, length-append, drop-cons, option_map}
 use Rattle.std.specs.List.{slice_split}
-use Rattle.std.specs.Option.{option_map}
 use Rattle.std.proofs.lemmas.List.{append-nil, drop_all, length-set, take-append-le, take_all, take_more_set}
 use Rattle.cell_core.specs.Dots.{most_cells}
 use Rattle.cell_core.specs.Reading.{HasRead, cell_in, cells_of, is_hyphen}

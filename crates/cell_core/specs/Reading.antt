@@ -1,9 +1,8 @@
 -- What the reader of dots operands computes, for step-by-step proofs: `Dots` says what an operand
 -- means.
-use Rattle.std.specs.Prelude.{◌≡◌, ℕ, ◌+◌, ◌-◌, ◌/◌, ◌%◌, ◌==◌, ◌&&◌, Bool, not, nat_le, if◌then◌else◌}
-use Rattle.std.specs.Prelude.{List, [], ◌∷◌, length, take, Option, Some, None, option_map}
+use Rattle.std.specs.Prelude.{◌≡◌, ℕ, ◌+◌, ◌-◌, ◌/◌, ◌%◌, ◌==◌, ◌&&◌, Bool, not, nat_le, if◌then◌else◌, List, [], ◌∷◌}
+use Rattle.std.specs.Prelude.{length, take, Option, Some, None, option_map, option_and_then}
 use Rattle.std.specs.List.{slice_split}
-use Rattle.std.specs.Option.{option_and_then}
 use Rattle.cell_core.specs.Cell.{dot_value}
 use Rattle.cell_core.specs.Dots.{most_cells}
 

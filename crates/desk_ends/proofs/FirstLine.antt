@@ -1,10 +1,7 @@
 -- The first line of bytes, and what follows it.
-use Rattle.std.proofs.Common.{◌≡◌, ◌≢◌, ℕ, ◌+◌, Bool, eqb, List, [], ◌∷◌, ◌++◌, length, take, drop, refl, sym, ap, ◌∙◌, arith, rules}
-use Rattle.std.specs.Prelude.{EachIndex, slice_index}
+use Rattle.std.proofs.Common.{◌≡◌, ◌≢◌, ℕ, ◌+◌, Bool, eqb, List, [], ◌∷◌, ◌++◌, length, take, drop, refl, sym, ap, ◌∙◌, arith, rules, EachIndex, slice_index, drop_of_length-le, take_all}
 use Rattle.std.specs.List.{after_first, before_first, position_or_len}
-use Rattle.std.proofs.Math.ListN.{drop_of_length-le}
 use Rattle.std.proofs.Math.Seq.{drop-append-add, take-append_seam}
-use Rattle.std.proofs.lemmas.List.{take_all}
 use Rattle.desk_ends.specs.Lines.{HasNoFeed}
 use Rattle.desk_ends.proofs.OneLine.{no-feed}
 

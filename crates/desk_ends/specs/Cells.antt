@@ -1,6 +1,5 @@
 -- Cells as text.
-use Rattle.std.specs.Prelude.{ℕ, List, map}
-use Rattle.std.specs.Str.{encode_utf8_all}
+use Rattle.std.specs.Prelude.{ℕ, List, map, encode_utf8_all}
 use Rattle.cell_core.specs.Cell.{braille_character}
 
 -- cells as characters of the block Braille Patterns, in UTF-8

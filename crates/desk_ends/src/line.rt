@@ -2,9 +2,8 @@
 ghost use Rattle.desk_ends.specs.Lines.{with_bytes, without_ending};
 ghost use Rattle.std.specs.Io.BufRead.{strip_last};
 ghost use Rattle.std.specs.List.{after_first, before_first};
-ghost use Rattle.std.specs.Option.{option_copied};
-ghost use Rattle.std.specs.Prelude.{EachIndex, IsTrue, MatchOption, Some, [], drop, length};
-ghost use Rattle.std.specs.Prelude.{slice_index, take, ◌++◌, ◌+◌, ◌<◌, ◌==◌, ◌≡◌, ◌≢◌, ◌↔◌, ◌∷◌};
+ghost use Rattle.std.specs.Prelude.{EachIndex, IsTrue, MatchOption, Some, [], drop, length, slice_index, take, ◌++◌};
+ghost use Rattle.std.specs.Prelude.{◌+◌, ◌<◌, ◌==◌, ◌≡◌, ◌≢◌, ◌↔◌, ◌∷◌, option_copied};
 
 use super::limits::MOST_LINE_BYTES;
 use memchr::memchr;

@@ -1,7 +1,6 @@
 //! Sends texts to a sink; allocates nothing, and tries nothing twice.
 ghost use Rattle.desk_ends.specs.Sending.{Sends};
-ghost use Rattle.std.specs.List.{flat_map};
-ghost use Rattle.std.specs.Prelude.{is_ok};
+ghost use Rattle.std.specs.Prelude.{is_ok, flat_map};
 
 use super::ends::{Failure, Sink};
 

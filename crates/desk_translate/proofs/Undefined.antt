@@ -1,6 +1,5 @@
 -- The first undefined place of a print.
-use Rattle.std.proofs.Common.{◌≡◌, ℕ, List, sym, ap, ◌∙◌, inl, inr}
-use Rattle.std.specs.Prelude.{is_some}
+use Rattle.std.proofs.Common.{◌≡◌, ℕ, List, sym, ap, ◌∙◌, inl, inr, is_some}
 use Rattle.std.proofs.lemmas.Bool.{cases_order}
 use Rattle.louis_table.specs.Meaning.{Meaning}
 use Rattle.louis_translate.specs.Position.{IsFirstUndefined}

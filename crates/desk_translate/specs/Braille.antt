@@ -1,6 +1,5 @@
 -- What goes out of a print's pieces.
-use Rattle.std.specs.Prelude.{◌≡◌, ℕ, List, ◌++◌, Bool}
-use Rattle.std.specs.List.{flat_map}
+use Rattle.std.specs.Prelude.{◌≡◌, ℕ, List, ◌++◌, Bool, flat_map}
 use Rattle.louis_translate.specs.Items.{PieceItem, made_cells}
 use Rattle.desk_ends.specs.Cells.{text_of}
 use Rattle.desk_ends.specs.Sending.{Puts}

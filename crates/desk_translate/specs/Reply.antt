@@ -1,6 +1,5 @@
 -- What is written for an input line.
-use Rattle.std.specs.Prelude.{◌≡◌, ℕ, ◌<◌, ◌≤◌, ◌++◌, ◌∷◌, [], List, length, codes, decimal}
-use Rattle.std.specs.Str.{chars, IsUtf8}
+use Rattle.std.specs.Prelude.{◌≡◌, ℕ, ◌<◌, ◌≤◌, ◌++◌, ◌∷◌, [], List, length, codes, decimal, chars, IsUtf8}
 use Rattle.desk_ends.specs.Cells.{text_of}
 use Rattle.desk_ends.specs.Limits.{most_line_bytes}
 use Rattle.louis_table.specs.Lines.{lines_of}

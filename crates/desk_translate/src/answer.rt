@@ -3,8 +3,7 @@ ghost use Rattle.desk_translate.specs.NoBraille.{IsPrint, IsRefused, refusal_tex
 ghost use Rattle.desk_translate.specs.Sends.{SendsLast, SendsLine};
 ghost use Rattle.desk_ends.specs.Lines.{kept_line, without_ending};
 ghost use Rattle.desk_ends.specs.Sending.{HasFlushed, Sends};
-ghost use Rattle.std.specs.Prelude.{List, MatchResult, OnOk, [], is_ok, ◌++◌, ◌≡◌, ◌∷◌, ℕ};
-ghost use Rattle.std.specs.Str.{chars};
+ghost use Rattle.std.specs.Prelude.{List, MatchResult, OnOk, [], is_ok, ◌++◌, ◌≡◌, ◌∷◌, ℕ, chars};
 
 use super::braille::send_braille;
 use super::print::{Print, TooManyCharacters};

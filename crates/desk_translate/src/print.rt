@@ -3,8 +3,7 @@ ghost use Rattle.desk_translate.specs.NoBraille.{FindsUndefined};
 ghost use Rattle.desk_translate.specs.Reply.{most_characters};
 ghost use Rattle.louis_translate.specs.Position.{AreDefined};
 ghost use Rattle.std.specs.Bool.{OnTrue};
-ghost use Rattle.std.specs.Prelude.{IfOk, List, OnErr, OnOk, [], length, ◌++◌, ◌<◌, ◌≡◌, ◌≤◌, ◌∷◌, ℕ};
-ghost use Rattle.std.specs.Str.{IsAscii, chars};
+ghost use Rattle.std.specs.Prelude.{IfOk, List, OnErr, OnOk, [], length, ◌++◌, ◌<◌, ◌≡◌, ◌≤◌, ◌∷◌, ℕ, IsAscii, chars};
 
 use louis_translate::{RuleBook, is_defined};
 use std::marker::Model;

@@ -1,6 +1,5 @@
 -- Which words ask for no action. The names of the actions differ by their first letters.
-use Rattle.std.proofs.Common.{◌≡◌, ℕ, List, ap, arith, codes}
-use Rattle.std.specs.Prelude.{slice_index}
+use Rattle.std.proofs.Common.{◌≡◌, ℕ, List, ap, arith, codes, slice_index}
 use Rattle.clap.specs.Words.{Row, Text}
 use Rattle.desk_words.specs.Action.{Asks, Counts}
 use Rattle.desk_words.specs.declared.action.Action.{Action}

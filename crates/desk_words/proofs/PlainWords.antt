@@ -1,6 +1,5 @@
 -- An action's name and a word that doesn't begin with a hyphen, read by computing.
-use Rattle.std.proofs.Common.{◌≡◌, [], ◌∷◌, Some, Bor, codes, refl, ap, sym}
-use Rattle.std.proofs.lemmas.Bool.{ne_eqb}
+use Rattle.std.proofs.Common.{◌≡◌, [], ◌∷◌, Some, Bor, codes, refl, ap, sym, ne_eqb}
 use Rattle.clap.specs.Words.{Text}
 use Rattle.clap.proofs.OnLiterals.{clap_on_literals}
 use Rattle.desk_words.specs.Commands.{whole}

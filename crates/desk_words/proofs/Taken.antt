@@ -1,9 +1,7 @@
 -- Words that an action's own command accepts ask for it.
-use Rattle.std.proofs.Common.{◌≡◌, ◌∙◌, inl, inr, ℕ, Bool, Bor, cond, true, false, not, refl, sym, ap, subst, List, [], ◌∷◌, ◌||◌, Option, Some, None, codes, true≢false, rules}
-use Rattle.std.specs.Prelude.{◌≢◌, MatchOption, ◌≤◌, IfSome, IsSomeAnd, find, is_some, option_map, unwrap_or}
+use Rattle.std.proofs.Common.{◌≡◌, ◌∙◌, inl, inr, ℕ, Bool, Bor, cond, true, false, not, refl, sym, ap, subst, List, [], ◌∷◌, ◌||◌, Option, Some, None, codes, true≢false, rules, ◌≢◌, MatchOption, ◌≤◌, IfSome, IsSomeAnd, find, is_some, option_map, unwrap_or, bytes_eq}
 use Rattle.std.specs.Option.{option_map_or}
 use Rattle.std.specs.List.{fold, AllByRecursion as Each}
-use Rattle.std.specs.Str.{bytes_eq}
 use Rattle.std.specs.Str.Parse.{digits_value, without_leading_plus}
 use Rattle.clap.specs.Kinds.{check_kinds, or_else}
 use Rattle.clap.specs.Facts.{parser_of_value}

@@ -1,8 +1,5 @@
 -- What a parse that finds no fault keeps, where each of its steps keeps it.
-use Rattle.std.proofs.Common.{◌≡◌, ℕ, Bool, cond, true, false, zero, suc, refl, arith, List, [], ◌∷◌, ◌++◌, ◌&&◌, length, Option, Some, None, is_some, nat_lt, drop}
-use Rattle.std.specs.Prelude.{IfSome, encode_utf8, slice_get}
-use Rattle.std.specs.List.{All, fold}
-use Rattle.std.specs.Str.{bytes_eq, chars}
+use Rattle.std.proofs.Common.{◌≡◌, ℕ, Bool, cond, true, false, zero, suc, refl, arith, List, [], ◌∷◌, ◌++◌, ◌&&◌, length, Option, Some, None, is_some, nat_lt, drop, IfSome, encode_utf8, slice_get, All, fold, bytes_eq, chars}
 use Rattle.clap.specs.Kinds.{Kinds, or_else}
 use Rattle.clap.specs.Lexer.{long_of, short_of}
 use Rattle.clap.specs.Simple.{Shape}

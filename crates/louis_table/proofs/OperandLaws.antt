@@ -1,11 +1,10 @@
 -- The cells that are read of a dots operand are those that it writes.
-use Rattle.std.proofs.Common.{◌≡◌, ◌≢◌, ℕ, suc, ◌+◌, ◌<◌, Bool, true, not, eqb, List, [], ◌∷◌, ◌++◌, length, take, drop, get_or, Option, Some, None, option_map, codes, refl, sym, ap, subst, ◌∙◌, inl, inr, arith, append_assoc, add-one, rules}
+use Rattle.std.proofs.Common.{◌≡◌, ◌≢◌, ℕ, suc, ◌+◌, ◌<◌, Bool, true, not, eqb, List, [], ◌∷◌, ◌++◌, length, take, drop, get_or, Option, Some, None, option_map, codes, refl, sym, ap, subst, ◌∙◌, inl, inr, arith, append_assoc, add-one, rules, drop-cons}
 use Rattle.std.specs.List.{AllByRecursion}
 use Rattle.std.proofs.lemmas.Bool.{cases_Bool, eqb-true, eqb-false, eq-eqb, ne_eqb, cond-true, cond-false, not-false}
 use Rattle.std.proofs.lemmas.Slice.Eq.{bytes_eq-Decides}
 use Rattle.std.proofs.lemmas.List.{append-nil, take-append-drop, take_at, drop_at, length_push, length-append}
 use Rattle.std.proofs.lemmas.List.Sums.{prefix_len-le-length, prefix_len_stops}
-use Rattle.std.proofs.Math.Seq.{drop-cons}
 use Rattle.cell_core.specs.Dots.{ListsDots, SpellsCell, blank, dotted, Dots}
 use Rattle.cell_core.specs.Reading.{cells_in}
 use Rattle.cell_core.proofs.DotsLaws.{Dots-from_cells_in, cells_in-from_Dots}

@@ -1,8 +1,6 @@
 -- What the steps of reading a line come to.
-use Rattle.std.proofs.Common.{◌≡◌, ◌≢◌, ℕ, Bool, true, false, ◌||◌, eqb, List, [], ◌∷◌, length, get_or, Option, Some, None, option_map, Result, Ok, Err, codes, refl, sym, ap, subst, ◌∙◌, ◌⊎◌, inl, inr, arith, true≢false, rules}
+use Rattle.std.proofs.Common.{◌≡◌, ◌≢◌, ℕ, Bool, true, false, ◌||◌, eqb, List, [], ◌∷◌, length, get_or, Option, Some, None, option_map, Result, Ok, Err, codes, refl, sym, ap, subst, ◌∙◌, ◌⊎◌, inl, inr, arith, true≢false, rules, OnOk, is_err, encode_utf8_all, bytes_eq}
 use Rattle.std.specs.Option.{option_zip}
-use Rattle.std.specs.Result.{OnOk, is_err}
-use Rattle.std.specs.Str.{encode_utf8_all, bytes_eq}
 use Rattle.std.proofs.lemmas.Bool.{eq-eqb, ne_eqb, eqb-true, cond-true, cond-false}
 use Rattle.std.proofs.lemmas.List.{nil_from_length}
 use Rattle.cell_core.specs.Dots.{Dots}

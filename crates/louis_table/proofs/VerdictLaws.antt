@@ -1,6 +1,5 @@
 -- The verdict on a line after others gives its smallest cause.
-use Rattle.std.proofs.Common.{◌≡◌, ℕ, ◌+◌, ◌<◌, ◌≤◌, Bool, true, false, not, cond, ◌||◌, eqb, ltb, leb, List, [], ◌∷◌, ◌++◌, length, Option, Some, None, Result, Ok, Err, is_some, Contains, refl, sym, ap, subst, ◌∙◌, ◌⊎◌, inl, inr, arith, lit≤, rules}
-use Rattle.std.specs.Prelude.{nat_eq, map}
+use Rattle.std.proofs.Common.{◌≡◌, ℕ, ◌+◌, ◌<◌, ◌≤◌, Bool, true, false, not, cond, ◌||◌, eqb, ltb, leb, List, [], ◌∷◌, ◌++◌, length, Option, Some, None, Result, Ok, Err, is_some, Contains, refl, sym, ap, subst, ◌∙◌, ◌⊎◌, inl, inr, arith, lit≤, rules, nat_eq, map}
 use Rattle.std.specs.Map.{lookup}
 use Rattle.std.specs.List.{flat_map, list_any}
 use Rattle.std.proofs.lemmas.Bool.{eqb-true, eq-eqb, ne_eqb, lt-ltb, le-leb, not-false}

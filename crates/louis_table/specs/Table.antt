@@ -1,8 +1,7 @@
 -- What a table text means, and what is bad in it.
 use Rattle.std.specs.Prelude.{◌≡◌, ◌≢◌, ℕ, ◌+◌, ◌<◌, ◌≤◌, ◌⊎◌, ◌==◌, if◌then◌else◌, List, [], ◌∷◌, ◌++◌, length, map}
-use Rattle.std.specs.Prelude.{take, drop, count_by, codes, nat_eq, slice_index, Bool, Option, Some, None}
+use Rattle.std.specs.Prelude.{take, drop, count_by, codes, nat_eq, slice_index, Bool, Option, Some, None, chars, IsUtf8}
 use Rattle.std.specs.List.{flat_map, starts_with, Contains}
-use Rattle.std.specs.Str.{chars, IsUtf8}
 use Rattle.std.specs.Str.Lossy.{utf8_valid_len}
 use Rattle.cell_core.specs.Dots.{Dots, most_cells}
 use Rattle.louis_table.specs.declared.definition.Class.{Class}

@@ -1,5 +1,5 @@
 //! Characters as they are written in an operand, with escapes.
-ghost use Rattle.louis_table.specs.Characters.{escape_digits, escape_character};
+ghost use Rattle.louis_table.specs.Characters.{escape_character, escape_digits};
 ghost use Rattle.louis_table.specs.Steps.Characters.{character_at, characters_in, hex_value};
 ghost use Rattle.louis_table.specs.Steps.Characters.{number_at, only_character, only_pair};
 ghost use Rattle.std.specs.Prelude.{◌≡◌, ◌≤◌, ◌<◌, ◌+◌, IfOk, IfSome, length, option_map};

@@ -2,9 +2,7 @@
 ghost use Rattle.cell_core.specs.Reading.{cells_in};
 ghost use Rattle.louis_table.specs.Steps.Dots.{ReadsDots, are_many, are_many_of_two, are_many_written};
 ghost use Rattle.louis_table.specs.Steps.Dots.{pair_in, pair_parts, part_len, rule_in};
-ghost use Rattle.std.specs.Prelude.{◌≡◌, ◌≤◌, IfOk, codes, length};
-ghost use Rattle.std.specs.Str.{bytes_eq, encode_utf8_all};
-ghost use Rattle.std.specs.String.{string_bytes};
+ghost use Rattle.std.specs.Prelude.{◌≡◌, ◌≤◌, IfOk, codes, length, bytes_eq, encode_utf8_all, string_bytes};
 
 use super::fault::{Cause, LineFault};
 use cell_core::{Cells, DotsFault, read_dots};

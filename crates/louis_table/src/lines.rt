@@ -3,8 +3,7 @@ ghost use Rattle.louis_table.specs.Lines.{lines_of};
 ghost use Rattle.louis_table.specs.Table.{without_byte_order_mark};
 ghost use Rattle.std.specs.Io.BufRead.{strip_last};
 ghost use Rattle.std.specs.List.{after_first, before_first};
-ghost use Rattle.std.specs.Prelude.{◌==◌, ◌≡◌, ◌≢◌, ◌<◌, ◌∷◌, [], length, OnOk};
-ghost use Rattle.std.specs.Str.{chars};
+ghost use Rattle.std.specs.Prelude.{◌==◌, ◌≡◌, ◌≢◌, ◌<◌, ◌∷◌, [], length, OnOk, chars};
 
 use std::alloc::AllocError;
 

@@ -1,7 +1,6 @@
 //! The opcodes of table lines, and their names.
 ghost use Rattle.louis_table.specs.Steps.Opcode.{opcode_among, opcode_named};
-ghost use Rattle.std.specs.Prelude.{◌≡◌, map};
-ghost use Rattle.std.specs.Str.{bytes_eq};
+ghost use Rattle.std.specs.Prelude.{◌≡◌, map, bytes_eq};
 
 use super::character_set::CharacterSet;
 use super::definition::Class;

@@ -4,8 +4,7 @@ ghost use Rattle.louis_table.specs.Steps.Read.{LinesGive, LinesMean, LinesReport
 ghost use Rattle.louis_table.specs.Steps.Table.{HasDefinedPartners};
 ghost use Rattle.louis_table.specs.Table.{Means};
 ghost use Rattle.louis_table.specs.ReportedFault.{IsReportedOf, not_utf_8};
-ghost use Rattle.std.specs.Prelude.{◌≡◌, ◌+◌, ◌==◌, ◌≤◌, count_by, length, map, take, Err, IfOk, IfErr};
-ghost use Rattle.std.specs.Str.{chars, IsUtf8};
+ghost use Rattle.std.specs.Prelude.{◌≡◌, ◌+◌, ◌==◌, ◌≤◌, count_by, length, map, take, Err, IfOk, IfErr, chars, IsUtf8};
 ghost use Rattle.std.specs.Str.Lossy.{utf8_valid_len};
 
 use super::draft::Draft;

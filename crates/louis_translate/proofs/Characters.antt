@@ -1,7 +1,5 @@
 -- The characters of a text, one after another.
-use Rattle.std.proofs.Common.{◌≡◌, ℕ, ◌<◌, true, false, List, length, get_or, sym, ap, ◌∙◌, refl, Option, Some, None}
-use Rattle.std.specs.Prelude.{IsSome, is_some}
-use Rattle.std.specs.Option.{option_copied}
+use Rattle.std.proofs.Common.{◌≡◌, ℕ, ◌<◌, true, false, List, length, get_or, sym, ap, ◌∙◌, refl, Option, Some, None, IsSome, is_some, option_copied}
 use Rattle.std.proofs.lemmas.List.{get_or_default}
 use Rattle.louis_table.specs.Meaning.{Meaning, definition_of}
 use Rattle.louis_table.specs.declared.definition.Definition.{Definition}

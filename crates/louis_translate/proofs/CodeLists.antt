@@ -1,6 +1,5 @@
 -- Lists whose places are the codes of characters.
-use Rattle.std.proofs.Common.{◌≡◌, ◌⊎◌, ℕ, zero, suc, List, [], ◌∷◌, Some, refl, ap, inl, inr}
-use Rattle.std.specs.Prelude.{replicate, slice_get, slice_set}
+use Rattle.std.proofs.Common.{◌≡◌, ◌⊎◌, ℕ, zero, suc, List, [], ◌∷◌, Some, refl, ap, inl, inr, replicate, slice_get, slice_set}
 
 -- what stands in a list of one thing is that thing
 pub get_replicate : {A : Type 0} (n : ℕ) (x : A) (k : ℕ) (y : A) → slice_get (replicate n x) k ≡ Some y → x ≡ y

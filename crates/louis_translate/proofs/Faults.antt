@@ -1,6 +1,5 @@
 -- A fault that is passed on.
-use Rattle.std.proofs.Common.{◌≡◌, ◌↔◌, ℕ, List}
-use Rattle.std.specs.Prelude.{Result, Err}
+use Rattle.std.proofs.Common.{◌≡◌, ◌↔◌, ℕ, List, Result, Err}
 use Rattle.louis_table.specs.Meaning.{Meaning}
 use Rattle.louis_translate.specs.Position.{IsFirstUndefined}
 use Rattle.louis_translate.specs.declared.print.Fault.{Fault}

@@ -1,6 +1,5 @@
 -- Lists of what is known of characters.
-use Rattle.std.proofs.Common.{◌≡◌, ℕ, Bool, false, true, List, Option, Some, None, ap, rules}
-use Rattle.std.specs.Prelude.{is_some, replicate, slice_set}
+use Rattle.std.proofs.Common.{◌≡◌, ℕ, Bool, false, true, List, Option, Some, None, ap, rules, is_some, replicate, slice_set}
 use Rattle.std.specs.Option.{option_map_or}
 use Rattle.louis_table.specs.Meaning.{Meaning, definition_of}
 use Rattle.louis_translate.specs.Known.{AreKnown}

@@ -1,6 +1,5 @@
 -- Lists of lone cells.
-use Rattle.std.proofs.Common.{◌≡◌, ℕ, List, Option, Some, None, rules}
-use Rattle.std.specs.Prelude.{IfSome, replicate, slice_set}
+use Rattle.std.proofs.Common.{◌≡◌, ℕ, List, Option, Some, None, rules, IfSome, replicate, slice_set}
 use Rattle.louis_table.specs.Meaning.{Meaning}
 use Rattle.louis_translate.specs.Piece.{AreLoneCells, IsLoneCell}
 use Rattle.louis_translate.proofs.CodeLists.{get_replicate, get_set}

@@ -1,6 +1,5 @@
 -- A tree of the rules' characters, as rules come.
-use Rattle.std.proofs.Common.{◌≡◌, ◌≢◌, ℕ, zero, suc, ◌+◌, ◌<◌, ◌≤◌, ◌⊎◌, List, [], ◌∷◌, ◌++◌, length, take, eqb, Option, Some, None, refl, sym, ap, subst, ◌∙◌, arith, inl, inr, eq-eqb, add-one, get_or, drop, ◌-◌, rules}
-use Rattle.std.specs.Prelude.{slice_get, nat_eq, if◌then◌else◌, IsSomeAnd}
+use Rattle.std.proofs.Common.{◌≡◌, ◌≢◌, ℕ, zero, suc, ◌+◌, ◌<◌, ◌≤◌, ◌⊎◌, List, [], ◌∷◌, ◌++◌, length, take, eqb, Option, Some, None, refl, sym, ap, subst, ◌∙◌, arith, inl, inr, eq-eqb, add-one, get_or, drop, ◌-◌, rules, slice_get, nat_eq, if◌then◌else◌, IsSomeAnd}
 use Rattle.std.specs.Map.{lookup}
 use Rattle.std.proofs.lemmas.Bool.{cases_Bool, cases_order}
 use Rattle.std.proofs.lemmas.Grind.{get_or_after_one}

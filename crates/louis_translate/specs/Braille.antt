@@ -1,7 +1,6 @@
 -- The cells of a tiling, and which places of the print and which cells belong together.
-use Rattle.std.specs.Prelude.{◌≡◌, ℕ, ◌+◌, ◌<◌, ◌≤◌, List, [], ◌∷◌, ◌++◌, length}
-use Rattle.std.specs.Prelude.{slice_get, slice_index, Option, Some, None}
-use Rattle.std.specs.List.{flat_map}
+use Rattle.std.specs.Prelude.{◌≡◌, ℕ, ◌+◌, ◌<◌, ◌≤◌, List, [], ◌∷◌, ◌++◌, length, slice_get, slice_index, Option, Some}
+use Rattle.std.specs.Prelude.{None, flat_map}
 use Rattle.std.specs.Option.{option_and_then, option_map_or}
 use Rattle.louis_table.specs.Meaning.{Meaning, definition_of}
 use Rattle.louis_table.specs.declared.definition.Definition.{Definition}

@@ -1,7 +1,6 @@
 -- Where words begin and end in a print, and where the kinds of rules may stand, by the print alone.
-use Rattle.std.specs.Prelude.{◌≡◌, ℕ, ◌-◌, ◌<◌, Bool, true, false, ◌&&◌, ◌==◌, if◌then◌else◌, List, length}
-use Rattle.std.specs.Prelude.{slice_get, slice_index, Option, Some, None, IsSome, EachIndex, option_map}
-use Rattle.std.specs.Option.{option_and_then}
+use Rattle.std.specs.Prelude.{◌≡◌, ℕ, ◌-◌, ◌<◌, Bool, true, false, ◌&&◌, ◌==◌, if◌then◌else◌, List, length, slice_get}
+use Rattle.std.specs.Prelude.{slice_index, Option, Some, None, IsSome, EachIndex, option_map, option_and_then}
 use Rattle.louis_table.specs.Meaning.{Meaning, definition_of}
 use Rattle.louis_table.specs.declared.definition.Class.{Class}
 use Rattle.louis_table.specs.declared.definition.Class.TheVariants.{Space, Punctuation, Digit, Letter}

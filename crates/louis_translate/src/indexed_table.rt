@@ -22,8 +22,7 @@ impl IndexedTable {
     ghost use Rattle.louis_table.specs.Meaning.{fold_of};
     ghost use Rattle.louis_translate.specs.Search.{IsWhole};
     ghost use Rattle.louis_translate.specs.Tree.{leads};
-    ghost use Rattle.std.specs.Option.{option_and_then};
-    ghost use Rattle.std.specs.Prelude.{◌≡◌, ◌<◌, IfOk, Some, length, slice_get};
+    ghost use Rattle.std.specs.Prelude.{◌≡◌, ◌<◌, IfOk, Some, length, slice_get, option_and_then};
 
     /// The table with a tree of its rules.
     pub(crate) fn new(alloc: Global, table: Table) -> Result<Self, AllocError>

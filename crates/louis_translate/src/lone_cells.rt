@@ -1,8 +1,7 @@
 //! Characters that stand as one cell wherever their definition is chosen and no number reaches
 //! them.
 ghost use Rattle.louis_translate.specs.Piece.{AreLoneCells, IsLoneCell};
-ghost use Rattle.std.specs.Option.{option_and_then, option_copied};
-ghost use Rattle.std.specs.Prelude.{◌≡◌, ◌<◌, IfSome, slice_get};
+ghost use Rattle.std.specs.Prelude.{◌≡◌, ◌<◌, IfSome, slice_get, option_and_then, option_copied};
 
 use super::position::is_digit;
 use cell_core::Cell;

@@ -1,8 +1,7 @@
 //! The characters of a text, all defined by a table.
 ghost use Rattle.louis_table.specs.Meaning.{definition_of};
 ghost use Rattle.louis_translate.specs.Position.{AreDefined, IsFirstUndefined};
-ghost use Rattle.std.specs.Prelude.{◌≡◌, ◌↔◌, ℕ, Err, IfNone, IfOk, IfSome, OnOk, is_some};
-ghost use Rattle.std.specs.Str.{chars};
+ghost use Rattle.std.specs.Prelude.{◌≡◌, ◌↔◌, ℕ, Err, IfNone, IfOk, IfSome, OnOk, is_some, chars};
 
 use super::rule_book::RuleBook;
 use louis_table::Table;

@@ -9,8 +9,7 @@ pub trait RuleBook {
     ghost use Rattle.louis_translate.specs.Piece.{IsLoneCell};
     ghost use Rattle.louis_translate.specs.Position.{AreDefined};
     ghost use Rattle.std.specs.Bool.{OnTrue};
-    ghost use Rattle.std.specs.Option.{option_copied};
-    ghost use Rattle.std.specs.Prelude.{◌≡◌, ◌<◌, IfSome, IsSome, None, length};
+    ghost use Rattle.std.specs.Prelude.{◌≡◌, ◌<◌, IfSome, IsSome, None, length, option_copied};
 
     ghost meaning: { Self → Meaning };
 

@@ -1,9 +1,8 @@
 //! The cells of a print, and which places belong together.
 ghost use Rattle.louis_translate.specs.Braille.{IsPart, IsTranslation};
 ghost use Rattle.louis_translate.specs.Position.{AreDefined, IsFirstUndefined};
-ghost use Rattle.std.specs.Prelude.{◌≡◌, ◌+◌, ◌≤◌, ◌<◌, ◌↔◌, ◌++◌, ℕ, Err, IfOk, IsTrue};
-ghost use Rattle.std.specs.Prelude.{MatchBool, OnOk, length, replicate};
-ghost use Rattle.std.specs.Str.{chars};
+ghost use Rattle.std.specs.Prelude.{◌≡◌, ◌+◌, ◌≤◌, ◌<◌, ◌↔◌, ◌++◌, ℕ, Err, IfOk, IsTrue, MatchBool, OnOk, length};
+ghost use Rattle.std.specs.Prelude.{replicate, chars};
 
 use super::pieces::Pieces;
 use super::places::Places;

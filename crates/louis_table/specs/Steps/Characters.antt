@@ -1,8 +1,7 @@
 -- The characters of an operand, read one by one.
-use Rattle.std.specs.Prelude.{ℕ, zero, suc, ◌+◌, ◌*◌, ◌==◌, nat_lt, if◌then◌else◌, List, [], ◌∷◌}
-use Rattle.std.specs.Prelude.{length, take, drop, Option, Some, None, option_map}
+use Rattle.std.specs.Prelude.{ℕ, zero, suc, ◌+◌, ◌*◌, ◌==◌, nat_lt, if◌then◌else◌, List, [], ◌∷◌, length, take, drop}
+use Rattle.std.specs.Prelude.{Option, Some, None, option_map, option_and_then}
 use Rattle.std.specs.Char.{digit_value}
-use Rattle.std.specs.Option.{option_and_then}
 use lib.Utf8.{scalar}
 use Rattle.louis_table.specs.Characters.{escape_digits, escape_character}
 

@@ -1,8 +1,7 @@
 -- The cells of dots operands, and whether they are too many.
-use Rattle.std.specs.Prelude.{◌≡◌, ℕ, ◌+◌, Bool, not, ◌||◌, ◌==◌, nat_lt, true, false, if◌then◌else◌, List}
-use Rattle.std.specs.Prelude.{length, take, drop, Option, Some, None, option_map, Result, Ok, Err, codes}
+use Rattle.std.specs.Prelude.{◌≡◌, ℕ, ◌+◌, Bool, not, ◌||◌, ◌==◌, nat_lt, true, false, if◌then◌else◌, List, length}
+use Rattle.std.specs.Prelude.{take, drop, Option, Some, None, option_map, Result, Ok, Err, codes, bytes_eq}
 use Rattle.std.specs.List.{prefix_len}
-use Rattle.std.specs.Str.{bytes_eq}
 use Rattle.cell_core.specs.Reading.{cells_in}
 use Rattle.cell_core.specs.Dots.{most_cells}
 use Rattle.louis_table.specs.declared.fault.Cause.TheVariants as causes

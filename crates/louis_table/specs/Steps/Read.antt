@@ -1,7 +1,6 @@
 -- What lines give, one after another, and what is reported of them.
-use Rattle.std.specs.Prelude.{◌≡◌, ℕ, ◌+◌, ◌||◌, ◌⊎◌, nat_lt, nat_le, if◌then◌else◌, List}
-use Rattle.std.specs.Prelude.{length, map, Option, Some, None, Result, Ok, Err}
-use Rattle.std.specs.List.{flat_map}
+use Rattle.std.specs.Prelude.{◌≡◌, ℕ, ◌+◌, ◌||◌, ◌⊎◌, nat_lt, nat_le, if◌then◌else◌, List, length, map, Option, Some}
+use Rattle.std.specs.Prelude.{None, Result, Ok, Err, flat_map}
 use Rattle.louis_table.specs.declared.pending.PendingEntry.{PendingEntry}
 use Rattle.louis_table.specs.declared.draft.Draft.{Draft}
 use Rattle.louis_table.specs.declared.fault.LineFault.{LineFault}

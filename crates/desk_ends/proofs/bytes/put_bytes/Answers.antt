@@ -1,6 +1,5 @@
-use Rattle.std.proofs.Common.{[], ◌∷◌, get_or, true, is_ok, ap, arith}
+use Rattle.std.proofs.Common.{[], ◌∷◌, get_or, true, is_ok, ap, arith, drop_of_length-le}
 use Rattle.std.proofs.lemmas.List.{drop_more}
-use Rattle.std.proofs.Math.ListN.{drop_of_length-le}
 use Rattle.std.proofs.lemmas.Grind.{common_steps}
 use Rattle.desk_ends.proofs.Sending.{Sending-done, Sending-fails, Sending-more, fails-at}
 use Rattle.desk_ends.proofs.bytes.put_bytes.Goals as goal

@@ -1,8 +1,6 @@
-use Rattle.std.proofs.Common.{ℕ, ◌+◌, ◌∷◌, drop, true, is_ok, sym, ap, ◌∙◌, arith}
+use Rattle.std.proofs.Common.{ℕ, ◌+◌, ◌∷◌, drop, true, is_ok, sym, ap, ◌∙◌, arith, encode_utf8, drop_of_length-le}
 use Rattle.std.proofs.lemmas.List.{drop_more}
 use Rattle.std.proofs.lemmas.Result.{err_from_is_err_and}
-use Rattle.std.proofs.Math.ListN.{drop_of_length-le}
-use Rattle.std.specs.Char.{encode_utf8}
 use Rattle.std.proofs.lemmas.Grind.{common_steps}
 use Rattle.cell_core.specs.Cell.{braille_character}
 use Rattle.desk_ends.specs.Cells.{text_of}

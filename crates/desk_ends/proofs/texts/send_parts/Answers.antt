@@ -1,8 +1,6 @@
-use Rattle.std.proofs.Common.{true, is_ok, ap, [], arith}
-use Rattle.std.specs.List.{flat_map}
+use Rattle.std.proofs.Common.{true, is_ok, ap, [], arith, flat_map, drop_of_length-le}
 use Rattle.std.proofs.lemmas.List.{drop_more}
 use Rattle.std.proofs.lemmas.Result.{err_from_is_err_and}
-use Rattle.std.proofs.Math.ListN.{drop_of_length-le}
 use Rattle.std.proofs.lemmas.Grind.{common_steps}
 use Rattle.desk_ends.proofs.Sending.{Sending-done, Sending-fails, Sending-more}
 use Rattle.desk_ends.proofs.texts.send_parts.Goals as goal

@@ -1,5 +1,4 @@
-use Rattle.std.proofs.Common.{[], drop}
-use Rattle.std.specs.List.{flat_map}
+use Rattle.std.proofs.Common.{[], drop, flat_map}
 use Rattle.desk_ends.proofs.Sending.{Sending}
 use Rattle.desk_ends.proofs.texts.send_parts.Given as goal
 

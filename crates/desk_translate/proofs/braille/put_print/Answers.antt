@@ -1,13 +1,10 @@
-use Rattle.std.proofs.Common.{◌≡◌, ◌++◌, List, ℕ, is_ok, length, refl, ap, ◌∙◌, arith}
-use Rattle.std.specs.List.{flat_map}
-use Rattle.std.proofs.lemmas.List.{length-append}
+use Rattle.std.proofs.Common.{◌≡◌, ◌++◌, List, ℕ, is_ok, length, refl, ap, ◌∙◌, arith, flat_map, Option, map, length-append}
 use Rattle.std.proofs.lemmas.Result.{err_from_is_err_and}
 use Rattle.louis_table.specs.Meaning.{Meaning}
 use Rattle.louis_translate.specs.declared.choices.Choice.{Choice}
 use Rattle.louis_translate.specs.Braille.{braille}
 use Rattle.louis_translate.specs.Items.{PieceItem, made_by, made_cells}
 use Rattle.louis_translate.proofs.PieceLists.{braille-made}
-use Rattle.std.specs.Prelude.{Option, map}
 use Rattle.desk_ends.specs.Cells.{text_of}
 use Rattle.desk_ends.proofs.Sending.{Sending-none}
 use Rattle.desk_translate.proofs.Putting.{Putting, Putting-done, Putting-first, Putting-no_first, Putting-no_own, Putting-no_sign, Putting-piece}

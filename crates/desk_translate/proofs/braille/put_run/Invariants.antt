@@ -1,5 +1,4 @@
-use Rattle.std.proofs.Common.{◌≡◌, ◌++◌, List, [], length}
-use Rattle.std.specs.List.{flat_map}
+use Rattle.std.proofs.Common.{◌≡◌, ◌++◌, List, [], length, flat_map}
 use Rattle.louis_translate.specs.Items.{PieceItem, made_cells}
 use Rattle.desk_ends.specs.Cells.{text_of}
 use Rattle.desk_ends.proofs.Sending.{Sending}

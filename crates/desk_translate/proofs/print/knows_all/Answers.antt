@@ -1,5 +1,4 @@
-use Rattle.std.proofs.Common.{ℕ, below_more, subst, arith}
-use Rattle.std.specs.Prelude.{IsSome}
+use Rattle.std.proofs.Common.{ℕ, below_more, subst, arith, IsSome}
 use Rattle.std.proofs.lemmas.Bool.{OnTrue_at, OnTrue_from, and_parts}
 use Rattle.louis_table.specs.Meaning.{definition_of}
 use Rattle.louis_translate.specs.Position.{AreDefined}

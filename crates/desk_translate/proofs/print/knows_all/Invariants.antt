@@ -1,5 +1,4 @@
-use Rattle.std.proofs.Common.{◌≡◌, ◌<◌, ℕ, true, get_or}
-use Rattle.std.specs.Prelude.{IsSome}
+use Rattle.std.proofs.Common.{◌≡◌, ◌<◌, ℕ, true, get_or, IsSome}
 use Rattle.louis_table.specs.Meaning.{definition_of}
 use Rattle.desk_translate.proofs.print.knows_all.Given as goal
 

@@ -1,5 +1,4 @@
-use Rattle.std.proofs.Common.{◌≡◌, ◌∙◌, ◌^◌, ◌<◌, ℕ, List, [], Option, Some, None, refl, sym, subst, ap}
-use Rattle.std.specs.Prelude.{MatchOption, Ok, Err, Result, unwrap_or}
+use Rattle.std.proofs.Common.{◌≡◌, ◌∙◌, ◌^◌, ◌<◌, ℕ, List, [], Option, Some, None, refl, sym, subst, ap, MatchOption, Ok, Err, Result, unwrap_or}
 use Rattle.std.specs.Str.Parse.{ExplainsUnsignedError, HasUnsignedDigitsIfOk, IsNumeral, ParsesUnsigned, digits_value, without_leading_plus}
 use Rattle.clap.specs.Words.{Text, found_of, one_of, one_text, rows_of, ReadsOne}
 use Rattle.clap.specs.declared.parser.matches.Found.{Found}

@@ -1,5 +1,4 @@
-use Rattle.std.proofs.Common.{◌≢◌, String, [], string_bytes, subst, sym}
-use Rattle.std.specs.declared.alloc.Global.{Global}
+use Rattle.std.proofs.Common.{◌≢◌, String, [], string_bytes, subst, sym, Global}
 use Rattle.clap.specs.declared.error.kind.ErrorKind.{ErrorKind}
 use Rattle.desk_words.specs.Reading.{IsError, IsShownAs}
 use Rattle.desk_words.specs.declared.reading.Reading.{Reading}

@@ -1,5 +1,4 @@
-use Rattle.std.proofs.Common.{◌≡◌, ◌<◌, ◌≤◌, List, ℕ, Option, length, true, false, ltb, refl, arith, Some, Ok, Err, sym, ap, subst, ◌∙◌, rules}
-use Rattle.std.proofs.lemmas.Bool.{lt-ltb, le-ltb}
+use Rattle.std.proofs.Common.{◌≡◌, ◌<◌, ◌≤◌, List, ℕ, Option, length, true, false, ltb, refl, arith, Some, Ok, Err, sym, ap, subst, ◌∙◌, rules, lt-ltb, le-ltb}
 use Rattle.std.proofs.lemmas.Result.{err_from_is_err_and}
 use Rattle.louis_table.specs.declared.opcode.Opcode.TheVariants.{Replace}
 use Rattle.louis_table.specs.Table.{Replaces, most_rule_characters}

@@ -1,5 +1,4 @@
-use Rattle.std.proofs.Common.{◌≡◌, ◌<◌, ◌≤◌, List, ℕ, length, true, false, not, eqb, refl, arith, Some, Ok, sym, ap, subst, ◌∙◌, rules}
-use Rattle.std.proofs.lemmas.Bool.{lt-ltb, le-ltb}
+use Rattle.std.proofs.Common.{◌≡◌, ◌<◌, ◌≤◌, List, ℕ, length, true, false, not, eqb, refl, arith, Some, Ok, sym, ap, subst, ◌∙◌, rules, lt-ltb, le-ltb}
 use Rattle.louis_table.specs.declared.opcode.Opcode.TheVariants.{Collect}
 use Rattle.louis_table.specs.Table.{Collects, most_set_characters}
 use Rattle.louis_table.specs.Steps.Line.{judge_opcode}

@@ -1,6 +1,4 @@
-use Rattle.std.proofs.Common.{◌++◌, List, ℕ, Result, Ok, Err, sym, ap, ◌∙◌}
-use Rattle.std.specs.Prelude.{MatchResult, OnOk}
-use Rattle.std.specs.Str.{chars}
+use Rattle.std.proofs.Common.{◌++◌, List, ℕ, Result, Ok, Err, sym, ap, ◌∙◌, MatchResult, OnOk, chars}
 use Rattle.std.proofs.lemmas.Str.{Chars-Drains, encodes-chars}
 use Rattle.louis_table.proofs.lines.replace_characters.Goals as goal
 

@@ -1,5 +1,4 @@
-use Rattle.std.proofs.Common.{◌≡◌, length}
-use Rattle.std.specs.Str.{bytes_eq}
+use Rattle.std.proofs.Common.{◌≡◌, length, bytes_eq}
 use Rattle.louis_table.proofs.opcode.is_name.Given as goal
 
 -- what is left of both decides

@@ -1,5 +1,4 @@
-use Rattle.std.proofs.Common.{◌≡◌, ◌++◌, None}
-use Rattle.std.specs.List.{flat_map}
+use Rattle.std.proofs.Common.{◌≡◌, ◌++◌, None, flat_map}
 use Rattle.std.specs.Vec.Iter.{into_iter_items}
 use Rattle.louis_table.specs.Steps.Pending.{complete_rules, first_lacking}
 use Rattle.louis_table.proofs.pending.finish_all.Given as goal

@@ -1,5 +1,4 @@
-use Rattle.std.proofs.Common.{◌≡◌, ℕ, Err, rules, sym, ap, ◌∙◌}
-use Rattle.std.specs.Str.{chars}
+use Rattle.std.proofs.Common.{◌≡◌, ℕ, Err, rules, sym, ap, ◌∙◌, chars}
 use Rattle.louis_table.specs.Steps.Fault.{cause_number}
 use Rattle.louis_table.proofs.ReadingLaws.{ReadsOn-none, ReadsOn-all, ReadsOn-fault, ReadsOn-more, ReadsOn-HasDefinedPartners}
 use Rattle.louis_table.proofs.StepLaws.{nil_from_test, on_ok}

@@ -1,6 +1,4 @@
-use Rattle.std.proofs.Common.{sym, subst}
-use Rattle.std.specs.Prelude.{map}
-use Rattle.std.specs.Str.{chars}
+use Rattle.std.proofs.Common.{sym, subst, map, chars}
 use Rattle.louis_table.specs.Lines.{lines_of}
 use Rattle.louis_table.specs.Meaning.{Meaning}
 use Rattle.louis_table.specs.Steps.Read.{LinesMean}

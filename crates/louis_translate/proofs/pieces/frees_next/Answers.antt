@@ -1,5 +1,4 @@
-use Rattle.std.proofs.Common.{rules}
-use Rattle.std.specs.Prelude.{slice_get}
+use Rattle.std.proofs.Common.{rules, slice_get}
 use Rattle.std.proofs.lemmas.Bool.{OnTrue_from, not-true}
 use Rattle.louis_translate.proofs.Numbers.{follows_number-off}
 use Rattle.louis_translate.proofs.pieces.frees_next.Goals as goal

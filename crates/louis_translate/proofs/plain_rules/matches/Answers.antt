@@ -1,6 +1,5 @@
-use Rattle.std.proofs.Common.{rules}
+use Rattle.std.proofs.Common.{rules, slice_get}
 use Rattle.std.proofs.lemmas.Bool.{both_ways, cases_order}
-use Rattle.std.specs.Prelude.{slice_get}
 use Rattle.louis_translate.proofs.Runs.{first_folded}
 use Rattle.louis_translate.proofs.plain_rules.matches.Goals as goal
 

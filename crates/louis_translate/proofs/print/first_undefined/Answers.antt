@@ -1,9 +1,7 @@
-use Rattle.std.proofs.Common.{length, ap, ◌∙◌, arith, below_more}
-use Rattle.std.specs.Prelude.{not}
+use Rattle.std.proofs.Common.{length, ap, ◌∙◌, arith, below_more, not, chars}
 use Rattle.std.proofs.lemmas.Iterator.{YieldsList-from_chars}
 use Rattle.std.proofs.lemmas.Iterator.Consumers.{YieldsList-turn, YieldsList-end}
 use Rattle.std.proofs.lemmas.List.{length_push}
-use Rattle.std.specs.Str.{chars}
 use Rattle.louis_translate.proofs.Characters.{definition_of-none, definition_of-some}
 use Rattle.louis_translate.proofs.print.first_undefined.Goals as goal
 

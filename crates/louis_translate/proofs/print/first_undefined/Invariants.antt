@@ -1,6 +1,4 @@
-use Rattle.std.proofs.Common.{◌≡◌, ◌<◌, ℕ, length}
-use Rattle.std.specs.Prelude.{IsSome, slice_index}
-use Rattle.std.specs.Str.{chars}
+use Rattle.std.proofs.Common.{◌≡◌, ◌<◌, ℕ, length, IsSome, slice_index, chars}
 use Rattle.louis_table.specs.Meaning.{definition_of}
 use Rattle.louis_translate.proofs.print.first_undefined.Given as goal
 

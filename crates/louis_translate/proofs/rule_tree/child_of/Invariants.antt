@@ -1,5 +1,4 @@
-use Rattle.std.proofs.Common.{◌≡◌, drop}
-use Rattle.std.specs.Prelude.{nat_eq}
+use Rattle.std.proofs.Common.{◌≡◌, drop, nat_eq}
 use Rattle.std.specs.Map.{lookup}
 use Rattle.louis_translate.proofs.rule_tree.child_of.Given as goal
 

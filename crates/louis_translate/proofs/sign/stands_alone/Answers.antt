@@ -1,5 +1,4 @@
-use Rattle.std.proofs.Common.{◌≡◌, sym, ◌∙◌}
-use Rattle.std.specs.Prelude.{not}
+use Rattle.std.proofs.Common.{◌≡◌, sym, ◌∙◌, not}
 use Rattle.std.proofs.lemmas.Bool.{OnTrue_from, both_ways, not-true}
 use Rattle.louis_table.specs.declared.sign.Sign.TheVariants.{Capital}
 use Rattle.louis_table.specs.Meaning.{sign_cells}

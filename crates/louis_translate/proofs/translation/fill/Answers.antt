@@ -1,6 +1,5 @@
-use Rattle.std.proofs.Common.{◌≡◌, ◌++◌, List, ℕ, length, ap, ◌∙◌, arith}
+use Rattle.std.proofs.Common.{◌≡◌, ◌++◌, List, ℕ, length, ap, ◌∙◌, arith, length-append}
 use Rattle.std.proofs.lemmas.Bool.{MatchBool-at_true, MatchBool-at_false}
-use Rattle.std.proofs.lemmas.List.{length-append}
 use Rattle.louis_translate.proofs.PiecePlaces.{PartSoFar-start, PartSoFar-next, PartSoFar-all, PartSoFar-cut}
 use Rattle.louis_translate.proofs.translation.fill.Goals.{in-None, in-Some+then-not-have_room}
 use Rattle.louis_translate.proofs.translation.fill.Goals as goal

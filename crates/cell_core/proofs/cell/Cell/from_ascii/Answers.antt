@@ -1,5 +1,4 @@
-use Rattle.std.proofs.Common.{sym, ap, ◌∙◌, Some}
-use Rattle.std.specs.Prelude.{slice_index}
+use Rattle.std.proofs.Common.{sym, ap, ◌∙◌, Some, slice_index}
 use Rattle.cell_core.specs.Ascii.{ascii_masks}
 use Rattle.cell_core.proofs.AsciiLaws.{ascii_cell-masks, ascii_cell-past}
 use Rattle.cell_core.proofs.cell.Cell.from_ascii.Goals as goal

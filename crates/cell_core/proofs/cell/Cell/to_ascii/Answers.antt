@@ -1,5 +1,4 @@
-use Rattle.std.proofs.Common.{rules, ap, ◌∙◌, Some}
-use Rattle.std.specs.Prelude.{slice_index}
+use Rattle.std.proofs.Common.{rules, ap, ◌∙◌, Some, slice_index}
 use Rattle.cell_core.specs.Ascii.{ascii_cell}
 use Rattle.cell_core.proofs.AsciiLaws.{ascii_bytes, ascii_cell-bytes}
 use Rattle.cell_core.proofs.cell.Cell.to_ascii.Goals as goal

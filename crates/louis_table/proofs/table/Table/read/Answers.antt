@@ -1,5 +1,4 @@
-use Rattle.std.proofs.Common.{◌+◌, ℕ, Result, Ok, Err, ap, ◌∙◌, eqb, take}
-use Rattle.std.specs.Prelude.{IfOk, IfErr, count_by}
+use Rattle.std.proofs.Common.{◌+◌, ℕ, Result, Ok, Err, ap, ◌∙◌, eqb, take, IfOk, IfErr, count_by}
 use Rattle.louis_table.specs.Table.{no_text, Means, without_byte_order_mark}
 use Rattle.louis_table.specs.ReportedFault.{IsReportedOf}
 use Rattle.louis_table.proofs.OneMeaning.{LinesMean-Means, LinesReport-IsReportedOf}

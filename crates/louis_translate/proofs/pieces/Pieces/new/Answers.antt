@@ -1,5 +1,4 @@
-use Rattle.std.proofs.Common.{ap, arith}
-use Rattle.std.specs.Prelude.{map}
+use Rattle.std.proofs.Common.{ap, arith, map}
 use Rattle.louis_translate.specs.Items.{made_by}
 use Rattle.louis_translate.specs.Left.{choices_from}
 use Rattle.louis_translate.proofs.Tilings.{choices_from-covers, one_cover}

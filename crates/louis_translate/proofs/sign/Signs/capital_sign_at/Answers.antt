@@ -1,5 +1,4 @@
-use Rattle.std.proofs.Common.{rules}
-use Rattle.std.proofs.lemmas.Bool.{ltb-true}
+use Rattle.std.proofs.Common.{rules, ltb-true}
 use Rattle.louis_translate.proofs.Runs.{is_capital_at-run}
 use Rattle.louis_translate.proofs.sign.Signs.capital_sign_at.Goals as goal
 
