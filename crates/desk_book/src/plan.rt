@@ -107,42 +107,6 @@ pub(crate) fn check_print(rules: &RuleIndex, print: &[char]) -> Result<(), Refus
     }
 }
 
-/// A paragraph is struck, or isn't; its other flags stay.
-fn with_struck(id: u64, paragraph: &Paragraph, struck: bool) -> Effect
-    ensures { result ≡ Effect.SetFlags id paragraph.now.style paragraph.now.begins_volume struck }
-{
-    Effect::SetFlags {
-        id,
-        style: paragraph.style,
-        begins_volume: paragraph.begins_volume,
-        struck,
-    }
-}
-
-/// A paragraph gets a style; its flags stay.
-fn with_style(id: u64, paragraph: &Paragraph, style: Style) -> Effect
-    ensures { result ≡ Effect.SetFlags id style paragraph.now.begins_volume paragraph.now.struck }
-{
-    Effect::SetFlags {
-        id,
-        style,
-        begins_volume: paragraph.begins_volume,
-        struck: paragraph.struck,
-    }
-}
-
-/// A paragraph begins a volume, or doesn't; its style and other flag stay.
-fn with_volume(id: u64, paragraph: &Paragraph, begins: bool) -> Effect
-    ensures { result ≡ Effect.SetFlags id paragraph.now.style begins paragraph.now.struck }
-{
-    Effect::SetFlags {
-        id,
-        style: paragraph.style,
-        begins_volume: begins,
-        struck: paragraph.struck,
-    }
-}
-
 impl Book {
     /// The change that a command makes, if it is accepted, with room for all that it adds. The book
     /// stays as it is.
@@ -318,7 +282,12 @@ impl Book {
             return Err(Refusal::Struck);
         }
         self.check_version()?;
-        Ok(with_struck(id, paragraph, true))
+        Ok(Effect::SetFlags {
+            id,
+            style: paragraph.style,
+            begins_volume: paragraph.begins_volume,
+            struck: true,
+        })
     }
 
     fn plan_restore(&self, id: u64) -> Result<Effect, Refusal>
@@ -330,7 +299,12 @@ impl Book {
             return Err(Refusal::NotStruck);
         }
         self.check_version()?;
-        Ok(with_struck(id, paragraph, false))
+        Ok(Effect::SetFlags {
+            id,
+            style: paragraph.style,
+            begins_volume: paragraph.begins_volume,
+            struck: false,
+        })
     }
 
     fn plan_style(&self, id: u64, style: Style) -> Result<Effect, Refusal>
@@ -339,7 +313,12 @@ impl Book {
     {
         let paragraph = self.kept_paragraph(id)?;
         self.check_version()?;
-        Ok(with_style(id, paragraph, style))
+        Ok(Effect::SetFlags {
+            id,
+            style,
+            begins_volume: paragraph.begins_volume,
+            struck: paragraph.struck,
+        })
     }
 
     fn plan_volume(&self, id: u64, begins: bool) -> Result<Effect, Refusal>
@@ -348,7 +327,12 @@ impl Book {
     {
         let paragraph = self.kept_paragraph(id)?;
         self.check_version()?;
-        Ok(with_volume(id, paragraph, begins))
+        Ok(Effect::SetFlags {
+            id,
+            style: paragraph.style,
+            begins_volume: begins,
+            struck: paragraph.struck,
+        })
     }
 
     fn plan_move(&self, alloc: Global, id: u64, anchor: Anchor) -> Result<Effect, Refusal>
@@ -567,7 +551,7 @@ fn user_cells(
     Ok(Some(cells))
 }
 
-/// The name of a table is one.
+/// The name of a table is a valid one.
 fn check_name(name: &LentText<'_>) -> Result<(), Refusal>
     ensures name { OnOk result (IsTableName name.now) }
     ensures bad { IfErr result (λ refusal. (refusal ≡ Refusal.BadName) × ¬ IsTableName name.now) }

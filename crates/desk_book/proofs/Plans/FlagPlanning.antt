@@ -1,6 +1,5 @@
 -- What a command that sets a style or a flag of a paragraph is planned to do.
-use Rattle.std.proofs.Common.{◌≡◌, ℕ, ◌<◌, Bool, true, None, sym, ap, subst}
-use Rattle.desk_book.specs.declared.change.Effect.{Effect}
+use Rattle.std.proofs.Common.{◌≡◌, ℕ, ◌<◌, Bool, true, None, ap}
 use Rattle.desk_book.specs.declared.change.Effect.TheVariants.{SetFlags}
 use Rattle.desk_model.specs.declared.command.Command.{Command}
 use Rattle.desk_memory.specs.declared.paragraphs.Paragraph.{Paragraph as KeptParagraph}
@@ -22,13 +21,12 @@ use Rattle.desk_model.proofs.Commands.Ranks.{accepted_after, past_version}
 
 module _ (book : Book) (command : Command) (id : ℕ) (kept : KeptParagraph) (k : IsKeptFor book id kept) (change : Paragraph → Paragraph)
     (makes : Makes book command (next_with_paragraphs book (with_change id change book.paragraphs))) (written : HasCharacters command) (sets : GetsFlags command id) where
-  -- where a version is left, and no refusal holds that is checked before
+  -- if a version is left, and no refusal holds that is checked before
   pub flags_planned : (n : ℕ) → Passes book None command n → skips command n (rank (Full Version)) ≡ true → skips command bad_table_rank (rank NoMemory) ≡ true → book.version < most_version
-      → (effect : Effect) (style : Style) (begins struck : Bool) → effect ≡ SetFlags id style begins struck
-      → change (paragraph_kept (id, kept)) ≡ record (paragraph_kept (id, kept)) { style = style; begins_volume = begins; struck = struck } → IsPlanned book command effect
-  flags_planned n passes to_version to_end left effect style begins struck is same =
-      subst (IsPlanned book command) (sym is) (
-        accepted_after book command bad_table_rank (past_version book command n passes to_version left) to_end,
-        (next_with_paragraphs book (with_change id change book.paragraphs), makes, (sets, ap (next_with_paragraphs book) (with_change-same id (paragraph_kept (id, kept)) change _ _ k.alone same))),
-        written,
-      )
+      → (style : Style) (begins struck : Bool) → change (paragraph_kept (id, kept)) ≡ record (paragraph_kept (id, kept)) { style = style; begins_volume = begins; struck = struck }
+      → IsPlanned book command (SetFlags id style begins struck)
+  flags_planned n passes to_version to_end left style begins struck same = (
+    accepted_after book command bad_table_rank (past_version book command n passes to_version left) to_end,
+    (next_with_paragraphs book (with_change id change book.paragraphs), makes, (sets, ap (next_with_paragraphs book) (with_change-same id (paragraph_kept (id, kept)) change _ _ k.alone same))),
+    written,
+  )

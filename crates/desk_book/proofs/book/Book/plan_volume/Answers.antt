@@ -11,4 +11,4 @@ pub returns-clause-planned : goal.returns-clause-planned
 returns-clause-planned c =
     let kept = c.in_ok-paragraph.ensures.found in
     flags_planned c.args.self.now (Volume c.args.id c.args.begins) c.args.id _ kept (λ (p : Paragraph). record p { begins_volume = c.args.begins }) refl (tt, tt, tt) refl
-    (rank NoTable) (past_named c.args.self.now (Volume c.args.id c.args.begins) c.args.id _ kept refl refl) refl refl c.in_ok-check_version.ensures.left _ _ _ _ c.with_volume.ensures refl
+    (rank NoTable) (past_named c.args.self.now (Volume c.args.id c.args.begins) c.args.id _ kept refl refl) refl refl c.in_ok-check_version.ensures.left _ _ _ refl
