@@ -1,10 +1,11 @@
 -- How a command is checked while no version is expected, by what was found in the book.
 use Rattle.std.proofs.Common.{◌≡◌, ℕ, zero, suc, ◌<◌, ◌≤◌, true, false, List, [], ◌∷◌, length, Some, None, refl, sym, ap, subst, ◌∙◌, arith, inl, inr}
-use Rattle.std.specs.Prelude.{IsSome, IsSomeAnd, is_some}
+use Rattle.std.specs.Prelude.{IfErr, IsErrAnd, IsSome, IsSomeAnd, Result, Ok, Err, is_some}
 use Rattle.std.proofs.lemmas.Bool.{both_ways}
 use Rattle.louis_table.specs.Table.{Means}
 use Rattle.louis_table.proofs.OneMeaning.{one_meaning}
 use Rattle.louis_translate.specs.Position.{AreDefined, IsFirstUndefined}
+use Rattle.desk_book.specs.declared.change.Effect.{Effect}
 use Rattle.desk_model.specs.declared.command.Command.{Command}
 use Rattle.desk_memory.specs.declared.paragraphs.Paragraph.{Paragraph as KeptParagraph}
 use Rattle.desk_memory.specs.declared.tables.BookTable.{BookTable}
@@ -22,6 +23,12 @@ use Rattle.desk_model.proofs.Lists.Options.{IsSomeAnd-of, IsSomeAnd-value}
 use Rattle.desk_model.proofs.Commands.Judging.{IsRefused-passes, Passes-past, Passes-skip, skips}
 use Rattle.desk_model.proofs.Commands.Ranks.{defined_not_first, passes_to}
 use Rattle.std.proofs.lemmas.Option.{same_Some}
+
+-- ---- the exit of a `?`
+
+pub exit : (answer : Result Effect Refusal) (P : Refusal → Type 0) (told : Refusal) → IsErrAnd answer (λ other. other ≡ told) → P told → IfErr answer P
+exit (Ok effect) P told is p = tt
+exit (Err other) P told is p = subst P (sym is) p
 
 -- ---- paragraphs that are named
 

@@ -1,5 +1,4 @@
 use Rattle.std.proofs.Common.{ℕ, ◌<◌, List, None, length, refl, ◌∙◌, arith, inr}
-use Rattle.std.proofs.lemmas.Result.{err_from_is_err_and}
 use Rattle.desk_model.specs.declared.command.Command.TheVariants.{Table}
 use Rattle.desk_model.specs.Book.{Book}
 use Rattle.desk_model.specs.Judging.{Passes}
@@ -9,7 +8,7 @@ use Rattle.desk_model.specs.Ranks.{bad_table_rank, rank}
 use Rattle.desk_model.specs.declared.refusal.Refusal.TheVariants.{Full}
 use Rattle.desk_model.specs.declared.refusal.Limit.TheVariants.{Paragraphs}
 use Rattle.desk_book.proofs.Kept.KeptLookups.{count-tables, sound}
-use Rattle.desk_book.proofs.Plans.Planning.{full_version, no_memory}
+use Rattle.desk_book.proofs.Plans.Planning.{exit, full_version, no_memory}
 use Rattle.desk_model.proofs.Commands.Ranks.{past_version}
 use Rattle.desk_book.proofs.Plans.TablePlanning.{full_tables, past_reading, past_tables, past_users, unread, unused}
 use Rattle.desk_book.proofs.book.Book.plan_addition.Goals as goal
@@ -21,35 +20,31 @@ module _ (book : Book) (name text : List ℕ) (named : IsTableName name) (room :
   left : book.version < most_version → Passes book None (Table name text) bad_table_rank
   left version = past_version book (Table name text) (rank (Full Paragraphs)) roomy refl version
 
-pub returns-in_err-check_tables : goal.returns-in_err-check_tables
-returns-in_err-check_tables c =
-    let p = err_from_is_err_and c.from_residual.result c.from_residual.ensures.1 in
-    rw (p.1, p.2) (record { planned = tt; refused = full_tables c.args.self.now c.args.name.now c.args.text.now c.requires.name _ c.requires.new c.in_err-check_tables.ensures.full })
+pub returns-in_err-check_tables-clause-refused : goal.returns-in_err-check_tables-clause-refused
+returns-in_err-check_tables-clause-refused c =
+    exit _ _ _ c.from_residual.ensures.1 (full_tables c.args.self.now c.args.name.now c.args.text.now c.requires.name _ c.requires.new c.in_err-check_tables.ensures.full)
 
-pub returns-in_err-check_version : goal.returns-in_err-check_version
-returns-in_err-check_version c =
-    let p = err_from_is_err_and c.from_residual-in_err-check_version.result c.from_residual-in_err-check_version.ensures.1 in
+pub returns-in_err-check_version-clause-refused : goal.returns-in_err-check_version-clause-refused
+returns-in_err-check_version-clause-refused c =
     let told = c.in_err-check_version.ensures.full in
     let passes = roomy c.args.self.now c.args.name.now c.args.text.now c.requires.name c.in_ok-check_tables.ensures.left in
-    rw (p.1, p.2) (record { planned = tt; refused = full_version c.args.self.now (Table c.args.name.now c.args.text.now) (rank (Full Paragraphs)) _ passes refl told.1 told.0 })
+    exit _ _ _ c.from_residual-in_err-check_version.ensures.1
+    (full_version c.args.self.now (Table c.args.name.now c.args.text.now) (rank (Full Paragraphs)) _ passes refl told.1 told.0)
 
-pub returns-in_err-read_table : goal.returns-in_err-read_table
-returns-in_err-read_table c =
-    let p = err_from_is_err_and c.from_residual-in_err-read_table.result c.from_residual-in_err-read_table.ensures.1 in
+pub returns-in_err-read_table-clause-refused : goal.returns-in_err-read_table-clause-refused
+returns-in_err-read_table-clause-refused c =
     let passes = left c.args.self.now c.args.name.now c.args.text.now c.requires.name c.in_ok-check_tables.ensures.left c.in_ok-check_version.ensures.left in
-    rw (p.1, p.2) (record { planned = tt; refused = unread c.args.self.now c.args.name.now c.args.text.now _ passes c.in_err-read_table.ensures.bad })
+    exit _ _ _ c.from_residual-in_err-read_table.ensures.1 (unread c.args.self.now c.args.name.now c.args.text.now _ passes c.in_err-read_table.ensures.bad)
 
-pub returns-in_err-copy : goal.returns-in_err-copy
-returns-in_err-copy c =
-    let p = err_from_is_err_and c.from_residual-in_err-copy.result c.from_residual-in_err-copy.ensures.1 in
+pub returns-in_err-copy-clause-refused : goal.returns-in_err-copy-clause-refused
+returns-in_err-copy-clause-refused c =
     let passes = left c.args.self.now c.args.name.now c.args.text.now c.requires.name c.in_ok-check_tables.ensures.left c.in_ok-check_version.ensures.left in
-    rw p.1 (record { planned = tt; refused = no_memory c.args.self.now (Table c.args.name.now c.args.text.now) _ bad_table_rank refl passes p.2 })
+    exit _ _ _ c.from_residual-in_err-copy.ensures.1 (no_memory c.args.self.now (Table c.args.name.now c.args.text.now) _ bad_table_rank refl passes refl)
 
-pub returns-in_err-new : goal.returns-in_err-new
-returns-in_err-new c =
-    let p = err_from_is_err_and c.from_residual-in_err-new.result c.from_residual-in_err-new.ensures.1 in
+pub returns-in_err-new-clause-refused : goal.returns-in_err-new-clause-refused
+returns-in_err-new-clause-refused c =
     let passes = left c.args.self.now c.args.name.now c.args.text.now c.requires.name c.in_ok-check_tables.ensures.left c.in_ok-check_version.ensures.left in
-    rw p.1 (record { planned = tt; refused = no_memory c.args.self.now (Table c.args.name.now c.args.text.now) _ bad_table_rank refl passes p.2 })
+    exit _ _ _ c.from_residual-in_err-new.ensures.1 (no_memory c.args.self.now (Table c.args.name.now c.args.text.now) _ bad_table_rank refl passes refl)
 
 pub returns-clause-planned : goal.returns-clause-planned
 returns-clause-planned c =

@@ -1,5 +1,4 @@
 use Rattle.std.proofs.Common.{◌≡◌, ◌+◌, ◌-◌, ◌≤◌, List, ℕ, length, sym, ap, subst, ◌∙◌, refl}
-use Rattle.std.proofs.lemmas.Result.{err_from_is_err_and}
 use Rattle.desk_book.specs.Corrections.{HaltsEntry, TakesEntry}
 use Rattle.desk_memory.specs.Histories.{IsCorrection, replaced_by}
 use Rattle.desk_model.specs.Limits.{most_print}
@@ -9,6 +8,7 @@ use Rattle.desk_model.specs.NormalForm.{normal_form}
 use Rattle.desk_book.proofs.Plans.CorrectPlanning.{counted, halted_here, no_memory_here, planned_here, undefined_here}
 use Rattle.desk_memory.proofs.Callers.{TookFrom-correction, entry-correction}
 use Rattle.std.proofs.lemmas.Result.{IfErr-weaker, IfOk-weaker}
+use Rattle.desk_book.proofs.Plans.Planning.{exit}
 use Rattle.desk_book.proofs.book.Book.plan_correct.Goals as goal
 use Rattle.desk_book.proofs.book.Book.plan_correct.Goals.{After-len, After-len-2, In_ok-check_span}
 
@@ -59,9 +59,8 @@ returns-clause-planned c =
 pub returns-in_err-check_entry-clause-refused : goal.returns-in_err-check_entry-clause-refused
 returns-in_err-check_entry-clause-refused c =
     let at = goal.at.returns-in_err-check_entry-clause-refused c in
-    let p = err_from_is_err_and c.from_residual-in_err-check_entry.result c.from_residual-in_err-check_entry.ensures.1 in
     let span = span_is at.In_ok-check_span in
-    rw (p.1, p.2) (halted_here c.args.self.now c.args.id c.args.start c.args.count c.args.text.now c.args.who.now c.in_ok-check_proofreader.ensures.name c.in_ok-check_text.ensures.unbarred
+    exit _ _ _ c.from_residual-in_err-check_entry.ensures.1 (halted_here c.args.self.now c.args.id c.args.start c.args.count c.args.text.now c.args.who.now c.in_ok-check_proofreader.ensures.name c.in_ok-check_text.ensures.unbarred
     c.in_ok-paragraph.paragraph.now c.in_ok-paragraph.rules.now c.in_ok-paragraph.ensures.found.0 c.in_ok-paragraph.ensures.found.1 span _ refl (short_is at.After-len) _
     (subst (λ n. HaltsEntry c.args.self.now c.in_ok-paragraph.paragraph.now n c.in_err-check_entry.field-0.0) (many_is at.After-len span) c.in_err-check_entry.ensures.halted))
 
@@ -85,18 +84,15 @@ returns-clause-refused c =
 
 pub returns-in_err-put-clause-refused : goal.returns-in_err-put-clause-refused
 returns-in_err-put-clause-refused c =
-    let p = err_from_is_err_and c.from_residual-in_err-put.result c.from_residual-in_err-put.ensures.1 in
-    rw p.1 (no_memory_here c.args.self.now c.args.id c.args.start c.args.count c.args.text.now c.args.who.now c.in_ok-check_proofreader.ensures.name c.in_ok-check_text.ensures.unbarred
-    c.in_ok-paragraph.paragraph.now c.in_ok-paragraph.rules.now c.in_ok-paragraph.ensures.found.0 c.in_ok-paragraph.ensures.found.1 (span_is (goal.at.returns-in_err-put-clause-refused c).In_ok-check_span) _ p.2)
+    exit _ _ _ c.from_residual-in_err-put.ensures.1 (no_memory_here c.args.self.now c.args.id c.args.start c.args.count c.args.text.now c.args.who.now c.in_ok-check_proofreader.ensures.name c.in_ok-check_text.ensures.unbarred
+    c.in_ok-paragraph.paragraph.now c.in_ok-paragraph.rules.now c.in_ok-paragraph.ensures.found.0 c.in_ok-paragraph.ensures.found.1 (span_is (goal.at.returns-in_err-put-clause-refused c).In_ok-check_span) _ refl)
 
 pub returns-in_err-print-clause-refused : goal.returns-in_err-print-clause-refused
 returns-in_err-print-clause-refused c =
-    let p = err_from_is_err_and c.from_residual-in_err-print.result c.from_residual-in_err-print.ensures.1 in
-    rw p.1 (no_memory_here c.args.self.now c.args.id c.args.start c.args.count c.args.text.now c.args.who.now c.in_ok-check_proofreader.ensures.name c.in_ok-check_text.ensures.unbarred
-    c.in_ok-paragraph.paragraph.now c.in_ok-paragraph.rules.now c.in_ok-paragraph.ensures.found.0 c.in_ok-paragraph.ensures.found.1 (span_is (goal.at.returns-in_err-print-clause-refused c).In_ok-check_span) _ p.2)
+    exit _ _ _ c.from_residual-in_err-print.ensures.1 (no_memory_here c.args.self.now c.args.id c.args.start c.args.count c.args.text.now c.args.who.now c.in_ok-check_proofreader.ensures.name c.in_ok-check_text.ensures.unbarred
+    c.in_ok-paragraph.paragraph.now c.in_ok-paragraph.rules.now c.in_ok-paragraph.ensures.found.0 c.in_ok-paragraph.ensures.found.1 (span_is (goal.at.returns-in_err-print-clause-refused c).In_ok-check_span) _ refl)
 
 pub returns-in_err-correction-clause-refused : goal.returns-in_err-correction-clause-refused
 returns-in_err-correction-clause-refused c =
-    let p = err_from_is_err_and c.from_residual-in_err-correction.result c.from_residual-in_err-correction.ensures.1 in
-    rw p.1 (no_memory_here c.args.self.now c.args.id c.args.start c.args.count c.args.text.now c.args.who.now c.in_ok-check_proofreader.ensures.name c.in_ok-check_text.ensures.unbarred
-    c.in_ok-paragraph.paragraph.now c.in_ok-paragraph.rules.now c.in_ok-paragraph.ensures.found.0 c.in_ok-paragraph.ensures.found.1 (span_is (goal.at.returns-in_err-correction-clause-refused c).In_ok-check_span) _ p.2)
+    exit _ _ _ c.from_residual-in_err-correction.ensures.1 (no_memory_here c.args.self.now c.args.id c.args.start c.args.count c.args.text.now c.args.who.now c.in_ok-check_proofreader.ensures.name c.in_ok-check_text.ensures.unbarred
+    c.in_ok-paragraph.paragraph.now c.in_ok-paragraph.rules.now c.in_ok-paragraph.ensures.found.0 c.in_ok-paragraph.ensures.found.1 (span_is (goal.at.returns-in_err-correction-clause-refused c).In_ok-check_span) _ refl)

@@ -1,5 +1,4 @@
 use Rattle.std.proofs.Common.{◌≡◌, ℕ, [], ◌∷◌, ◌++◌, length, refl, sym, ap, subst, ◌∙◌, arith}
-use Rattle.std.proofs.lemmas.Result.{err_from_is_err_and}
 use Rattle.desk_model.specs.Book.{Book, Mark, new_mark}
 use Rattle.desk_model.specs.ParagraphMarks.{marks_on}
 use Rattle.desk_model.specs.Step.{next_mark, next_with_marks}
@@ -7,6 +6,7 @@ use Rattle.desk_memory.specs.Room.{Suffices}
 use Rattle.desk_model.specs.Characters.{AreCharacters}
 use Rattle.desk_memory.proofs.Callers.{count-marks, few-on}
 use Rattle.desk_book.proofs.Plans.MarkPlanning.{accepted_mark, full_marks, full_of_versions, has_cells, long_note, marked_here, no_memory_here}
+use Rattle.desk_book.proofs.Plans.Planning.{exit}
 use Rattle.desk_book.proofs.book.Book.plan_mark.Goals as goal
 
 pub span_of_cells-requires-clause-cells : goal.span_of_cells-requires-clause-cells
@@ -14,18 +14,18 @@ span_of_cells-requires-clause-cells c = has_cells c.args.self.now c.args.id c.ar
 
 pub returns-in_err-check_note-clause-refused : goal.returns-in_err-check_note-clause-refused
 returns-in_err-check_note-clause-refused c =
-    let p = err_from_is_err_and c.from_residual-in_err-check_note.result c.from_residual-in_err-check_note.ensures.1 in
-    rw (p.1, p.2) (long_note c.args.self.now c.args.id c.args.cell c.args.count c.args.note.now c.in_ok-check_text.ensures.unbarred _ _ c.in_ok-paragraph.ensures.found.0 c.in_ok-paragraph.ensures.found.1 _ _ c.as_slice-print.result.now c.as_slice-print.ensures c.in_ok-start.ensures.there _ c.in_err-check_note.ensures.long)
+    exit _ _ _ c.from_residual-in_err-check_note.ensures.1
+    (long_note c.args.self.now c.args.id c.args.cell c.args.count c.args.note.now c.in_ok-check_text.ensures.unbarred _ _ c.in_ok-paragraph.ensures.found.0 c.in_ok-paragraph.ensures.found.1 _ _ c.as_slice-print.result.now c.as_slice-print.ensures c.in_ok-start.ensures.there _ c.in_err-check_note.ensures.long)
 
 pub returns-in_err-check_marks-clause-refused : goal.returns-in_err-check_marks-clause-refused
 returns-in_err-check_marks-clause-refused c =
-    let p = err_from_is_err_and c.from_residual-in_err-check_marks.result c.from_residual-in_err-check_marks.ensures.1 in
-    rw (p.1, p.2) (full_marks c.args.self.now c.args.id c.args.cell c.args.count c.args.note.now c.in_ok-check_text.ensures.unbarred _ _ c.in_ok-paragraph.ensures.found.0 c.in_ok-paragraph.ensures.found.1 _ _ c.as_slice-print.result.now c.as_slice-print.ensures c.in_ok-start.ensures.there c.in_ok-check_note.ensures.short _ c.in_err-check_marks.ensures.full)
+    exit _ _ _ c.from_residual-in_err-check_marks.ensures.1
+    (full_marks c.args.self.now c.args.id c.args.cell c.args.count c.args.note.now c.in_ok-check_text.ensures.unbarred _ _ c.in_ok-paragraph.ensures.found.0 c.in_ok-paragraph.ensures.found.1 _ _ c.as_slice-print.result.now c.as_slice-print.ensures c.in_ok-start.ensures.there c.in_ok-check_note.ensures.short _ c.in_err-check_marks.ensures.full)
 
 pub returns-in_err-check_version-clause-refused : goal.returns-in_err-check_version-clause-refused
 returns-in_err-check_version-clause-refused c =
-    let p = err_from_is_err_and c.from_residual-in_err-check_version.result c.from_residual-in_err-check_version.ensures.1 in
-    rw (p.1, p.2) (full_of_versions c.args.self.now c.args.id c.args.cell c.args.count c.args.note.now c.in_ok-check_text.ensures.unbarred _ _ c.in_ok-paragraph.ensures.found.0 c.in_ok-paragraph.ensures.found.1 _ _ c.as_slice-print.result.now c.as_slice-print.ensures c.in_ok-start.ensures.there c.in_ok-check_note.ensures.short c.in_ok-check_marks.ensures.left _ c.in_err-check_version.ensures.full)
+    exit _ _ _ c.from_residual-in_err-check_version.ensures.1
+    (full_of_versions c.args.self.now c.args.id c.args.cell c.args.count c.args.note.now c.in_ok-check_text.ensures.unbarred _ _ c.in_ok-paragraph.ensures.found.0 c.in_ok-paragraph.ensures.found.1 _ _ c.as_slice-print.result.now c.as_slice-print.ensures c.in_ok-start.ensures.there c.in_ok-check_note.ensures.short c.in_ok-check_marks.ensures.left _ c.in_err-check_version.ensures.full)
 
 pub room-requires : goal.room-requires
 room-requires c =
@@ -68,15 +68,15 @@ returns-clause-planned c =
 
 pub returns-in_err-copy-clause-refused : goal.returns-in_err-copy-clause-refused
 returns-in_err-copy-clause-refused c =
-    let p = err_from_is_err_and c.from_residual-in_err-copy.result c.from_residual-in_err-copy.ensures.1 in
-    rw p.1 (no_memory_here c.args.self.now c.args.id c.args.cell c.args.count c.args.note.now c.in_ok-check_text.ensures.unbarred _ _ c.in_ok-paragraph.ensures.found.0 c.in_ok-paragraph.ensures.found.1 _ _ c.as_slice-print.result.now c.as_slice-print.ensures c.in_ok-start.ensures.there c.in_ok-check_note.ensures.short c.in_ok-check_marks.ensures.left c.in_ok-check_version.ensures.left _ p.2)
+    exit _ _ _ c.from_residual-in_err-copy.ensures.1
+    (no_memory_here c.args.self.now c.args.id c.args.cell c.args.count c.args.note.now c.in_ok-check_text.ensures.unbarred _ _ c.in_ok-paragraph.ensures.found.0 c.in_ok-paragraph.ensures.found.1 _ _ c.as_slice-print.result.now c.as_slice-print.ensures c.in_ok-start.ensures.there c.in_ok-check_note.ensures.short c.in_ok-check_marks.ensures.left c.in_ok-check_version.ensures.left _ refl)
 
 pub returns-in_err-room-clause-refused : goal.returns-in_err-room-clause-refused
 returns-in_err-room-clause-refused c =
-    let p = err_from_is_err_and c.from_residual-in_err-room.result c.from_residual-in_err-room.ensures.1 in
-    rw p.1 (no_memory_here c.args.self.now c.args.id c.args.cell c.args.count c.args.note.now c.in_ok-check_text.ensures.unbarred _ _ c.in_ok-paragraph.ensures.found.0 c.in_ok-paragraph.ensures.found.1 _ _ c.as_slice-print.result.now c.as_slice-print.ensures c.in_ok-start.ensures.there c.in_ok-check_note.ensures.short c.in_ok-check_marks.ensures.left c.in_ok-check_version.ensures.left _ p.2)
+    exit _ _ _ c.from_residual-in_err-room.ensures.1
+    (no_memory_here c.args.self.now c.args.id c.args.cell c.args.count c.args.note.now c.in_ok-check_text.ensures.unbarred _ _ c.in_ok-paragraph.ensures.found.0 c.in_ok-paragraph.ensures.found.1 _ _ c.as_slice-print.result.now c.as_slice-print.ensures c.in_ok-start.ensures.there c.in_ok-check_note.ensures.short c.in_ok-check_marks.ensures.left c.in_ok-check_version.ensures.left _ refl)
 
 pub returns-in_err-room-2-clause-refused : goal.returns-in_err-room-2-clause-refused
 returns-in_err-room-2-clause-refused c =
-    let p = err_from_is_err_and c.from_residual-in_err-room-2.result c.from_residual-in_err-room-2.ensures.1 in
-    rw p.1 (no_memory_here c.args.self.now c.args.id c.args.cell c.args.count c.args.note.now c.in_ok-check_text.ensures.unbarred _ _ c.in_ok-paragraph.ensures.found.0 c.in_ok-paragraph.ensures.found.1 _ _ c.as_slice-print.result.now c.as_slice-print.ensures c.in_ok-start.ensures.there c.in_ok-check_note.ensures.short c.in_ok-check_marks.ensures.left c.in_ok-check_version.ensures.left _ p.2)
+    exit _ _ _ c.from_residual-in_err-room-2.ensures.1
+    (no_memory_here c.args.self.now c.args.id c.args.cell c.args.count c.args.note.now c.in_ok-check_text.ensures.unbarred _ _ c.in_ok-paragraph.ensures.found.0 c.in_ok-paragraph.ensures.found.1 _ _ c.as_slice-print.result.now c.as_slice-print.ensures c.in_ok-start.ensures.there c.in_ok-check_note.ensures.short c.in_ok-check_marks.ensures.left c.in_ok-check_version.ensures.left _ refl)

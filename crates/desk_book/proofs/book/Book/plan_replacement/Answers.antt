@@ -1,6 +1,5 @@
 use Rattle.std.proofs.Common.{ℕ, ◌<◌, List, None, refl, sym, subst, ◌∙◌, inl}
 use Rattle.std.specs.Prelude.{IsSome}
-use Rattle.std.proofs.lemmas.Result.{err_from_is_err_and}
 use Rattle.louis_table.specs.Meaning.{Meaning}
 use Rattle.louis_table.specs.Table.{Means}
 use Rattle.desk_model.specs.declared.command.Command.TheVariants.{Table}
@@ -12,7 +11,7 @@ use Rattle.desk_model.specs.Name.{IsTableName}
 use Rattle.desk_model.specs.Ranks.{bad_table_rank, rank, untranslatable_rank}
 use Rattle.desk_model.specs.declared.refusal.Refusal.TheVariants.{Full}
 use Rattle.desk_model.specs.declared.refusal.Limit.TheVariants.{Paragraphs}
-use Rattle.desk_book.proofs.Plans.Planning.{full_version, no_memory}
+use Rattle.desk_book.proofs.Plans.Planning.{exit, full_version, no_memory}
 use Rattle.desk_model.proofs.Commands.Ranks.{past_version}
 use Rattle.desk_book.proofs.Plans.TablePlanning.{past_reading, past_tables, past_users, unread, untranslatable}
 use Rattle.desk_book.proofs.book.Book.plan_replacement.Goals as goal
@@ -28,38 +27,33 @@ module _ (book : Book) (name text : List ℕ) (named : IsTableName name) (old : 
     judged : (meaning : Meaning) → Means text meaning → Passes book None (Table name text) untranslatable_rank
     judged meaning means = past_reading book name text meaning means left
 
-pub returns-in_err-check_version : goal.returns-in_err-check_version
-returns-in_err-check_version c =
-    let p = err_from_is_err_and c.from_residual.result c.from_residual.ensures.1 in
+pub returns-in_err-check_version-clause-refused : goal.returns-in_err-check_version-clause-refused
+returns-in_err-check_version-clause-refused c =
     let told = c.in_err-check_version.ensures.full in
     let passes = there c.args.self.now c.args.name.now c.args.text.now c.requires.name c.requires.old in
-    rw (p.1, p.2) (record { planned = tt; refused = full_version c.args.self.now (Table c.args.name.now c.args.text.now) (rank (Full Paragraphs)) _ passes refl told.1 told.0 })
+    exit _ _ _ c.from_residual.ensures.1 (full_version c.args.self.now (Table c.args.name.now c.args.text.now) (rank (Full Paragraphs)) _ passes refl told.1 told.0)
 
-pub returns-in_err-table : goal.returns-in_err-table
-returns-in_err-table c =
-    let p = err_from_is_err_and c.from_residual-in_err-table.result c.from_residual-in_err-table.ensures.1 in
+pub returns-in_err-table-clause-refused : goal.returns-in_err-table-clause-refused
+returns-in_err-table-clause-refused c =
     let passes = left c.args.self.now c.args.name.now c.args.text.now c.requires.name c.requires.old c.in_ok-check_version.ensures.left in
-    rw (p.1, p.2) (record { planned = tt; refused = unread c.args.self.now c.args.name.now c.args.text.now _ passes c.in_err-table.ensures.bad })
+    exit _ _ _ c.from_residual-in_err-table.ensures.1 (unread c.args.self.now c.args.name.now c.args.text.now _ passes c.in_err-table.ensures.bad)
 
-pub returns-in_err-check_users : goal.returns-in_err-check_users
-returns-in_err-check_users c =
-    let p = err_from_is_err_and c.from_residual-in_err-check_users.result c.from_residual-in_err-check_users.ensures.1 in
+pub returns-in_err-check_users-clause-refused : goal.returns-in_err-check_users-clause-refused
+returns-in_err-check_users-clause-refused c =
     let means = subst (Means c.args.text.now) (sym c.rules-rules.ensures) c.in_ok-table.ensures.means in
     let passes = judged c.args.self.now c.args.name.now c.args.text.now c.requires.name c.requires.old c.in_ok-check_version.ensures.left _ means in
     let told = c.in_err-check_users.ensures.undefined in
-    rw (p.1, p.2) (record { planned = tt; refused = untranslatable c.args.self.now c.args.name.now c.args.text.now _ means _ told.0 told.1 passes told.2 told.3 })
+    exit _ _ _ c.from_residual-in_err-check_users.ensures.1 (untranslatable c.args.self.now c.args.name.now c.args.text.now _ means _ told.0 told.1 passes told.2 told.3)
 
-pub returns-in_err-cells : goal.returns-in_err-cells
-returns-in_err-cells c =
-    let p = err_from_is_err_and c.from_residual-in_err-cells.result c.from_residual-in_err-cells.ensures.1 in
+pub returns-in_err-cells-clause-refused : goal.returns-in_err-cells-clause-refused
+returns-in_err-cells-clause-refused c =
     let passes = left c.args.self.now c.args.name.now c.args.text.now c.requires.name c.requires.old c.in_ok-check_version.ensures.left in
-    rw p.1 (record { planned = tt; refused = no_memory c.args.self.now (Table c.args.name.now c.args.text.now) _ bad_table_rank refl passes p.2 })
+    exit _ _ _ c.from_residual-in_err-cells.ensures.1 (no_memory c.args.self.now (Table c.args.name.now c.args.text.now) _ bad_table_rank refl passes refl)
 
-pub returns-in_err-copy : goal.returns-in_err-copy
-returns-in_err-copy c =
-    let p = err_from_is_err_and c.from_residual-in_err-copy.result c.from_residual-in_err-copy.ensures.1 in
+pub returns-in_err-copy-clause-refused : goal.returns-in_err-copy-clause-refused
+returns-in_err-copy-clause-refused c =
     let passes = left c.args.self.now c.args.name.now c.args.text.now c.requires.name c.requires.old c.in_ok-check_version.ensures.left in
-    rw p.1 (record { planned = tt; refused = no_memory c.args.self.now (Table c.args.name.now c.args.text.now) _ bad_table_rank refl passes p.2 })
+    exit _ _ _ c.from_residual-in_err-copy.ensures.1 (no_memory c.args.self.now (Table c.args.name.now c.args.text.now) _ bad_table_rank refl passes refl)
 
 pub returns-clause-planned : goal.returns-clause-planned
 returns-clause-planned c =

@@ -1,5 +1,4 @@
 use Rattle.std.proofs.Common.{◌≡◌, ℕ, ◌+◌, ◌-◌, ◌≤◌, List, length, sym, ap, subst, ◌∙◌, refl, arith}
-use Rattle.std.proofs.lemmas.Result.{err_from_is_err_and}
 use Rattle.desk_book.specs.Corrections.{HaltsEntry, TakesEntry}
 use Rattle.desk_memory.specs.Histories.{replaced_by}
 use Rattle.desk_memory.specs.Histories.{IsNewestInForce, entries_kept}
@@ -8,6 +7,7 @@ use Rattle.desk_model.specs.Print.{print_of, with_entry}
 use Rattle.desk_model.specs.Sound.{AreSoundEntries}
 use Rattle.std.proofs.lemmas.Result.{IfErr-weaker, IfOk-weaker}
 use Rattle.desk_book.proofs.Plans.UndoPlanning.{back, counted, halted_here, no_memory_here, planned_here, sound_kept, span_here, undefined_here}
+use Rattle.desk_book.proofs.Plans.Planning.{exit}
 use Rattle.desk_book.proofs.book.Book.plan_undo.Goals as goal
 use Rattle.desk_book.proofs.book.Book.plan_undo.Goals.{After-as_slice-old, In_ok-undone}
 
@@ -60,9 +60,8 @@ returns-clause-planned c =
 pub returns-in_err-check_entry-clause-refused : goal.returns-in_err-check_entry-clause-refused
 returns-in_err-check_entry-clause-refused c =
     let at = (goal.at.returns-in_err-check_entry-clause-refused c).After-as_slice-old in
-    let p = err_from_is_err_and c.from_residual-in_err-check_entry.result c.from_residual-in_err-check_entry.ensures.1 in
     let found = c.in_ok-paragraph.ensures.found in
-    rw (p.1, p.2) (halted_here c.args.self.now c.args.id _ _ found.0 found.1 c.in-Some.number c.in-Some.correction.now (force_is at) _ refl _
+    exit _ _ _ c.from_residual-in_err-check_entry.ensures.1 (halted_here c.args.self.now c.args.id _ _ found.0 found.1 c.in-Some.number c.in-Some.correction.now (force_is at) _ refl _
     (subst (λ n. HaltsEntry c.args.self.now c.in_ok-paragraph.paragraph.now n c.in_err-check_entry.field-0.0) (many_is at) c.in_err-check_entry.ensures.halted))
 
 pub entry_effect-requires : goal.entry_effect-requires
@@ -84,7 +83,7 @@ returns-clause-refused c =
 pub returns-in_err-undone-clause-refused : goal.returns-in_err-undone-clause-refused
 returns-in_err-undone-clause-refused c =
     let at = (goal.at.returns-in_err-undone-clause-refused c).After-as_slice-old in
-    let p = err_from_is_err_and c.from_residual-in_err-undone.result c.from_residual-in_err-undone.ensures.1 in
     let found = c.in_ok-paragraph.ensures.found in
     let takes = subst (TakesEntry c.args.self.now c.in_ok-paragraph.paragraph.now) (many_is at) c.in_ok-check_entry.ensures.takes in
-    rw p.1 (no_memory_here c.args.self.now c.args.id _ _ found.0 found.1 c.in-Some.number c.in-Some.correction.now (force_is at) _ refl takes _ p.2)
+    exit _ _ _ c.from_residual-in_err-undone.ensures.1
+    (no_memory_here c.args.self.now c.args.id _ _ found.0 found.1 c.in-Some.number c.in-Some.correction.now (force_is at) _ refl takes _ refl)
