@@ -7,12 +7,12 @@ use Rattle.std.specs.Prelude.{not}
 use Rattle.std.proofs.lemmas.Bool.{cases_Bool, cond-true, cond-false, ne_eqb}
 use Rattle.std.proofs.lemmas.List.{length-append, map-append}
 use Rattle.std.proofs.lemmas.List.Elements.{All-cons, All-contains, All-filter, All-head, All-map, All-tail, All-weaker, Contains-push}
-use Rattle.std.proofs.lemmas.List.Sorted.{IsPermutation-cons, IsPermutation-refl, IsPermutation-sym, IsPermutation-to_front, IsPermutation-trans}
+use Rattle.std.proofs.lemmas.List.Sorted.{IsPermutation-cons, IsPermutation-sym, IsPermutation-to_front, IsPermutation-trans}
 use Rattle.desk_memory.specs.declared.marks.KeptMark.{KeptMark}
 use Rattle.desk_model.specs.Book.{Book, Mark}
 use Rattle.desk_model.specs.Loans.{LeadTo, row_number}
 use Rattle.desk_book.specs.ChangePuts.{kept_mark_row, version_put}
-use Rattle.desk_parts.specs.FileRows.{HasUtf8Texts, format_of, spelled}
+use Rattle.desk_parts.specs.FileRows.{HasUtf8Texts, spelled}
 use Rattle.desk_memory.specs.Kept.{mark_kept}
 use Rattle.desk_parts.specs.declared.file_table.FileTable.TheVariants as tables
 use Rattle.desk_parts.specs.Puts.{PutRow, put_by_key}
@@ -23,8 +23,8 @@ use Rattle.desk_model.specs.Step.{next_mark, next_with_marks}
 use Rattle.desk_model.proofs.Rows.BookRows.{encoded-text, spelled-encoded}
 use Rattle.desk_memory.proofs.Callers.{IsWithin-sound}
 use Rattle.desk_model.proofs.Lists.Permutations.{IsPermutation-filter}
-use Rattle.desk_book.proofs.RowPuts.PutChanges.{IsCached-marks, same_key, small_mark}
-use Rattle.desk_model.proofs.Rows.PutRows.{AreCached-same, filter-all, id_number, number-small, versioned}
+use Rattle.desk_book.proofs.RowPuts.PutChanges.{same_key, small_mark, shown-marked}
+use Rattle.desk_model.proofs.Rows.PutRows.{filter-all, number-small}
 use Rattle.desk_model.proofs.Books.SoundBooks.{paragraph_of-within}
 
 -- ---- a row put in place of those with its key
@@ -104,27 +104,16 @@ module _ (book : Book) (kept : KeptMark) (sound : IsSound book) where
         book.marks (small_mark book sound))
 
     pub mark-lead : LeadTo book (version_put marked.version ∷ PutRow tables.Mark row ∷ []) marked
-    mark-lead rows shows has = record {
-      sound = after;
-      texts = record {
-        tabs = shows.texts.tabs;
-        paras = shows.texts.paras;
-        entries = shows.texts.entries;
-        marks = All-put_in (HasUtf8Texts tables.Mark) (λ (m : MarkRow). int_eq m.id row.id) row rows.marks (encoded-text kept.note is_sound.clean.characters) shows.texts.marks;
-      };
-      row = versioned (format_of rows.entries) book.version marked.version rows.books after.version shows.row;
-      tables = shows.tables;
-      paragraphs = shows.paragraphs;
-      entries = shows.entries;
-      marks =
-          let key : MarkRow → Bool = λ m. int_eq m.id row.id in
-          let old : List MarkRow = map mark_row_of book.marks in
-          let moved = IsPermutation-put_in (spelled tables.Mark) key key row rows.marks old (λ k d within. refl) shows.marks in
-          let all : filter (λ m. not (key m)) old ≡ old = filter-all (λ m. not (key m)) old others-apart in
-          let now : map mark_row_of (book.marks ++ mark ∷ []) ≡ old ++ mark_row_of mark ∷ [] = map-append mark_row_of book.marks (mark ∷ []) in
-          subst (IsPermutation (map (spelled tables.Mark) (put_by_key key row rows.marks))) (sym now)
-          (IsPermutation-trans (map (spelled tables.Mark) (put_by_key key row rows.marks)) (mark_row_of mark ∷ old) (old ++ mark_row_of mark ∷ [])
-          (subst (IsPermutation (map (spelled tables.Mark) (put_by_key key row rows.marks))) (λ i. spelled-row i ∷ all i) moved)
-          (IsPermutation-sym (old ++ mark_row_of mark ∷ []) (mark_row_of mark ∷ old) (IsPermutation-to_front old (mark_row_of mark))));
-      caches = λ caches same. AreCached-same book marked caches (IsPermutation-refl (map id_number book.paragraphs)) (IsCached-marks book marked refl refl) (shows.caches caches same);
-    }
+    mark-lead rows shows has =
+        let key : MarkRow → Bool = λ m. int_eq m.id row.id in
+        let old : List MarkRow = map mark_row_of book.marks in
+        let put : List MarkRow = put_by_key key row rows.marks in
+        let moved = IsPermutation-put_in (spelled tables.Mark) key key row rows.marks old (λ k d within. refl) shows.marks in
+        let all : filter (λ m. not (key m)) old ≡ old = filter-all (λ m. not (key m)) old others-apart in
+        let now : map mark_row_of (book.marks ++ mark ∷ []) ≡ old ++ mark_row_of mark ∷ [] = map-append mark_row_of book.marks (mark ∷ []) in
+        shown-marked book (book.marks ++ mark ∷ []) after rows shows put
+        (All-put_in (HasUtf8Texts tables.Mark) key row rows.marks (encoded-text kept.note is_sound.clean.characters) shows.texts.marks)
+        (subst (IsPermutation (map (spelled tables.Mark) put)) (sym now)
+        (IsPermutation-trans (map (spelled tables.Mark) put) (mark_row_of mark ∷ old) (old ++ mark_row_of mark ∷ [])
+        (subst (IsPermutation (map (spelled tables.Mark) put)) (λ i. spelled-row i ∷ all i) moved)
+        (IsPermutation-sym (old ++ mark_row_of mark ∷ []) (mark_row_of mark ∷ old) (IsPermutation-to_front old (mark_row_of mark)))))

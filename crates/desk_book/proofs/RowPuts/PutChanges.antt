@@ -36,7 +36,7 @@ use Rattle.desk_model.proofs.Books.SoundEntries.{resolved_by}
 
 -- ---- keys
 
--- a number below the greatest is equal to a row's number where it is equal to what that is of
+-- a number below the greatest is equal to a row's number if it is equal to the number that this stands for
 pub same_key : (a id : ℕ) → a < 9223372036854775807 → int_eq (pos a) (row_number id) ≡ nat_eq a id
 same_key a id small =
     int_eq-pos a (min id 9223372036854775807)
@@ -49,7 +49,7 @@ pub cond-over : {X Y : Type 0} (f : X → Y) (b : Bool) (x y : X) (z : Y) → (b
 cond-over f true x y z same = same refl
 cond-over f false x y z same = refl
 
--- the row's columns set where it has the number as its key
+-- the row's columns set if it has the number as its key
 abbrev pub para_set : ℕ → (Para → Para) → Para → Para
 para_set id set p = cond (int_eq p.id (row_number id)) (set p) p
 
@@ -73,7 +73,7 @@ module _ (book : Book) (sound : IsSound book) where
       omega arith))
 
 -- a row of braille of a book with other marks
-pub IsCached-marks : (book next : Book) → next.tables ≡ book.tables → next.paragraphs ≡ book.paragraphs → (row : ParaCells) → IsCached book row → IsCached next row
+IsCached-marks : (book next : Book) → next.tables ≡ book.tables → next.paragraphs ≡ book.paragraphs → (row : ParaCells) → IsCached book row → IsCached next row
 IsCached-marks book next tables paragraphs row is = record {
   paragraph = is.paragraph;
   there = subst (λ (ps : List Paragraph). Contains ps is.paragraph) (sym paragraphs) is.there;
@@ -171,6 +171,27 @@ module _ (book : Book) (id : ℕ) (style : Style) (begins struck : Bool) (sound 
       (IsPermutation-same (map id_number book.paragraphs) (map id_number with_flags.paragraphs) (numbers-same book.paragraphs with_flags.paragraphs (sym (ids-with_change id flagged (λ p. refl) book.paragraphs))))
       flagged-cached (shows.caches caches same))
 
+-- ---- other marks
+
+module _ (book : Book) (ms : List Mark) where
+  abbrev remarked : Book
+  remarked = next_with_marks book ms
+
+  -- the rows with rows of these marks show the book with them
+  pub shown-marked : IsSound remarked → (rows : FileRows) → Shows rows book → (marks : List MarkRow) → All (HasUtf8Texts file.Mark) marks
+      → IsPermutation (map (spelled file.Mark) marks) (map mark_row_of ms)
+      → Shows (record rows { books = (with_put (version_put remarked.version) rows).books; marks = marks }) remarked
+  shown-marked after rows shows marks texts same = record {
+    sound = after;
+    texts = record { tabs = shows.texts.tabs; paras = shows.texts.paras; entries = shows.texts.entries; marks = texts };
+    row = versioned (format_of rows.entries) book.version remarked.version rows.books after.version shows.row;
+    tables = shows.tables;
+    paragraphs = shows.paragraphs;
+    entries = shows.entries;
+    marks = same;
+    caches = λ caches e. AreCached-same book remarked caches (IsPermutation-refl (map id_number book.paragraphs)) (IsCached-marks book remarked refl refl) (shows.caches caches e);
+  }
+
 -- ---- a mark resolved
 
 module _ (book : Book) (id : ℕ) (sound : IsSound book) where
@@ -197,22 +218,11 @@ module _ (book : Book) (id : ℕ) (sound : IsSound book) where
   small-marks = All-weaker (λ (m : Mark). m.id ≤ length book.marks) IsSmall (λ m lower. let few = sound.few_marks in omega arith) book.marks (small_mark book sound)
 
   pub resolved-lead : IsSound resolved → LeadTo book (version_put resolved.version ∷ resolved_put id ∷ []) resolved
-  resolved-lead after rows shows has = record {
-    sound = after;
-    texts = record {
-      tabs = shows.texts.tabs;
-      paras = shows.texts.paras;
-      entries = shows.texts.entries;
-      marks = All-set_where (λ (m : MarkRow). int_eq m.id (row_number id)) resolved_row (HasUtf8Texts file.Mark) rows.marks (λ m texts. texts) shows.texts.marks;
-    };
-    row = versioned (format_of rows.entries) book.version resolved.version rows.books after.version shows.row;
-    tables = shows.tables;
-    paragraphs = shows.paragraphs;
-    entries = shows.entries;
-    marks = subst (IsPermutation (map (spelled file.Mark) (map (mark_set id resolved_row) rows.marks))) (rows-resolved book.marks small-marks)
-        (IsPermutation-set (spelled file.Mark) (mark_set id resolved_row) (mark_set id resolved_row) spelled-set rows.marks (map mark_row_of book.marks) shows.marks);
-    caches = λ caches same. AreCached-same book resolved caches (IsPermutation-refl (map id_number book.paragraphs)) (IsCached-marks book resolved refl refl) (shows.caches caches same);
-  }
+  resolved-lead after rows shows has =
+      shown-marked book (with_resolved id book.marks) after rows shows (map (mark_set id resolved_row) rows.marks)
+      (All-set_where (λ (m : MarkRow). int_eq m.id (row_number id)) resolved_row (HasUtf8Texts file.Mark) rows.marks (λ m texts. texts) shows.texts.marks)
+      (subst (IsPermutation (map (spelled file.Mark) (map (mark_set id resolved_row) rows.marks))) (rows-resolved book.marks small-marks)
+      (IsPermutation-set (spelled file.Mark) (mark_set id resolved_row) (mark_set id resolved_row) spelled-set rows.marks (map mark_row_of book.marks) shows.marks))
     where
       spelled-set : (m : MarkRow) → spelled file.Mark (mark_set id resolved_row m) ≡ mark_set id resolved_row (spelled file.Mark m)
       spelled-set m = cond-over (spelled file.Mark) (int_eq m.id (row_number id)) (resolved_row m) m (resolved_row (spelled file.Mark m)) (λ e. refl)
