@@ -141,7 +141,7 @@ resolved_put id = SetColumns tables.Mark (row_number id) (Resolved (pos 1))
 abbrev pub version_put : ℕ → RowPut
 version_put version = SetColumns tables.Book (pos 1) (Version (row_number version))
 
--- what the effect puts after the version: the row that comes, or the columns that change, with the
+-- what the effect puts after the version: the new row, or the columns that change, with the
 -- cells of each paragraph that is translated anew, the places of those that stand elsewhere, and
 -- the spans of all marks on a new print, even of those that stay, so that no mark is looked at
 -- twice

@@ -9,7 +9,7 @@ use std::marker::Model;
 /// What a change does to a book. It has room for all that it adds.
 #[derive(Drop)]
 pub(crate) enum Effect {
-    /// A table comes.
+    /// A new table.
     AddTable {
         /// Its name.
         name: Text,
@@ -22,13 +22,13 @@ pub(crate) enum Effect {
     ReplaceTable {
         /// The table's name.
         name: Text,
-        /// What comes in its place.
+        /// The table that takes its place.
         table: BoxedTable,
         /// For each paragraph in the order of ids its new cells, or nothing if it doesn't use the
         /// table.
         cells: Vec<Option<Cells>>,
     },
-    /// A paragraph comes.
+    /// A new paragraph.
     AddParagraph {
         /// The paragraph.
         paragraph: Paragraph,
@@ -46,7 +46,7 @@ pub(crate) enum Effect {
         /// What changes.
         change: PrintChange,
     },
-    /// A mark comes.
+    /// A new mark.
     AddMark {
         /// The mark.
         mark: KeptMark,

@@ -19,7 +19,7 @@ use louis_table::Characters;
 use louis_translate::RuleIndex;
 use std::alloc::{AllocError, Global};
 
-/// The name of a proofreader is one.
+/// The name of a proofreader is a valid one.
 fn check_proofreader(who: &LentText<'_>) -> Result<(), Refusal>
     ensures name { OnOk result (IsProofreaderName who.now) }
     ensures bad { IfErr result (λ refusal.

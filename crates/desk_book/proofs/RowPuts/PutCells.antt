@@ -30,7 +30,7 @@ use Rattle.desk_model.proofs.Rows.PutRows.{AreCached-put, IsBraille-same, id_num
 use Rattle.desk_model.proofs.Lists.RowNumbers.{filter-map, int_eq-pos}
 use Rattle.desk_model.proofs.Books.SoundBooks.{IsSoundTable-found, paragraph_of-within, paragraphs-apart}
 
--- what holds of a value where there is one holds of what is made of it
+-- what holds of a value, if there is one, holds of what is made of it
 pub ForSome-map : {X Y : Type 0} (f : X → Y) (P : X → Type 0) (Q : Y → Type 0) (o : Option X) → ForSome o P → ((x : X) → P x → Q (f x)) → ForSome (option_map f o) Q
 ForSome-map f P Q None here to = λ y is. absurd (cc)
 ForSome-map f P Q (Some x) here to = λ y is. let same : f x ≡ y = cc in subst Q same (to x (here x refl))

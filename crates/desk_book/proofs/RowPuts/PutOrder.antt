@@ -129,7 +129,7 @@ module _ (old : List ℕ) (id : ℕ) (small : id ≤ 20000) where
             (subst (λ (k : ℕ). Sends (pos id) (pos k) (pairs_from old (n + 1) xs)) is (sends-elsewhere (n + 1) xs (IsDistinct-tail nat_eq x xs apart) (omega arith)))
       ]
 
-  -- where no place is put for it, it stays
+  -- if no place is put for it, it stays
   stays-missed : (n : ℕ) (xs : List ℕ) → Contains xs id → Misses (pos id) (pairs_from old n xs) → stays_in old (n + index_in xs id, id) ≡ true
   stays-missed n [] c misses = absurd (Contains-none id c)
   stays-missed n (x ∷ xs) c misses =
