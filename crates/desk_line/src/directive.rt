@@ -34,19 +34,24 @@ pub(crate) fn read_directive<'a>(word: &Field<'_>, fields: Fields<'a>) -> Option
     } else if word.is("type") {
         read_type(fields)
     } else if word.is("correct") {
-        read_correct(fields)
+        read_correct(nobody(), fields)
     } else if word.is("correct-by") {
-        read_correct_by(fields)
+        let (who, fields) = fields.name()?;
+        read_correct(who, fields)
     } else if word.is("undo") {
-        read_undo(fields)
+        let (paragraph, fields) = fields.number()?;
+        read_alone(Directive::Whole(Command::Undo { paragraph }), fields)
     } else if word.is("mark") {
         read_mark(fields)
     } else if word.is("resolve") {
-        read_resolve(fields)
+        let (mark, fields) = fields.number()?;
+        read_alone(Directive::Whole(Command::Resolve { mark }), fields)
     } else if word.is("strike") {
-        read_strike(fields)
+        let (paragraph, fields) = fields.number()?;
+        read_alone(Directive::Whole(Command::Strike { paragraph }), fields)
     } else if word.is("restore") {
-        read_restore(fields)
+        let (paragraph, fields) = fields.number()?;
+        read_alone(Directive::Whole(Command::Restore { paragraph }), fields)
     } else if word.is("style") {
         read_style(fields)
     } else if word.is("volume") {
@@ -97,29 +102,12 @@ fn read_type(fields: Fields<'_>) -> Option<Directive<'_>>
     }))
 }
 
-fn read_correct(fields: Fields<'_>) -> Option<Directive<'_>>
+/// A correction by a proofreader, who isn't named if the name is empty.
+fn read_correct<'a>(who: LentText<'a>, fields: Fields<'a>) -> Option<Directive<'a>>
     ensures { result ≡ read (span (λ id start count text.
-        Directive.Whole (Command.Correct id start count text [])))
+        Directive.Whole (Command.Correct id start count text who.entry)))
         fields.entry }
 {
-    let (paragraph, fields) = fields.number()?;
-    let (start, fields) = fields.number()?;
-    let (count, fields) = fields.number()?;
-    Some(Directive::Whole(Command::Correct {
-        paragraph,
-        start: start as usize,
-        count: count as usize,
-        text: fields.text(),
-        who: nobody(),
-    }))
-}
-
-fn read_correct_by(fields: Fields<'_>) -> Option<Directive<'_>>
-    ensures { result ≡ read (Then Name (λ who. span (λ id start count text.
-        Directive.Whole (Command.Correct id start count text who))))
-        fields.entry }
-{
-    let (who, fields) = fields.name()?;
     let (paragraph, fields) = fields.number()?;
     let (start, fields) = fields.number()?;
     let (count, fields) = fields.number()?;
@@ -130,14 +118,6 @@ fn read_correct_by(fields: Fields<'_>) -> Option<Directive<'_>>
         text: fields.text(),
         who,
     }))
-}
-
-fn read_undo(fields: Fields<'_>) -> Option<Directive<'_>>
-    ensures { result ≡ read (Then Number (λ id. Last (Directive.Whole (Command.Undo id))))
-        fields.entry }
-{
-    let (paragraph, fields) = fields.number()?;
-    read_alone(Directive::Whole(Command::Undo { paragraph }), fields)
 }
 
 fn read_mark(fields: Fields<'_>) -> Option<Directive<'_>>
@@ -154,30 +134,6 @@ fn read_mark(fields: Fields<'_>) -> Option<Directive<'_>>
         count: count as usize,
         note: fields.text(),
     }))
-}
-
-fn read_resolve(fields: Fields<'_>) -> Option<Directive<'_>>
-    ensures { result ≡ read (Then Number (λ id. Last (Directive.Whole (Command.Resolve id))))
-        fields.entry }
-{
-    let (mark, fields) = fields.number()?;
-    read_alone(Directive::Whole(Command::Resolve { mark }), fields)
-}
-
-fn read_strike(fields: Fields<'_>) -> Option<Directive<'_>>
-    ensures { result ≡ read (Then Number (λ id. Last (Directive.Whole (Command.Strike id))))
-        fields.entry }
-{
-    let (paragraph, fields) = fields.number()?;
-    read_alone(Directive::Whole(Command::Strike { paragraph }), fields)
-}
-
-fn read_restore(fields: Fields<'_>) -> Option<Directive<'_>>
-    ensures { result ≡ read (Then Number (λ id. Last (Directive.Whole (Command.Restore id))))
-        fields.entry }
-{
-    let (paragraph, fields) = fields.number()?;
-    read_alone(Directive::Whole(Command::Restore { paragraph }), fields)
 }
 
 fn read_style(fields: Fields<'_>) -> Option<Directive<'_>>

@@ -20,13 +20,17 @@ fn read_query_by(word: &Field<'_>, fields: Fields<'_>) -> Option<Query>
     ensures { result ≡ query_by word.now fields.entry }
 {
     if word.is("print") {
-        read_print(fields)
+        let (paragraph, fields) = fields.number()?;
+        read_alone(Query::Print { paragraph }, fields)
     } else if word.is("braille") {
-        read_braille(fields)
+        let (paragraph, fields) = fields.number()?;
+        read_alone(Query::Braille { paragraph }, fields)
     } else if word.is("history") {
-        read_history(fields)
+        let (paragraph, fields) = fields.number()?;
+        read_alone(Query::History { paragraph }, fields)
     } else if word.is("marks") {
-        read_marks(fields)
+        let (paragraph, fields) = fields.number()?;
+        read_alone(Query::Marks { paragraph }, fields)
     } else if word.is("where") {
         read_where(fields)
     } else if word.is("whence") {
@@ -48,34 +52,6 @@ fn read_alone(query: Query, fields: Fields<'_>) -> Option<Query>
         return None;
     }
     Some(query)
-}
-
-fn read_print(fields: Fields<'_>) -> Option<Query>
-    ensures { result ≡ read (Then Number (λ id. Last (Query.Print id))) fields.entry }
-{
-    let (paragraph, fields) = fields.number()?;
-    read_alone(Query::Print { paragraph }, fields)
-}
-
-fn read_braille(fields: Fields<'_>) -> Option<Query>
-    ensures { result ≡ read (Then Number (λ id. Last (Query.Braille id))) fields.entry }
-{
-    let (paragraph, fields) = fields.number()?;
-    read_alone(Query::Braille { paragraph }, fields)
-}
-
-fn read_history(fields: Fields<'_>) -> Option<Query>
-    ensures { result ≡ read (Then Number (λ id. Last (Query.History id))) fields.entry }
-{
-    let (paragraph, fields) = fields.number()?;
-    read_alone(Query::History { paragraph }, fields)
-}
-
-fn read_marks(fields: Fields<'_>) -> Option<Query>
-    ensures { result ≡ read (Then Number (λ id. Last (Query.Marks id))) fields.entry }
-{
-    let (paragraph, fields) = fields.number()?;
-    read_alone(Query::Marks { paragraph }, fields)
 }
 
 fn read_where(fields: Fields<'_>) -> Option<Query>
