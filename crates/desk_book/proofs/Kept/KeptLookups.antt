@@ -1,5 +1,5 @@
 -- What is found among kept tables and paragraphs, against what the book that they stand for has.
-use Rattle.std.proofs.Common.{◌≡◌, ℕ, ◌+◌, ◌^◌, ◌<◌, List, map, length, get_or, Option, Some, None, Contains, Result, refl, sym, ap, subst, ◌∙◌, arith}
+use Rattle.std.proofs.Common.{◌≡◌, ℕ, List, map, length, get_or, Option, Some, None, Contains, Result, refl, sym, ap, subst, ◌∙◌}
 use Rattle.std.specs.Cmp.Lexicographic.{pointwise}
 use Rattle.std.specs.Map.{lookup}
 use Rattle.std.specs.Borrow.{Bor}
@@ -15,7 +15,6 @@ use Rattle.desk_memory.specs.declared.paragraphs.Paragraph.{Paragraph as KeptPar
 use Rattle.desk_memory.specs.declared.tables.BookTable.{BookTable}
 use Rattle.desk_model.specs.Book.{Book, Paragraph, paragraph_of, text_of}
 use Rattle.desk_memory.specs.Kept.{KeptTables, KeptParagraphs, IsKept, IsKeptParagraph, book_kept, ids, paragraph_kept}
-use Rattle.desk_model.specs.Limits.{most_paragraphs}
 use Rattle.desk_model.specs.Print.{print_of}
 use Rattle.desk_model.specs.Sound.{IsSound}
 use Rattle.desk_book.specs.Plans.{AreThere, IsKeptFor, IsTableFor}
@@ -53,10 +52,6 @@ module _ (version : ℕ) (tables : KeptTables) (kept : KeptParagraphs) (marks : 
 
   pub count-paragraphs : length book.paragraphs ≡ length kept
   count-paragraphs = rw (← is) (length-map kept paragraph_kept)
-
-  -- where one more may come, there is a number for it
-  pub few-kept : length book.paragraphs < most_paragraphs → length kept + 1 < 2 ^ 32
-  few-kept few = let count = count-paragraphs in omega arith
 
   -- paragraphs that are there stand in the order
   pub Contains-there : (named : List ℕ) → AreThere book named → (id : ℕ) → Contains named id → Contains (ids kept) id

@@ -1,5 +1,5 @@
 -- What an effect makes of a book as it is kept.
-use Rattle.std.proofs.Common.{◌≡◌, ℕ, ◌+◌, ◌<◌, ◌≤◌, ◌^◌, Bool, true, false, cond, List, [], ◌∷◌, ◌++◌, length, map, Option, Some, None, Ordering, Contains, refl, sym, ap, subst, ◌∙◌, arith}
+use Rattle.std.proofs.Common.{◌≡◌, ℕ, ◌+◌, ◌<◌, Bool, true, false, cond, List, [], ◌∷◌, ◌++◌, length, map, Option, Some, None, Ordering, Contains, refl, sym, ap, subst, ◌∙◌, arith}
 use Rattle.std.specs.Prelude.{nat_eq, ◌≢◌, ◌==◌, option_map, option_to_list, IsSome, MatchOption}
 use Rattle.std.specs.Option.{option_map_or}
 use Rattle.std.specs.Cmp.{unsigned_ties, unsigned_Decides}
@@ -36,7 +36,7 @@ use Rattle.desk_memory.specs.Braille.{AreCellsOf}
 use Rattle.desk_memory.specs.Histories.{HaveTaken, TookFrom, entry_kept}
 use Rattle.desk_memory.specs.KeptMarks.{AreWithin, indexes_on, with_kept_moved}
 use Rattle.desk_memory.specs.KeptPrints.{HasRoomFor, HasRoomForMark, with_mark, with_print_changed}
-use Rattle.desk_model.specs.Limits.{most_entries, most_marks, most_paragraphs}
+use Rattle.desk_model.specs.Limits.{most_entries, most_marks}
 use Rattle.desk_model.specs.Marks.{mark_moved_by}
 use Rattle.desk_memory.specs.Room.{Suffices}
 use Rattle.desk_model.proofs.Lists.Items.{All-from_map, lookup-map}
@@ -206,9 +206,6 @@ module _ (version : ℕ) (tables : KeptTables) (paragraphs : KeptParagraphs) (ma
   -- ---- a new table
 
   module _ (next : Book) (w : ℕ) (name : List ℕ) (table : BookTable) (room : ℕ) (puts : IsEffect book w (AddTable name table room) next) where
-    pub room-added : length tables < room
-    room-added = let within : length (texts tables) < room = puts.does.2 in let many : length (texts tables) ≡ length tables = length-map tables (λ entry. (entry.0, entry.1.text)) in omega arith
-
     pub new-added : lookup (pointwise nat_eq name) tables ≡ None
     new-added = by (lookup (pointwise nat_eq name) tables) refl
       where
@@ -358,15 +355,6 @@ module _ (version : ℕ) (tables : KeptTables) (paragraphs : KeptParagraphs) (ma
   order-placed next place is =
       ap (λ (order : List ℕ). insert order place (length paragraphs + 1)) (sym (ids_of-kept paragraphs))
       ∙ (ap (λ (n : ℕ). insert (ids_of before) place (n + 1)) (sym count-before) ∙ is)
-
-  pub few-placed : length before < most_paragraphs → length paragraphs + 1 < 2 ^ 32
-  few-placed few = let count = count-before in omega arith
-
-  pub room-placed : (room : Option ℕ) → Suffices (length before) room → Suffices (length paragraphs) room
-  room-placed room = subst (λ (n : ℕ). Suffices n room) count-before
-
-  pub within-placed : (place : ℕ) → place ≤ length before → place ≤ length paragraphs
-  within-placed place within = let count = count-before in omega arith
 
   module _ (next : Book) (w : ℕ) (anchor : Anchor) (text order : List ℕ) (kept : KeptParagraph) (at : w ≡ next.version)
       (accepted : IsAccepted book None (TypeIn anchor kept.table text)) (makes : Makes book (TypeIn anchor kept.table text) next)

@@ -4,7 +4,7 @@ use Rattle.std.specs.Prelude.{IfErr, IsErrAnd, IsSome, IsSomeAnd, Result, Ok, Er
 use Rattle.std.proofs.lemmas.Bool.{both_ways}
 use Rattle.louis_table.specs.Table.{Means}
 use Rattle.louis_table.proofs.OneMeaning.{one_meaning}
-use Rattle.louis_translate.specs.Position.{AreDefined, IsFirstUndefined}
+use Rattle.louis_translate.specs.Position.{AreDefined}
 use Rattle.desk_book.specs.declared.change.Effect.{Effect}
 use Rattle.desk_model.specs.declared.command.Command.{Command}
 use Rattle.desk_memory.specs.declared.paragraphs.Paragraph.{Paragraph as KeptParagraph}
@@ -33,9 +33,6 @@ exit (Err other) P told is p = subst P (sym is) p
 -- ---- paragraphs that are named
 
 module _ (book : Book) where
-  pub AreNotAllThere-first : (id : ℕ) (ids : List ℕ) → paragraph_of book id ≡ None → AreNotAllThere book (id ∷ ids)
-  AreNotAllThere-first id ids missing = (id, (0, omega arith, refl), missing)
-
   pub AreNotAllThere-cons : (id : ℕ) (ids : List ℕ) → AreNotAllThere book ids → AreNotAllThere book (id ∷ ids)
   AreNotAllThere-cons id ids (other, (k, within, at), missing) = (other, (suc k, omega arith, at), missing)
 
@@ -61,9 +58,6 @@ module _ (book : Book) (command : Command) where
   pub past_paragraphs : Passes book None command (rank NoParagraph) → AreThere book (named_by command).paragraphs_named → Passes book None command (rank NoTable)
   past_paragraphs passes there = Passes-past book None command NoParagraph (rank NoTable) refl passes (λ lacks. let found = there lacks.0 lacks.1 in let missing = lacks.2 in cc (ap is_some missing))
 
-  pub no_table : (told : Refusal) (name : List ℕ) → Passes book None command (rank NoTable) → (named_by command).table_named ≡ Some name → text_of book name ≡ None → told ≡ NoTable → IsTurnedDown book command told
-  no_table told name passes named missing = turned_down (rank NoTable) NoTable told passes refl (IsSomeAnd-of (λ (n : List ℕ). text_of book n ≡ None) named missing)
-
   pub too_long : (told : Refusal) (print : List ℕ) → Passes book None command (rank TooLong) → new_print book command ≡ Some print → most_print < length print → told ≡ TooLong → IsTurnedDown book command told
   too_long told print passes made long = turned_down (rank TooLong) TooLong told passes refl (inr (inl (IsSomeAnd-of (λ (t : List ℕ). most_print < length t) made long)))
 
@@ -73,11 +67,6 @@ module _ (book : Book) (command : Command) where
   -- ---- a print by a table
 
   module _ (name print : List ℕ) (table : BookTable) (given : print_to_translate book command ≡ Some (print, name)) (found : IsTableFor book name table) where
-    pub undefined : (told : Refusal) (place : ℕ) → Passes book None command undefined_rank → told ≡ Undefined place → IsFirstUndefined table.rules print place → IsTurnedDown book command told
-    undefined told place passes is first =
-        turned_down undefined_rank (Undefined place) told passes refl
-        (record { print = print; name = name; print_is = given; text = table.text; meaning = table.rules; found = found.found; means = found.means; first = first }) is
-
     pub past_print : Passes book None command undefined_rank → AreDefined table.rules print → Passes book None command untranslatable_rank
     past_print passes defined = Passes-past book None command (Undefined 0) untranslatable_rank refl passes none
       where
@@ -91,9 +80,6 @@ module _ (book : Book) (command : Command) where
             defined_not_first table.rules print place defined (rw (meaning, same_print) at u.first)
 
   -- ---- a paragraph that is named first
-
-  pub unnamed : (told : Refusal) (id : ℕ) (ids : List ℕ) → skips command (rank BadName) (rank NoParagraph) ≡ true → (named_by command).paragraphs_named ≡ id ∷ ids → (told ≡ NoParagraph) × (paragraph_of book id ≡ None) → IsTurnedDown book command told
-  unnamed told id ids skip named (is, missing) = no_paragraph told (passes_to book command (rank NoParagraph) skip) (subst (AreNotAllThere book) (sym named) (AreNotAllThere-first book id ids missing)) is
 
   module _ (id : ℕ) (kept : KeptParagraph) (k : IsKeptFor book id kept) where
     pub past_named : skips command (rank BadName) (rank NoParagraph) ≡ true → (named_by command).paragraphs_named ≡ id ∷ [] → Passes book None command (rank NoTable)

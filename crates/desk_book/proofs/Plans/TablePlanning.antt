@@ -1,5 +1,5 @@
 -- How a command that gives a table is checked while no version is expected.
-use Rattle.std.proofs.Common.{◌≡◌, ◌⊎◌, ℕ, ◌<◌, ◌≤◌, List, length, None, refl, sym, ap, subst, arith, inl, inr}
+use Rattle.std.proofs.Common.{◌≡◌, ◌⊎◌, ℕ, ◌<◌, List, length, None, refl, sym, ap, subst, arith, inl, inr}
 use Rattle.std.specs.List.{All}
 use Rattle.std.specs.Prelude.{IsSome, is_some}
 use Rattle.louis_table.specs.Meaning.{Meaning}
@@ -39,10 +39,6 @@ module _ (book : Book) (name text : List ℕ) where
     past_name =
         Passes-past book None (Table name text) BadName (rank (Full Tables)) refl (passes_to book (Table name text) (rank BadName) refl)
         (λ bad. bad named)
-
-    pub full_tables : (told : Refusal) → text_of book name ≡ None → (told ≡ Full Tables) × (most_tables ≤ length book.tables) → IsTurnedDown book (Table name text) told
-    full_tables told new (is, full) =
-        turned_down book (Table name text) (rank (Full Tables)) (Full Tables) told past_name refl (new, full) is
 
     pub past_tables : IsSome (text_of book name) ⊎ (length book.tables < most_tables) → Passes book None (Table name text) (rank (Full Paragraphs))
     past_tables (inr left) = Passes-past book None (Table name text) (Full Tables) (rank (Full Paragraphs)) refl past_name (λ f. let full = f.1 in omega arith)

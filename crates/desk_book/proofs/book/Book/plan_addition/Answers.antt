@@ -8,9 +8,9 @@ use Rattle.desk_model.specs.Ranks.{bad_table_rank, rank}
 use Rattle.desk_model.specs.declared.refusal.Refusal.TheVariants.{Full}
 use Rattle.desk_model.specs.declared.refusal.Limit.TheVariants.{Paragraphs}
 use Rattle.desk_book.proofs.Kept.KeptLookups.{count-tables, sound}
-use Rattle.desk_book.proofs.Plans.Planning.{exit, full_version, no_memory}
+use Rattle.desk_book.proofs.Plans.Planning.{exit, no_memory}
 use Rattle.desk_model.proofs.Commands.Ranks.{past_version}
-use Rattle.desk_book.proofs.Plans.TablePlanning.{full_tables, past_reading, past_tables, past_users, unread, unused}
+use Rattle.desk_book.proofs.Plans.TablePlanning.{past_reading, past_tables, past_users, unread, unused}
 use Rattle.desk_book.proofs.book.Book.plan_addition.Goals as goal
 
 module _ (book : Book) (name text : List ℕ) (named : IsTableName name) (room : length book.tables < most_tables) where
@@ -19,17 +19,6 @@ module _ (book : Book) (name text : List ℕ) (named : IsTableName name) (room :
 
   left : book.version < most_version → Passes book None (Table name text) bad_table_rank
   left version = past_version book (Table name text) (rank (Full Paragraphs)) roomy refl version
-
-pub returns-in_err-check_tables-clause-refused : goal.returns-in_err-check_tables-clause-refused
-returns-in_err-check_tables-clause-refused c =
-    exit _ _ _ c.from_residual.ensures.1 (full_tables c.args.self.now c.args.name.now c.args.text.now c.requires.name _ c.requires.new c.in_err-check_tables.ensures.full)
-
-pub returns-in_err-check_version-clause-refused : goal.returns-in_err-check_version-clause-refused
-returns-in_err-check_version-clause-refused c =
-    let told = c.in_err-check_version.ensures.full in
-    let passes = roomy c.args.self.now c.args.name.now c.args.text.now c.requires.name c.in_ok-check_tables.ensures.left in
-    exit _ _ _ c.from_residual-in_err-check_version.ensures.1
-    (full_version c.args.self.now (Table c.args.name.now c.args.text.now) (rank (Full Paragraphs)) _ passes refl told.1 told.0)
 
 pub returns-in_err-read_table-clause-refused : goal.returns-in_err-read_table-clause-refused
 returns-in_err-read_table-clause-refused c =

@@ -64,13 +64,6 @@ returns-in_err-check_entry-clause-refused c =
     c.in_ok-paragraph.paragraph.now c.in_ok-paragraph.rules.now c.in_ok-paragraph.ensures.found.0 c.in_ok-paragraph.ensures.found.1 span _ refl (short_is at.After-len) _
     (subst (λ n. HaltsEntry c.args.self.now c.in_ok-paragraph.paragraph.now n c.in_err-check_entry.field-0.0) (many_is at.After-len span) c.in_err-check_entry.ensures.halted))
 
-pub entry_effect-requires : goal.entry_effect-requires
-entry_effect-requires c =
-    let at = goal.at.entry_effect-requires c in
-    let many = many_is at.After-len (span_is at.In_ok-check_span) in
-    let printed = printed_is at.After-len-2 (put_is at.After-len) in
-    subst (TakesEntry c.args.self.now c.in_ok-paragraph.paragraph.now) (many ∙ sym (ap length printed)) c.in_ok-check_entry.ensures.takes
-
 pub returns-clause-refused : goal.returns-clause-refused
 returns-clause-refused c =
     let at = goal.at.returns-clause-refused c in

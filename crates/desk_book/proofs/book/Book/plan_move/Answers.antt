@@ -14,7 +14,7 @@ use Rattle.desk_book.proofs.Kept.KeptLookups.{ids_of-book, sound}
 use Rattle.desk_memory.proofs.Callers.{ids_of-with_move}
 use Rattle.desk_model.proofs.Books.ParagraphLists.{ids_of}
 use Rattle.desk_model.proofs.Books.SoundSteps.{IsPermutation-moved}
-use Rattle.desk_book.proofs.Plans.Planning.{exit, AreNotAllThere-cons, AreThere-cons, full_version, no_memory, no_paragraph, past_paragraphs, unnamed}
+use Rattle.desk_book.proofs.Plans.Planning.{exit, AreNotAllThere-cons, AreThere-cons, no_memory, no_paragraph, past_paragraphs}
 use Rattle.desk_model.proofs.Commands.Ranks.{accepted_after, passes_to, past_version, to_rank}
 use Rattle.desk_book.proofs.book.Book.plan_move.Goals as goal
 
@@ -22,23 +22,12 @@ named : (book : Book) (id : ℕ) (anchor : Anchor) (kept : KeptParagraph) → Is
 named book id anchor kept found there =
     past_paragraphs book (Move id anchor) (passes_to book (Move id anchor) (rank NoParagraph) refl) (AreThere-cons book id kept (paragraph_before anchor) found there)
 
-pub returns-in_err-kept_paragraph-clause-refused : goal.returns-in_err-kept_paragraph-clause-refused
-returns-in_err-kept_paragraph-clause-refused c =
-    exit _ _ _ c.from_residual.ensures.1
-    (unnamed c.args.self.now (Move c.args.id c.args.anchor) _ c.args.id (paragraph_before c.args.anchor) refl refl c.in_err-kept_paragraph.ensures.missing)
-
 pub returns-in_err-check_anchor-clause-refused : goal.returns-in_err-check_anchor-clause-refused
 returns-in_err-check_anchor-clause-refused c =
     let command = Move c.args.id c.args.anchor in
     let told = c.in_err-check_anchor.ensures.missing in
     exit _ _ _ c.from_residual-in_err-check_anchor.ensures.1
     (no_paragraph c.args.self.now command _ (passes_to c.args.self.now command (rank NoParagraph) refl) (AreNotAllThere-cons c.args.self.now c.args.id (paragraph_before c.args.anchor) told.1) told.0)
-
-pub returns-in_err-check_version-clause-refused : goal.returns-in_err-check_version-clause-refused
-returns-in_err-check_version-clause-refused c =
-    let passes = named c.args.self.now c.args.id c.args.anchor _ c.in_ok-kept_paragraph.ensures.found c.in_ok-check_anchor.ensures.there in
-    let told = c.in_err-check_version.ensures.full in
-    exit _ _ _ c.from_residual-in_err-check_version.ensures.1 (full_version c.args.self.now (Move c.args.id c.args.anchor) (rank NoTable) _ passes refl told.1 told.0)
 
 pub returns-in_err-order_with_move-clause-refused : goal.returns-in_err-order_with_move-clause-refused
 returns-in_err-order_with_move-clause-refused c =

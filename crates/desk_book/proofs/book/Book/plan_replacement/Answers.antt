@@ -11,7 +11,7 @@ use Rattle.desk_model.specs.Name.{IsTableName}
 use Rattle.desk_model.specs.Ranks.{bad_table_rank, rank, untranslatable_rank}
 use Rattle.desk_model.specs.declared.refusal.Refusal.TheVariants.{Full}
 use Rattle.desk_model.specs.declared.refusal.Limit.TheVariants.{Paragraphs}
-use Rattle.desk_book.proofs.Plans.Planning.{exit, full_version, no_memory}
+use Rattle.desk_book.proofs.Plans.Planning.{exit, no_memory}
 use Rattle.desk_model.proofs.Commands.Ranks.{past_version}
 use Rattle.desk_book.proofs.Plans.TablePlanning.{past_reading, past_tables, past_users, unread, untranslatable}
 use Rattle.desk_book.proofs.book.Book.plan_replacement.Goals as goal
@@ -26,12 +26,6 @@ module _ (book : Book) (name text : List ℕ) (named : IsTableName name) (old : 
 
     judged : (meaning : Meaning) → Means text meaning → Passes book None (Table name text) untranslatable_rank
     judged meaning means = past_reading book name text meaning means left
-
-pub returns-in_err-check_version-clause-refused : goal.returns-in_err-check_version-clause-refused
-returns-in_err-check_version-clause-refused c =
-    let told = c.in_err-check_version.ensures.full in
-    let passes = there c.args.self.now c.args.name.now c.args.text.now c.requires.name c.requires.old in
-    exit _ _ _ c.from_residual.ensures.1 (full_version c.args.self.now (Table c.args.name.now c.args.text.now) (rank (Full Paragraphs)) _ passes refl told.1 told.0)
 
 pub returns-in_err-table-clause-refused : goal.returns-in_err-table-clause-refused
 returns-in_err-table-clause-refused c =

@@ -1,11 +1,11 @@
-use Rattle.std.proofs.Common.{◌≡◌, ℕ, ◌<◌, true, false, List, [], Some, None, refl, ap, subst, ◌∙◌}
+use Rattle.std.proofs.Common.{◌≡◌, ℕ, ◌<◌, false, List, Some, None, refl, ap, subst, ◌∙◌}
 use Rattle.std.specs.Prelude.{option_map}
-use Rattle.louis_translate.specs.Position.{AreDefined, IsFirstUndefined}
+use Rattle.louis_translate.specs.Position.{AreDefined}
 use Rattle.desk_model.specs.declared.command.Command.TheVariants.{Retable}
 use Rattle.desk_memory.specs.declared.paragraphs.Paragraph.{Paragraph as KeptParagraph}
 use Rattle.desk_memory.specs.declared.tables.BookTable.{BookTable}
 use Rattle.desk_model.specs.declared.refusal.Refusal.TheVariants.{NoMark, NoMemory, NoTable, NotStruck, Struck}
-use Rattle.desk_model.specs.Book.{Book, Paragraph}
+use Rattle.desk_model.specs.Book.{Book}
 use Rattle.desk_memory.specs.Braille.{AreCellsOf}
 use Rattle.desk_model.specs.Judging.{Passes}
 use Rattle.desk_memory.specs.Kept.{paragraph_kept}
@@ -14,9 +14,8 @@ use Rattle.desk_book.specs.Plans.{IsKeptFor, IsTableFor}
 use Rattle.desk_model.specs.Print.{print_of}
 use Rattle.desk_model.specs.Refusals.{print_to_translate}
 use Rattle.desk_model.specs.Ranks.{bad_table_rank, rank, undefined_rank, untranslatable_rank}
-use Rattle.desk_model.proofs.Lists.Options.{IsSomeAnd-of}
 use Rattle.desk_model.proofs.Commands.Ranks.{accepted_after, past_table, past_version, to_rank}
-use Rattle.desk_book.proofs.Plans.Planning.{exit, full_version, no_memory, no_table, past_named, past_print, past_struck, turned_down, undefined, unnamed}
+use Rattle.desk_book.proofs.Plans.Planning.{exit, no_memory, past_named, past_print, past_struck}
 use Rattle.desk_book.proofs.book.Book.plan_retable.Goals as goal
 
 module _ (book : Book) (id : ℕ) (name : List ℕ) (kept : KeptParagraph) (found : IsKeptFor book id kept) where
@@ -48,43 +47,6 @@ module _ (book : Book) (id : ℕ) (name : List ℕ) (kept : KeptParagraph) (foun
     judged unstruck room shown same defined =
         to_rank book (Retable id name) untranslatable_rank (rank NoMemory) refl
         (past_print book (Retable id name) name print table given there (left unstruck room) (subst (AreDefined table.rules) (print_is shown same) defined))
-
-pub returns-in_err-paragraph-clause-refused : goal.returns-in_err-paragraph-clause-refused
-returns-in_err-paragraph-clause-refused c =
-    exit _ _ _ c.from_residual.ensures.1 (unnamed c.args.self.now (Retable c.args.id c.args.table.now) _ c.args.id [] refl refl c.in_err-paragraph.ensures.missing)
-
-pub returns-in_err-kept-clause-refused : goal.returns-in_err-kept-clause-refused
-returns-in_err-kept-clause-refused c =
-    let passes = named c.args.self.now c.args.id c.args.table.now _ c.in_ok-paragraph.ensures.found in
-    let told = c.in_err-kept.ensures.missing in
-    exit _ _ _ c.from_residual-in_err-kept.ensures.1 (no_table c.args.self.now (Retable c.args.id c.args.table.now) _ c.args.table.now passes refl told.1 told.0)
-
-pub returns-then-paragraph : goal.returns-then-paragraph
-returns-then-paragraph c =
-    let kept = c.in_ok-paragraph.ensures.found in
-    let passes = tabled c.args.self.now c.args.id c.args.table.now _ kept _ c.in_ok-kept.ensures.found in
-    record {
-      planned = tt;
-      refused = turned_down c.args.self.now (Retable c.args.id c.args.table.now) (rank Struck) Struck Struck passes refl
-          (IsSomeAnd-of (λ (p : Paragraph). p.struck ≡ true) kept.found c.if-paragraph.true) refl;
-    }
-
-pub returns-in_err-check_version-clause-refused : goal.returns-in_err-check_version-clause-refused
-returns-in_err-check_version-clause-refused c =
-    let passes = live c.args.self.now c.args.id c.args.table.now _ c.in_ok-paragraph.ensures.found _ c.in_ok-kept.ensures.found c.if-paragraph.false in
-    let told = c.in_err-check_version.ensures.full in
-    exit _ _ _ c.from_residual-in_err-check_version.ensures.1 (full_version c.args.self.now (Retable c.args.id c.args.table.now) (rank NotStruck) _ passes refl told.1 told.0)
-
-pub returns-in_err-check_print-clause-refused : goal.returns-in_err-check_print-clause-refused
-returns-in_err-check_print-clause-refused c =
-    let kept = c.in_ok-paragraph.ensures.found in
-    let table = c.in_ok-kept.ensures.found in
-    let passes = left c.args.self.now c.args.id c.args.table.now _ kept _ table c.if-paragraph.false c.in_ok-check_version.ensures.left in
-    let told = c.in_err-check_print.ensures.undefined in
-    let shown = print_is c.args.self.now c.args.id c.args.table.now _ kept _ c.as_slice-print.ensures in
-    let first = subst (λ (t : List ℕ). IsFirstUndefined c.in_ok-kept.kept.now.rules t told.0) shown told.2 in
-    exit _ _ _ c.from_residual-in_err-check_print.ensures.1
-    (undefined c.args.self.now (Retable c.args.id c.args.table.now) c.args.table.now _ _ (given c.args.self.now c.args.id c.args.table.now _ kept) table _ told.0 passes told.1 first)
 
 pub returns-in_err-copy-clause-refused : goal.returns-in_err-copy-clause-refused
 returns-in_err-copy-clause-refused c =

@@ -17,7 +17,7 @@ use Rattle.desk_model.specs.Step.{new_paragraph, next_id, with_paragraph}
 use Rattle.desk_model.specs.NormalForm.{normal_form}
 use Rattle.desk_model.specs.Ranks.{bad_table_rank, bad_text_rank, rank, undefined_rank, untranslatable_rank}
 use Rattle.desk_model.specs.declared.refusal.Limit.TheVariants.{Entries, Paragraphs, Tables}
-use Rattle.desk_book.proofs.Kept.KeptLookups.{Contains-there, count-paragraphs, few-kept, ids_of-book}
+use Rattle.desk_book.proofs.Kept.KeptLookups.{Contains-there, count-paragraphs, ids_of-book}
 use Rattle.desk_book.proofs.Plans.NewParagraphs.{IsKeptTyped-new}
 use Rattle.desk_memory.proofs.Callers.{ids_of-with_paragraph}
 use Rattle.desk_model.proofs.Books.ParagraphLists.{ids_of}
@@ -52,14 +52,8 @@ returns-in_err-print-clause-refused c = lacking (goal.at.returns-in_err-print-cl
 pub returns-in_err-new_paragraph-clause-refused : goal.returns-in_err-new_paragraph-clause-refused
 returns-in_err-new_paragraph-clause-refused c = lacking (goal.at.returns-in_err-new_paragraph-clause-refused c).In_ok-kept _ c.from_residual-in_err-new_paragraph.ensures.1
 
-pub room-requires : goal.room-requires
-room-requires c = few-kept _ _ _ _ c.args.self.now c.self.view_is c.in_ok-check_room.ensures.left
-
 pub returns-in_err-room-clause-refused : goal.returns-in_err-room-clause-refused
 returns-in_err-room-clause-refused c = lacking (goal.at.returns-in_err-room-clause-refused c).In_ok-kept _ c.from_residual-in_err-room.ensures.1
-
-pub order_room-requires : goal.order_room-requires
-order_room-requires c = few-kept _ _ _ _ c.args.self.now c.self.view_is c.in_ok-check_room.ensures.left
 
 pub returns-in_err-order_room-clause-refused : goal.returns-in_err-order_room-clause-refused
 returns-in_err-order_room-clause-refused c = lacking (goal.at.returns-in_err-order_room-clause-refused c).In_ok-kept _ c.from_residual-in_err-order_room.ensures.1

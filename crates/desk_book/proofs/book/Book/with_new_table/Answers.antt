@@ -1,14 +1,8 @@
 use Rattle.std.proofs.Common.{sym, ap, subst, ◌∙◌}
 use Rattle.desk_memory.specs.Kept.{KeptTables, IsKept, book_kept}
-use Rattle.desk_book.proofs.Kept.Settled.{room-added, new-added, next-added, IsKept-added}
+use Rattle.desk_book.proofs.Kept.Settled.{new-added, next-added, IsKept-added}
 use Rattle.desk_book.proofs.Kept.ShownEffects.{as_kept}
 use Rattle.desk_book.proofs.book.Book.with_new_table.Goals as goal
-
-pub with_table-requires-clause-room : goal.with_table-requires-clause-room
-with_table-requires-clause-room c =
-    let was = c.self.inside in
-    let here = as_kept _ _ _ _ _ c.self.view_is c.self.invariant _ _ _ c.requires.1 in
-    room-added was.version was.tables was.paragraphs was.marks c.requires.0 c.args.version c.args.name c.args.table c.args.room here
 
 pub with_table-requires-clause-new : goal.with_table-requires-clause-new
 with_table-requires-clause-new c =

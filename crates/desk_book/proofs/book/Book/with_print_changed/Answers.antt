@@ -17,12 +17,6 @@ give_way-requires-clause-marks c =
     let was = c.self.inside in
     AreWithin-marks was.version was.tables was.paragraphs was.marks c.self.invariant
 
-pub give_way-requires-clause-within : goal.give_way-requires-clause-within
-give_way-requires-clause-within c = c.requires.1.does.1.within
-
-pub give_way-requires-clause-short : goal.give_way-requires-clause-short
-give_way-requires-clause-short c = c.requires.1.does.1.short
-
 pub change_print-requires : goal.change_print-requires
 change_print-requires c =
     let was = c.self.inside in
