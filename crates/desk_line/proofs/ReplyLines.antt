@@ -1,7 +1,7 @@
 -- Each line of a reply to a query but the last begins with a bar, since no text of a sound book has a line feed.
 use Rattle.std.proofs.Common.{◌≡◌, ℕ, ◌+◌, Bool, true, false, ◌||◌, eqb, List, [], ◌∷◌, ◌++◌, length, get_or, take, map, codes, refl, sym, ap, subst, ◌∙◌, append_assoc, inl, inr, arith, lit<}
-use Rattle.std.specs.Prelude.{decimal}
-use Rattle.std.specs.List.{All, AllByRecursion, enumerate_from, flat_map}
+use Rattle.std.specs.Prelude.{decimal, not}
+use Rattle.std.specs.List.{All, AllByRecursion, enumerate_from, flat_map, list_all}
 use Rattle.std.proofs.lemmas.List.Elements.{All-cons, All-filter, All-head, All-map, All-nil, All-tail, All-weaker}
 use Rattle.std.proofs.lemmas.Option.{slice_get-get_or}
 use Rattle.cell_core.specs.Cell.{braille_character}
@@ -96,21 +96,9 @@ style-lone Body = lacks 10 (codes "body") refl
 style-lone Heading = lacks 10 (codes "heading") refl
 
 -- one of two words by a flag
-either-lone : (this other : List ℕ) → Lone this → Lone other → (set : Bool) → Lone (word_if set this other)
-either-lone this other one two true = one
-either-lone this other one two false = two
-
-volume-lone : (begins : Bool) → Lone (word_if begins (codes "volume") (codes "-"))
-volume-lone = either-lone (codes "volume") (codes "-") (lacks 10 (codes "volume") refl) (lacks 10 (codes "-") refl)
-
-life-lone : (struck : Bool) → Lone (word_if struck (codes "struck") (codes "live"))
-life-lone = either-lone (codes "struck") (codes "live") (lacks 10 (codes "struck") refl) (lacks 10 (codes "live") refl)
-
-state-lone : (resolved : Bool) → Lone (word_if resolved (codes "resolved") (codes "open"))
-state-lone = either-lone (codes "resolved") (codes "open") (lacks 10 (codes "resolved") refl) (lacks 10 (codes "open") refl)
-
-touch-lone : (touched : Bool) → Lone (word_if touched (codes "touched") (codes "kept"))
-touch-lone = either-lone (codes "touched") (codes "kept") (lacks 10 (codes "touched") refl) (lacks 10 (codes "kept") refl)
+either-lone : (this other : List ℕ) → list_all (λ b. not (eqb b 10)) this ≡ true → list_all (λ b. not (eqb b 10)) other ≡ true → (set : Bool) → Lone (word_if set this other)
+either-lone this other one two true = lacks 10 this one
+either-lone this other one two false = lacks 10 other two
 
 module _ (book : Book) (sound : IsSound book) where
   mark-lone : (mark : Mark) → IsSoundMark book mark → Lone (mark_line mark)
@@ -121,7 +109,7 @@ module _ (book : Book) (sound : IsSound book) where
           number-lone mark.start,
           (
             number-lone mark.end,
-            (state-lone mark.resolved, (touch-lone mark.touched, (unbarred-lone mark.note s.clean.unbarred, tt))),
+            (either-lone (codes "resolved") (codes "open") refl refl mark.resolved, (either-lone (codes "touched") (codes "kept") refl refl mark.touched, (unbarred-lone mark.note s.clean.unbarred, tt))),
           ),
         ),
       )
@@ -132,7 +120,7 @@ module _ (book : Book) (sound : IsSound book) where
         number-lone p.id,
         (
           text-lone p.table (All-weaker (λ c. is_name_character c ≡ true) (λ c. eqb c 10 ≡ false) name-other p.table (IsSoundTable-found book sound p.table s.text s.found).named.characters),
-          (style-lone p.style, (volume-lone p.begins_volume, (life-lone p.struck, (number-lone (length (print_of p)), tt)))),
+          (style-lone p.style, (either-lone (codes "volume") (codes "-") refl refl p.begins_volume, (either-lone (codes "struck") (codes "live") refl refl p.struck, (number-lone (length (print_of p)), tt)))),
         ),
       )
 

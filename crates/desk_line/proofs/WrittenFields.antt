@@ -1,19 +1,18 @@
 -- Fields as they are written, and the lines that they make.
 use Rattle.std.proofs.Common.{◌≡◌, ◌≢◌, ℕ, zero, suc, ◌^◌, ◌<◌, ◌≤◌, Bool, true, false, eqb, ltb, List, [], ◌∷◌, ◌++◌, codes, refl, sym, ap, ◌∙◌, arith, lit<, lit≤}
 use Rattle.std.specs.Prelude.{decimal}
-use Rattle.std.specs.Char.{IsScalar}
 use Rattle.std.specs.List.{All, AllByRecursion, list_all}
 use Rattle.std.specs.Str.{IsAscii, IsUtf8, chars}
 use Rattle.std.proofs.lemmas.Bool.{and_parts, ltb-true}
 use Rattle.std.proofs.lemmas.Fmt.{IsAscii-decimal, decimal_is_IsNumeral, length-decimal-le}
-use Rattle.std.proofs.lemmas.List.Elements.{All-cons, All-head, All-nil, All-tail, All-weaker}
+use Rattle.std.proofs.lemmas.List.Elements.{All-cons, All-nil, All-weaker}
 use Rattle.std.proofs.lemmas.List.Splits.{join_with_byte-slice_split, slice_split_at, slice_split_none}
-use Rattle.std.proofs.lemmas.Str.{IsUtf8-append, IsUtf8-encode, IsUtf8-from_ascii, IsUtf8-nil, chars-nil, chars_from_encodes}
+use Rattle.std.proofs.lemmas.Str.{IsUtf8-append, IsUtf8-from_ascii, IsUtf8-nil, chars-nil}
 use Rattle.desk_model.specs.declared.command.Anchor.{Anchor}
 use Rattle.desk_model.specs.declared.command.Anchor.TheVariants.{Front, End, Para}
 use Rattle.desk_model.specs.declared.style.Style.{Style}
 use Rattle.desk_model.specs.declared.style.Style.TheVariants.{Body, Heading}
-use Rattle.desk_model.specs.Characters.{AreCharacters}
+use Rattle.desk_model.proofs.Rows.BookRows.{encoded-text, spelled-encoded}
 use Rattle.desk_line.specs.Commands.{is_visible}
 use Rattle.desk_line.specs.Fields.{IsAnchor, IsFlag, IsNumber, IsStyle, after, body, end, fields_of, front, heading, line_of_fields, off, on}
 use Rattle.desk_line.specs.Grammar.{IsOneLineText, IsSmall, IsSmallAnchor, IsWord, anchor_field}
@@ -81,24 +80,17 @@ number-written number small =
 
 -- ---- texts
 
-text-utf8 : (text : List ℕ) → AreCharacters text → IsUtf8 (shown_text text)
-text-utf8 [] h = IsUtf8-nil
-text-utf8 (c ∷ text) h = IsUtf8-append _ (shown_text text) (IsUtf8-encode c (All-head IsScalar c text h)) (text-utf8 text (All-tail IsScalar c text h))
-
-text-spelled : (text : List ℕ) → AreCharacters text → chars (shown_text text) ≡ text
-text-spelled text h = sym (chars_from_encodes text (shown_text text) (text-utf8 text h) refl)
-
 text-lacks : (byte : ℕ) (text : List ℕ) → byte < 128 → All (λ c. c ≢ byte) text → Lacks byte (shown_text text)
 text-lacks byte text low h = Lacks-shown byte low text (All-weaker (λ c. c ≢ byte) (λ c. eqb c byte ≡ false) (λ c n. other-byte c byte n) text h)
 
 pub text-plain : (text : List ℕ) → IsOneLineText text → IsPlain (shown_text text)
-text-plain text h = record { utf8 = text-utf8 text h.characters; lone = text-lacks 10 text (lit< tt) h.no_feed }
+text-plain text h = record { utf8 = encoded-text text h.characters; lone = text-lacks 10 text (lit< tt) h.no_feed }
 
 pub name-closed : (name : List ℕ) → IsWord name → IsClosed (shown_text name)
 name-closed name h = record { plain = text-plain name h.text; whole = text-lacks 32 name (lit< tt) h.no_blank }
 
 pub name-spelled : (name : List ℕ) → IsWord name → chars (shown_text name) ≡ name
-name-spelled name h = text-spelled name h.text.characters
+name-spelled name h = spelled-encoded name h.text.characters
 
 pub name-some : (name : List ℕ) → IsWord name → shown_text name ≢ []
 name-some name h e = h.some (sym (name-spelled name h) ∙ (ap chars e ∙ chars-nil))
@@ -141,7 +133,7 @@ text-joined : (text : List ℕ) → line_of_fields (fields_of text) ≡ text
 text-joined text = join_with_byte-slice_split 32 text
 
 pub rest-spelled : (text : List ℕ) → IsOneLineText text → chars (line_of_fields (fields_of (shown_text text))) ≡ text
-rest-spelled text t = ap chars (text-joined (shown_text text)) ∙ text-spelled text t.characters
+rest-spelled text t = ap chars (text-joined (shown_text text)) ∙ spelled-encoded text t.characters
 
 -- the fields make a line that is plain, and these stand between its blanks
 pub record IsLine (fields all : List (List ℕ)) : Type 0 where

@@ -1,5 +1,5 @@
 //! What the head line of a query asks.
-ghost use Rattle.desk_line.specs.Grammar.{Last, Number, Then};
+ghost use Rattle.desk_line.specs.Grammar.{Last};
 ghost use Rattle.desk_line.specs.Reading.{query_by, query_in, read};
 ghost use Rattle.std.specs.Prelude.{◌≡◌};
 
@@ -32,9 +32,15 @@ fn read_query_by(word: &Field<'_>, fields: Fields<'_>) -> Option<Query>
         let (paragraph, fields) = fields.number()?;
         read_alone(Query::Marks { paragraph }, fields)
     } else if word.is("where") {
-        read_where(fields)
+        let (paragraph, fields) = fields.number()?;
+        let (place, fields) = fields.number()?;
+        let place = place as usize;
+        read_alone(Query::WhereIs { paragraph, place }, fields)
     } else if word.is("whence") {
-        read_whence(fields)
+        let (paragraph, fields) = fields.number()?;
+        let (cell, fields) = fields.number()?;
+        let cell = cell as usize;
+        read_alone(Query::Whence { paragraph, cell }, fields)
     } else if word.is("list") {
         read_alone(Query::List, fields)
     } else if word.is("version") {
@@ -52,22 +58,4 @@ fn read_alone(query: Query, fields: Fields<'_>) -> Option<Query>
         return None;
     }
     Some(query)
-}
-
-fn read_where(fields: Fields<'_>) -> Option<Query>
-    ensures { result ≡ read (Then Number (λ id. Then Number (λ place. Last (Query.WhereIs id place)))) fields.entry }
-{
-    let (paragraph, fields) = fields.number()?;
-    let (place, fields) = fields.number()?;
-    let place = place as usize;
-    read_alone(Query::WhereIs { paragraph, place }, fields)
-}
-
-fn read_whence(fields: Fields<'_>) -> Option<Query>
-    ensures { result ≡ read (Then Number (λ id. Then Number (λ cell. Last (Query.Whence id cell)))) fields.entry }
-{
-    let (paragraph, fields) = fields.number()?;
-    let (cell, fields) = fields.number()?;
-    let cell = cell as usize;
-    read_alone(Query::Whence { paragraph, cell }, fields)
 }
