@@ -109,7 +109,7 @@ module _ (name : List ℕ) (columns : List Column) (own : List ℕ) (text : List
   abbrev pub parts : Parts
   parts = record { tests = equal Binary (col 1 0) (col 0 width) ∷ []; project = project; order = [] }
 
-  -- The text puts a row by its first column, which is the rowid, and sets all others where it is there. Each field computes.
+  -- The text puts a row by its first column, which is the rowid, and sets all others if it is there. Each field computes.
   pub record PutsByRowid : Type 0 where
     pub is_text : IsText text (Insert conflict.Abort name [] given_rows (on_clash ∷ []) [])
     pub many : small (parse_of text).names + small [] ≡ width

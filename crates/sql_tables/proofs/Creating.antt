@@ -99,7 +99,7 @@ free_still s table name free other indexes =
 
 -- ---- the counter of rowids, which a first table brings if it is missing
 
--- the counter is there just where a table has its name
+-- the counter is there exactly if a table has its name
 named_counter : (s : Schema) → is_some (sequence s) ≡ is_some (table_named s (codes "sqlite_sequence"))
 named_counter s =
     let within = position_within (λ (t : Table). same_name t.name (codes "sqlite_sequence")) s.tables 0 in

@@ -1,4 +1,4 @@
--- What follows where a table is declared.
+-- What follows if a table is declared.
 use Rattle.std.proofs.Common.{◌≡◌, inl, inr, ◌^◌, ◌<◌, true, false, nat_le, nat_lt, ◌==◌, List, [], ◌∷◌, find, Some, refl, arith}
 use Rattle.std.proofs.lemmas.Bool.{lt-leb, lt-ltb}
 use Rattle.std.proofs.lemmas.Bool.Decides.{nat_tests}

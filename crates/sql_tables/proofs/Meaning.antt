@@ -89,7 +89,7 @@ pub update_is : (schema : Schema) (text name : List ℕ) (sets : List (List ℕ 
 unfolding returning shows timed
 update_is schema text name sets test k t means = (means_as schema text (Update name sets test []) k t refl refl means).0
 
--- where no table, index or view has the name, CREATE TABLE makes one
+-- if no table, index or view has the name, CREATE TABLE makes one
 pub create_is : (schema : Schema) (text : List ℕ) (def : create.CreateTable) (table : Table) → IsText text (CreateTable def) → is_used schema def.name ≡ false → is_reserved def.name ≡ false
     → define.table [] def ≡ Ok table → (length table.computed == length table.stamps.places) ≡ true → def.resolves ≡ false → understood schema text ≡ Ok (with_command (parse_of text) ([], (MakeTable, None)))
 unfolding command create_table creates is_attached returning timed
@@ -110,7 +110,7 @@ not_new name same other taken = cond_both (is_reserved name) _ _ Stops (λ own. 
 either_named : (table index view : Option ℕ) → (is_some table || is_some index || is_some view) ≡ true → (is_some (option_or table view) || is_some index) ≡ true
 either_named table index view taken = grind arith
 
--- where a table, an index or a view has the name, CREATE TABLE is refused
+-- if a table, an index or a view has the name, CREATE TABLE is refused
 create_stops : (schema : Schema) (base : ℕ) (formats : List (List ℕ)) (def : create.CreateTable) → def.if_missing ≡ false → is_used schema def.name ≡ true → Stops (command schema formats base (CreateTable def))
 unfolding command create_table
 create_stops schema base formats def always used =

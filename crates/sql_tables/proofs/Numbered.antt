@@ -32,7 +32,7 @@ use Rattle.sql_tables.proofs.OneTable.{Parts, program_on}
 use Rattle.sql_tables.proofs.RowLists.{only_row}
 use Rattle.sql_tables.proofs.Writing.{IsPut, Ends, finds, puts, updates_one}
 
--- a lone test passes where it is true
+-- a lone test passes if it is true
 truth_of : (b : Bool) → (is_true (from_truth (Some b)) && true) ≡ b
 truth_of b = grind arith
 

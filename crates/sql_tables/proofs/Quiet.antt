@@ -1,4 +1,4 @@
--- A text that is a SELECT writes nothing, whatever the schema is, and one that has an answer fails only where the store does.
+-- A text that is a SELECT writes nothing, whatever the schema is, and one that has an answer fails only if the store does.
 use Rattle.std.proofs.Common.{Option, ◌≡◌, ◌⊎◌, inl, inr, ℕ, ◌+◌, Bool, true, false, List, None, Ok, Err, Result, OnOk, IfErr, sym, ap, true≢false, [], ◌∙◌, arith}
 use Rattle.sqlite_ast.specs.declared.Statement.{Statement}
 use Rattle.sqlite_ast.specs.declared.Statement.TheVariants.{Select}
@@ -84,7 +84,7 @@ module _ (text : List ℕ) (is : reads (first text) ≡ true) where
   unfolding Shown
   shown_quietly params old new rows h = (rw (never_returns old.now.schema h.0 h.1.is) at h.2).3
 
--- ---- a query that has an answer fails only where the store does
+-- ---- a query that has an answer fails only if the store does
 
 -- a failure of the store
 abbrev pub IsStoreFailure : Error → Type 0

@@ -22,18 +22,17 @@ use Rattle.sqlite_typing.specs.Types.{accepts_program}
 use Rattle.sqlite.specs.declared.error.Error.{Error}
 use Rattle.sqlite.specs.Effect.{Database, Reads, RefusesToRead}
 use Rattle.sqlite.specs.Listing.{IsSourceOf, reads_listing, understood}
-use Rattle.sqlite.specs.State.{FailsToQuery, IsStatement, Shown, State}
+use Rattle.sqlite.specs.State.{IsStatement, Shown, State}
 use Rattle.sqlite.proofs.StateLemmas.{unchanged}
 use Rattle.sql_tables.specs.States.{HasAnswer}
 use Rattle.sql_tables.specs.Tables.{IsDeclared}
-use Rattle.sql_tables.proofs.Quiet.{IsStoreFailure, answered_fails}
 use Rattle.sql_tables.proofs.Declaring.{classes_are, low_tree, uncovered}
 use Rattle.sql_tables.proofs.Meaning.{parse_of}
 use Rattle.sql_tables.proofs.OneTable.{Parts, program_on, query_on, typed_as}
 use Rattle.sql_tables.proofs.Orders.{Rises, sorted, in_order}
 use Rattle.sql_tables.proofs.Running.{Means}
 use Rattle.sql_tables.proofs.Writing.{all_answer, finds}
-use Rattle.sql_tables.proofs.WholeTables.{IsRead, heads, parts as parts_of, reads_only, text_means}
+use Rattle.sql_tables.proofs.WholeTables.{IsRead, heads, parts as parts_of, text_means}
 
 -- ---- the answer of a query on one table
 
@@ -90,10 +89,6 @@ module _ (t : Table) (text : List ℕ) (shown sorted : List Name) (project terms
 
   pub can_answer : HasAnswer text s
   can_answer = record { compiled = meant; is = is_one; timeless = refl; unrefused = unrefused }
-
-  -- only the store makes it fail
-  pub fails_by_store : (new : State) → s.step_limit ≡ None → (e : Error) → FailsToQuery text [] s new e → IsStoreFailure e
-  fails_by_store new = answered_fails text (reads_only t text shown sorted project terms u) s new can_answer
 
   -- what the query shows are the rows of the tree
   module _ (show : Row → Row) (shows : (r : Row) → eval_all project ([] ∷ r ∷ []) ≡ show r) where

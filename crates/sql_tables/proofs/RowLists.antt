@@ -1,5 +1,5 @@
 -- Rows in a tree, and the lists of what they show.
-use Rattle.std.proofs.Common.{◌≡◌, ℤ, ◌≤◌, Bool, true, false, not, List, [], ◌∷◌, filter, length, refl, sym, ap, subst, ◌∙◌, Ordering, Less, Equal, Greater, is_eq, true≢false, IsPermutation, arith, pos, map, subst₂, map-id}
+use Rattle.std.proofs.Common.{◌≡◌, ℤ, ◌≤◌, Bool, true, false, not, List, [], ◌∷◌, filter, length, refl, sym, ap, subst, ◌∙◌, Ordering, Less, Equal, Greater, is_eq, true≢false, IsPermutation, arith, pos, map, map-id}
 use Rattle.std.specs.List.{AllByRecursion, list_any}
 use Rattle.std.specs.Ordering.{match_ordering}
 use Rattle.std.proofs.lemmas.Bool.{false_from_ne_true, not-true, or_parts}
@@ -90,7 +90,7 @@ module _ {X : Type 0} (written : X → Row) (columns : Row → Row) where
       let all = all-map (λ s. (x : X) × (s ≡ written x)) written xs (all_of _ (λ x. (x, refl)) xs) in
       all_has _ rows r (all_from_map (λ s. (x : X) × (s ≡ written x)) columns rows (all-permutation _ _ _ lists all)) has
 
--- ---- the rows of a tree are those of one list, up to their order
+-- ---- the rows of a tree are those of a list, up to their order
 
 abbrev pub integer : Value → ℤ
 integer (Int n) = n
@@ -98,11 +98,6 @@ integer _ = pos 0
 
 pub all_undone : {X Y : Type 0} (written : X → Y) (back : Y → X) → ((x : X) → back (written x) ≡ x) → (xs : List X) → map back (map written xs) ≡ xs
 all_undone written back undone xs = map-map back written xs ∙ (λ i. map (λ x. undone x i) xs) ∙ map-id xs
-
-module _ {X : Type 0} (written : X → Row) (back : Row → X) (undone : (x : X) → back (written x) ≡ x) (columns : Row → Row) where
-  pub one_list : (xs ys : List X) (rows : List Row) → Lists written columns xs rows → Lists written columns ys rows → IsPermutation xs ys
-  one_list xs ys rows p q =
-      subst₂ IsPermutation (all_undone written back undone xs) (all_undone written back undone ys) (IsPermutation-map back _ _ (IsPermutation-trans _ _ _ p (IsPermutation-sym _ _ q)))
 
 -- the same rows in another order
 pub other_order : {X : Type 0} (written : X → Row) (columns : Row → Row) (xs ys : List X) (rows : List Row) → IsPermutation xs ys → Lists written columns xs rows → Lists written columns ys rows

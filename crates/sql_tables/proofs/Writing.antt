@@ -112,7 +112,7 @@ module _ (limit : Option ℕ) (schema : Schema) (table : Table) (params : Row) w
       let gave = went h in
       subst (Applies schema Enforced db edit) (sym (ap (λ (x : Written). x.trees) (same_value gave.2))) (settles schema db gave.0 edit quiet gave.1)
 
-  -- a row is put where no row has its rowid
+  -- a row is put if no row has its rowid
   pub puts : (new : Row) → cast_row table new ≡ new → (id : ℤ) → rowid new ≡ Int id → (db : Trees) (w : Written) → Puts task new db (Ok w) → IsPut schema table new id db w.trees × (list_any (has_rowid id) (db table.tree) ≡ false)
   puts new cast id is db w h =
       let edit = edit_of db table [] Given 0 (new ∷ []) in
@@ -128,7 +128,7 @@ module _ (limit : Option ℕ) (schema : Schema) (table : Table) (params : Row) w
       let edit = edit_of db table (ids_of rows) Given 1 rows in
       Then (Edited schema Enforced db edit) (λ next. Gives (record { trees = next; rows = edit.news; last = None })) (Ok w)
 
-  -- those that it makes of the rows that it finds, if there is one at most
+  -- those that it makes of the rows that it finds, if there is at most one
   rewrites : (p : Parts) (given : Row) (db : Trees) (w : Written) (found : List Row)
       → overlay db [] table.tree ≡ db table.tree → filter (finds p.tests given) (db table.tree) ≡ found → length found ≤ 1
       → Updates task (program_on table.tree p) given db (Ok w) → Rewrites db w (map (λ r. eval_all p.project (given ∷ r ∷ [])) found)

@@ -1,5 +1,5 @@
 -- What the rows of a table must be to be read, as its columns are declared.
-use Rattle.std.specs.Prelude.{◌≡◌, List, [], ◌∷◌, drop, map, IsTrue, IsUtf8, ⊤}
+use Rattle.std.specs.Prelude.{◌≡◌, List, [], ◌∷◌, drop, IsTrue, IsUtf8, ⊤}
 use Rattle.std.specs.List.{AllByRecursion}
 use Rattle.sqlite_value.specs.declared.value.Value.{Value}
 use Rattle.sqlite_value.specs.declared.value.Value.TheVariants as value
@@ -8,7 +8,6 @@ use Rattle.sqlite_trees.specs.Tree.{rowid}
 use Rattle.sqlite_trees.specs.View.{is_int}
 use Rattle.sqlite_schema.specs.declared.schema.Kind.{Kind}
 use Rattle.sqlite_schema.specs.declared.schema.Kind.TheVariants.{Integer, Real, Text, Blob, Any}
-use Rattle.sqlite_schema.specs.declared.schema.Table.{Table}
 use Rattle.sqlite.specs.Values.{IsInt}
 
 -- INTEGER holds an integer, TEXT a text whose bytes are UTF-8, BLOB bytes.
@@ -24,10 +23,6 @@ abbrev pub HasKinds : List Kind → Row → Type 0
 HasKinds [] row = ⊤
 HasKinds (k ∷ kinds) [] = ⊥
 HasKinds (k ∷ kinds) (v ∷ row) = IsOfKind k v × HasKinds kinds row
-
--- the kinds of a table's columns
-abbrev pub kinds_of : Table → List Kind
-kinds_of table = map (λ c. c.kind) table.columns
 
 -- ---- A sound database gives the rows of a STRICT table the kinds of their columns, except for these.
 

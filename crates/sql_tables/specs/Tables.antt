@@ -5,7 +5,6 @@ use Rattle.std.specs.Prelude.{◌≡◌, true, false, List, [], ◌∷◌, map, 
 use Rattle.sqlite_value.specs.declared.keys.Collation.TheVariants.{Binary}
 use Rattle.sqlite_value.specs.declared.keys.Order.{Order}
 use Rattle.sqlite_value.specs.declared.value.Value.TheVariants.{Null}
-use Rattle.sqlite_value.specs.Keys.{plain}
 use Rattle.sqlite_schema.specs.declared.schema.Kind.{Kind}
 use Rattle.sqlite_schema.specs.declared.schema.Kind.TheVariants.{Any}
 use Rattle.sqlite_schema.specs.declared.schema.Column.{Column}
@@ -47,10 +46,6 @@ plain_table name columns key primary uniques orders tree = record {
 -- one whose key is its first column, which is the rowid
 abbrev pub numbered_table : List ℕ → List Column → ℕ → Table
 numbered_table name columns = plain_table name columns (Some 0) (0 ∷ []) [] []
-
--- one whose key is the columns at these places, and whose rowid is hidden
-abbrev pub keyed_table : List ℕ → List ℕ → List Column → ℕ → Table
-keyed_table name places columns = plain_table name columns None places (places ∷ []) (plain ∷ [])
 
 -- the table in which the database counts the rowids of those that are declared with AUTOINCREMENT,
 -- in two columns with no type and no rule
