@@ -126,9 +126,10 @@ class OpenFile:
             last, commits = _last_page(self._log, before if is_longer else None)
             noted = self._log_noted = _log_state(self._log, last)
             if before is not None and not (is_longer and commits >= kept):
-                # it was emptied, at most once for each command, or it is another one
-                is_emptied = 1 <= _rounds(before, noted) <= kept
-                self._is_log_foreign = not (is_emptied and 1 <= commits <= kept)
+                # it was emptied, at most once for each command, or it is another one; a long command
+                # is written in several parts, of which each ends as a command does
+                is_emptied = 1 <= _rounds(before, noted) <= kept and commits > 0
+                self._is_log_foreign = not is_emptied
             self.is_log_lent = False
 
     @property

@@ -940,6 +940,18 @@ def test_a_program_that_tries_to_open_a_book_while_its_log_is_emptied_is_no_writ
         assert session.print_of(1) == "Or Three."
 
 
+def test_a_command_that_is_written_in_several_parts_once_the_log_was_emptied_is_its_own(
+    book: Path,
+) -> None:
+    with Session(book) as session:
+        session.put_table("long", LONG)
+        # more than is kept in memory before it goes to the log
+        session.put_table("longer", LONG + LONG.partition(b"\n")[2])
+        session.correct(session.add_paragraph("end", "en", "One.").id, 0, 0, "No. ")
+    with Session(book) as session:
+        assert session.print_of(1) == "No. One."
+
+
 @pytest.mark.parametrize("far", [READ, KEPT])
 @pytest.mark.parametrize("how", ["of a backup", "an earlier state", "emptied"])
 @pytest.mark.parametrize("is_emptied", [False, True])
