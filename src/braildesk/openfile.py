@@ -4,7 +4,7 @@ import os
 import time
 from collections.abc import Iterator
 from contextlib import contextmanager, suppress
-from dataclasses import dataclass
+from dataclasses import dataclass, field
 from pathlib import Path
 from typing import BinaryIO
 from zlib import crc32
@@ -57,6 +57,8 @@ class _LogState:
     #: Where the last page that was written begins, 0 if there is none, and the bytes before it.
     last: int
     summed: bytes
+    #: How many commands of the session were kept by then.
+    kept: int = field(default=0, compare=False)
 
 
 class OpenFile:
@@ -113,7 +115,7 @@ class OpenFile:
     def note_log(self, kept: int = 0) -> None:
         """Notes the log, unless it is noted, while the program waits and writes nothing there.
 
-        By then so many commands were kept since it was noted before.
+        By then the session has kept so many commands.
         """
         if not self.is_log_lent or self._descriptor is None:
             return
@@ -124,12 +126,15 @@ class OpenFile:
             before = self._log_noted
             is_longer = before is not None and _has_part(self._log, before)
             last, commits = _last_page(self._log, before if is_longer else None)
-            noted = self._log_noted = _log_state(self._log, last)
-            if before is not None and not (is_longer and commits >= kept):
-                # it was emptied, at most once for each command, or it is another one; a long command
-                # is written in several parts, of which each ends as a command does
-                is_emptied = 1 <= _rounds(before, noted) <= kept and commits > 0
-                self._is_log_foreign = not is_emptied
+            noted = _log_state(self._log, last, kept)
+            if before is not None:
+                added = kept - before.kept
+                # a long command is written in several parts, of which each ends as a command does
+                is_emptied = 1 <= _rounds(before, noted) <= added and commits > 0
+                is_own = is_longer and commits >= added or is_emptied
+                self._is_log_foreign |= not is_own
+            # with how many commands were kept, whatever interrupts this
+            self._log_noted = noted
             self.is_log_lent = False
 
     @property
@@ -305,13 +310,13 @@ def _is_at(path: str, descriptor: int | None) -> bool:
         return True
 
 
-def _log_state(log: int, last: int) -> _LogState:
+def _log_state(log: int, last: int, kept: int = 0) -> _LogState:
     front, summed = os.pread(log, _FRONT, 0), os.pread(log, _BEFORE_PAGE, last)
-    return _LogState(os.fstat(log).st_size, front, last, summed)
+    return _LogState(os.fstat(log).st_size, front, last, summed, kept)
 
 
 def _last_page(log: int, before: _LogState | None) -> tuple[int, int]:
-    """Where the last page of a log begins, 0 if it has none, and how many commands end in it.
+    """Where the last page of a log begins, 0 if it has none, and how many commands or parts of one end in it.
 
     They are looked for after what was in it before, if that is said.
     """
@@ -325,7 +330,7 @@ def _last_page(log: int, before: _LogState | None) -> tuple[int, int]:
         last, place = before.last, before.last + step
     while (page := os.pread(log, _BEFORE_PAGE, place))[8:16] == number:
         last, place = place, place + step
-        # the last page of a command has the size of the file
+        # the last page of each has the size of the file
         commits += page[4:8] != bytes(4)
     return last, commits
 

@@ -96,8 +96,8 @@ class Session:
         self._is_at_stake = False
         self._strayed = ""
         self._answered = 0
-        #: How many commands were kept since the log was noted.
-        self._kept_since = 0
+        #: How many commands were kept.
+        self._count_kept = 0
         #: Until which read of replies the file was looked at.
         self._judged = 0
 
@@ -357,8 +357,7 @@ class Session:
         if _is_not_kept(reply):
             raise self._not_kept(request)
         if self._file.is_log_lent and self._is_at_rest:
-            self._file.note_log(self._kept_since)
-            self._kept_since = 0
+            self._file.note_log(self._count_kept)
         if reply.word == "ok" and not self._is_saving:
             self._judge_kept()
         return reply
@@ -478,7 +477,7 @@ class Session:
             self._seen = reply.numbers[0]
             if reply.word == "ok":
                 self._acknowledged, self._is_at_stake = request, True
-                self._kept_since += 1
+                self._count_kept += 1
 
     def _explained(self, refusal: Refused) -> Refused:
         """The refusal with what the book shows, if its sentence needs that."""

@@ -952,6 +952,30 @@ def test_a_command_that_is_written_in_several_parts_once_the_log_was_emptied_is_
         assert session.print_of(1) == "No. One."
 
 
+def test_an_interrupt_while_the_log_is_noted_makes_it_no_other_one(book: Path) -> None:
+    step = count = 0
+
+    def trace(frame: FrameType, event: str, _: object) -> Any:
+        nonlocal count
+        if frame.f_code.co_name != "note_log":
+            return None
+        if event == "line":
+            count += 1
+            if count == step:
+                raise KeyboardInterrupt
+        return trace
+
+    with Session(book) as session:
+        while count >= step:
+            step, count = step + 1, 0
+            sys.settrace(trace)
+            with suppress(KeyboardInterrupt):
+                session.add_paragraph("end", "en", "One.")
+            sys.settrace(None)
+            session.add_paragraph("end", "en", "Two.")
+        assert step > 5 and session.version() == 2 * step + 1
+
+
 @pytest.mark.parametrize("far", [READ, KEPT])
 @pytest.mark.parametrize("how", ["of a backup", "an earlier state", "emptied"])
 @pytest.mark.parametrize("is_emptied", [False, True])
