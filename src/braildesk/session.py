@@ -433,18 +433,21 @@ class Session:
 
     def _is_in_its_file(self) -> bool:
         """Whether all that the book has is in its file and its log; True if that can't be told."""
-        before = self._is_saving, self._is_streaming
-        self._is_saving, self._is_streaming = True, False
+        # what each() gives later is put by
+        before = self._sent, self._is_saving, self._is_streaming
+        self._sent, self._is_saving, self._is_streaming = deque(), True, False
         try:
             with self._file.copied() as copied, Session(copied, self._program) as other:
                 pairs = zip_longest(self._whole(), other._whole())
                 return all(own == found for own, found in pairs)
-        except OSError:
-            return True
         except Refused:
             return False
+        except (OSError, DeskError):
+            if self._lost is not None:
+                raise
+            return True
         finally:
-            self._is_saving, self._is_streaming = before
+            self._sent, self._is_saving, self._is_streaming = before
 
     def _whole(self) -> Iterator[object]:
         """All that the book has, piece by piece."""
@@ -469,7 +472,7 @@ class Session:
 
     def _note(self, request: Request[Any], reply: Reply) -> None:
         """Notes the reply to a request; a command that isn't kept stays among those sent."""
-        self._answered += 1
+        self._answered += not self._is_saving
         if _is_not_kept(reply):
             return
         self._sent.popleft()

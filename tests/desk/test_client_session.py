@@ -940,6 +940,39 @@ def test_a_program_that_tries_to_open_a_book_while_its_log_is_emptied_is_no_writ
         assert session.print_of(1) == "Or Three."
 
 
+@pytest.fixture
+def doubtful(book: Path, program: str) -> Iterator[Session]:
+    """A session of three commands whose file is compared before the next one: others tried to open it."""
+    own = shutil.copy(program, book.with_name("program"))
+    with Session(book, own) as session:
+        session.put_table("long", LONG)
+        session.add_paragraph("end", "en", "One.")
+        session.add_paragraph("end", "en", "Two.")
+        found = subprocess.run([program, "check", str(book)], capture_output=True)
+        assert found.returncode == 2
+        yield session
+
+
+def test_a_stream_gives_all_answers_though_the_file_is_compared_meanwhile(
+    doubtful: Session,
+) -> None:
+    asked = [requests.Type("end", "en", text) for text in ("Two\nlines.", "Three.")]
+    refused, typed = doubtful.each(asked)
+    assert isinstance(refused, Refused) and isinstance(typed, Typed)
+    doubtful._pipe.kill()
+    with pytest.raises(Lost) as caught:
+        doubtful.strike(1)
+    assert caught.value.answered == 4
+
+
+def test_a_file_that_can_not_be_compared_is_taken_for_the_book(
+    doubtful: Session, book: Path
+) -> None:
+    book.with_name("program").unlink()
+    doubtful.add_paragraph("end", "en", "Three.")
+    assert doubtful.print_of(3) == "Three."
+
+
 def test_a_command_that_is_written_in_several_parts_once_the_log_was_emptied_is_its_own(
     book: Path,
 ) -> None:
