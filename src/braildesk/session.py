@@ -13,7 +13,7 @@ from typing import Any, Literal, Self, TypeVar
 
 from braildesk import opening, program as programs
 from braildesk.openfile import OpenFile
-from braildesk.opening import waited
+from braildesk.opening import take_shared, waited
 from braildesk.pipe import Ending, Pipe
 from braildesk.program import StrPath
 from braildesk.protocol import requests
@@ -385,11 +385,13 @@ class Session:
 
         That is so as far as it can be told.
         """
-        if self._file.is_used:
-            return True
         try:
-            with self._file.copied() as copied:
-                return programs.check(copied, self._program) >= self._seen
+            with self._file.opened() as file:
+                if not take_shared(file):
+                    # another session has it by now, and may have written there
+                    return True
+                with self._file.copied() as copied:
+                    return programs.check(copied, self._program) >= self._seen
         except Refused:
             return False
         except (OSError, DeskError, ValueError):

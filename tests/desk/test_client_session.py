@@ -14,7 +14,7 @@ from collections.abc import Callable, Iterator
 from contextlib import suppress
 from pathlib import Path
 from types import FrameType
-from typing import Any
+from typing import Any, BinaryIO
 
 import pytest
 
@@ -31,9 +31,10 @@ from braildesk import (
     requests,
 )
 from braildesk import openfile
+from braildesk.held import copy_held
 from braildesk.pipe import Ending, Pipe
 from braildesk.protocol.replies import Reader, Reply, Unreadable
-from stand_in import KEPT, KILL_PROGRAM, READ, WAIT
+from stand_in import KEPT, KILL_PROGRAM, READ, REPLY, WAIT
 from terminal import standing_in
 
 PYTHON = str(Path(__file__).parents[2] / "src")
@@ -938,6 +939,26 @@ def test_a_program_that_tries_to_open_a_book_while_its_log_is_emptied_is_no_writ
     thread.join()
     with Session(book) as session:
         assert session.print_of(1) == "Or Three."
+
+
+def test_nobody_changes_a_book_while_it_is_seen_whether_it_has_what_was_kept(
+    book: Path, program: str, monkeypatch: pytest.MonkeyPatch
+) -> None:
+    found = []
+
+    def copy(source: BinaryIO, log: str, made: Path) -> os.stat_result:
+        attempt = subprocess.run([program, "check", str(book)], capture_output=True)
+        found.append(attempt.returncode)
+        return copy_held(source, log, made)
+
+    monkeypatch.setattr(openfile, "copy_held", copy)
+    for name, value in standing_in(2, READ, REPLY, "no", "91").items():
+        monkeypatch.setenv(name, value)
+    with pytest.raises(Lost) as caught:
+        with Session(book) as session:
+            session.add_paragraph("end", "en", "One.")
+            session.strike(1)
+    assert found == [2] and not isinstance(caught.value, Displaced)
 
 
 @pytest.fixture
