@@ -24,9 +24,10 @@ is no file. ``confined`` runs programs that others wrote within limits of time a
 ``opening`` finds out why a file can't be opened, by its lock, its log and a stranger's tables, and
 tries again while it is in use. ``workshop`` makes files whole before they get their names, and
 ``held`` keeps a closed book from being opened. ``program`` finds and runs the program, ``files``
-reads tables and versions of books, ``pipe`` moves bytes to and from a session of the program, ``watch``
-tells that another program wrote into a file, ``openfile`` sees to the file of a session, and ``session`` is the session. ``making`` makes new books and
-copies, and ``snapshot`` copies a book that another program has open.
+reads tables and versions of books, and ``pipe`` moves bytes to and from a session of the program.
+``watch`` tells that another program had a file open for writing, ``openfile`` sees to the file of a
+session, and ``session`` is the session. ``making`` makes new books and copies, and ``snapshot``
+copies a book that another program has open.
 """
 
 from importlib import import_module

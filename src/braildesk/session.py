@@ -23,6 +23,7 @@ from braildesk.protocol.codes import Code
 from braildesk.protocol.fields import Unwritable
 from braildesk.protocol.replies import Reply, Unreadable
 from braildesk.protocol.requests import Command, Request
+from braildesk.protocol.sentences import Why
 from braildesk.protocol.values import (
     After,
     Corrected,
@@ -36,6 +37,7 @@ from braildesk.protocol.values import (
     Typed,
 )
 from braildesk.refusals import (
+    CannotOpen,
     DeskError,
     Displaced,
     Failed,
@@ -53,6 +55,9 @@ _AHEAD = 512
 _AHEAD_BYTES = 1 << 16
 #: How many are written at once if nothing has to be waited for.
 _GROUP = 128
+
+#: Why a copy of a book's files isn't opened, whatever is in them.
+_UNTOLD = frozenset({Why.DENIED, Why.READ_ONLY, Why.NO_ROOM, Why.IN_USE, Why.UNKNOWN})
 
 _Lost = TypeVar("_Lost", bound=Lost)
 
@@ -392,8 +397,8 @@ class Session:
                     return True
                 with self._file.copied() as copied:
                     return programs.check(copied, self._program) >= self._seen
-        except Refused:
-            return False
+        except Refused as refused:
+            return _says_nothing(refused)
         except (OSError, DeskError, ValueError):
             # nobody can tell, as if no copy can be made of it, or the program answers something else
             return True
@@ -442,8 +447,8 @@ class Session:
             with self._file.copied() as copied, Session(copied, self._program) as other:
                 pairs = zip_longest(self._whole(), other._whole())
                 return all(own == found for own, found in pairs)
-        except Refused:
-            return False
+        except Refused as refused:
+            return _says_nothing(refused)
         except (OSError, DeskError):
             if self._lost is not None:
                 raise
@@ -810,6 +815,11 @@ def _encoded(request: Request[Any]) -> bytes:
 def _refused(request: Request[Any], reply: Reply) -> Refused:
     code, *numbers = reply.numbers
     return refused(code, request, numbers)
+
+
+def _says_nothing(refused: Refused) -> bool:
+    """Whether a copy was refused for something that isn't in it."""
+    return isinstance(refused, CannotOpen) and refused.why in _UNTOLD
 
 
 def _query_about(refusal: Refused) -> Request[str] | None:

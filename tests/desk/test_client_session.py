@@ -994,6 +994,17 @@ def test_a_file_that_can_not_be_compared_is_taken_for_the_book(
     assert doubtful.print_of(3) == "Three."
 
 
+def test_a_copy_that_can_not_be_opened_for_a_cause_that_is_not_seen_is_taken_for_the_book(
+    doubtful: Session, book: Path
+) -> None:
+    own = book.with_name("program")
+    own.unlink()
+    own.write_text("#!/bin/sh\necho 'braildesk: no 98' >&2\nexit 2\n")
+    own.chmod(0o755)
+    doubtful.add_paragraph("end", "en", "Three.")
+    assert doubtful.print_of(3) == "Three."
+
+
 def test_a_command_that_is_written_in_several_parts_once_the_log_was_emptied_is_its_own(
     book: Path,
 ) -> None:
