@@ -276,12 +276,13 @@ def test_nobody_changes_a_book_while_its_pages_are_compared(
     moon: Path, program: str
 ) -> None:
     other = moon.parent / "other"
-    # before the first export the book isn't opened yet, so that it can be changed
+    # the book is changed when it was judged, which holds it, and before it is opened
     other.write_text(
         '#!/bin/sh\ncase "$1" in\n'
-        'export) echo "style 1 heading" | "$PROGRAM" session "$BOOK" >> changed\n'
+        "export) while [ ! -e judged ]; do sleep 0.02; done\n"
+        'echo "style 1 heading" | "$PROGRAM" session "$BOOK" >> changed\n'
         "touch tried;;\n"
-        "session) while [ ! -e tried ]; do sleep 0.02; done;;\n"
+        "session) touch judged; while [ ! -e tried ]; do sleep 0.02; done;;\n"
         'esac\nexec "$PROGRAM" "$@"\n'
     )
     other.chmod(other.stat().st_mode | stat.S_IXUSR)
