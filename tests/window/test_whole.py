@@ -207,7 +207,7 @@ def test_a_place_is_gone_to(
     assert desk.window.message.text.startswith(said)
 
 
-def test_words_that_are_there_otherwise_are_said_to_be_also_around_the_book(
+def test_words_that_are_there_otherwise_are_said_to_be_until_they_are_not(
     desk: Desk, given: Answers
 ) -> None:
     there = "Paragraph 3, character 17. It stands there otherwise than as it was typed."
@@ -218,6 +218,17 @@ def test_words_that_are_there_otherwise_are_said_to_be_also_around_the_book(
     desk.act("find")
     assert desk.window.message.text == (
         f"{there} This is the first in the book: there is none further on."
+    )
+    desk.act("find")
+    assert desk.window.message.text == f"{there} It stands nowhere else in the book."
+    # from now on the words stand there as they were typed
+    desk.do(requests.Correct(3, 16, 3, "SEA"))
+    desk.act("find_next")
+    assert desk.window.message.text == "“SEA” stands nowhere else in the book."
+    desk.choose(2, 20)
+    desk.act("find_next")
+    assert desk.window.message.text == (
+        "Paragraph 3, character 17. This is the first in the book: there is none further on."
     )
 
 

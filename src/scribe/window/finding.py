@@ -96,13 +96,24 @@ class Finding:
             if (words := self.found_here()) is not None:
                 desk.window.print.select(words)
         said = f"Paragraph {desk.number}, {'cell' if is_cells else 'character'} {spot.place + 1}."
-        if self._finds_alike and not is_cells:
+        is_otherwise = not is_cells and self._stands_otherwise()
+        if is_otherwise:
             said = f"{said} It stands there otherwise than as it was typed."
-        if found.is_same:
+        if found.is_same and is_otherwise:
+            said = f"{said} It stands nowhere else in the book."
+        elif found.is_same:
             said = f"{quoted(self.sought)} stands nowhere else in the book."
         elif found.is_around:
             said = f"{said} This is the first in the book: there is none further on."
         say_there(desk, said)
+
+    def _stands_otherwise(self) -> bool:
+        """Whether the words at the caret aren't just as they were typed."""
+        reading, words = self.desk.reading, self.found_here()
+        if reading is None or words is None:
+            return False
+        found = reading.its.text[words.start : words.stop]
+        return composed(found) != composed(self.sought)
 
     def found_here(self) -> Span | None:
         """The words that were looked for, where the caret stands on them."""
