@@ -238,6 +238,11 @@ def test_a_talk_ends_by_each_of_its_words(talk: Talk, line: str) -> None:
     assert talk.end(f"{line}\r").status == 0
 
 
+def test_the_word_that_ends_a_talk_takes_no_others(talk: Talk) -> None:
+    said = "quit takes no words. Type quit alone to end."
+    assert " ".join(talk.type("quit now")) == said
+
+
 def test_a_blank_at_the_end_or_the_front_of_a_line_is_taken(talk: Talk) -> None:
     assert talk.type("  ") == []
     assert talk.type(" help quit ")[0] == "quit, q or exit ends the conversation."

@@ -148,6 +148,8 @@ def _answer(conversation: Conversation, file: Path, line: bytes) -> None:
         )
     elif name in AT_PROMPT:
         prompt_words.command_answered(conversation, file, name, rest)
+    elif name in _ENDS:
+        conversation.console.say(f"{name} takes no words. Type {name} alone to end.")
     elif name == "request":
         request_line(conversation, line.removeprefix(b"request").lstrip(b" "))
     elif name in BY_NAME or name.startswith("@"):
