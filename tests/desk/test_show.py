@@ -145,6 +145,19 @@ def test_what_is_no_range_is_refused(book: Path, word: str) -> None:
     assert "is no paragraph and no range such as 3-9." in ran.said
 
 
+@pytest.mark.parametrize("word", ["12345678901234567", "1-12345678901234567"])
+def test_a_number_of_very_many_digits_is_said_as_it_was_typed(
+    book: Path, word: str
+) -> None:
+    ran = show(book, "--paragraphs", word)
+    assert ran.status == 1 and ran.shown == ""
+    assert "--paragraphs: 12345678901234567 is too large a number." in ran.said
+
+
+def test_noughts_in_front_of_a_number_say_nothing(moon: Path) -> None:
+    assert show(moon, "--paragraphs", f"{3:020}") == show(moon, "--paragraphs", "3")
+
+
 def test_the_table_is_named_where_paragraphs_have_several(moon: Path) -> None:
     with Session(moon) as session:
         session.put_table("own", TABLE)

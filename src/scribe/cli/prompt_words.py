@@ -175,11 +175,12 @@ def _reader(
     """What reads an answer, and refuses what the book doesn't have."""
 
     def paragraph(answer: str) -> int:
+        found = number(answer)
         try:
-            talk.session.print_of(number(answer))
+            talk.session.print_of(found)
         except NotFound as missing:
             raise InvalidInput(missing.sentence) from missing
-        return int(answer)
+        return found
 
     def standing(answer: str) -> Any:
         text = talk.session.print_of(arguments.paragraph)
@@ -220,9 +221,10 @@ def _which(talk: Conversation, paragraph: int, sought: str) -> int | None:
         )
 
     def one_of_them(answer: str) -> int:
-        if not 1 <= number(answer) <= len(places):
+        nth = number(answer)
+        if not 1 <= nth <= len(places):
             raise InvalidInput(f"the places are 1 to {len(places)}")
-        return int(answer)
+        return nth
 
     question = "Which of these places? Type its number."
     return talk.ask(question, f"place 1 to {len(places)}", one_of_them)

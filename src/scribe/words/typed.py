@@ -15,7 +15,9 @@ _WORD = re.compile(
     re.DOTALL,
 )
 _ESCAPED = re.compile(r"\\(.)", re.DOTALL)
-_RANGE = re.compile(r"([0-9]{1,16})?(-)?([0-9]{1,16})?", re.ASCII)
+_RANGE = re.compile(r"([0-9]+)?(?:(-)([0-9]+)?)?")
+#: The digits of a number in the requests of a book at most.
+_DIGITS = 16
 
 
 class InvalidInput(ValueError):
@@ -24,9 +26,12 @@ class InvalidInput(ValueError):
 
 def number(word: str) -> int:
     """The number that a word is: decimal digits, as the requests of a book have them."""
-    if not (word.isascii() and word.isdigit() and len(word) <= 16):
+    if not (word.isascii() and word.isdigit()):
         raise InvalidInput(f"{word!r} is not a number")
-    return int(word)
+    digits = word.lstrip("0")
+    if len(digits) > _DIGITS:
+        raise InvalidInput(f"{word} is too large a number")
+    return int(digits or "0")
 
 
 def text(word: str) -> str:
@@ -83,8 +88,8 @@ def _ranges(word: str, what: str) -> Iterator[tuple[int | None, int | None]]:
         match = _RANGE.fullmatch(part)
         if match is None or not (match[1] or match[3]):
             raise InvalidInput(f"{part!r} is no {what} and no range such as 3-9")
-        first = int(match[1]) if match[1] else None
-        last = int(match[3]) if match[3] else None
+        first = number(match[1]) if match[1] else None
+        last = number(match[3]) if match[3] else None
         yield first, last if match[2] else first
 
 
