@@ -138,6 +138,28 @@ def test_a_book_without_paragraphs_is_said_to_be_so(book: Path) -> None:
     )
 
 
+def test_cells_of_other_words_never_stand_under_a_line(book: Path) -> None:
+    # of the signs one joins two words and one parts a word, so that runs of cells are as many;
+    # one goes over a blank
+    table = TABLE + b"letter b 12\nalways b\\sq 1-12\nalways b\\sa 12-0-1\n"
+    with Session(book) as session:
+        session.put_table("own", table)
+        session.add_paragraph("end", "own", "qqb b q qbq qaaq qqq qqq")
+        session.add_paragraph("end", "own", "qqq qbq qq qb")
+        session.add_paragraph("end", "own", "qqq qqqqb aqq")
+    assert show(book, "--width", "10").shown.splitlines() == [
+        *("Paragraph", "  1, body"),
+        *("qqb b q", "qbq qaaq", "qqq qqq"),
+        *("⠟⠟⠃⠀⠁⠃⠀⠟⠃⠟", "⠟⠁⠀⠁⠟⠀⠟⠟⠟", "⠟⠟⠟"),
+        "",
+        *("Paragraph", "  2, body"),
+        *("qqq qbq qq", "⠟⠟⠟⠀⠟⠃⠟⠀⠟⠟", "qb", "⠟⠃"),
+        "",
+        *("Paragraph", "  3, body"),
+        *("qqq qqqqb", "⠟⠟⠟⠀⠟⠟⠟⠟⠃", "aqq", "⠁⠟⠟"),
+    ]
+
+
 @pytest.mark.parametrize("word", ["x", "3-9-12", "", "-", "3,", "٣"])
 def test_what_is_no_range_is_refused(book: Path, word: str) -> None:
     ran = show(book, "--paragraphs=" + word)

@@ -12,7 +12,7 @@ from braildesk.text.sequences import seams, sequences
 from braildesk.text.wrapping import columns, wrap
 
 from scribe.screen.terminal import agree_on_widths
-from scribe.words.view import interlinear
+from scribe.words.view import interlinear, paired
 
 WIDTHS = [
     ("", 0),
@@ -115,8 +115,13 @@ def test_later_lines_stand_after_the_indent() -> None:
     assert wrap("abcdefghij", 4, "  ") == ["abcd", "  ef", "  gh", "  ij"]
 
 
+def under_one_another(text: str, braille: str, width: int) -> list[str]:
+    """The lines of a print whose words have their cells one after the other, if they are as many."""
+    return interlinear(paired(text, braille, width), text, braille, width)
+
+
 def test_braille_stands_under_the_same_words() -> None:
-    assert interlinear("On 20 July two men", "⠠⠕⠝⠀⠼⠃⠚⠀⠠⠚⠥⠇⠽⠀⠞⠺⠕⠀⠍⠑⠝", 13) == [
+    assert under_one_another("On 20 July two men", "⠠⠕⠝⠀⠼⠃⠚⠀⠠⠚⠥⠇⠽⠀⠞⠺⠕⠀⠍⠑⠝", 13) == [
         "On 20 July",
         "⠠⠕⠝⠀⠼⠃⠚⠀⠠⠚⠥⠇⠽",
         "two men",
@@ -125,7 +130,7 @@ def test_braille_stands_under_the_same_words() -> None:
 
 
 def test_a_word_that_is_longer_than_a_line_has_its_braille_after_it() -> None:
-    assert interlinear("a moonlight", "⠁⠀⠍⠕⠕⠝⠇⠊⠛⠓⠞", 4) == [
+    assert under_one_another("a moonlight", "⠁⠀⠍⠕⠕⠝⠇⠊⠛⠓⠞", 4) == [
         "a",
         "⠁",
         "moon",
@@ -138,12 +143,21 @@ def test_a_word_that_is_longer_than_a_line_has_its_braille_after_it() -> None:
 
 
 def test_where_words_differ_in_number_all_print_comes_first() -> None:
-    assert interlinear("of the moon", "⠷⠮⠀⠍⠕⠕⠝", 8) == [
+    assert under_one_another("of the moon", "⠷⠮⠀⠍⠕⠕⠝", 8) == [
         "of the",
         "moon",
         "⠷⠮⠀⠍⠕⠕⠝",
     ]
 
 
+def test_a_line_begins_at_its_character_whatever_is_shown_before_it() -> None:
+    found = paired("a\u200eb cd", "⠁⠃⠀⠉⠙", 3)
+    assert [(each.upper, each.lower) for each in found] == [
+        ("a<U+200E>b", "⠁⠃"),
+        ("cd", "⠉⠙"),
+    ]
+    assert [(each.place, each.cell) for each in found] == [(0, 0), (4, 3)]
+
+
 def test_an_empty_paragraph_has_an_empty_line_of_each() -> None:
-    assert interlinear("", "", 10) == ["", ""]
+    assert under_one_another("", "", 10) == ["", ""]

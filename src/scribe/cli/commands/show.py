@@ -1,13 +1,14 @@
 """`scribe show`: the book as a person reads it."""
 
 from argparse import Namespace
-from collections.abc import Sequence
+from collections.abc import Iterator, Sequence
 from pathlib import Path
 
 from braildesk import Paragraph, Session
 from braildesk.desk.own_folder import may_have
 from braildesk.desk.ranges import chosen
-from braildesk.desk.readings import readings
+from braildesk.desk.readings import answers, readings
+from braildesk.protocol.requests import Whence, Where
 
 from scribe.cli.book_command import BookCommand
 from scribe.cli.parser import Parser, add_cells, add_paragraphs, add_width, asked_ranges
@@ -21,6 +22,8 @@ own order; 3- goes on to its end, -9 begins at its front, and 3-9,12 shows both.
 that was cut short, so that the book has a part of its text, is named at the end, unless
 another program has the book open."""
 EXAMPLE = "scribe show moon.braildesk 1-2"
+# how many paragraphs are asked for at once
+_BATCH = 256
 
 
 def add_words(parser: Parser) -> None:
@@ -43,13 +46,40 @@ def answer(session: Session, arguments: Namespace, console: Console) -> None:
         notation=console.cells,
         has_table=len({paragraph.table for paragraph in book}) > 1,
     )
-    for count, reading in enumerate(readings(session, its)):
-        console.show(*([""] if count else []), *view.lines(reading))
+    for count, lines in enumerate(_shown(session, its, view)):
+        console.show(*([""] if count else []), *lines)
     if not book:
         console.say("The book has no paragraphs.")
     if arguments.read_at == arguments.file:
         # another program that has the book open may still be at an import
         console.say(*_cut_short(session, book, arguments.file))
+
+
+def _shown(
+    session: Session, paragraphs: Sequence[Paragraph], view: View
+) -> Iterator[list[str]]:
+    """The lines of each paragraph: its braille under its print where the book has it there."""
+    for start in range(0, len(paragraphs), _BATCH):
+        batch = readings(session, paragraphs[start : start + _BATCH])
+        found = [view.of(reading) for reading in batch]
+        asked = [
+            request
+            for each in found
+            for place, cell in each.begun
+            for request in (
+                Where(each.reading.paragraph.id, place),
+                Whence(each.reading.paragraph.id, cell),
+            )
+        ]
+        replies = iter([*answers(session, asked)])
+        told = zip(replies, replies)
+        for each in found:
+            # made by one sign, or by signs that begin there
+            are_theirs = [
+                first_cell <= cell and first_place <= place
+                for (place, cell), (first_cell, first_place) in zip(each.begun, told)
+            ]
+            yield each.lines(all(are_theirs))
 
 
 def _cut_short(
