@@ -329,6 +329,18 @@ def test_open_marks_that_no_page_has_are_counted(moon: Path) -> None:
     assert scribe(*words, folder=moon.parent).said == (
         "2 open marks are on no page: their paragraphs are struck or have no words.\n"
     )
+    assert scribe(*words, "--marks-only", folder=moon.parent).said == (
+        "No page has an open mark, so no proof was written.\n"
+        "2 open marks are on no page: their paragraphs are struck or have no words.\n"
+    )
+    with Session(moon) as session:
+        for paragraph in session.paragraphs():
+            if not paragraph.struck:
+                session.strike(paragraph.id)
+    assert scribe(*words, folder=moon.parent).said == (
+        "The book has no page, so no proof was written.\n"
+        "2 open marks are on no page: their paragraphs are struck or have no words.\n"
+    )
 
 
 def test_a_proof_that_cannot_be_written_leaves_the_older_one(moon: Path) -> None:

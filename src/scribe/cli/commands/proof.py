@@ -71,8 +71,9 @@ def run(arguments: Namespace, console: Console) -> Status:
         found = list(proof_pages(session, page_size))
         left = open_marks(session) - sum(page.open_marks for page in found)
     pages = list(_wanted(found, arguments.marks_only))
+    others = [elsewhere(left)] if left else []
     if not pages:
-        raise Stop(_nothing(arguments.marks_only))
+        raise Stop(_nothing(arguments.marks_only), more=others)
     text = "".join(shown.html(pages)).encode()
     try:
         write_whole(arguments.proof, text, Access.of(arguments.file))
@@ -84,8 +85,7 @@ def run(arguments: Namespace, console: Console) -> Status:
         ) from error
     count = "1 page" if len(pages) == 1 else f"{len(pages):,} pages"
     console.show(f"{arguments.proof}: {count}.")
-    if left:
-        console.say(elsewhere(left))
+    console.say(*others)
     return Status.DONE
 
 
