@@ -169,7 +169,10 @@ def test_a_paragraph_on_two_pages_is_shown_from_one_to_the_other(moon: Path) -> 
         (("3",), "There is no volume 3: the book has 2."),
         (("1", "--page", "2"), "Volume 1 has no page 2."),
         (("--paragraph", "3"), "No volume has paragraph 3."),
-        (("2", "--paragraph", "6"), "Volume 2 has no paragraph 6."),
+        (("1", "--paragraph", "6"), "Volume 1 has no paragraph 6."),
+        # it is in the second volume, as the list of that has it too
+        (("--paragraph", "6"), "Paragraph 6 has no words, and takes no line."),
+        (("2", "--paragraph", "6"), "Paragraph 6 has no words, and takes no line."),
     ],
 )
 def test_what_is_not_there_is_refused(

@@ -19,7 +19,7 @@ from braildesk.desk.places import words_of
 from braildesk.text.cells import braille_ascii
 from braildesk.text.spans import Span
 
-from scribe.words.pages import described
+from scribe.words.pages import described, no_line
 
 # a volume of so many characters is laid out in a moment
 _MANY = 250_000
@@ -170,7 +170,7 @@ def page_of(session: Session, volume: VolumeLines, sought: Sought) -> Page:
     its, page_size = sought.paragraph, volume.page_size
     lines = volume.lines[volume.paragraphs.index(its)]
     if not lines:
-        return Page(f"Paragraph {its.id} has no words, and takes no line.")
+        return Page(no_line(its.id))
     (section,) = sections(session, [its])
     page, line = divmod(
         line_of(volume, section, lines, sought.cell), page_size.text_lines

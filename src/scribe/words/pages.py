@@ -67,6 +67,11 @@ def not_there(volumes: Sequence[int], what: str) -> str:
     return f"Volume {volumes[0]} has no {what}."
 
 
+def no_line(paragraph: int) -> str:
+    """What is said of a paragraph that is in a volume, and on none of its lines."""
+    return f"Paragraph {paragraph} has no words, and takes no line."
+
+
 def no_words(volumes: Sequence[int], page: int, line: int) -> str:
     """What is said of a line without words."""
     where = "any volume" if len(volumes) > 1 else f"volume {volumes[0]}"

@@ -20,7 +20,7 @@ from scribe.cli.book_command import BookCommand
 from scribe.cli.page_size import add_page_size, page_size_of
 from scribe.cli.parser import Parser, WordsRefused, number
 from scribe.words.console import Console
-from scribe.words.pages import no_words, not_there, row_line, volume_title
+from scribe.words.pages import no_line, no_words, not_there, row_line, volume_title
 from scribe.words.status import Status, Stop
 
 MORE = """\
@@ -168,7 +168,11 @@ def shown(session: Session, volumes: list[Volume], arguments: Namespace) -> list
         return _detailed(session, found, not_there(numbers, f"page {page}"))
     if paragraph is not None:
         found = [(its, rows_of(its.layout, paragraph)) for its in volumes]
-        return _detailed(session, found, not_there(numbers, f"paragraph {paragraph}"))
+        is_there = any(
+            each.id == paragraph for its in volumes for each in its.paragraphs
+        )
+        none = not_there(numbers, f"paragraph {paragraph}")
+        return _detailed(session, found, no_line(paragraph) if is_there else none)
     return [_listed(session, its) for its in volumes]
 
 
