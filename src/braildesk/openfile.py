@@ -30,8 +30,9 @@ from braildesk.workshop import (
 _SUMMED, _PART = 1 << 21, 1 << 16
 #: How long the times of a file may stay as they are while it is written, in nanoseconds.
 _TICK = 2 * 10**9
-#: How long a log is looked at that a program may be emptying, in seconds.
-_MOMENT = 0.5
+#: How long a log is looked at that a program may be emptying, and how long one that has come to its
+#: end takes at most until it gives up the file, in seconds.
+_MOMENT, _LEAVING = 0.5, 1.0
 #: The bytes of a log before its first page, and those before each page, which sum up all up to it.
 _FRONT, _BEFORE_PAGE = 32, 24
 _READ = os.O_RDONLY | os.O_NOFOLLOW | os.O_NONBLOCK | os.O_CLOEXEC
@@ -156,6 +157,16 @@ class OpenFile:
         if self._descriptor is None:
             return False
         return is_used(self._descriptor)
+
+    @property
+    def is_used_further(self) -> bool:
+        """Whether a program has the file open, and doesn't just come to its end, for which it empties the log."""
+        until = time.monotonic() + _LEAVING
+        while self.is_used:
+            if time.monotonic() > until:
+                return True
+            time.sleep(_LEAVING / 100)
+        return False
 
     def note(self) -> None:
         """Notes what the file holds, while the program waits for a request and writes nothing."""

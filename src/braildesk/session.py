@@ -436,7 +436,7 @@ class Session:
         is_changed = file.is_written_into or file.is_log_written_into
         if not is_changed and file.is_doubtful:
             is_changed = not self._is_in_its_file()
-        return is_changed and file.is_used and self._pipe.is_running
+        return is_changed and file.is_used_further and self._pipe.is_running
 
     def _is_in_its_file(self) -> bool:
         """Whether all that the book has is in its file and its log; True if that can't be told."""
