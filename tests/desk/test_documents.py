@@ -493,6 +493,10 @@ def test_blanks_of_all_widths_are_one_blank(tmp_path: Path) -> None:
         ("<meta charset=utf-8>", "cp1252"),
         ("", "cp1252"),
         ("", "utf-8-sig"),
+        ("<meta charset=undefined>", "utf-8"),
+        ("<meta charset=unicode_escape>", "utf-8"),
+        ("<meta charset=utf-16/>", "utf-8"),
+        ("<meta charset=utf-16>", "utf-16"),
     ],
 )
 def test_pages_are_read_in_what_they_are_encoded(said: str, encoding: str) -> None:

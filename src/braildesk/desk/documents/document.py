@@ -39,6 +39,10 @@ _WIDER = {
     "shift_jis": "cp932",
     "euc-kr": "cp949",
 }
+#: Encodings in which no page can say what it is encoded in, and some that are Python's own.
+_OF_NO_PAGE = re.compile(
+    r"utf[-_]?(7|16|32).*|undefined|idna|punycode|(raw[-_])?unicode[-_]escape"
+)
 _MARKS = ((b"\xff\xfe", "utf-16"), (b"\xfe\xff", "utf-16"), (b"", "utf-8-sig"))
 #: The kinds whose title, and what else is said about the whole, is a part of the print.
 _WITH_FRONT = (ManuscriptKind.DOCX, ManuscriptKind.ODT, ManuscriptKind.MARKDOWN)
@@ -114,7 +118,8 @@ def _characters(data: bytes, kind: ManuscriptKind) -> str:
         return _strictly(data, names) or decoded(data)
     if said := _CHARSET.search(data[:_FRONT]):
         named = said[1].decode().lower()
-        names.insert(0, _WIDER.get(named, named))
+        if not _OF_NO_PAGE.fullmatch(named):
+            names.insert(0, _WIDER.get(named, named))
     found = _strictly(data, names) or _mostly(data, names)
     return found or _strictly(data, ["cp1252"]) or decoded(data)
 
