@@ -279,6 +279,7 @@ MANIFEST = (
     "<m:file-entry><m:encryption-data/></m:file-entry></m:manifest>"
 )
 EPUB, ODT = "application/epub+zip", "application/vnd.oasis.opendocument.text"
+NO_BOOK = '<container xmlns="urn:oasis:names:tc:opendocument:xmlns:container"/>'
 
 
 @pytest.mark.parametrize(
@@ -520,6 +521,20 @@ def test_a_byte_that_is_not_so_encoded_is_seen_and_changes_no_other_character(
 ) -> None:
     head = f"<html><head><meta charset={said}></head><p>".encode()
     assert read_document(head + page, ManuscriptKind.HTML).texts == [text]
+
+
+def test_a_container_of_epub_that_names_no_book_is_damaged(tmp_path: Path) -> None:
+    parts = {"mimetype": EPUB, "META-INF/container.xml": NO_BOOK}
+    with pytest.raises(NoDocument) as found:
+        read_document(container_of(tmp_path / "moon", **parts), ManuscriptKind.EPUB)
+    assert found.value.why is WhyNot.DAMAGED
+
+
+@pytest.mark.parametrize("section", ["<![if !x]>", "<![endif]>", "<![foo>", "<![ >"])
+def test_sections_of_a_page_that_nothing_knows_are_passed_over(section: str) -> None:
+    page = f"<html><p>The {section}moon</p></html>".encode()
+    found = read_document(page, ManuscriptKind.HTML)
+    assert (found.texts, found.missing) == (["The moon"], ())
 
 
 def test_a_large_first_letter_belongs_to_its_paragraph(tmp_path: Path) -> None:

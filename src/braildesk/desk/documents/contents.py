@@ -316,10 +316,8 @@ def _odt_runs(element: Element, inner: list[Element]) -> Iterator[str]:
 
 def _of_epub(container: zipfile.ZipFile, found: Contents) -> None:
     """The pages of a book in the order in which it is read."""
-    rootfile = next(
-        _root(container, "META-INF/container.xml").iterfind(".//{*}rootfile")
-    )
-    package = rootfile.get("full-path", "")
+    rootfile = _root(container, "META-INF/container.xml").find(".//{*}rootfile")
+    package = "" if rootfile is None else rootfile.get("full-path", "")
     root = _root(container, package)
     items = {
         item.get("id"): item.get("href", "") for item in root.iterfind(".//{*}item")
@@ -397,6 +395,12 @@ class _Html(HTMLParser):
         if not self._silent and not self._back:
             texts = self.lists if self._in_list else self.texts
             texts[-1] += data
+
+    def parse_marked_section(self, i: int, report: int = 1) -> int:
+        # the reader of the library fails at those that it doesn't know
+        if self.rawdata.startswith("<![CDATA[", i):
+            return super().parse_marked_section(i, bool(report))
+        return self.parse_bogus_comment(i)
 
     def _part(self, tag: str) -> None:
         if tag not in self._INLINE:
