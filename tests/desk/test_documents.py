@@ -537,6 +537,21 @@ def test_sections_of_a_page_that_nothing_knows_are_passed_over(section: str) -> 
     assert (found.texts, found.missing) == (["The moon"], ())
 
 
+def test_a_picture_with_a_caption_has_its_description_too() -> None:
+    picture = '<figure><img src="a.png" alt="A crater{}"><figcaption>Figure {}</figcaption></figure>'
+    page = f"<html><body>{picture.format('', 1)}<p>{picture.format(' at noon', 2)}</p></body></html>"
+    found = read_document(page.encode(), ManuscriptKind.HTML)
+    assert found.texts == ["[A crater]", "Figure 1", "[A crater at noon]", "Figure 2"]
+    assert found.missing == ()
+
+
+def test_a_description_that_no_paragraph_has_is_a_word_that_is_missing() -> None:
+    page = b'<html><p>The <img src="a.png" alt="old"> moon</p><pre><img alt="crater"/></pre></html>'
+    found = read_document(page, ManuscriptKind.HTML)
+    assert found.texts == ["The [old] moon"]
+    assert found.missing == (Missing("crater", "", ""),)
+
+
 def test_a_large_first_letter_belongs_to_its_paragraph(tmp_path: Path) -> None:
     drop = '<w:p><w:pPr><w:framePr w:dropCap="drop" w:lines="3"/></w:pPr>{}</w:p>'
     body = drop.format(run("T")) + paragraph(run("wice a day.")) + paragraph(run("End"))

@@ -377,10 +377,12 @@ class _Html(HTMLParser):
         self._open += tag == self._back
         if not self._back and tag in ("a", "span") and _is_back(dict(attrs)):
             self._back, self._open = tag, 1
+        self._describe(tag, attrs)
         self._part(tag)
 
     def handle_startendtag(self, tag: str, attrs: list[tuple[str, str | None]]) -> None:
         # an element that ends at once has nothing to be silent about
+        self._describe(tag, attrs)
         self._part(tag)
 
     def handle_endtag(self, tag: str) -> None:
@@ -401,6 +403,11 @@ class _Html(HTMLParser):
         if self.rawdata.startswith("<![CDATA[", i):
             return super().parse_marked_section(i, bool(report))
         return self.parse_bogus_comment(i)
+
+    def _describe(self, tag: str, attrs: list[tuple[str, str | None]]) -> None:
+        """Takes the description of a picture for print."""
+        if tag == "img":
+            self.handle_data(f" {dict(attrs).get('alt') or ''}")
 
     def _part(self, tag: str) -> None:
         if tag not in self._INLINE:

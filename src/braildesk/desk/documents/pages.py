@@ -1,7 +1,7 @@
 """Pages of HTML written so that pandoc keeps the names to which their links lead.
 
-pandoc drops the names of paragraphs and terms, and doesn't know where an aside ends. It also leaves out
-the title pages of a book in EPUB.
+pandoc drops the names of paragraphs and terms, and the description of a picture that has a caption. It
+doesn't know where an aside ends, and leaves out the title pages of a book in EPUB.
 """
 
 import re
@@ -11,7 +11,7 @@ from zipfile import ZipFile
 from braildesk.desk.documents.kinds import is_media, part_of, unpacked
 
 _TITLE_PAGE = re.compile(rb"""(epub:type\s*=\s*["'][^"']*)titlepage""")
-_ASIDE = re.compile(rb"<(/?)aside\b", re.IGNORECASE)
+_DIVISION = re.compile(rb"<(/?)(?:aside|figure|figcaption)\b", re.IGNORECASE)
 _NAMED = re.compile(
     rb"""<(?:p|dt)\s(?:[^<>]*\s)?id\s*=\s*(["'])([^"'<>]*)\1[^<>]*(?<!/)>""",
     re.IGNORECASE,
@@ -19,8 +19,8 @@ _NAMED = re.compile(
 
 
 def readable_page(page: bytes) -> bytes:
-    """A page whose asides are divisions, and whose paragraphs and terms have their names inside."""
-    return _NAMED.sub(rb'\g<0><span id="\2"></span>', _ASIDE.sub(rb"<\1div", page))
+    """A page whose asides and figures are divisions, its paragraphs and terms with their names inside."""
+    return _NAMED.sub(rb'\g<0><span id="\2"></span>', _DIVISION.sub(rb"<\1div", page))
 
 
 def readable_book(data: bytes) -> bytes:
