@@ -552,6 +552,21 @@ def test_a_description_that_no_paragraph_has_is_a_word_that_is_missing() -> None
     assert found.missing == (Missing("crater", "", ""),)
 
 
+@pytest.mark.parametrize("end", ["\n", "\r\n", "\r"])
+@pytest.mark.parametrize(
+    "kind, text",
+    [
+        (ManuscriptKind.MARKDOWN, "# The moon~~It is~far.~~Old.~"),
+        (ManuscriptKind.HTML, "<html><h1>The moon</h1><p>It is~far.<p>Old.</html>"),
+    ],
+)
+def test_a_line_ends_as_any_system_has_it(
+    kind: ManuscriptKind, text: str, end: str
+) -> None:
+    found = read_document(text.replace("~", end).encode(), kind)
+    assert found.texts == ["The moon", "It is far.", "Old."]
+
+
 def test_a_large_first_letter_belongs_to_its_paragraph(tmp_path: Path) -> None:
     drop = '<w:p><w:pPr><w:framePr w:dropCap="drop" w:lines="3"/></w:pPr>{}</w:p>'
     body = drop.format(run("T")) + paragraph(run("wice a day.")) + paragraph(run("End"))

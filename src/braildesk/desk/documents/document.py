@@ -57,7 +57,7 @@ def read_document(
         own = contents.contents_of(data, ManuscriptKind.DOCX)
         return replace(_read(data, ManuscriptKind.DOCX, own, reading), kind=kind)
     if kind in (ManuscriptKind.MARKDOWN, ManuscriptKind.HTML):
-        data = _characters(data, kind).encode()
+        data = pages.with_line_feeds(_characters(data, kind).encode())
     own = contents.contents_of(data, kind)
     found = _read(data, kind, own, reading)
     if kind is ManuscriptKind.ODT and found.missing and pandoc.office():

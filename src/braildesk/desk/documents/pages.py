@@ -1,7 +1,8 @@
 """Pages of HTML written so that pandoc keeps the names to which their links lead.
 
 pandoc drops the names of paragraphs and terms, and the description of a picture that has a caption. It
-doesn't know where an aside ends, and leaves out the title pages of a book in EPUB.
+doesn't know where an aside ends, and leaves out the title pages of a book in EPUB, and each CR, also
+where no LF follows.
 """
 
 import re
@@ -10,12 +11,18 @@ from zipfile import ZipFile
 
 from braildesk.desk.documents.kinds import is_media, part_of, unpacked
 
+_LINE_END = re.compile(rb"\r\n?")
 _TITLE_PAGE = re.compile(rb"""(epub:type\s*=\s*["'][^"']*)titlepage""")
 _DIVISION = re.compile(rb"<(/?)(?:aside|figure|figcaption)\b", re.IGNORECASE)
 _NAMED = re.compile(
     rb"""<(?:p|dt)\s(?:[^<>]*\s)?id\s*=\s*(["'])([^"'<>]*)\1[^<>]*(?<!/)>""",
     re.IGNORECASE,
 )
+
+
+def with_line_feeds(text: bytes) -> bytes:
+    """A text in which an LF ends each line."""
+    return _LINE_END.sub(b"\n", text)
 
 
 def readable_page(page: bytes) -> bytes:
@@ -34,6 +41,6 @@ def readable_book(data: bytes) -> bytes:
     made = BytesIO()
     with ZipFile(made, "w") as other:
         for name in names:
-            page = _TITLE_PAGE.sub(rb"\1front", pages.get(name, b""))
-            other.writestr(name, readable_page(page))
+            page = with_line_feeds(pages.get(name, b""))
+            other.writestr(name, readable_page(_TITLE_PAGE.sub(rb"\1front", page)))
     return made.getvalue()
