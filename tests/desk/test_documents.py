@@ -399,6 +399,30 @@ def test_notes_of_markdown_that_nothing_leads_to_are_words_that_are_missing(
     )
 
 
+def test_what_stands_between_lines_of_hyphens_is_print(tmp_path: Path) -> None:
+    path = tmp_path / "scenes.md"
+    path.write_text("Dawn.\n\n---\nAnna: Go.\nBob: No.\n---\n\nNoon.\n")
+    found = read_manuscript(path)
+    assert found.texts == ["Dawn.", "Anna: Go.", "Bob: No.", "Noon."]
+
+
+def test_what_markdown_takes_for_the_address_of_a_link_is_missing_if_it_is_none(
+    tmp_path: Path,
+) -> None:
+    path = tmp_path / "play.md"
+    path.write_text(
+        "A [Moon] and the [Sea][s].\n\n[moon]: http://x.y 'The moon'\n[S]: <a b> {.c}\n\n"
+        "[Anna]: I don't *know* it.\n\n[Bob]: Yes.\n\n[Bob] goes, and\n[Eve]: too.\n\n"
+        "[Bob]: I go, too.\n"
+    )
+    found = read_manuscript(path)
+    assert found.texts == ["A Moon and the Sea.", "Bob goes, and [Eve]: too."]
+    assert found.missing == (
+        Missing("I don't know it", "", ""),
+        Missing("I go", "", "too"),
+    )
+
+
 def test_a_long_document_is_read_whole(tmp_path: Path) -> None:
     body = "".join(
         paragraph(run(" ".join(f"word{number} of" for number in range(50))))

@@ -49,6 +49,13 @@ _NUMBER = re.compile(r"[\W\d_]*")
 _NOTE = re.compile(r"[ >]*\[\^([^]\s]+)\]:(.*)")
 _MARKUP = re.compile(r"\]\([^)\s]*\)|(?<!\w)_+|_+(?!\w)|[*`\\]")
 
+#: The key of a link in Markdown with what stands where its address does, and an address with its title.
+_KEY = re.compile(r" {0,3}\[(?!\^)([^][]+)\]:(.*)")
+_ADDRESS = re.compile(
+    r"""\s*(?:<[^<>]*>|\S*)(?:\s+(?:"[^"]*"|'[^']*'|\([^()]*\)))?(?:\s*\{[^{}]*\})?\s*"""
+)
+_IN_BRACKETS = re.compile(r"\[([^][]+)\]")
+
 
 @dataclass
 class Contents:
@@ -95,6 +102,24 @@ def notes_of(text: str, keys: Collection[str]) -> list[str]:
             found[-1] += f" {line}"
         is_after_blank = not line.strip()
     return [_MARKUP.sub(" ", each) for each in found]
+
+
+def addresses_of(text: str) -> list[str]:
+    """What a text in Markdown has where the address of a link stands, if it is no address or no link
+    leads there: pandoc leaves that out without a word."""
+    keys: list[tuple[str, str]] = []
+    is_front = True
+    for line in text.split("\n"):
+        key = _KEY.match(line) if is_front else None
+        keys += [(key[1].casefold(), key[2])] if key else []
+        is_front = bool(key) or not line.strip()
+    uses = Counter(each.casefold() for each in _IN_BRACKETS.findall(text))
+    uses.subtract(key for key, _ in keys)
+    return [
+        _MARKUP.sub(" ", words)
+        for key, words in keys
+        if uses[key] <= 0 or not _ADDRESS.fullmatch(words)
+    ]
 
 
 def missing(passages: Iterable[str], texts: Iterable[str]) -> list[Missing]:

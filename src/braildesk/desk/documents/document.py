@@ -94,7 +94,9 @@ def _read(
     found = document(noted, reading, with_front=kind in _WITH_FRONT)
     passages = own.passages
     if kind is ManuscriptKind.MARKDOWN:
-        passages = [*passages, *contents.notes_of(data.decode(), left_out)]
+        text = data.decode()
+        passages = [*passages, *contents.notes_of(text, left_out)]
+        passages += contents.addresses_of(text)
     missing = contents.missing(passages, [part.text for part in found.parts])
     parts = tuple(each for part in found.parts for each in short_enough(part))
     losses = (*found.losses, *_too_long(found.parts), *own.losses)

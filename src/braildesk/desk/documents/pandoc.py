@@ -34,6 +34,10 @@ _LIMITS = Limits(memory=4 << 30, seconds=_SECONDS, written=_TREE_BYTES)
 #: What pandoc calls a kind where it isn't the name of it alone: its own reading of notes drops numbers,
 #: and elements that it doesn't know would be no more than their tags.
 _FROM = {ManuscriptKind.EPUB: "epub-epub_html_exts-raw_html"}
+#: A text in Markdown that begins otherwise says nothing about itself: what stands between lines of
+#: hyphens further on is print, as what two speak between two scenes.
+_FRONT = b"---"
+_WITHOUT_FRONT = "markdown-yaml_metadata_block"
 _OFFICE = ("soffice", "libreoffice")
 #: What pandoc says of the key of a note that it leaves out, or of one that two notes have.
 _LEFT_OUT = re.compile(
@@ -48,7 +52,7 @@ def tree(data: bytes, kind: ManuscriptKind) -> tuple[dict[str, Any], frozenset[s
     pandoc = shutil.which("pandoc")
     if pandoc is None:
         raise NoConverter(kind, "pandoc", "pandoc")
-    words = [pandoc, "--sandbox", "--from", _FROM.get(kind, kind.value), "--to", "json"]
+    words = [pandoc, "--sandbox", "--from", _form(data, kind), "--to", "json"]
     with tempfile.TemporaryFile() as source:
         source.write(data)
         source.seek(0)
@@ -60,6 +64,13 @@ def tree(data: bytes, kind: ManuscriptKind) -> tuple[dict[str, Any], frozenset[s
     if not isinstance(found, dict):
         raise NotConverted("pandoc", "")
     return found, frozenset(_LEFT_OUT.findall(said.decode(errors="replace")))
+
+
+def _form(data: bytes, kind: ManuscriptKind) -> str:
+    """What pandoc calls the form that a file has."""
+    if kind is ManuscriptKind.MARKDOWN and not data.lstrip().startswith(_FRONT):
+        return _WITHOUT_FRONT
+    return _FROM.get(kind, kind.value)
 
 
 def office() -> str | None:
