@@ -223,6 +223,28 @@ def test_a_document_made_by_hand(tmp_path: Path) -> None:
     assert len(lost(found, LossKind.TABLE)) == 2
 
 
+def test_words_of_drawings_are_missing_unless_they_are_typed(tmp_path: Path) -> None:
+    drawing = '<w:drawing><wp:inline><wp:docPr id="1" name="a" descr="{}"/></wp:inline></w:drawing>'
+    shape = '<v:shape alt="A chart"><v:textpath string="Moon and sea"/></v:shape>'
+    body = paragraph(run("One") + f"<w:r>{drawing.format('A crater')}</w:r>")
+    body += paragraph(run("Two") + f"<w:r><w:pict>{shape}</w:pict></w:r>")
+    found = read_manuscript(docx(tmp_path / "drawings.docx", body))
+    assert found.texts == ["One", "Two"]
+    assert found.missing == (
+        Missing("A crater", "One", ""),
+        Missing("A chart Moon and sea", "Two", ""),
+    )
+
+
+def test_print_that_is_said_not_to_be_hidden_is_not(tmp_path: Path) -> None:
+    body = paragraph(
+        run("One", '<w:vanish w:val="0"/>') + run(" two", '<w:vanish w:val="true"/>')
+    )
+    found = read_manuscript(docx(tmp_path / "shown.docx", body))
+    assert found.texts == ["One two"]
+    assert lost(found, LossKind.HIDDEN) == ["two"]
+
+
 def test_words_that_are_there_as_often_are_not_missing() -> None:
     assert missing(["a b c", "c d"], ["1. a b c", "c d"]) == []
     assert missing(["a b c", "a b c"], ["a b c"]) == [Missing("a b c", "", "")]

@@ -29,6 +29,14 @@ _NEIGHBOURS = 4
 
 _W = "{http://schemas.openxmlformats.org/wordprocessingml/2006/main}"
 _A = "{http://schemas.openxmlformats.org/drawingml/2006/main}"
+_V = "{urn:schemas-microsoft-com:vml}"
+#: The elements of a drawing that have words beside their text, and the name by which they do.
+_DESCRIPTIONS = {
+    "{http://schemas.openxmlformats.org/drawingml/2006/wordprocessingDrawing}docPr": "descr",
+    **dict.fromkeys((f"{_V}shape", f"{_V}rect", f"{_V}oval", f"{_V}group"), "alt"),
+    f"{_V}textpath": "string",
+}
+_OFF = ("0", "false", "off")
 _FALLBACK = "{http://schemas.openxmlformats.org/markup-compatibility/2006}Fallback"
 _TEXT = "{urn:oasis:names:tc:opendocument:xmlns:text:1.0}"
 _OFFICE = "{urn:oasis:names:tc:opendocument:xmlns:office:1.0}"
@@ -227,7 +235,8 @@ def _of_docx(container: zipfile.ZipFile, found: Contents) -> None:
 def _set_aside(root: Element, found: Contents) -> None:
     """Notes the print that a part of a document hides, and that which was deleted."""
     for run in root.iter(f"{_W}r"):
-        if run.find(f"{_W}rPr/{_W}vanish") is not None:
+        hidden = run.find(f"{_W}rPr/{_W}vanish")
+        if hidden is not None and hidden.get(f"{_W}val") not in _OFF:
             found.lose(LossKind.HIDDEN, "".join(_runs(run, [])))
     for tag in _DELETED:
         for each in root.iter(tag):
@@ -279,6 +288,8 @@ def _runs(element: Element, inner: list[Element]) -> Iterator[str]:
         elif tag == "txbxContent":
             inner.append(child)
         elif tag != "pPr":
+            if described := child.get(_DESCRIPTIONS.get(tag, "")):
+                yield f" {described} "
             yield from _runs(child, inner)
 
 
