@@ -255,8 +255,8 @@ def _lock(kind: int) -> bytes:
 STEPS = 100_000
 #: How many of them a byte of a row takes at most.
 _STEPS_OF_BYTE = 4
-#: A file of so many bytes is read by the program within a second or two, whatever its rows are.
-_SOON_READ = 1 << 25
+#: A file of so many bytes is read by the program within some three seconds, whatever its rows are.
+_SOON_READ = 1 << 26
 #: The bytes of a character at most, and the cells for it, with those of a sign before it.
 _WIDE, _CELLS = 4, 40
 #: The bytes of a value of a book at most, but for the text of a table: the cells of a print.

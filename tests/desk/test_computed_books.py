@@ -150,7 +150,7 @@ def test_a_value_that_no_book_has_is_refused_before_it_is_read(
 
 
 def test_a_row_of_many_megabytes_is_refused_at_once(full: Path) -> None:
-    altered(full, lengthened("para.print", 34_000_000))
+    altered(full, lengthened("para.print", 68_000_000))
     ran = scribe("show", full.name, folder=full.parent, before=in_time)
     assert (ran.status, ran.shown) == (2, "")
     assert ran.said.startswith(f"“{full.name}” was not opened, since it isn't made as")
