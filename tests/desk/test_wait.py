@@ -2,12 +2,11 @@
 
 import hashlib
 import io
-import time
 from pathlib import Path
 
 import pytest
 
-from braildesk import Session
+from braildesk import Session, opening
 from braildesk.desk.drafts import Drafts
 from braildesk.desk.import_note import ImportNote
 
@@ -40,8 +39,8 @@ def run_beside(
         first.strike(2)
         clock = Clock(first, closes_at)
         with monkeypatch.context() as patched:
-            patched.setattr(time, "sleep", clock.sleep)
-            patched.setattr(time, "monotonic", clock.monotonic)
+            # where a book is waited for, and not where a program's end is
+            patched.setattr(opening, "time", clock)
             status = run_words(words, Console(io.BytesIO(), shown, said))
     return status, shown.getvalue(), said.getvalue()
 
