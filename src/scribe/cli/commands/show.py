@@ -13,7 +13,7 @@ from braildesk.protocol.requests import Whence, Where
 from scribe.cli.book_command import BookCommand
 from scribe.cli.parser import Parser, add_cells, add_paragraphs, add_width, asked_ranges
 from scribe.words.console import Console
-from scribe.words.view import View
+from scribe.words.view import Shown, View
 
 MORE = """\
 Print and braille stand under one another, and after them the marks with their notes.
@@ -62,24 +62,27 @@ def _shown(
     for start in range(0, len(paragraphs), _BATCH):
         batch = readings(session, paragraphs[start : start + _BATCH])
         found = [view.of(reading) for reading in batch]
-        asked = [
-            request
-            for each in found
-            for place, cell in each.begun
-            for request in (
-                Where(each.reading.paragraph.id, place),
-                Whence(each.reading.paragraph.id, cell),
-            )
-        ]
-        replies = iter([*answers(session, asked)])
-        told = zip(replies, replies)
+        own = iter(_are_paired(session, found))
         for each in found:
-            # made by one sign, or by signs that begin there
-            are_theirs = [
-                first_cell <= cell and first_place <= place
-                for (place, cell), (first_cell, first_place) in zip(each.begun, told)
-            ]
-            yield each.lines(all(are_theirs))
+            yield each.lines(all([next(own) for _ in each.begun]))
+
+
+def _are_paired(session: Session, found: Sequence[Shown]) -> list[bool]:
+    """Whether the characters and the cells at which lines begin belong together, line by line.
+
+    They do if they are of one sign, or of signs that begin there.
+    """
+    begun = [(each.reading.paragraph.id, *at) for each in found for at in each.begun]
+    cells = [*answers(session, [Where(number, place) for number, place, _ in begun])]
+    # a sign that begins at the cell has its first character at the place or before it
+    earlier = [at for at, first in zip(begun, cells) if first < at[2]]
+    places = iter(
+        [*answers(session, [Whence(number, cell) for number, _, cell in earlier])]
+    )
+    return [
+        first == cell or first < cell and next(places) <= place
+        for (_, place, cell), first in zip(begun, cells)
+    ]
 
 
 def _cut_short(
