@@ -160,7 +160,7 @@ class OpenFile:
 
     @property
     def is_used_further(self) -> bool:
-        """Whether a program has the file open, and doesn't just come to its end, for which it empties the log."""
+        """Whether a program has the file open, and isn't just emptying the log at its end."""
         until = time.monotonic() + _LEAVING
         while self.is_used:
             if time.monotonic() > until:

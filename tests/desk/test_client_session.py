@@ -1005,6 +1005,25 @@ def test_a_copy_that_can_not_be_opened_for_a_cause_that_is_not_seen_is_taken_for
     assert doubtful.print_of(3) == "Three."
 
 
+def test_a_program_at_its_end_uses_a_book_no_further(book: Path, program: str) -> None:
+    file = openfile.OpenFile(str(book))
+    with Session(book):
+        assert file.is_used_further
+    with subprocess.Popen(
+        [program, "session", "--", str(book)],
+        stdin=subprocess.PIPE,
+        stdout=subprocess.PIPE,
+    ) as process:
+        assert process.stdin is not None and process.stdout is not None
+        process.stdin.write(b"version\n")
+        process.stdin.flush()
+        assert process.stdout.readline() == b"end 1\n"
+        assert file.is_used
+        threading.Timer(0.1, process.stdin.close).start()
+        assert not file.is_used_further
+    file.close()
+
+
 def test_a_command_that_is_written_in_several_parts_once_the_log_was_emptied_is_its_own(
     book: Path,
 ) -> None:
