@@ -22,57 +22,28 @@ pub(crate) enum Opcode {
     Collect(CharacterSet),
 }
 
-const SPACE: &[u8] = b"space";
-
-const PUNCTUATION: &[u8] = b"punctuation";
-
-const DIGIT: &[u8] = b"digit";
-
-const LETTER: &[u8] = b"letter";
-
-const UPLOW: &[u8] = b"uplow";
-
-const ALWAYS: &[u8] = b"always";
-
-const WORD: &[u8] = b"word";
-
-const BEGWORD: &[u8] = b"begword";
-
-const MIDWORD: &[u8] = b"midword";
-
-const ENDWORD: &[u8] = b"endword";
-
-const NUMSIGN: &[u8] = b"numsign";
-
-const CAPSLETTER: &[u8] = b"capsletter";
-
-const BEGCAPSWORD: &[u8] = b"begcapsword";
-
-const NOCONTRACTSIGN: &[u8] = b"nocontractsign";
-
-const NUMERICMODECHARS: &[u8] = b"numericmodechars";
-
-const NUMERICNOCONTCHARS: &[u8] = b"numericnocontchars";
-
 /// Each opcode beside its name.
-const OPCODES: [(&[u8], Opcode); 16] = [
-    (SPACE, Opcode::Define(Class::Space)),
-    (PUNCTUATION, Opcode::Define(Class::Punctuation)),
-    (DIGIT, Opcode::Define(Class::Digit)),
-    (LETTER, Opcode::Define(Class::Letter)),
-    (UPLOW, Opcode::UpLow),
-    (ALWAYS, Opcode::Replace(RuleKind::Always)),
-    (WORD, Opcode::Replace(RuleKind::Word)),
-    (BEGWORD, Opcode::Replace(RuleKind::BegWord)),
-    (MIDWORD, Opcode::Replace(RuleKind::MidWord)),
-    (ENDWORD, Opcode::Replace(RuleKind::EndWord)),
-    (NUMSIGN, Opcode::Announce(Sign::Number)),
-    (CAPSLETTER, Opcode::Announce(Sign::Capital)),
-    (BEGCAPSWORD, Opcode::Announce(Sign::CapitalWord)),
-    (NOCONTRACTSIGN, Opcode::Announce(Sign::NoContraction)),
-    (NUMERICMODECHARS, Opcode::Collect(CharacterSet::NumericMode)),
+const OPCODES: [(&str, Opcode); 16] = [
+    ("space", Opcode::Define(Class::Space)),
+    ("punctuation", Opcode::Define(Class::Punctuation)),
+    ("digit", Opcode::Define(Class::Digit)),
+    ("letter", Opcode::Define(Class::Letter)),
+    ("uplow", Opcode::UpLow),
+    ("always", Opcode::Replace(RuleKind::Always)),
+    ("word", Opcode::Replace(RuleKind::Word)),
+    ("begword", Opcode::Replace(RuleKind::BegWord)),
+    ("midword", Opcode::Replace(RuleKind::MidWord)),
+    ("endword", Opcode::Replace(RuleKind::EndWord)),
+    ("numsign", Opcode::Announce(Sign::Number)),
+    ("capsletter", Opcode::Announce(Sign::Capital)),
+    ("begcapsword", Opcode::Announce(Sign::CapitalWord)),
+    ("nocontractsign", Opcode::Announce(Sign::NoContraction)),
     (
-        NUMERICNOCONTCHARS,
+        "numericmodechars",
+        Opcode::Collect(CharacterSet::NumericMode),
+    ),
+    (
+        "numericnocontchars",
         Opcode::Collect(CharacterSet::NoContraction),
     ),
 ];
@@ -95,11 +66,11 @@ fn is_name(mut field: &[char], mut name: &[u8]) -> bool
 }
 
 /// The first opcode of a list of opcodes that has this name.
-fn opcode_among(mut opcodes: &[(&[u8], Opcode)], field: &[char]) -> Option<Opcode>
+fn opcode_among(mut opcodes: &[(&str, Opcode)], field: &[char]) -> Option<Opcode>
     ensures { result ≡ opcode_among (map (λ o. (o.0.now, o.1)) opcodes.entry.now) field.now }
 {
     while let [(name, opcode), rest @ ..] = opcodes {
-        if is_name(field, name) {
+        if is_name(field, name.as_bytes()) {
             return Some(*opcode);
         }
         opcodes = rest;
