@@ -31,10 +31,7 @@ impl<V> Model for CharMap<V> {
 // Written out, as the drop of a table is.
 impl<V: Drop> Drop for CharMap<V> {
     fn drop(self) {
-        let CharMap {
-            entries: _,
-            places: _,
-        } = self;
+        let Self { entries, places } = self;
     }
 }
 
@@ -80,27 +77,13 @@ impl<V: Drop> CharMap<V> {
         ensures ok { OnOk result (self.new ≡ self.old ++ (character, value) ∷ []) }
         ensures err { OnErr result (self.new ≡ self.old) }
     {
-        push(&mut self.entries, character, value)?;
+        let Ok(_) = self.entries.insert(character, value) else {
+            return Err(AllocError);
+        };
         let code = character as usize;
         if code < DIRECT {
             self.places[code] = self.entries.len();
         }
         Ok(())
-    }
-}
-
-/// Puts a character that isn't there at the end of the entries.
-fn push<V: Drop>(
-    entries: &mut IndexMap<char, V>,
-    character: char,
-    value: V,
-) -> Result<(), AllocError>
-    requires { lookup (nat_eq character) entries.old.entries ≡ None }
-    ensures ok { OnOk result (entries.new.entries ≡ entries.old.entries ++ (character, value) ∷ []) }
-    ensures err { OnErr result (entries.new.entries ≡ entries.old.entries) }
-{
-    match entries.insert(character, value) {
-        Ok(_) => Ok(()),
-        Err(_) => Err(AllocError),
     }
 }

@@ -24,13 +24,6 @@ fn split_line(text: &str) -> (&str, &str)
     text.split_once('\n').unwrap_or((text, ""))
 }
 
-/// A line without one carriage return at its end.
-fn without_return(line: &str) -> &str
-    ensures { result.now ≡ strip_last 13 line.now }
-{
-    line.strip_suffix('\r').unwrap_or(line)
-}
-
 /// The first line, without its line feed and one carriage return, and what follows it.
 pub(crate) fn next_line(text: &str) -> (&str, &str)
     requires { text.now ≢ [] }
@@ -38,7 +31,7 @@ pub(crate) fn next_line(text: &str) -> (&str, &str)
     ensures shorter { length result.1.now < length text.now }
 {
     let (line, rest) = split_line(text);
-    (without_return(line), rest)
+    (line.strip_suffix('\r').unwrap_or(line), rest)
 }
 
 /// Puts the characters of a line in place of others.

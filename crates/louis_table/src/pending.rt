@@ -130,10 +130,7 @@ fn finish(
     match written {
         PendingEntry::Rule(rule) => {
             let rule = finish_rule(alloc, table, rule)?;
-            match rules.push(rule) {
-                Ok(()) => Ok(()),
-                Err(_) => Err(ReadFault::NoMemory),
-            }
+            rules.push(rule).map_err(|_| ReadFault::NoMemory)
         }
         PendingEntry::Set(set) => check_set(table, set),
     }
