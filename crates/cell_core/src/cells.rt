@@ -1,38 +1,43 @@
-//! A list of cells.
-ghost use Rattle.std.specs.Prelude.{◌≡◌, List, ℕ, length};
-
+//! Lists of cells and of other values.
 use super::cell::Cell;
 use std::marker::Model;
 
-/// Cells in order, which contracts see as the list of their masks.
+/// Values in order, which contracts see as their list.
 #[derive(Debug, Drop)]
-pub struct Cells {
-    items: Vec<Cell>,
+pub struct Sequence<T> {
+    items: Vec<T>,
 }
 
-impl Model for Cells {
-    ghost Value = { List ℕ };
+/// Cells in order, which contracts see as the list of their masks.
+pub type Cells = Sequence<Cell>;
 
-    ghost view = { λ c. c.items.items };
+impl<T> Model for Sequence<T> {
+    ghost use Rattle.std.specs.Prelude.{List};
+
+    ghost Value = { List T };
+
+    ghost view = { λ s. s.items.items };
 }
 
-impl Cells {
-    /// The cells of a vector.
-    pub fn from_vec(items: Vec<Cell>) -> Self
+impl<T> Sequence<T> {
+    ghost use Rattle.std.specs.Prelude.{◌≡◌};
+
+    /// The values of a vector.
+    pub fn from_vec(items: Vec<T>) -> Self
         ensures { result ≡ items.items }
     {
-        Cells { items }
+        Sequence { items }
     }
 
-    /// The cells in order.
-    pub fn as_slice(&self) -> &[Cell]
+    /// The values in order.
+    pub fn as_slice(&self) -> &[T]
         ensures { result.now ≡ self.now }
     {
         self.items.as_slice()
     }
 
-    /// The vector of the cells.
-    pub fn into_vec(self) -> Vec<Cell>
+    /// The vector of the values.
+    pub fn into_vec(self) -> Vec<T>
         ensures { result.items ≡ self }
     {
         self.items

@@ -19,5 +19,5 @@ mod dots;
 pub mod laws;
 
 pub use cell::Cell;
-pub use cells::Cells;
+pub use cells::{Cells, Sequence};
 pub use dots::{DotsFault, MOST_CELLS, read_dots};

@@ -1,6 +1,5 @@
 //! Rules that replace characters of print by cells of their own.
-use cell_core::Cells;
-use std::marker::Model;
+use cell_core::{Cells, Sequence};
 
 /// Where a rule may be used.
 #[derive(Clone, Copy, Debug, PartialEq, Eq)]
@@ -31,40 +30,4 @@ pub struct Rule {
 }
 
 /// Characters in order, which contracts see as the list of their codes.
-#[derive(Debug, Drop)]
-pub struct Characters {
-    items: Vec<char>,
-}
-
-impl Model for Characters {
-    ghost use Rattle.std.specs.Prelude.{List, ℕ};
-
-    ghost Value = { List ℕ };
-
-    ghost view = { λ c. c.items.items };
-}
-
-impl Characters {
-    ghost use Rattle.std.specs.Prelude.{◌≡◌};
-
-    /// The characters of a vector.
-    pub fn from_vec(items: Vec<char>) -> Self
-        ensures { result ≡ items.items }
-    {
-        Characters { items }
-    }
-
-    /// The characters in order.
-    pub fn as_slice(&self) -> &[char]
-        ensures { result.now ≡ self.now }
-    {
-        self.items.as_slice()
-    }
-
-    /// The vector of the characters.
-    pub fn into_vec(self) -> Vec<char>
-        ensures { result.items ≡ self }
-    {
-        self.items
-    }
-}
+pub type Characters = Sequence<char>;

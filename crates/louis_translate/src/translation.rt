@@ -5,11 +5,13 @@ ghost use Rattle.std.specs.Prelude.{◌≡◌, ◌+◌, ◌≤◌, ◌<◌, ◌�
 ghost use Rattle.std.specs.Prelude.{replicate, chars};
 
 use super::pieces::Pieces;
-use super::places::Places;
 use super::print::{Fault, defined_characters};
 use super::rule_book::RuleBook;
-use cell_core::{Cell, Cells};
+use cell_core::{Cell, Cells, Sequence};
 use std::alloc::{AllocError, Global};
+
+/// Places of a print or of its cells in order, each from 0, which contracts see as their list.
+pub type Places = Sequence<usize>;
 
 /// The cells of a print, and where they come from.
 #[derive(Debug, Drop)]
