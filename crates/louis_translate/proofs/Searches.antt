@@ -1,6 +1,6 @@
 -- A walk along the print, down a tree of the rules' characters.
 use Rattle.std.proofs.Common.{◌≡◌, ℕ, zero, suc, ◌+◌, ◌<◌, ◌≤◌, ◌-◌, List, [], ◌∷◌, length, take, drop, map, Option, Some, None, refl, sym, ap, subst, ◌∙◌, arith, inl, inr, rules, slice_get, IsSomeAnd, option_map}
-use Rattle.std.specs.Option.{option_map_or, option_and_then}
+use Rattle.std.specs.Option.{option_map_or, option_and_then, option_or}
 use Rattle.std.proofs.lemmas.Bool.{cases_order}
 use Rattle.std.proofs.lemmas.Option.{slice_get_within, slice_get-map}
 use Rattle.std.proofs.lemmas.List.{length-take, length-map, length-drop, take-map}
@@ -148,6 +148,28 @@ module _ (meaning : Meaning) (print : List ℕ) (i d : ℕ) (here : List ℕ) (s
           | inr ne ↦ elim ne [ inl less ↦ b.best j h less | inr gt ↦ absurd (omega arith) ]
         ];
       }
+
+  -- where some may be used, it is the first of these
+  IsBestBelow-longer : (k : ℕ) → IsFirstOf meaning print i here (Some k) → IsBestBelow meaning print i (d + 1) (Some k)
+  IsBestBelow-longer k first =
+      let p = candidate_rule meaning print i k first.1 in
+      let is : span meaning (Some k) ≡ d = ap (λ (o : Option Rule). option_map_or (λ r. length r.chars) o 0) p.1 ∙ length_here k p.0 first.0 p.1 in
+      let lt = slice_get_within meaning.rules k p.0 p.1 in
+      record {
+        candidate = first.1;
+        definition = elim (cases_order 1 d) [
+          | inl e ↦ inr (omega arith, omega arith)
+          | inr ne ↦ elim ne [ inl less ↦ inl (omega arith) | inr gt ↦ absurd (omega arith) ]
+        ];
+        best = λ j h s. elim (cases_order (span meaning (Some j)) d) [
+          | inl e ↦ inr (e ∙ sym is, first.2 j (those.all j h e) h)
+          | inr ne ↦ elim ne [ inl less ↦ inl (omega arith) | inr gt ↦ absurd (omega arith) ]
+        ];
+      }
+
+  pub IsBestBelow-or : (first found : Option ℕ) → IsFirstOf meaning print i here first → IsBestBelow meaning print i d found → IsBestBelow meaning print i (d + 1) (option_or first found)
+  IsBestBelow-or None found none b = IsBestBelow-keep found none b
+  IsBestBelow-or (Some k) found first b = IsBestBelow-longer k first
 
 -- none of the first x of a list may be used
 abbrev pub NoneBefore : Meaning → List ℕ → ℕ → List ℕ → ℕ → Type 0

@@ -14,7 +14,7 @@ pub(crate) struct IndexedTable {
 // Written out, as the drop of a table is.
 impl Drop for IndexedTable {
     fn drop(self) {
-        let IndexedTable { table: _, tree: _ } = self;
+        let Self { table, tree } = self;
     }
 }
 

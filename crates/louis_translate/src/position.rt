@@ -37,20 +37,14 @@ fn is_edge(class: Option<Class>) -> bool
 pub(crate) fn is_letter(class: Option<Class>) -> bool
     ensures { result ≡ is_letter_lem class }
 {
-    match class {
-        Some(Class::Letter) => true,
-        _ => false,
-    }
+    matches!(class, Some(Class::Letter))
 }
 
 /// Whether the class is that of a digit.
 pub(crate) fn is_digit(class: Option<Class>) -> bool
     ensures { result ≡ is_digit_lem class }
 {
-    match class {
-        Some(Class::Digit) => true,
-        _ => false,
-    }
+    matches!(class, Some(Class::Digit))
 }
 
 /// Whether a rule of a kind may cover the places from `start` up to `end`.

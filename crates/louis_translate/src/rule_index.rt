@@ -100,25 +100,7 @@ fn begins_nowhere(index: &IndexedTable, starts: &[Start], print: &[char], at: us
     requires within { at < length print.now }
     ensures { OnTrue result (IsChosen index.now.table print.now at None) }
 {
-    match start_here(index, starts, print, at) {
-        Start::Nowhere => true,
-        Start::Group | Start::Child(_) => false,
-    }
-}
-
-/// The rule that is chosen at a place, found by a walk from a start.
-#[inline(always)]
-fn best_from(index: &IndexedTable, print: &[char], at: usize, start: Start) -> Option<usize>
-    requires whole { IsWhole index.now }
-    requires start { MayStart index.now print.now at start }
-    requires within { at < length print.now }
-    ensures { IsChosen index.now.table print.now at result }
-{
-    match start {
-        Start::Nowhere => None,
-        Start::Group => best_in_group(index, print, at),
-        Start::Child(node) => walk(index, print, at, at + 2, node as usize),
-    }
+    matches!(start_here(index, starts, print, at), Start::Nowhere)
 }
 
 /// The rule that is chosen at a place, by a table that has rules.
@@ -130,11 +112,11 @@ fn best_rule(index: &IndexedTable, starts: &[Start], print: &[char], at: usize) 
     requires within { at < length print.now }
     ensures { IsChosen index.now.table print.now at result }
 {
-    let start = start_here(index, starts, print, at);
-    if let Start::Nowhere = start {
-        return None;
+    match start_here(index, starts, print, at) {
+        Start::Nowhere => None,
+        Start::Group => best_in_group(index, print, at),
+        Start::Child(node) => walk(index, print, at, at + 2, node as usize),
     }
-    best_from(index, print, at, start)
 }
 
 impl RuleBook for RuleIndex {

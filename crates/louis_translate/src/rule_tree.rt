@@ -27,38 +27,14 @@ pub(crate) struct RuleTree {
 // Both drops are written out, as that of a table is.
 impl Drop for Node {
     fn drop(self) {
-        let Node {
-            children: _,
-            rules: _,
-        } = self;
+        let Self { children, rules } = self;
     }
 }
 
 impl Drop for RuleTree {
     fn drop(self) {
-        let RuleTree {
-            groups: _,
-            nodes: _,
-        } = self;
+        let Self { groups, nodes } = self;
     }
-}
-
-/// Where the characters after a node lead.
-#[inline(always)]
-fn children_at(nodes: &[Node], node: usize) -> &[(char, usize)]
-    requires { node < length nodes.now }
-    ensures { result.now ≡ children_at_lem nodes.now node }
-{
-    nodes[node].children.as_slice()
-}
-
-/// The rules of a node.
-#[inline(always)]
-fn rules_at(nodes: &[Node], node: usize) -> &[usize]
-    requires { node < length nodes.now }
-    ensures { result.now ≡ rules_at_lem nodes.now node }
-{
-    nodes[node].rules.as_slice()
 }
 
 /// Where a character leads.
@@ -130,7 +106,7 @@ impl RuleTree {
         requires { node < length self.now.nodes.items }
         ensures { result.now ≡ rules_at_lem self.now.nodes.items node }
     {
-        rules_at(self.nodes.as_slice(), node)
+        self.nodes.as_slice()[node].rules.as_slice()
     }
 
     /// Where a first character leads.
@@ -147,7 +123,7 @@ impl RuleTree {
         requires { node < length self.now.nodes.items }
         ensures { result ≡ leads self.now (Some node) character }
     {
-        child_of(children_at(self.nodes.as_slice(), node), character)
+        child_of(self.nodes.as_slice()[node].children.as_slice(), character)
     }
 
     /// Where a first character leads, to a new node if it led nowhere.

@@ -155,13 +155,6 @@ fn ends_number(table: &Table, print: &[char], place: usize, follows: bool) -> bo
     takes_sign_after_number(table, print[place])
 }
 
-/// The sign before a digit, which follows a number or doesn't.
-fn number_sign(table: &Table, follows: bool) -> &[Cell]
-    ensures { result.now ≡ if follows then [] else sign_cells table.now Number }
-{
-    if follows { &[] } else { table.numsign() }
-}
-
 /// The sign before a place that has neither a digit nor a capital, and which follows a number or
 /// doesn't.
 fn sign_after_number<'a>(
@@ -292,7 +285,8 @@ impl<'a> Signs<'a> {
         ensures print { self.new.print.now ≡ self.old.print.now }
     {
         if is_digit(class) {
-            return number_sign(self.table, self.follows_at(place, class));
+            let follows = self.follows_at(place, class);
+            return if follows { &[] } else { self.table.numsign() };
         }
         if self.table.capital(self.print[place]) {
             return self.capital_sign_at(place);

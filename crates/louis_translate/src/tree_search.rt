@@ -24,29 +24,6 @@ fn first_of(table: &Table, print: &[char], at: usize, end: usize, rules: &[usize
     None
 }
 
-/// The first of the rules of a node that may be used, which is longer than the best one so far, or
-/// else that one.
-#[inline(always)]
-fn better_of(
-    table: &Table,
-    print: &[char],
-    at: usize,
-    end: usize,
-    rules: &[usize],
-    found: Option<usize>,
-) -> Option<usize>
-    requires order { at < end }
-    requires within { end ≤ length print.now }
-    requires found { IsBestBelow table.now print.now at (end - at) found }
-    requires rules { AreThose table.now print.now at (end - at) rules.now }
-    ensures { IsBestBelow table.now print.now at (end - at + 1) result }
-{
-    match first_of(table, print, at, end, rules) {
-        None => found,
-        Some(index) => Some(index),
-    }
-}
-
 /// The rule that is chosen at a place, found by a walk from a node, to which the characters from
 /// there up to `first_end` lead, and on the way to which no rule may be used.
 #[inline(never)]
@@ -65,14 +42,8 @@ pub(crate) fn walk(
     let mut node = first_node;
     let mut found = None;
     for end in first_end..print.len() + 1 {
-        found = better_of(
-            &index.table,
-            print,
-            at,
-            end,
-            index.tree.rules_at(node),
-            found,
-        );
+        let rules = index.tree.rules_at(node);
+        found = first_of(&index.table, print, at, end, rules).or(found);
         let Some(child) = index.next(print, end, node) else {
             return found;
         };

@@ -1,4 +1,4 @@
-use Rattle.std.proofs.Common.{◌≡◌, ◌-◌, false, sym, ap, ◌∙◌, arith, rules}
+use Rattle.std.proofs.Common.{◌≡◌, sym, ap, ◌∙◌, arith, rules}
 use Rattle.louis_translate.specs.Sign.{follows_number}
 use Rattle.louis_translate.proofs.Numbers.{follows_number-digit, follows_number-end, follows_number-back}
 use Rattle.louis_translate.proofs.sign.follows_number.Goals as goal
