@@ -2,6 +2,7 @@
 ghost use Rattle.std.specs.Prelude.{◌≡◌, List, ℕ, string_bytes, chars};
 ghost use Rattle.desk_model.specs.Characters.{AreCharacters};
 
+use cell_core::Sequence;
 use std::marker::Model;
 
 /// A text, which contracts see as the list of the codes of its characters.
@@ -41,36 +42,4 @@ impl Text {
 }
 
 /// Bytes, which contracts see as the list of their values.
-#[derive(Debug, Drop)]
-pub struct Bytes {
-    items: Vec<u8>,
-}
-
-impl Model for Bytes {
-    ghost Value = { List ℕ };
-
-    ghost view = { λ b. b.items.items };
-}
-
-impl Bytes {
-    /// The bytes of a vector.
-    pub fn from_vec(items: Vec<u8>) -> Self
-        ensures { result ≡ items.items }
-    {
-        Bytes { items }
-    }
-
-    /// The bytes in order.
-    pub fn as_slice(&self) -> &[u8]
-        ensures { result.now ≡ self.now }
-    {
-        self.items.as_slice()
-    }
-
-    /// The vector of the bytes.
-    pub fn into_vec(self) -> Vec<u8>
-        ensures { result.items ≡ self }
-    {
-        self.items
-    }
-}
+pub type Bytes = Sequence<u8>;
