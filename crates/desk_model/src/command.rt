@@ -13,7 +13,7 @@ pub enum Anchor {
     Para(u64),
 }
 
-/// A command on a book. Paragraphs are named by their ids.
+/// A command on a book. Paragraphs and marks are named by their ids.
 #[derive(Debug, Drop)]
 pub enum Command<'a> {
     /// Adds a table, or replaces the text of the table that has the name.
@@ -34,7 +34,6 @@ pub enum Command<'a> {
     },
     /// Replaces characters of a paragraph's print, none, some or all of them, by a text.
     Correct {
-        /// The paragraph.
         paragraph: u64,
         /// The place of the first of the characters, from 0.
         start: usize,
@@ -50,12 +49,10 @@ pub enum Command<'a> {
     /// the history. It moves marks as the replacement does that restores what had been replaced,
     /// and is refused if the paragraph's present table doesn't define the restored print.
     Undo {
-        /// The paragraph.
         paragraph: u64,
     },
     /// Makes a new mark on the places of a paragraph's print that cells of its braille stand for.
     Mark {
-        /// The paragraph.
         paragraph: u64,
         /// The first of the cells, from 0.
         cell: usize,
@@ -66,43 +63,34 @@ pub enum Command<'a> {
     },
     /// Says that a mark has been dealt with.
     Resolve {
-        /// The mark's id.
         mark: u64,
     },
     /// Takes a paragraph out of the volumes.
     Strike {
-        /// The paragraph.
         paragraph: u64,
     },
     /// Takes a struck paragraph back into the volumes.
     Restore {
-        /// The paragraph.
         paragraph: u64,
     },
     /// Gives a paragraph a style.
     Style {
-        /// The paragraph.
         paragraph: u64,
-        /// The style.
         style: Style,
     },
     /// Says whether a paragraph begins a volume.
     Volume {
-        /// The paragraph.
         paragraph: u64,
-        /// Whether it does.
         begins: bool,
     },
     /// Gives a paragraph another table.
     Retable {
-        /// The paragraph.
         paragraph: u64,
         /// The name of the table.
         table: LentText<'a>,
     },
     /// Moves a paragraph to another place. A move after itself leaves it where it is.
     Move {
-        /// The paragraph.
         paragraph: u64,
         /// Where it is to stand.
         after: Anchor,

@@ -5,7 +5,6 @@ use Rattle.desk_model.specs.declared.command.Command.TheVariants.{Table, Undo, M
 use Rattle.desk_model.specs.declared.refusal.Refusal.{Refusal}
 use Rattle.desk_model.specs.declared.refusal.Refusal.TheVariants.{Moved}
 use Rattle.desk_model.specs.Book.{Book}
-use Rattle.desk_model.specs.Judging.{MayLackMemory}
 use Rattle.desk_model.specs.Refusals.{Holds, IsAccepted, IsMoved, IsRefused}
 use Rattle.desk_model.specs.Step.{Makes}
 
@@ -24,12 +23,6 @@ module _ (book : Book) (expect : Option ℕ) (command : Command) (same : (versio
 
   pub accepted-expected : IsAccepted book None command → IsAccepted book expect command
   accepted-expected accepted refusal h = accepted refusal (holds-unexpected refusal h)
-
-  pub refused-expected : (refusal : Refusal) → IsRefused book None command refusal → IsRefused book expect command refusal
-  refused-expected refusal r = record { holds = holds-expected refusal r.holds; first = λ other h. r.first other (holds-unexpected other h) }
-
-  pub lacking-expected : MayLackMemory book None command → MayLackMemory book expect command
-  lacking-expected lacks = record { from = lacks.from; asks = lacks.asks; passes = λ other h. lacks.passes other (holds-unexpected other h) }
 
 -- ---- what an accepted command makes
 
