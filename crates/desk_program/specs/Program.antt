@@ -31,8 +31,8 @@ texts_of words = map (λ word. word.now) words
 -- ---- what is reported
 
 -- the text is shown, or a beginning of it if showing it can fail
-abbrev pub Tells : {E : Type 0} → Sink E → E → E → List ℕ → Type 0
-Tells errors old new text = (whole : Bool) × Sends errors old new text whole
+abbrev pub ReportsText : {E : Type 0} → Sink E → E → E → List ℕ → Type 0
+ReportsText errors old new text = (whole : Bool) × Sends errors old new text whole
 
 -- something failed, and nothing is refused
 abbrev pub IsFailure : Stop → Type 0

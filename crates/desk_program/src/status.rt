@@ -1,7 +1,7 @@
 //! What the program does with its words and its ends.
 ghost use Rattle.desk_program.specs.Books.{Says};
 ghost use Rattle.desk_program.specs.Fault.{fault_line};
-ghost use Rattle.desk_program.specs.Program.{CarriesOut, Does, IsFailure, Tells, Translates, files_of, texts_of};
+ghost use Rattle.desk_program.specs.Program.{CarriesOut, Does, IsFailure, ReportsText, Translates, files_of, texts_of};
 ghost use Rattle.desk_program.specs.declared.fault.ProgramFault.TheVariants.{NoMemory};
 ghost use Rattle.desk_program.specs.declared.stop.Stop.TheVariants.{Refused};
 ghost use Rattle.desk_ends.specs.Sending.{Sends};
@@ -52,7 +52,7 @@ pub fn program<'a, F: Databases + AllocGlobal, S: Source, K: Sink, E: Sink>(
     // Words are refused as the whole command refuses them, and why is reported, by a text that
     // isn't empty.
     ensures words { result ≡ OTHER_WORDS → AreRefused whole (texts_of words.now)
-        × ((text : List ℕ) × (text ≢ []) × Tells E.Sink errors.old errors.new text) }
+        × ((text : List ℕ) × (text ≢ []) × ReportsText E.Sink errors.old errors.new text) }
 
     // What the words ask for is carried out, or something fails in it, which only the status says.
     ensures done { result ≡ DONE → Does
@@ -67,7 +67,7 @@ pub fn program<'a, F: Databases + AllocGlobal, S: Source, K: Sink, E: Sink>(
     ensures refused { result ≡ REFUSED → (fault : ProgramFault) × ((fault ≡ NoMemory) ⊎ Does
         (files_of F.Shelf F.File.Source F.Database.Store F.connects F.closes rt.now)
         S.Source source.old source.new K.Sink sink.old sink.new (texts_of words.now) (Err (Refused fault)))
-        × Tells E.Sink errors.old errors.new (fault_line fault) }
+        × ReportsText E.Sink errors.old errors.new (fault_line fault) }
     ensures untouched { (result ≡ OTHER_WORDS) ⊎ (result ≡ REFUSED)
         → (source.new ≡ source.old) × (sink.new ≡ sink.old) }
 {
@@ -136,7 +136,7 @@ fn end<E: Sink>(errors: &mut E, outcome: Result<(), Stop>) -> u8
     ensures failed { result ≡ FAILED → (stop : Stop) × IsFailure stop × (outcome ≡ Err stop) }
     ensures silent { (result ≡ DONE) ⊎ (result ≡ FAILED) → errors.new ≡ errors.old }
     ensures refused { result ≡ REFUSED → (fault : ProgramFault) × (outcome ≡ Err (Refused fault))
-        × Tells E.Sink errors.old errors.new (fault_line fault) }
+        × ReportsText E.Sink errors.old errors.new (fault_line fault) }
 {
     match outcome {
         Ok(()) => DONE,
@@ -148,7 +148,7 @@ fn end<E: Sink>(errors: &mut E, outcome: Result<(), Stop>) -> u8
 /// Says why words are refused. A failure to say it changes nothing.
 pub fn refuse_words<E: Sink>(errors: &mut E, text: &str) -> u8
     ensures status { result ≡ OTHER_WORDS }
-    ensures told { Tells E.Sink errors.old errors.new text.now }
+    ensures told { ReportsText E.Sink errors.old errors.new text.now }
 {
     let _ = send(errors, text.as_bytes());
     OTHER_WORDS
@@ -157,7 +157,7 @@ pub fn refuse_words<E: Sink>(errors: &mut E, text: &str) -> u8
 /// Reports why something is refused. A failure to report it changes nothing.
 pub fn refuse<E: Sink>(errors: &mut E, fault: &ProgramFault) -> u8
     ensures status { result ≡ REFUSED }
-    ensures told { Tells E.Sink errors.old errors.new (fault_line fault.now) }
+    ensures told { ReportsText E.Sink errors.old errors.new (fault_line fault.now) }
 {
     let _ = tell(errors, fault);
     REFUSED

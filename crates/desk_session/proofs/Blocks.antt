@@ -8,22 +8,22 @@ use Rattle.desk_ends.specs.Lines.{IsLine, feeds, kept_line}
 use Rattle.desk_ends.proofs.LineFeeds.{fed-feeds, feeds-append, feeds-some, no-feeds}
 use Rattle.desk_ends.proofs.OneLine.{ends-append, fed-ends}
 use Rattle.desk_ends.proofs.UsedInput.{UsesInput-none, UsesInput-then, no-parts}
-use Rattle.desk_session.specs.declared.fault.Fault.{Fault}
-use Rattle.desk_session.specs.declared.fault.Fault.TheVariants.{Syntax, NoMemory}
+use Rattle.desk_session.specs.declared.no_request.NoRequest.{NoRequest}
+use Rattle.desk_session.specs.declared.no_request.NoRequest.TheVariants.{Syntax, NoMemory}
 use Rattle.desk_session.specs.Reading.{AreFed, BlockEnds, HoldsText, ReadsBlock}
 use Rattle.desk_session.proofs.BlockLines.{long-before}
 
 -- ---- a text with a line more
 
 -- a fault stays one
-pub fault-stays : (fault : Fault) (bytes more : List ℕ) → AreFed bytes → HoldsText (Err fault) bytes → HoldsText (Err fault) (bytes ++ more)
+pub fault-stays : (fault : NoRequest) (bytes more : List ℕ) → AreFed bytes → HoldsText (Err fault) bytes → HoldsText (Err fault) (bytes ++ more)
 fault-stays Syntax bytes more fed long = long-before bytes more fed long
 fault-stays NoMemory bytes more fed some = λ none. some (no-parts bytes more none).0
 
 -- ---- a block
 
 -- so many lines of a block are left
-pub record IsFilling (a b : Option (List ℕ)) (old now : Input) (text : Result (Vec ℕ Global) Fault) (left count : ℕ) : Type 0 where
+pub record IsFilling (a b : Option (List ℕ)) (old now : Input) (text : Result (Vec ℕ Global) NoRequest) (left count : ℕ) : Type 0 where
   pub block : List ℕ
   pub used : UsesInput a b old now block
   pub holds : HoldsText text block
@@ -35,10 +35,10 @@ IsFilling-none a input text count empty =
     record { block = []; used = UsesInput-none a input; holds = empty; lines = omega arith; fed = inl refl }
 
 -- what add_line promises
-abbrev pub Adds : (text held : Result (Vec ℕ Global) Fault) → Option (List ℕ) → Type 0
+abbrev pub Adds : (text held : Result (Vec ℕ Global) NoRequest) → Option (List ℕ) → Type 0
 Adds text held line = (bytes more : List ℕ) → AreFed bytes → IsLine more → HoldsText text bytes → line ≡ kept_line more → HoldsText held (bytes ++ more)
 
-module _ (a b c : Option (List ℕ)) (old mid new : Input) (text held : Result (Vec ℕ Global) Fault) (left count : ℕ) (line : Option (List ℕ))
+module _ (a b c : Option (List ℕ)) (old mid new : Input) (text held : Result (Vec ℕ Global) NoRequest) (left count : ℕ) (line : Option (List ℕ))
     (part : IsFilling a b old mid text left count) (some : 0 < left) (F : Type 0) where
   pub IsFilling-line : ReadsLine F b c mid new line (Ok true) → Adds text held line → IsFilling a c old new held (left - 1) count
   IsFilling-line read adds =
@@ -78,14 +78,8 @@ module _ (a b c : Option (List ℕ)) (old mid new : Input) (text held : Result (
         ends = (fewer, read.ends.1, read.ends.2, read.ends.3);
       }
 
-pub ReadsBlock-done : (F : Type 0) (a b : Option (List ℕ)) (old now : Input) (text : Result (Vec ℕ Global) Fault) (left count : ℕ) → IsFilling a b old now text left count
-    → left ≡ 0 → ReadsBlock F a b old now count (Ok text)
-ReadsBlock-done F a b old now text left count part none =
-    let so_far = part.lines in
-    record { block = part.block; used = part.used; ends = (part.holds, inl (omega arith, part.fed)) }
-
 -- lines of which there are bytes are one or more
-pub block-some : (F : Type 0) (new : Input) (count : ℕ) (block : List ℕ) (text : Result (Vec ℕ Global) Fault) → BlockEnds F new count block (Ok text) → block ≢ [] → 0 < count
+pub block-some : (F : Type 0) (new : Input) (count : ℕ) (block : List ℕ) (text : Result (Vec ℕ Global) NoRequest) → BlockEnds F new count block (Ok text) → block ≢ [] → 0 < count
 block-some F new count block text (holds, inl (same, inl none)) some = absurd (some none)
 block-some F new count block text (holds, inl (same, inr (front, is))) some =
     let all = ap feeds is in

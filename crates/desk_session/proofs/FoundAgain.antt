@@ -26,7 +26,7 @@ use Rattle.desk_session.specs.declared.session.Ended.{Ended}
 use Rattle.desk_session.specs.declared.session.Ended.TheVariants as ended
 use Rattle.desk_session.specs.Service.{EndsAs, HoldsGiven, IsFoundAfter, MayLack}
 use Rattle.desk_session.specs.Reopened.{IsKeptBook}
-use Rattle.desk_session.specs.Session.{EndsLost, GivenCommand, Gives, HoldsAcknowledged, IsSession, Turn}
+use Rattle.desk_session.specs.Session.{EndsLost, GivenCommand, GivesCommands, HoldsAcknowledged, IsSession, Turn}
 use Rattle.desk_session.proofs.TurnsTaken.{shows-still}
 
 -- ---- a command that was lost is the last one, and wasn't acknowledged
@@ -52,7 +52,7 @@ with_none (x ∷ first) = ap (λ (xs : List GivenCommand). x ∷ xs) (with_none 
 last_lost : (turns : List Turn) (book last : Book) (given : List GivenCommand) → IsSession book turns given last → EndsLost turns → LastLost given
 last_lost [] book last given session none = absurd none
 last_lost (turn ∷ []) book last given (next, answered, on, (first, others, gives, is, rest)) lost =
-    let it = subst (λ (answer : _). Gives turn answer first) lost gives in
+    let it = subst (λ (answer : _). GivesCommands turn answer first) lost gives in
     record {
       front = [];
       one = record { command = it.0; acknowledged = false };

@@ -7,16 +7,16 @@ use Rattle.desk_model.specs.Book.{Book}
 use Rattle.desk_line.specs.declared.answer.Answer.{Answer}
 use Rattle.desk_line.specs.declared.answer.Answer.TheVariants as answers
 use Rattle.desk_line.specs.Answers.{IsAnswered, accepted, asked, lost, no_request, refused, unplanned, unread}
-use Rattle.desk_session.specs.Session.{EndsLost, GivenCommand, Gives, IsHeld, IsSession, MayGoOn, Turn, TurnsFrom, commands_of}
+use Rattle.desk_session.specs.Session.{EndsLost, GivenCommand, GivesCommands, IsHeld, IsSession, MayGoOn, Turn, TurnsFrom, commands_of}
 use Rattle.desk_session.proofs.Sessions.{IsSession-held}
 
 -- ---- what a turn gives
 
-gives-by : (turn : Turn) (answer : Answer) (given : List GivenCommand) → turn.answer ≡ answer → Gives turn answer given → Gives turn turn.answer given
-gives-by turn answer given is gives = subst (λ (a : Answer). Gives turn a given) (sym is) gives
+gives-by : (turn : Turn) (answer : Answer) (given : List GivenCommand) → turn.answer ≡ answer → GivesCommands turn answer given → GivesCommands turn turn.answer given
+gives-by turn answer given is gives = subst (λ (a : Answer). GivesCommands turn a given) (sym is) gives
 
 -- each answer gives something or nothing
-pub gives-some : (turn : Turn) (book next : Book) → IsAnswered turn.request book next turn.answer → (given : List GivenCommand) × Gives turn turn.answer given
+pub gives-some : (turn : Turn) (book next : Book) → IsAnswered turn.request book next turn.answer → (given : List GivenCommand) × GivesCommands turn turn.answer given
 gives-some turn book next (accepted command expect reads is makes answer) =
     let given : List GivenCommand = record { command = command; acknowledged = turn.taken } ∷ [] in
     (given, gives-by turn _ given answer (command, (expect, reads), refl))

@@ -15,8 +15,8 @@ use Rattle.desk_ends.proofs.FirstLine.{after-fed, after-none}
 use Rattle.desk_ends.proofs.LineFeeds.{fed-feeds, feeds-append, lines-fed, lines-few, no-feeds}
 use Rattle.desk_ends.proofs.OneLine.{ends-append, ends-some, fed-ends, fed-first, kept_line-none, kept_line-some, lone-line, one-line}
 use Rattle.desk_ends.proofs.UsedInput.{UsesInput-then, no-parts}
-use Rattle.desk_session.specs.declared.fault.Fault.{Fault}
-use Rattle.desk_session.specs.declared.fault.Fault.TheVariants.{Syntax, NoMemory}
+use Rattle.desk_session.specs.declared.no_request.NoRequest.{NoRequest}
+use Rattle.desk_session.specs.declared.no_request.NoRequest.TheVariants.{Syntax, NoMemory}
 use Rattle.desk_line.specs.declared.head.Head.{Head}
 use Rattle.desk_line.specs.declared.request.Request.{Request}
 use Rattle.desk_line.specs.Head.{Says}
@@ -80,14 +80,6 @@ last-head bytes none some count takes = record {
   most = omega arith;
 }
 
-none-line : (bytes : List ℕ) → HasNoFeed bytes → BeginsWithNone bytes
-none-line bytes none request later parts is =
-    let n = no-feeds bytes none in
-    let all = ap feeds parts ∙ feeds-append request later in
-    let some = whole-feeds request is in
-    let same = ap feeds is.ends in
-    absurd (omega arith)
-
 -- ---- a head line and its block
 
 -- the head line has its line feed, or nothing follows it
@@ -142,7 +134,7 @@ module _ (head block : List ℕ) (some : head ≢ []) where
         let all = feeds-append head block in
         none-whole (head ++ block) (without_ending head) (lines_of block) count (block-lines (inl fed_)) takes (omega arith)
 
-    block-fault : (fault : Fault) → MayBeFollowed head block → HoldsText (Err fault) block → (block ≢ [] → 0 < count) → IsFaultOf (head ++ block) fault
+    block-fault : (fault : NoRequest) → MayBeFollowed head block → HoldsText (Err fault) block → (block ≢ [] → 0 < count) → IsFaultOf (head ++ block) fault
     block-fault Syntax may long more =
         none-long (head ++ block) (λ all. long (subst (AllByRecursion IsShort) (block-lines may) all).1)
     block-fault NoMemory may empty more =
@@ -151,10 +143,6 @@ module _ (head block : List ℕ) (some : head ≢ []) where
 -- ---- what was read
 
 module _ (F : Type 0) (a b : Option (List ℕ)) (old mid : Input) where
-  pub ReadsRequest-failed : (line : Option (List ℕ)) (failed : Failure) → ReadsLine F a b old mid line (Err failed) → ReadsRequest F a b old mid (Err failed)
-  ReadsRequest-failed line failed read =
-      record { bytes = read.bytes; used = read.used; found = (none-line read.bytes read.ends.0, read.ends.1, read.ends.2, read.ends.3) }
-
   -- a line that takes no other
   next-alone : (whole : Bool) (bytes : List ℕ) → bytes ≢ [] → Takes (without_ending bytes) 0 → LineEnds F mid bytes (Ok whole) → IsNext (mid.is_over ≡ true) mid.waiting bytes
   next-alone true bytes some takes fed_ = inl (whole-head bytes fed_ takes)
@@ -189,15 +177,6 @@ module _ (F : Type 0) (a b : Option (List ℕ)) (old mid : Input) where
 
     head-used : UsesInput a b old mid head
     head-used = subst (UsesInput a b old mid) (sym bytes-are) read.used
-
-    end-of : (whole : Bool) → head ≡ [] → LineEnds F mid head (Ok whole) → (mid.is_over ≡ true) × (mid.waiting ≡ [])
-    end-of true none fed_ = absurd (ends-some head (fed-ends head fed_) none)
-    end-of false none (lacks, over, empty) = (over, empty)
-
-    pub ReadsRequest-end : head ≡ [] → ReadsRequest F a b old mid (Ok None)
-    ReadsRequest-end none =
-        let end = end-of whole none head-line in
-        record { bytes = head; used = head-used; found = (none, end.0, end.1) }
 
     module _ (some : head ≢ []) where
       -- it says nothing
@@ -260,7 +239,7 @@ module _ (F : Type 0) (a b : Option (List ℕ)) (old mid : Input) where
               found = (next-block block.block ends block.ends.1, found-of (head ++ block.block) found (finish (head ++ block.block) has));
             }
 
-        pub ReadsRequest-fault : (fault : Fault) → ReadsBlock F b c mid new count (Ok (Err fault)) → ReadsRequest F a c old new (Ok (Some (Err fault)))
+        pub ReadsRequest-fault : (fault : NoRequest) → ReadsBlock F b c mid new count (Ok (Err fault)) → ReadsRequest F a c old new (Ok (Some (Err fault)))
         ReadsRequest-fault fault block =
             let ends = ends-by whole head-line block.block block.used in
             record {

@@ -19,7 +19,7 @@ use Rattle.desk_ends.specs.Limits.{most_input}
 use Rattle.desk_ends.proofs.UsedInput.{UsesInput-none, UsesInput-then, left_to_use, left_to_use-fewer, no-parts, unread-knows}
 use Rattle.desk_line.specs.declared.answer.Answer.{Answer}
 use Rattle.desk_line.specs.declared.answer.Answer.TheVariants as answers
-use Rattle.desk_session.specs.declared.fault.Fault.{Fault}
+use Rattle.desk_session.specs.declared.no_request.NoRequest.{NoRequest}
 use Rattle.desk_line.specs.declared.request.Request.{Request}
 use Rattle.desk_line.specs.declared.request.Request.TheVariants.{Do}
 use Rattle.desk_line.specs.Request.{WholeRequests}
@@ -31,7 +31,7 @@ use Rattle.desk_session.specs.declared.session.Ended.TheVariants as ended
 use Rattle.desk_session.specs.Reading.{ReadsRequest}
 use Rattle.desk_session.specs.Requests.{FirstRequests}
 use Rattle.desk_session.specs.Service.{AreRequests, EndsAs, EndsFlushed, GoesOut, HoldsGiven, IsHonest, IsLeft, IsWritten, MayLack, Serves, SessionEnds, ends_of}
-use Rattle.desk_session.specs.Session.{EndsLost, GivenCommand, Gives, IsCommand, IsSession, MayGoOn, Turn, commands_of}
+use Rattle.desk_session.specs.Session.{EndsLost, GivenCommand, GivesCommands, IsCommand, IsSession, MayGoOn, Turn, commands_of}
 use Rattle.desk_session.specs.Turns.{LeavesLost, LeftBy, SendsReply, TakesTurn}
 use Rattle.desk_session.proofs.MoreTurns.{AllTaken, TurnsFrom-more, after-given, ends-held, ends-lost, gives-some, goes-held, goes-more, lost-stays, requests-more, requests_of, taken-more}
 use Rattle.desk_session.proofs.RequestCuts.{CutInto, CutInto-all, CutInto-first, CutInto-more, CutInto-whole, next-some}
@@ -199,7 +199,7 @@ module _ (start book : Book) (over : SessionEnds) (c : Option (List ℕ)) (input
 
   -- ---- one turn more
 
-  module _ (found : Result Request Fault) (next : Book) (answer : Answer) (s' : State) (x passed : Option (List ℕ)) (ok : Bool)
+  module _ (found : Result Request NoRequest) (next : Book) (answer : Answer) (s' : State) (x passed : Option (List ℕ)) (ok : Bool)
       (read : ReadsRequest over.ReadsFail over.left c input new (Ok (Some found)))
       (took : TakesTurn read.bytes book next answer over.new s') (sends : SendsReply over.WritesFail over.written x passed next answer ok) where
     -- the ends after that
@@ -212,7 +212,7 @@ module _ (start book : Book) (over : SessionEnds) (c : Option (List ℕ)) (input
     abbrev turns : List Turn
     turns = so_far.turns ++ turn ∷ []
 
-    gave : (given : List GivenCommand) × Gives turn answer given
+    gave : (given : List GivenCommand) × GivesCommands turn answer given
     gave = gives-some turn book next took.answered
 
     used : UsesInput over.unread c unread new (so_far.bytes ++ read.bytes)
@@ -238,7 +238,7 @@ module _ (start book : Book) (over : SessionEnds) (c : Option (List ℕ)) (input
 
     session : IsSession start turns (so_far.given ++ gave.0) next
     session =
-        TurnsFrom-more turn book next took.answered (λ (one : Turn) (later : Book) (given : List GivenCommand). Gives one one.answer given) gave.0 gave.1
+        TurnsFrom-more turn book next took.answered (λ (one : Turn) (later : Book) (given : List GivenCommand). GivesCommands one one.answer given) gave.0 gave.1
         so_far.turns start so_far.given so_far.goes so_far.session
 
     written : IsWritten start turns (so_far.output ++ sends.piece) next
@@ -303,8 +303,8 @@ module _ (start book : Book) (over : SessionEnds) (c : Option (List ℕ)) (input
     lost-by : answer ≡ answers.Lost → (l : Layout) → LeftBy l read.bytes book next answer s' → LeavesLost l read.bytes book s'
     lost-by is l left = subst (λ (one : Answer). LeftBy l read.bytes book next one s') is left
 
-    gave-lost : answer ≡ answers.Lost → Gives turn answers.Lost gave.0
-    gave-lost is = subst (λ (one : Answer). Gives turn one gave.0) is gave.1
+    gave-lost : answer ≡ answers.Lost → GivesCommands turn answers.Lost gave.0
+    gave-lost is = subst (λ (one : Answer). GivesCommands turn one gave.0) is gave.1
 
     all-told : (whole : Bool) → ok ≡ whole → (AllTaken turns × IsFlushed x passed) ⊎ over.WritesFail
     all-told true is = inl (taken-more turn so_far.turns so_far.goes (sends.all is).0, (sends.all is).1)

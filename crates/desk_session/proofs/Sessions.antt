@@ -15,7 +15,7 @@ use Rattle.desk_line.specs.declared.request.Request.TheVariants.{Do}
 use Rattle.desk_line.specs.Answers.{IsAnswered, accepted, refused, asked, no_request, unread, unplanned, lost}
 use Rattle.desk_line.specs.Request.{Reads}
 use Rattle.desk_line.proofs.RequestLaws.{one-request}
-use Rattle.desk_session.specs.Session.{AllButOne, EndsLost, GivenCommand, Gives, IsCommand, IsGivenBy, IsHeld, IsSession, MayGoOn, Turn, commands_of, done as given_done, lost as given_lost}
+use Rattle.desk_session.specs.Session.{AllButOne, EndsLost, GivenCommand, GivesCommands, IsCommand, IsGivenBy, IsHeld, IsSession, MayGoOn, Turn, commands_of, done as given_done, lost as given_lost}
 
 -- ---- lists
 
@@ -71,10 +71,10 @@ given-first first others given this that acknowledged whole is same =
     ∙ ap (λ (command : Command). record { command = command; acknowledged = acknowledged } ∷ others) same
 
 module _ (turn : Turn) (turns : List Turn) (book next last : Book) (first others given : List GivenCommand) (on : (turns ≡ []) ⊎ MayGoOn turn)
-    (gives : Gives turn turn.answer first) (whole : given ≡ first ++ others) (session : IsSession next turns others last) where
+    (gives : GivesCommands turn turn.answer first) (whole : given ≡ first ++ others) (session : IsSession next turns others last) where
   -- what is answered so gives what such an answer gives
-  gives_by : (answer : Answer) → turn.answer ≡ answer → Gives turn answer first
-  gives_by answer is = subst (λ (a : Answer). Gives turn a first) is gives
+  gives_by : (answer : Answer) → turn.answer ≡ answer → GivesCommands turn answer first
+  gives_by answer is = subst (λ (a : Answer). GivesCommands turn a first) is gives
 
   Turned-quiet : next ≡ book → first ≡ [] → turn.answer ≢ answers.Lost → ((number : Option ℕ) → turn.answer ≢ answers.Done number)
       → Turned turn turns book given last

@@ -18,19 +18,16 @@ use Rattle.desk_ends.specs.Ends.{IsFlushed}
 use Rattle.desk_ends.proofs.Sending.{at_err, at_ok}
 use Rattle.desk_line.specs.declared.answer.Answer.{Answer}
 use Rattle.desk_line.specs.declared.answer.Answer.TheVariants as answers
-use Rattle.desk_session.specs.declared.fault.Fault.{Fault}
-use Rattle.desk_session.specs.declared.fault.Fault.TheVariants as faults
 use Rattle.desk_line.specs.declared.request.Query.{Query}
 use Rattle.desk_line.specs.declared.request.Request.TheVariants.{Ask, Do}
 use Rattle.desk_line.specs.Answers.{IsAnswered, accepted, asked, lost, no_request, refused, unplanned, unread}
 use Rattle.desk_line.specs.Reply.{IsReplied}
-use Rattle.desk_line.specs.Request.{Reads}
+use Rattle.desk_line.specs.Request.{AsksForMemory, IsNoRequest, Reads}
 use Rattle.desk_store.specs.Books.{LeavesBook, LeavesEither, MayKeep, MayServe, ShowsBook}
 use Rattle.desk_rows.specs.Layout.{Layout}
 use Rattle.desk_rows.proofs.Transactions.Committing.{shows_on}
-use Rattle.desk_session.specs.Requests.{IsFaultOf}
 use Rattle.desk_session.specs.Service.{IsPart}
-use Rattle.desk_session.specs.Turns.{SendsReply, TakesTurn, fault_answer}
+use Rattle.desk_session.specs.Turns.{SendsReply, TakesTurn}
 
 -- ---- what leaves the file as it was
 
@@ -38,10 +35,12 @@ pub asked-turn : (bytes : List ℕ) (book : Book) (query : Query) (s : State) �
 asked-turn bytes book query s reads =
     record { answered = asked query reads refl refl; clean = λ clean. clean; left = λ clean l may. may }
 
-pub fault-turn : (bytes : List ℕ) (book : Book) (fault : Fault) (s : State) → IsFaultOf bytes fault → TakesTurn bytes book book (fault_answer fault) s s
-fault-turn bytes book faults.Syntax s tells =
-    record { answered = no_request tells refl refl; clean = λ clean. clean; left = λ clean l may. may }
-fault-turn bytes book faults.NoMemory s asks =
+pub syntax-turn : (bytes : List ℕ) (book : Book) (s : State) → IsNoRequest bytes → TakesTurn bytes book book answers.Syntax s s
+syntax-turn bytes book s none =
+    record { answered = no_request none refl refl; clean = λ clean. clean; left = λ clean l may. may }
+
+pub memory-turn : (bytes : List ℕ) (book : Book) (s : State) → AsksForMemory bytes → TakesTurn bytes book book answers.NoMemory s s
+memory-turn bytes book s asks =
     record { answered = unread asks refl refl; clean = λ clean. clean; left = λ clean l may. may }
 
 refused-answer : (bytes : List ℕ) (book : Book) (command : Command) (expect : Option ℕ) (refusal : Refusal) → Reads bytes (Do command expect)

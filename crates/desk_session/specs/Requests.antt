@@ -1,7 +1,7 @@
 -- Which requests were read of an input, and which one is read next.
 use Rattle.std.specs.Prelude.{◌≡◌, ◌⊎◌, ℕ, List, [], ◌∷◌, ◌++◌}
-use Rattle.desk_session.specs.declared.fault.Fault.{Fault}
-use Rattle.desk_session.specs.declared.fault.Fault.TheVariants.{Syntax, NoMemory}
+use Rattle.desk_session.specs.declared.no_request.NoRequest.{NoRequest}
+use Rattle.desk_session.specs.declared.no_request.NoRequest.TheVariants.{Syntax, NoMemory}
 use Rattle.desk_line.specs.Request.{AsksForMemory, IsLast, IsNoRequest, IsWhole}
 
 -- These bytes are the next request, with those after it read too: a whole one, or, at the end of
@@ -18,6 +18,6 @@ FirstRequests AtEnd bytes (request ∷ requests) =
 
 -- why no request was read of the bytes: they are none, or an allocation for the lines after the
 -- head line failed
-abbrev pub IsFaultOf : List ℕ → Fault → Type 0
+abbrev pub IsFaultOf : List ℕ → NoRequest → Type 0
 IsFaultOf bytes Syntax = IsNoRequest bytes
 IsFaultOf bytes NoMemory = AsksForMemory bytes

@@ -30,17 +30,17 @@ IsCommand request command = (expect : Option ℕ) × Reads request (Do command e
 -- What a request gives by its answer: an accepted command is acknowledged once its whole `ok` line
 -- is taken; one that the store lost is given too, but never acknowledged. Refused commands, those
 -- for which an allocation failed, queries and what isn't a request give nothing.
-abbrev pub Gives : Turn → Answer → List GivenCommand → Type 0
-Gives turn (Done number) given =
+abbrev pub GivesCommands : Turn → Answer → List GivenCommand → Type 0
+GivesCommands turn (Done number) given =
     (command : Command) × IsCommand turn.request command
     × (given ≡ record { command = command; acknowledged = turn.taken } ∷ [])
-Gives turn Lost given =
+GivesCommands turn Lost given =
     (command : Command) × IsCommand turn.request command
     × (given ≡ record { command = command; acknowledged = false } ∷ [])
-Gives turn (Refused refusal) given = given ≡ []
-Gives turn (Asked query) given = given ≡ []
-Gives turn Syntax given = given ≡ []
-Gives turn NoMemory given = given ≡ []
+GivesCommands turn (Refused refusal) given = given ≡ []
+GivesCommands turn (Asked query) given = given ≡ []
+GivesCommands turn Syntax given = given ≡ []
+GivesCommands turn NoMemory given = given ≡ []
 
 -- a reply that isn't taken whole, and a store that is lost, end the session
 pub record MayGoOn (turn : Turn) : Type 0 where
@@ -61,7 +61,7 @@ TurnsFrom {X} Adds book (turn ∷ turns) made last =
 
 -- These commands were given by the turns. The book at the end is without a command that was lost.
 abbrev pub IsSession : Book → List Turn → List GivenCommand → Book → Type 0
-IsSession = TurnsFrom (λ turn next given. Gives turn turn.answer given)
+IsSession = TurnsFrom (λ turn next given. GivesCommands turn turn.answer given)
 
 -- the commands of what was given
 abbrev pub commands_of : List GivenCommand → List Command

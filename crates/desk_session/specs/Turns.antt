@@ -14,8 +14,6 @@ use Rattle.std.specs.Prelude.{None}
 use Rattle.desk_ends.specs.Ends.{IsFlushed}
 use Rattle.desk_line.specs.declared.answer.Answer.{Answer}
 use Rattle.desk_line.specs.declared.answer.Answer.TheVariants.{Done, Refused, Asked, Syntax, NoMemory, Lost}
-use Rattle.desk_session.specs.declared.fault.Fault.{Fault}
-use Rattle.desk_session.specs.declared.fault.Fault.TheVariants as faults
 use Rattle.desk_line.specs.Answers.{IsAnswered}
 use Rattle.desk_line.specs.Reply.{IsReply}
 use Rattle.desk_book.specs.Changes.{Change}
@@ -23,11 +21,6 @@ use Rattle.desk_store.specs.Books.{FailsToKeep, LeadsTo, LeavesEither, MayServe,
 use Rattle.desk_rows.specs.Layout.{Layout}
 use Rattle.desk_session.specs.Service.{IsPart}
 use Rattle.desk_session.specs.Session.{IsCommand}
-
--- what is answered to bytes that were not read as a request
-abbrev pub fault_answer : Fault → Answer
-fault_answer faults.Syntax = Syntax
-fault_answer faults.NoMemory = NoMemory
 
 -- A command was lost: whatever a crash leaves holds the book, or the next one that the command
 -- makes, and a connection that is still open shows the book.

@@ -13,9 +13,9 @@
 //! the file `desk_store`'s.
 #![tactic(auto)]
 
-mod fault;
 pub mod found;
 pub mod laws;
+mod no_request;
 mod reader;
 mod session;
 mod turn;

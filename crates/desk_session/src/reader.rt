@@ -3,7 +3,7 @@ ghost use Rattle.desk_ends.specs.Lines.{IsLine, kept_line};
 ghost use Rattle.desk_session.specs.Reading.{AreFed, HoldsText, ReadsBlock, ReadsRequest};
 ghost use Rattle.std.specs.Prelude.{Err, IfErr, List, None, OnOk, ◌++◌, ◌≡◌, ℕ};
 
-use super::fault::Fault;
+use super::no_request::NoRequest;
 use desk_ends::{Failure, Input, Line, Source, without_ending};
 use desk_line::{Request, begin_request};
 use std::alloc::Global;
@@ -32,23 +32,23 @@ impl Buffers {
 
 /// Bytes with a line after them. With a line that is too long they aren't of a request, and no more
 /// of them is kept.
-fn add_line(text: Result<Vec<u8>, Fault>, line: &Line) -> Result<Vec<u8>, Fault>
+fn add_line(text: Result<Vec<u8>, NoRequest>, line: &Line) -> Result<Vec<u8>, NoRequest>
     ensures holds { (bytes more : List ℕ) → AreFed bytes → IsLine more
         → HoldsText text bytes → line.now ≡ kept_line more → HoldsText result (bytes ++ more) }
     // What is known of the block by then stays so, and a line that is too long is a fault of
     // syntax.
     ensures still { IfErr text (λ fault. result ≡ Err fault) }
-    ensures too_long { line.now ≡ None → OnOk text (result ≡ Err Fault.Syntax) }
+    ensures too_long { line.now ≡ None → OnOk text (result ≡ Err NoRequest.Syntax) }
 {
     match (text, line.bytes()) {
         (Ok(text), Some(bytes)) => append(text, bytes),
-        (Ok(_), None) => Err(Fault::Syntax),
+        (Ok(_), None) => Err(NoRequest::Syntax),
         (Err(fault), _) => Err(fault),
     }
 }
 
 /// Bytes with more bytes after them.
-fn append(text: Vec<u8>, bytes: &[u8]) -> Result<Vec<u8>, Fault>
+fn append(text: Vec<u8>, bytes: &[u8]) -> Result<Vec<u8>, NoRequest>
     ensures { HoldsText result (text.items ++ bytes.now) }
 {
     let mut text = text;
@@ -64,7 +64,7 @@ fn read_block<S: Source>(
     input: &mut Input,
     line: &mut Line,
     count: u64,
-) -> Result<Result<Vec<u8>, Fault>, Failure>
+) -> Result<Result<Vec<u8>, NoRequest>, Failure>
     ensures { ReadsBlock S.can_fail (S.remaining source.old) (S.remaining source.new)
         input.old input.new count result }
 {
@@ -88,7 +88,7 @@ pub(crate) fn next_request<'a, S: Source>(
     source: &mut S,
     input: &mut Input,
     buffers: &'a mut Buffers,
-) -> Result<Option<Result<Request<'a>, Fault>>, Failure>
+) -> Result<Option<Result<Request<'a>, NoRequest>>, Failure>
     ensures { ReadsRequest S.can_fail (S.remaining source.old) (S.remaining source.new)
         input.old input.new result }
 {
@@ -101,19 +101,19 @@ pub(crate) fn next_request<'a, S: Source>(
     *block = Vec::new(alloc);
     input.read_line(source, head_line)?;
     let Some(line) = head_line.bytes() else {
-        return Ok(Some(Err(Fault::Syntax)));
+        return Ok(Some(Err(NoRequest::Syntax)));
     };
     if line.is_empty() {
         return Ok(None);
     }
     let Some(head) = begin_request(without_ending(line)) else {
-        return Ok(Some(Err(Fault::Syntax)));
+        return Ok(Some(Err(NoRequest::Syntax)));
     };
     let count = head.lines_after();
     match read_block(alloc, source, input, block_line, count)? {
         Ok(text) => {
             *block = text;
-            Ok(Some(head.finish(block.as_slice()).ok_or(Fault::Syntax)))
+            Ok(Some(head.finish(block.as_slice()).ok_or(NoRequest::Syntax)))
         }
         Err(fault) => Ok(Some(Err(fault))),
     }

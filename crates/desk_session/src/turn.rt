@@ -1,12 +1,12 @@
 //! One request to a book and its file, from its bytes to its reply.
 ghost use Rattle.desk_line.specs.Request.{Reads};
 ghost use Rattle.desk_session.specs.Requests.{IsFaultOf};
-ghost use Rattle.desk_session.specs.Turns.{LosesChange, SendsReply, TakesTurn, fault_answer};
+ghost use Rattle.desk_session.specs.Turns.{LosesChange, SendsReply, TakesTurn};
 ghost use Rattle.sqlite.specs.State.{HasCleanDisk};
 ghost use Rattle.desk_store.specs.Books.{shown_by};
 ghost use Rattle.std.specs.Prelude.{IsTrue, List, MatchResult, false, is_ok, true, ◌≡◌, ◌≢◌, ◌↔◌, ℕ};
 
-use super::fault::Fault;
+use super::no_request::NoRequest;
 use desk_book::Book;
 use desk_ends::{Block, Failure, Sink};
 use desk_line::{Answer, Request, send_reply};
@@ -20,7 +20,7 @@ pub(crate) fn answer_found<S: Alter>(
     alloc: Global,
     store: &mut Store<S>,
     book: Book,
-    found: Result<Request<'_>, Fault>,
+    found: Result<Request<'_>, NoRequest>,
 ) -> (Answer, Book)
     ensures taken { (bytes : List ℕ) → MatchResult found.entry (Reads bytes) (IsFaultOf bytes)
         → TakesTurn bytes book result.1 result.0
@@ -35,18 +35,10 @@ pub(crate) fn answer_found<S: Alter>(
     match found {
         Ok(Request::Do { command, expect }) => carry_out(alloc, store, book, &command, expect),
         Ok(Request::Ask(query)) => (Answer::Asked(query), book),
-        Err(fault) => (fault_answer(fault), book),
-    }
-}
-
-/// What is answered to a request that wasn't read.
-fn fault_answer(fault: Fault) -> Answer
-    ensures is { result ≡ fault_answer fault }
-    ensures not_lost { result ≢ Answer.Lost }
-{
-    match fault {
-        Fault::Syntax => Answer::Syntax,
-        Fault::NoMemory => Answer::NoMemory,
+        Err(fault) => match fault {
+            NoRequest::Syntax => (Answer::Syntax, book),
+            NoRequest::NoMemory => (Answer::NoMemory, book),
+        },
     }
 }
 
