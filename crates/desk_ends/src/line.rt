@@ -109,16 +109,9 @@ pub fn split_line(bytes: &[u8]) -> (&[u8], &[u8])
 pub fn without_ending(line: &[u8]) -> &[u8]
     ensures { result.now ≡ without_ending line.now }
 {
-    without_return(without_feed(line))
-}
-
-/// Bytes without one line feed at their end.
-fn without_feed(bytes: &[u8]) -> &[u8]
-    ensures { result.now ≡ strip_last 10 bytes.now }
-{
-    match bytes {
-        [front @ .., b'\n'] => front,
-        _ => bytes,
+    match line {
+        [front @ .., b'\n'] => without_return(front),
+        _ => without_return(line),
     }
 }
 
