@@ -1,8 +1,7 @@
 //! Writes replies.
 ghost use Rattle.desk_ends.specs.Sending.{Puts};
-ghost use Rattle.desk_line.specs.Reply.{IsReplied, PutsQueryReply, PutsReply, PutsShown};
-ghost use Rattle.desk_line.specs.Reply.{Refuses, refusal_line, word_and};
-ghost use Rattle.std.specs.Prelude.{MatchResult, codes, is_ok, option_to_list, ◌++◌, ◌≡◌, ◌∷◌};
+ghost use Rattle.desk_line.specs.Reply.{IsReplied, PutsQueryReply, PutsReply, PutsShown, Refuses, refusal_line};
+ghost use Rattle.std.specs.Prelude.{MatchResult, is_ok, ◌++◌, ◌≡◌};
 
 use super::answer::Answer;
 use super::request::Query;
@@ -62,28 +61,15 @@ fn put_reply<K: Sink>(
         book.now answer.now (is_ok result) }
 {
     match answer {
-        Answer::Done { number } => put_done(sink, block, book, *number),
+        Answer::Done { number } => match number {
+            None => put_line(sink, block, b"ok", &[book.version()]),
+            Some(number) => put_line(sink, block, b"ok", &[book.version(), *number]),
+        },
         Answer::Refused(refusal) => put_refusal(sink, block, *refusal),
         Answer::Asked(query) => put_query(sink, block, book, *query),
         Answer::Syntax => put_line(sink, block, b"no", &[1]),
         Answer::NoMemory => put_line(sink, block, b"no", &[90]),
         Answer::Lost => put_line(sink, block, b"no", &[91]),
-    }
-}
-
-/// Puts the line of an accepted command.
-fn put_done<K: Sink>(
-    sink: &mut K,
-    block: &mut Block,
-    book: &Book,
-    number: Option<u64>,
-) -> Result<(), Failure>
-    ensures { Puts K.Sink sink.old sink.new
-        (block.old ++ word_and (codes "ok") (book.now.version ∷ option_to_list number)) block.new (is_ok result) }
-{
-    match number {
-        None => put_line(sink, block, b"ok", &[book.version()]),
-        Some(number) => put_line(sink, block, b"ok", &[book.version(), number]),
     }
 }
 
