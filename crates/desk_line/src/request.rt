@@ -1,43 +1,22 @@
 //! What is asked of a book.
 use desk_model::Command;
 
-/// What is asked of a book. No query changes it or allocates.
+/// What is asked of a book: most often of the paragraph with an id. Places of a print and cells of
+/// its braille count from 0. No query changes the book or allocates.
 #[derive(Clone, Copy, Debug, PartialEq, Eq)]
 pub enum Query {
     /// The print of a paragraph.
-    Print {
-        /// The paragraph's id.
-        paragraph: u64,
-    },
+    Print { paragraph: u64 },
     /// The braille of a paragraph.
-    Braille {
-        /// The paragraph's id.
-        paragraph: u64,
-    },
+    Braille { paragraph: u64 },
     /// The history of a paragraph.
-    History {
-        /// The paragraph's id.
-        paragraph: u64,
-    },
+    History { paragraph: u64 },
     /// The marks of a paragraph.
-    Marks {
-        /// The paragraph's id.
-        paragraph: u64,
-    },
+    Marks { paragraph: u64 },
     /// Where the braille of a place of the print begins.
-    WhereIs {
-        /// The paragraph's id.
-        paragraph: u64,
-        /// The place of its print, from 0.
-        place: usize,
-    },
+    WhereIs { paragraph: u64, place: usize },
     /// Which place of the print a cell was made from.
-    Whence {
-        /// The paragraph's id.
-        paragraph: u64,
-        /// The cell of its braille, from 0.
-        cell: usize,
-    },
+    Whence { paragraph: u64, cell: usize },
     /// All paragraphs in the order of the book.
     List,
     /// The version alone.
