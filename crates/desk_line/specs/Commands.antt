@@ -18,20 +18,10 @@ use Rattle.desk_line.specs.Lines.{IsShort}
 abbrev pub span : {A : Type 0} → (ℕ → ℕ → ℕ → List ℕ → A) → Grammar A
 span make = Then Number (λ id. Then Number (λ start. Then Number (λ count. Rest (make id start count))))
 
--- what stands after a word, and the command that it says; for a table, its text is still to come in
--- so many lines
-abbrev pub grammar_of : List ℕ → Grammar Directive
-grammar_of word =
-    if bytes_eq word (codes "table") then Then Name (λ name. Then Lines (λ count. Last (Table name count)))
-    else if bytes_eq word (codes "supply") then Then Name (λ name. Last (Whole (commands.Table name EN.now)))
-    else if bytes_eq word (codes "type")
-    then Then Place (λ after. Then Name (λ table. Rest (λ text. Whole (commands.TypeIn after table text))))
-    else if bytes_eq word (codes "correct")
-    then span (λ id start count text. Whole (commands.Correct id start count text []))
-    else if bytes_eq word (codes "correct-by")
-    then Then Name (λ who. span (λ id start count text. Whole (commands.Correct id start count text who)))
-    else if bytes_eq word (codes "undo") then Then Number (λ id. Last (Whole (commands.Undo id)))
-    else if bytes_eq word (codes "mark") then span (λ id cell count note. Whole (commands.Mark id cell count note))
+-- what stands after the word of a command that has no text, and that command
+abbrev pub textless : List ℕ → Grammar Directive
+textless word =
+    if bytes_eq word (codes "undo") then Then Number (λ id. Last (Whole (commands.Undo id)))
     else if bytes_eq word (codes "resolve") then Then Number (λ id. Last (Whole (commands.Resolve id)))
     else if bytes_eq word (codes "strike") then Then Number (λ id. Last (Whole (commands.Strike id)))
     else if bytes_eq word (codes "restore") then Then Number (λ id. Last (Whole (commands.Restore id)))
@@ -44,6 +34,21 @@ grammar_of word =
     else if bytes_eq word (codes "move")
     then Then Number (λ id. Then Place (λ after. Last (Whole (commands.Move id after))))
     else Nothing
+
+-- what stands after a word, and the command that it says; for a table, its text is still to come in
+-- so many lines
+abbrev pub grammar_of : List ℕ → Grammar Directive
+grammar_of word =
+    if bytes_eq word (codes "table") then Then Name (λ name. Then Lines (λ count. Last (Table name count)))
+    else if bytes_eq word (codes "supply") then Then Name (λ name. Last (Whole (commands.Table name EN.now)))
+    else if bytes_eq word (codes "type")
+    then Then Place (λ after. Then Name (λ table. Rest (λ text. Whole (commands.TypeIn after table text))))
+    else if bytes_eq word (codes "correct")
+    then span (λ id start count text. Whole (commands.Correct id start count text []))
+    else if bytes_eq word (codes "correct-by")
+    then Then Name (λ who. span (λ id start count text. Whole (commands.Correct id start count text who)))
+    else if bytes_eq word (codes "mark") then span (λ id cell count note. Whole (commands.Mark id cell count note))
+    else textless word
 
 -- the fields are a word and what stands after it, and say this
 abbrev pub SaysDirective : List (List ℕ) → Directive → Type 0

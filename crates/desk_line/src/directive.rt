@@ -1,6 +1,6 @@
 //! What the head line of a command says, and the command that it makes with the lines after it.
-ghost use Rattle.desk_line.specs.Commands.{announced, span};
-ghost use Rattle.desk_line.specs.Grammar.{Flag, Last, Lines, Look, Name, Number, Place, Rest, Then};
+ghost use Rattle.desk_line.specs.Commands.{announced, span, textless};
+ghost use Rattle.desk_line.specs.Grammar.{Last, Name, Place, Rest, Then};
 ghost use Rattle.desk_line.specs.Reading.{directive_by, read};
 ghost use Rattle.louis_table.specs.declared.en.TheConstants.{EN};
 ghost use Rattle.std.specs.Prelude.{◌≡◌, []};
@@ -28,9 +28,13 @@ pub(crate) fn read_directive<'a>(word: &Field<'_>, fields: Fields<'a>) -> Option
     ensures { result ≡ directive_by word.now fields.entry }
 {
     if word.is("table") {
-        read_table(fields)
+        let (name, fields) = fields.name()?;
+        let (count, fields) = fields.lines()?;
+        fields.end(Directive::Table { name, count })
     } else if word.is("supply") {
-        read_supply(fields)
+        let (name, fields) = fields.name()?;
+        let text = LentBytes::new(EN.as_bytes());
+        whole(Command::Table { name, text }, fields)
     } else if word.is("type") {
         read_type(fields)
     } else if word.is("correct") {
@@ -38,54 +42,55 @@ pub(crate) fn read_directive<'a>(word: &Field<'_>, fields: Fields<'a>) -> Option
     } else if word.is("correct-by") {
         let (who, fields) = fields.name()?;
         read_correct(who, fields)
-    } else if word.is("undo") {
-        let (paragraph, fields) = fields.number()?;
-        read_alone(Directive::Whole(Command::Undo { paragraph }), fields)
     } else if word.is("mark") {
         read_mark(fields)
+    } else {
+        read_textless(word, fields)
+    }
+}
+
+/// The command that has no text, if the word is of one.
+fn read_textless<'a>(word: &Field<'_>, fields: Fields<'a>) -> Option<Directive<'a>>
+    ensures { result ≡ read (textless word.now) fields.entry }
+{
+    if word.is("undo") {
+        let (paragraph, fields) = fields.number()?;
+        whole(Command::Undo { paragraph }, fields)
     } else if word.is("resolve") {
         let (mark, fields) = fields.number()?;
-        read_alone(Directive::Whole(Command::Resolve { mark }), fields)
+        whole(Command::Resolve { mark }, fields)
     } else if word.is("strike") {
         let (paragraph, fields) = fields.number()?;
-        read_alone(Directive::Whole(Command::Strike { paragraph }), fields)
+        whole(Command::Strike { paragraph }, fields)
     } else if word.is("restore") {
         let (paragraph, fields) = fields.number()?;
-        read_alone(Directive::Whole(Command::Restore { paragraph }), fields)
+        whole(Command::Restore { paragraph }, fields)
     } else if word.is("style") {
-        read_style(fields)
+        let (paragraph, fields) = fields.number()?;
+        let (style, fields) = fields.look()?;
+        whole(Command::Style { paragraph, style }, fields)
     } else if word.is("volume") {
-        read_volume(fields)
+        let (paragraph, fields) = fields.number()?;
+        let (begins, fields) = fields.flag()?;
+        whole(Command::Volume { paragraph, begins }, fields)
     } else if word.is("retable") {
-        read_retable(fields)
+        let (paragraph, fields) = fields.number()?;
+        let (table, fields) = fields.name()?;
+        whole(Command::Retable { paragraph, table }, fields)
     } else if word.is("move") {
-        read_move(fields)
+        let (paragraph, fields) = fields.number()?;
+        let (after, fields) = fields.place()?;
+        whole(Command::Move { paragraph, after }, fields)
     } else {
         None
     }
 }
 
-fn read_table(fields: Fields<'_>) -> Option<Directive<'_>>
-    ensures { result ≡ read (Then Name (λ name. Then Lines (λ count. Last (Directive.Table name count))))
-        fields.entry }
+/// A command that stands whole in its head line, if no field is left there.
+fn whole<'a>(command: Command<'a>, fields: Fields<'_>) -> Option<Directive<'a>>
+    ensures { result ≡ read (Last (Directive.Whole command.entry)) fields.entry }
 {
-    let (name, fields) = fields.name()?;
-    let (count, fields) = fields.lines()?;
-    read_alone(Directive::Table { name, count }, fields)
-}
-
-fn read_supply(fields: Fields<'_>) -> Option<Directive<'_>>
-    ensures { result ≡ read (Then Name (λ name. Last (Directive.Whole (Command.Table name EN.now))))
-        fields.entry }
-{
-    let (name, fields) = fields.name()?;
-    read_alone(
-        Directive::Whole(Command::Table {
-            name,
-            text: LentBytes::new(EN.as_bytes()),
-        }),
-        fields,
-    )
+    fields.end(Directive::Whole(command))
 }
 
 fn read_type(fields: Fields<'_>) -> Option<Directive<'_>>
@@ -134,63 +139,6 @@ fn read_mark(fields: Fields<'_>) -> Option<Directive<'_>>
         count: count as usize,
         note: fields.text(),
     }))
-}
-
-fn read_style(fields: Fields<'_>) -> Option<Directive<'_>>
-    ensures { result ≡ read (Then Number (λ id. Then Look (λ look. Last (Directive.Whole (Command.Style id look)))))
-        fields.entry }
-{
-    let (paragraph, fields) = fields.number()?;
-    let (style, fields) = fields.look()?;
-    read_alone(
-        Directive::Whole(Command::Style { paragraph, style }),
-        fields,
-    )
-}
-
-fn read_volume(fields: Fields<'_>) -> Option<Directive<'_>>
-    ensures { result
-        ≡ read (Then Number (λ id. Then Flag (λ begins. Last (Directive.Whole (Command.Volume id begins)))))
-        fields.entry }
-{
-    let (paragraph, fields) = fields.number()?;
-    let (begins, fields) = fields.flag()?;
-    read_alone(
-        Directive::Whole(Command::Volume { paragraph, begins }),
-        fields,
-    )
-}
-
-fn read_retable(fields: Fields<'_>) -> Option<Directive<'_>>
-    ensures { result
-        ≡ read (Then Number (λ id. Then Name (λ table. Last (Directive.Whole (Command.Retable id table)))))
-        fields.entry }
-{
-    let (paragraph, fields) = fields.number()?;
-    let (table, fields) = fields.name()?;
-    read_alone(
-        Directive::Whole(Command::Retable { paragraph, table }),
-        fields,
-    )
-}
-
-fn read_move(fields: Fields<'_>) -> Option<Directive<'_>>
-    ensures { result ≡ read (Then Number (λ id. Then Place (λ after. Last (Directive.Whole (Command.Move id after)))))
-        fields.entry }
-{
-    let (paragraph, fields) = fields.number()?;
-    let (after, fields) = fields.place()?;
-    read_alone(Directive::Whole(Command::Move { paragraph, after }), fields)
-}
-
-/// What a head line says if no field is left.
-fn read_alone<'a>(directive: Directive<'a>, fields: Fields<'_>) -> Option<Directive<'a>>
-    ensures { result ≡ read (Last directive.entry) fields.entry }
-{
-    if !fields.is_empty() {
-        return None;
-    }
-    Some(directive)
 }
 
 /// The name of a proofreader who isn't named.

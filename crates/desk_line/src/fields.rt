@@ -1,7 +1,7 @@
 //! The fields of a head line.
 ghost use Rattle.desk_line.specs.Fields.{fields_in_rest, fields_of, line_of_fields};
 ghost use Rattle.desk_line.specs.Reading.{first_and_others, is_end};
-ghost use Rattle.std.specs.Prelude.{◌≡◌, ◌∷◌};
+ghost use Rattle.std.specs.Prelude.{None, Some, if◌then◌else◌, ◌≡◌, ◌∷◌};
 ghost use Rattle.std.specs.Str.{bytes_eq, chars};
 
 use desk_model::LentText;
@@ -89,6 +89,13 @@ impl<'a> Fields<'a> {
         ensures { result ≡ is_end self.now }
     {
         self.rest.is_none()
+    }
+
+    /// The value that a line gives which ends here, if no field is left.
+    pub(crate) fn end<T: Drop>(self, value: T) -> Option<T>
+        ensures { result ≡ (if is_end self.entry then Some value else None) }
+    {
+        if self.is_empty() { Some(value) } else { None }
     }
 
     /// The line from here on, with its blanks.

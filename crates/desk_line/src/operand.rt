@@ -1,12 +1,12 @@
 //! What the fields after the first word of a head line stand for.
 ghost use Rattle.desk_line.specs.Grammar.{Flag, Lines, Look, Name, Number, Place};
-ghost use Rattle.desk_line.specs.Reading.{anchor_in, count_in, first_of, flag_in, name_in, number_in, style_in};
+ghost use Rattle.desk_line.specs.Reading.{first_of, number_in};
 ghost use Rattle.std.specs.Char.{is_ascii_digit};
 ghost use Rattle.std.specs.List.{list_all};
 ghost use Rattle.std.specs.Prelude.{◌≡◌, ◌≤◌, length, true};
 ghost use Rattle.std.specs.Str.Parse.{digits_value};
 
-use super::fields::{Field, Fields};
+use super::fields::Fields;
 use super::limits::{MOST_DIGITS, MOST_NUMBER};
 use desk_model::{Anchor, LentText, Style};
 use louis_table::MOST_LINES;
@@ -46,71 +46,6 @@ fn value_of(digits: &[u8]) -> u64
     value
 }
 
-/// A number of lines of a table, up to 20,000.
-#[tactic(auto, unfolding(crate::specs::Reading::count_in))]
-fn read_count(field: &[u8]) -> Option<u64>
-    ensures { result ≡ count_in field.now }
-{
-    let count = read_number(field)?;
-    if count > MOST_LINES as u64 {
-        return None;
-    }
-    Some(count)
-}
-
-/// A name: one character or more.
-fn read_name<'a>(field: &Field<'a>) -> Option<LentText<'a>>
-    ensures { result ≡ name_in field.now }
-{
-    if field.as_bytes().is_empty() {
-        return None;
-    }
-    Some(field.as_text())
-}
-
-/// Where a paragraph is put: `front`, `end` or the number of the paragraph before it.
-#[tactic(auto, unfolding(crate::specs::Reading::anchor_in))]
-fn read_anchor(field: &Field<'_>) -> Option<Anchor>
-    ensures { result ≡ anchor_in field.now }
-{
-    if field.is("front") {
-        Some(Anchor::Front)
-    } else if field.is("end") {
-        Some(Anchor::End)
-    } else {
-        let paragraph = read_number(field.as_bytes())?;
-        Some(Anchor::Para(paragraph))
-    }
-}
-
-/// A style: `body` or `heading`.
-#[tactic(auto, unfolding(crate::specs::Reading::style_in))]
-fn read_style(field: &Field<'_>) -> Option<Style>
-    ensures { result ≡ style_in field.now }
-{
-    if field.is("body") {
-        Some(Style::Body)
-    } else if field.is("heading") {
-        Some(Style::Heading)
-    } else {
-        None
-    }
-}
-
-/// Whether a flag is set: `on` or `off`.
-#[tactic(auto, unfolding(crate::specs::Reading::flag_in))]
-fn read_flag(field: &Field<'_>) -> Option<bool>
-    ensures { result ≡ flag_in field.now }
-{
-    if field.is("on") {
-        Some(true)
-    } else if field.is("off") {
-        Some(false)
-    } else {
-        None
-    }
-}
-
 impl<'a> Fields<'a> {
     /// The first field as a number, and the fields after it.
     #[tactic(auto, unfolding(crate::specs::Reading::first_of))]
@@ -122,53 +57,75 @@ impl<'a> Fields<'a> {
         Some((number, others))
     }
 
-    /// The first field as a number of lines, and the fields after it.
-    #[tactic(auto, unfolding(crate::specs::Reading::first_of))]
+    /// The first field as a number of lines of a table, up to 20,000, and the fields after it.
+    #[tactic(auto, unfolding(crate::specs::Reading::first_of, crate::specs::Reading::count_in))]
     pub(crate) fn lines(self) -> Option<(u64, Self)>
         ensures { result ≡ first_of Lines self.entry }
     {
         let (field, others) = self.split()?;
-        let count = read_count(field.as_bytes())?;
+        let count = read_number(field.as_bytes())?;
+        if count > MOST_LINES as u64 {
+            return None;
+        }
         Some((count, others))
     }
 
-    /// The first field as a name, and the fields after it.
+    /// The first field as a name, which has one character or more, and the fields after it.
     #[tactic(auto, unfolding(crate::specs::Reading::first_of))]
     pub(crate) fn name(self) -> Option<(LentText<'a>, Self)>
         ensures { result ≡ first_of Name self.entry }
     {
         let (field, others) = self.split()?;
-        let name = read_name(&field)?;
-        Some((name, others))
+        if field.as_bytes().is_empty() {
+            return None;
+        }
+        Some((field.as_text(), others))
     }
 
-    /// The first field as where a paragraph is put, and the fields after it.
-    #[tactic(auto, unfolding(crate::specs::Reading::first_of))]
+    /// The first field as where a paragraph is put, `front`, `end` or the number of the paragraph
+    /// before it, and the fields after it.
+    #[tactic(auto, unfolding(crate::specs::Reading::first_of, crate::specs::Reading::anchor_in))]
     pub(crate) fn place(self) -> Option<(Anchor, Self)>
         ensures { result ≡ first_of Place self.entry }
     {
         let (field, others) = self.split()?;
-        let anchor = read_anchor(&field)?;
-        Some((anchor, others))
+        if field.is("front") {
+            Some((Anchor::Front, others))
+        } else if field.is("end") {
+            Some((Anchor::End, others))
+        } else {
+            let paragraph = read_number(field.as_bytes())?;
+            Some((Anchor::Para(paragraph), others))
+        }
     }
 
-    /// The first field as a style, and the fields after it.
-    #[tactic(auto, unfolding(crate::specs::Reading::first_of))]
+    /// The first field as a style, `body` or `heading`, and the fields after it.
+    #[tactic(auto, unfolding(crate::specs::Reading::first_of, crate::specs::Reading::style_in))]
     pub(crate) fn look(self) -> Option<(Style, Self)>
         ensures { result ≡ first_of Look self.entry }
     {
         let (field, others) = self.split()?;
-        let style = read_style(&field)?;
-        Some((style, others))
+        if field.is("body") {
+            Some((Style::Body, others))
+        } else if field.is("heading") {
+            Some((Style::Heading, others))
+        } else {
+            None
+        }
     }
 
-    /// The first field as whether a flag is set, and the fields after it.
-    #[tactic(auto, unfolding(crate::specs::Reading::first_of))]
+    /// The first field as whether a flag is set, `on` or `off`, and the fields after it.
+    #[tactic(auto, unfolding(crate::specs::Reading::first_of, crate::specs::Reading::flag_in))]
     pub(crate) fn flag(self) -> Option<(bool, Self)>
         ensures { result ≡ first_of Flag self.entry }
     {
         let (field, others) = self.split()?;
-        let set = read_flag(&field)?;
-        Some((set, others))
+        if field.is("on") {
+            Some((true, others))
+        } else if field.is("off") {
+            Some((false, others))
+        } else {
+            None
+        }
     }
 }

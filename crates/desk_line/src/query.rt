@@ -1,6 +1,5 @@
 //! What the head line of a query asks.
-ghost use Rattle.desk_line.specs.Grammar.{Last};
-ghost use Rattle.desk_line.specs.Reading.{query_by, query_in, read};
+ghost use Rattle.desk_line.specs.Reading.{query_by, query_in};
 ghost use Rattle.std.specs.Prelude.{◌≡◌};
 
 use super::fields::{Field, Fields};
@@ -21,41 +20,31 @@ fn read_query_by(word: &Field<'_>, fields: Fields<'_>) -> Option<Query>
 {
     if word.is("print") {
         let (paragraph, fields) = fields.number()?;
-        read_alone(Query::Print { paragraph }, fields)
+        fields.end(Query::Print { paragraph })
     } else if word.is("braille") {
         let (paragraph, fields) = fields.number()?;
-        read_alone(Query::Braille { paragraph }, fields)
+        fields.end(Query::Braille { paragraph })
     } else if word.is("history") {
         let (paragraph, fields) = fields.number()?;
-        read_alone(Query::History { paragraph }, fields)
+        fields.end(Query::History { paragraph })
     } else if word.is("marks") {
         let (paragraph, fields) = fields.number()?;
-        read_alone(Query::Marks { paragraph }, fields)
+        fields.end(Query::Marks { paragraph })
     } else if word.is("where") {
         let (paragraph, fields) = fields.number()?;
         let (place, fields) = fields.number()?;
         let place = place as usize;
-        read_alone(Query::WhereIs { paragraph, place }, fields)
+        fields.end(Query::WhereIs { paragraph, place })
     } else if word.is("whence") {
         let (paragraph, fields) = fields.number()?;
         let (cell, fields) = fields.number()?;
         let cell = cell as usize;
-        read_alone(Query::Whence { paragraph, cell }, fields)
+        fields.end(Query::Whence { paragraph, cell })
     } else if word.is("list") {
-        read_alone(Query::List, fields)
+        fields.end(Query::List)
     } else if word.is("version") {
-        read_alone(Query::Version, fields)
+        fields.end(Query::Version)
     } else {
         None
     }
-}
-
-/// A query that a word asks alone.
-fn read_alone(query: Query, fields: Fields<'_>) -> Option<Query>
-    ensures { result ≡ read (Last query) fields.entry }
-{
-    if !fields.is_empty() {
-        return None;
-    }
-    Some(query)
 }

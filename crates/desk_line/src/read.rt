@@ -1,7 +1,7 @@
 //! Reads requests.
 ghost use Rattle.desk_line.specs.Head.{Says};
 ghost use Rattle.desk_line.specs.Reading.{are_lines, with_text};
-ghost use Rattle.desk_line.specs.Request.{HasHead, IsNoRequest, Reads, Takes, block_lines, request_of};
+ghost use Rattle.desk_line.specs.Request.{HasHead, IsNoRequest, Reads, Takes, block_lines};
 ghost use Rattle.desk_line.specs.declared.head.Head.{Head};
 ghost use Rattle.louis_table.specs.Lines.{lines_of};
 ghost use Rattle.std.specs.Prelude.{◌≡◌, List, MatchOption, ℕ};
@@ -86,7 +86,13 @@ fn complete<'a>(head: Head<'a>, text: &'a [u8]) -> Option<Request<'a>>
     if !are_lines(text, block_lines(&head)) {
         return None;
     }
-    Some(make_request(head, text))
+    match head {
+        Head::Ask(query) => Some(Request::Ask(query)),
+        Head::Do { directive, expect } => {
+            let command = make_command(directive, text);
+            Some(Request::Do { command, expect })
+        }
+    }
 }
 
 /// Whether the bytes are this many lines, none of them too long.
@@ -107,17 +113,4 @@ fn are_lines(bytes: &[u8], count: u64) -> bool
         rest = later;
     }
     left == 0
-}
-
-/// The request that a head line and the bytes of the lines after it make.
-fn make_request<'a>(head: Head<'a>, text: &'a [u8]) -> Request<'a>
-    ensures { result ≡ request_of head.entry text.now }
-{
-    match head {
-        Head::Ask(query) => Request::Ask(query),
-        Head::Do { directive, expect } => {
-            let command = make_command(directive, text);
-            Request::Do { command, expect }
-        }
-    }
 }
