@@ -130,15 +130,9 @@ pub fn refuse<K: Sink>(sink: &mut K, refusal: NoBraille) -> Result<(), Failure>
     match refusal {
         NoBraille::NoText => send(sink, b"no 1\n"),
         NoBraille::TooLong => send(sink, b"no 14\n"),
-        NoBraille::Undefined(place) => refuse_place(sink, place),
+        NoBraille::Undefined(place) => {
+            let mut digits = Buffer::new();
+            send_parts(sink, &[b"no 7 ", digits.format(place).as_bytes(), b"\n"])
+        }
     }
-}
-
-/// Sends the refusal of an undefined character and a line feed.
-fn refuse_place<K: Sink>(sink: &mut K, place: usize) -> Result<(), Failure>
-    ensures { Sends K.Sink sink.old sink.new
-        (refusal_text (NoBraille.Undefined place) ++ 10 ∷ []) (is_ok result) }
-{
-    let mut digits = Buffer::new();
-    send_parts(sink, &[b"no 7 ", digits.format(place).as_bytes(), b"\n"])
 }

@@ -1,9 +1,8 @@
 //! The print of the line that is being answered.
-ghost use Rattle.desk_translate.specs.NoBraille.{FindsUndefined};
-ghost use Rattle.desk_translate.specs.Reply.{most_characters};
+ghost use Rattle.desk_translate.specs.NoBraille.{FindsUndefined, TakesCharacters};
 ghost use Rattle.louis_translate.specs.Position.{AreDefined};
 ghost use Rattle.std.specs.Bool.{OnTrue};
-ghost use Rattle.std.specs.Prelude.{IfOk, List, OnErr, OnOk, [], length, ◌++◌, ◌<◌, ◌≡◌, ◌≤◌, ◌∷◌, ℕ, IsAscii, chars};
+ghost use Rattle.std.specs.Prelude.{IfOk, List, [], ◌++◌, ◌≡◌, ◌∷◌, ℕ, IsAscii, chars};
 
 use louis_translate::{RuleBook, is_defined};
 use std::marker::Model;
@@ -60,9 +59,7 @@ impl Print {
         book: &B,
         text: &str,
     ) -> Result<Option<usize>, TooManyCharacters>
-        ensures read { OnOk result (self.new ≡ chars text.now) }
-        ensures few { OnOk result (length (chars text.now) ≤ most_characters) }
-        ensures many { OnErr result (most_characters < length (chars text.now)) }
+        ensures taken { TakesCharacters result (chars text.now) self.new }
         ensures undefined { IfOk result (FindsUndefined (B.meaning book.now) (chars text.now)) }
     {
         let bytes = text.as_bytes();
@@ -80,9 +77,7 @@ impl Print {
         bytes: &[u8],
     ) -> Result<Option<usize>, TooManyCharacters>
         requires { IsAscii bytes.now }
-        ensures read { OnOk result (self.new ≡ chars bytes.now) }
-        ensures few { OnOk result (length (chars bytes.now) ≤ most_characters) }
-        ensures many { OnErr result (most_characters < length (chars bytes.now)) }
+        ensures taken { TakesCharacters result (chars bytes.now) self.new }
         ensures undefined { IfOk result (FindsUndefined (B.meaning book.now) (chars bytes.now)) }
     {
         self.copy_ascii(bytes)?;
@@ -92,9 +87,7 @@ impl Print {
     /// Takes the characters of a text in place of its own, if they are not too many.
     #[inline(never)]
     fn copy(&mut self, text: &str) -> Result<(), TooManyCharacters>
-        ensures copied { OnOk result (self.new ≡ chars text.now) }
-        ensures few { OnOk result (length (chars text.now) ≤ most_characters) }
-        ensures many { OnErr result (most_characters < length (chars text.now)) }
+        ensures { TakesCharacters result (chars text.now) self.new }
     {
         let mut len = 0;
         for character in text.chars() {
@@ -113,9 +106,7 @@ impl Print {
     #[inline(never)]
     fn copy_ascii(&mut self, bytes: &[u8]) -> Result<(), TooManyCharacters>
         requires { IsAscii bytes.now }
-        ensures copied { OnOk result (self.new ≡ chars bytes.now) }
-        ensures few { OnOk result (length (chars bytes.now) ≤ most_characters) }
-        ensures many { OnErr result (most_characters < length (chars bytes.now)) }
+        ensures { TakesCharacters result (chars bytes.now) self.new }
     {
         if bytes.len() > MOST_CHARACTERS {
             return Err(TooManyCharacters);

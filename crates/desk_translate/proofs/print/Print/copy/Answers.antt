@@ -4,8 +4,8 @@ use Rattle.std.proofs.lemmas.Str.{chars_past_char, IsUtf8-past_char, chars-nil}
 use Rattle.std.proofs.lemmas.List.{append-nil, take_more_set, length-append, length_push, length-set, nil_from_length}
 use Rattle.desk_translate.proofs.print.Print.copy.Goals as goal
 
-pub returns-then-len-eq-MOST_CHARACTERS-clause-many : goal.returns-then-len-eq-MOST_CHARACTERS-clause-many
-returns-then-len-eq-MOST_CHARACTERS-clause-many c =
+pub returns-then-len-eq-MOST_CHARACTERS : goal.returns-then-len-eq-MOST_CHARACTERS
+returns-then-len-eq-MOST_CHARACTERS c =
     let inv = c.loop-character.invariant in
     let step = c.in-Some.ensures.steps in
     let rest = chars (chars_rest c.loop-character.character-iterator) in
@@ -31,15 +31,9 @@ loop-character-preserved c =
           ∙ (ap (λ (t : List ℕ). c.loop-character.yielded ++ t) (sym (chars_past_char _ _ x inv.is_text step.0)) ∙ inv.others);
     }
 
-pub returns-clause-copied : goal.returns-clause-copied
-returns-clause-copied c =
-    let inv = c.loop-character.invariant in
-    let empty : chars_rest c.loop-character.character-iterator ≡ [] = nil_from_length _ c.in-None.ensures.steps.0.0 in
-    inv.front ∙ (sym (append-nil c.loop-character.yielded) ∙ (ap (λ (t : List ℕ). c.loop-character.yielded ++ t) (sym (ap chars empty ∙ chars-nil)) ∙ inv.others))
-
-pub returns-clause-few : goal.returns-clause-few
-returns-clause-few c =
+pub returns : goal.returns
+returns c =
     let inv = c.loop-character.invariant in
     let empty : chars_rest c.loop-character.character-iterator ≡ [] = nil_from_length _ c.in-None.ensures.steps.0.0 in
     let all : c.loop-character.yielded ≡ chars c.args.text.now = sym (append-nil c.loop-character.yielded) ∙ (ap (λ (t : List ℕ). c.loop-character.yielded ++ t) (sym (ap chars empty ∙ chars-nil)) ∙ inv.others) in
-    omega (arith, ap length all, inv.count, inv.few)
+    (inv.front ∙ all, omega (arith, ap length all, inv.count, inv.few))

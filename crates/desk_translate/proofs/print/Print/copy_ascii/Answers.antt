@@ -18,16 +18,15 @@ loop-place-preserved c =
           ∙ sym (take_more c.args.bytes.now n 0 c.loop-place-test.true)));
     }
 
-pub returns-clause-copied : goal.returns-clause-copied
-returns-clause-copied c =
+pub returns : goal.returns
+returns c =
     let n = c.loop-place.place in
-    let all : n ≡ length c.args.bytes.now = omega (arith, c.loop-place-test.false, c.loop-place.auto.place-end) in
-    ap (λ (k : ℕ). take k c.loop-place.self-inside.characters) (sym all)
-    ∙ (c.loop-place.invariant.front ∙ (take_all n c.args.bytes.now c.loop-place-test.false ∙ sym (chars-IsAscii c.args.bytes.now c.requires)))
+    let all : n ≡ length c.args.bytes.now = omega (arith, c.loop-place-test.false, c.loop-place.auto.place-end) in (
+      ap (λ (k : ℕ). take k c.loop-place.self-inside.characters) (sym all)
+          ∙ (c.loop-place.invariant.front ∙ (take_all n c.args.bytes.now c.loop-place-test.false ∙ sym (chars-IsAscii c.args.bytes.now c.requires))),
+      omega (arith, ap length (chars-IsAscii c.args.bytes.now c.requires), c.if-bytes-gt-MOST_CHARACTERS.false),
+    )
 
-pub returns-clause-few : goal.returns-clause-few
-returns-clause-few c = omega (arith, ap length (chars-IsAscii c.args.bytes.now c.requires), c.if-bytes-gt-MOST_CHARACTERS.false)
-
-pub returns-then-bytes-gt-MOST_CHARACTERS-clause-many : goal.returns-then-bytes-gt-MOST_CHARACTERS-clause-many
-returns-then-bytes-gt-MOST_CHARACTERS-clause-many c =
+pub returns-then-bytes-gt-MOST_CHARACTERS : goal.returns-then-bytes-gt-MOST_CHARACTERS
+returns-then-bytes-gt-MOST_CHARACTERS c =
     omega (arith, ap length (chars-IsAscii c.args.bytes.now c.requires), c.if-bytes-gt-MOST_CHARACTERS.true)
