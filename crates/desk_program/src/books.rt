@@ -22,12 +22,9 @@ fn open_store<F: Databases + AllocGlobal>(
     make: bool,
 ) -> Result<(Store<F::Database>, Book), Stop>
     ensures { MatchResult result
-        (λ it. Opening
-        (place_at F.Shelf F.Database.Store F.connects F.closes rt.now path.now)
+        (λ it. Opening (place_at F.Shelf F.Database.Store F.connects F.closes rt.now path.now)
         make it.0.connection it.1 × (it.0.lost ≡ false))
-        (FindsNone
-        (place_at F.Shelf F.Database.Store F.connects F.closes rt.now path.now)
-        make) }
+        (FindsNone (place_at F.Shelf F.Database.Store F.connects F.closes rt.now path.now) make) }
 {
     let mut connection = rt.connect(path, make)?;
     match Store::open_on(rt.alloc(), &mut connection, make) {
@@ -42,12 +39,8 @@ fn open_store<F: Databases + AllocGlobal>(
 /// The book in the file at this path, which is closed again.
 fn read_book<F: Databases + AllocGlobal>(rt: &F, path: &str, make: bool) -> Result<Book, Stop>
     ensures { MatchResult result
-        (Finds
-        (place_at F.Shelf F.Database.Store F.connects F.closes rt.now path.now)
-        make)
-        (FindsNone
-        (place_at F.Shelf F.Database.Store F.connects F.closes rt.now path.now)
-        make) }
+        (Finds (place_at F.Shelf F.Database.Store F.connects F.closes rt.now path.now) make)
+        (FindsNone (place_at F.Shelf F.Database.Store F.connects F.closes rt.now path.now) make) }
 {
     let (store, book) = open_store(rt, path, make)?;
     rt.close(store.release().into_store());

@@ -30,33 +30,16 @@ pub fn read_table<F: Shelf + AllocGlobal>(rt: &F, path: &str) -> Result<RuleInde
     if path == SUPPLIED {
         return index_text(rt.alloc(), EN.as_bytes());
     }
-    match read_file(rt, path) {
-        Ok(text) => index_text(rt.alloc(), text.as_slice()),
-        Err(fault) => Err(fault),
-    }
+    let text = read_file(rt, path)?;
+    index_text(rt.alloc(), text.as_slice())
 }
 
 /// The index of the rules of the table in a text.
 fn index_text(alloc: Global, text: &[u8]) -> Result<RuleIndex, ProgramFault>
     ensures { MatchResult result (Means text.now) (IsFaultOf text.now) }
 {
-    match read_text(alloc, text) {
-        Ok(table) => match RuleIndex::new(alloc, table) {
-            Ok(index) => Ok(index),
-            Err(_) => Err(ProgramFault::NoMemory),
-        },
-        Err(fault) => Err(fault),
-    }
-}
-
-/// Reads a table text.
-fn read_text(alloc: Global, text: &[u8]) -> Result<Table, ProgramFault>
-    ensures { MatchResult result (Means text.now) (IsFaultOf text.now) }
-{
-    match Table::read(alloc, text) {
-        Ok(table) => Ok(table),
-        Err(fault) => Err(ProgramFault::from(fault)),
-    }
+    let table = Table::read(alloc, text)?;
+    Ok(RuleIndex::new(alloc, table)?)
 }
 
 /// The bytes of the file at this path, if they are not too many.
@@ -84,9 +67,7 @@ fn read_all<S: Source>(alloc: Global, source: &mut S) -> Result<Vec<u8>, Program
         if count == 0 {
             return Ok(bytes);
         }
-        if bytes.extend_from_slice(&chunk[..count]).is_err() {
-            return Err(ProgramFault::NoMemory);
-        }
+        bytes.extend_from_slice(&chunk[..count])?;
     }
     Err(ProgramFault::File)
 }

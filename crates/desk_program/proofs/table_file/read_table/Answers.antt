@@ -16,8 +16,8 @@ returns-then-eq g c =
     let at = supplied same c.as_bytes.ensures.value in
     carried c.index_text.result _ _ _ _ (λ table h. (c.as_bytes.result.now, at, h)) (λ fault h. of_text c.as_bytes.result.now at h) c.index_text.ensures
 
-pub returns-in-Ok : goal.returns-in-Ok
-returns-in-Ok g c =
+pub returns : goal.returns
+returns g c =
     let other : c.args.path.now ≢ codes "@en" = λ e. both_ways _ c.if-eq.false (c.eq.ensures ∙ (bytes_eq-Decides c.args.path.now (codes "@en")).1 e) in
-    let at = in_file other c.in-Ok.ensures in
-    carried c.index_text-in-Ok.result _ _ _ _ (λ table h. (c.in-Ok.text.items, at, h)) (λ fault h. of_text c.in-Ok.text.items at h) (rw c.as_slice.ensures.value at c.index_text-in-Ok.ensures)
+    let at = in_file other c.in_ok-text.ensures in
+    carried c.index_text-2.result _ _ _ _ (λ table h. (c.in_ok-text.text.items, at, h)) (λ fault h. of_text c.in_ok-text.text.items at h) (rw c.as_slice.ensures.value at c.index_text-2.ensures)
