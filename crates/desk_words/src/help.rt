@@ -1,21 +1,16 @@
-//! What `--help` says of the program and of each action.
+//! What `--help` says. `ABOUT` is what the program does, `NEW_ABOUT` what its action `new` does, and
+//! `NEW` the end of that action's help; so for each action.
 
-/// What the program is.
 pub const ABOUT: &str = "braildesk, the desk program of a braille transcribing office";
 
-/// What `new` does.
 pub const NEW_ABOUT: &str = "Makes an empty book in a file";
 
-/// What `session` does.
 pub const SESSION_ABOUT: &str = "Answers the requests of standard input from the book in a file";
 
-/// What `export` does.
 pub const EXPORT_ABOUT: &str = "Writes a volume of the book in a file as pages for an embosser";
 
-/// What `translate` does.
 pub const TRANSLATE_ABOUT: &str = "Writes the braille of each line of standard input by a table";
 
-/// What `check` does.
 pub const CHECK_ABOUT: &str = "Checks a book's file and says how many changes were made to it";
 
 /// What the operand of `translate` is.
@@ -37,7 +32,6 @@ Exit status:
 What is refused with status 2 is reported in one line on standard error, as 'braildesk: no 98'.
 'braildesk COMMAND --help' says which codes a command has.";
 
-/// The end of the help of `new`.
 pub const NEW: &str = "\
 The answer is 'ok 0'. A file that isn't there is made; a book that is there stays as it is.
 
@@ -56,7 +50,6 @@ Exit status:
      no 99 VERSION   the file holds a book already
   3  the file could not be written, or standard output failed";
 
-/// The end of the help of `session`.
 pub const SESSION: &str = "\
 Each request is answered in turn: a command by 'ok' when the file keeps it, or by 'no' and a code when it
 is refused. docs/FORMATS.md has the requests, the replies and what each code means.
@@ -75,7 +68,6 @@ Exit status:
      no 98           the file is not there, can't be opened or written, is in use, or is no database
   3  the file could not be read, the book could not be kept, or standard input or standard output failed";
 
-/// The end of the help of `export`.
 pub const EXPORT: &str = "\
 The pages are in Braille Ready Format.
 
@@ -95,7 +87,6 @@ Exit status:
      no 98            the file is not there, can't be opened or written, is in use, or is no database
   3  the file could not be read, or standard output failed";
 
-/// The end of the help of `translate`.
 pub const TRANSLATE: &str = "\
 Each line of input is answered by one line: its cells as characters of Braille Patterns, or
   no 1        the line has over 65536 bytes, or is not UTF-8
@@ -114,7 +105,6 @@ Exit status:
      no 98            the table file is not there, can't be read, or is too large
   3  standard input or standard output failed";
 
-/// The end of the help of `check`.
 pub const CHECK: &str = "\
 The answer is 'ok VERSION': as many changes as were made to the book.
 
