@@ -7,7 +7,7 @@ ghost use Rattle.std.specs.Prelude.{◌≡◌, ◌+◌, ◌<◌, ◌≤◌, ◌^
 
 use super::layout::Layout;
 use super::page_line::PageLine;
-use desk_ends::{Failure, Sink, send};
+use desk_ends::{Sent, Sink, send};
 use itoa::Buffer;
 
 /// What ends a page.
@@ -37,7 +37,7 @@ fn lay_number(line: &mut PageLine, width: usize, number: u64)
 }
 
 /// Sends a line with its ending, and takes its bytes out.
-fn end_line<K: Sink>(sink: &mut K, line: &mut PageLine) -> Result<(), Failure>
+fn end_line<K: Sink>(sink: &mut K, line: &mut PageLine) -> Sent
     requires { length line.old ≤ most_width }
     ensures sent { Transmits K.can_fail (K.contents sink.old) (K.contents sink.new) (with_ending line.old) [] (is_ok result) }
     ensures empty { OnOk result (line.new ≡ []) }
@@ -50,12 +50,7 @@ fn end_line<K: Sink>(sink: &mut K, line: &mut PageLine) -> Result<(), Failure>
 }
 
 /// Sends the last line of a page and its end.
-fn end_page<K: Sink>(
-    sink: &mut K,
-    line: &mut PageLine,
-    width: usize,
-    number: u64,
-) -> Result<(), Failure>
+fn end_page<K: Sink>(sink: &mut K, line: &mut PageLine, width: usize, number: u64) -> Sent
     requires empty { line.old ≡ [] }
     requires width { width ≤ most_width }
     ensures sent { Transmits K.can_fail (K.contents sink.old) (K.contents sink.new)
@@ -74,7 +69,7 @@ pub(crate) fn put_line<K: Sink>(
     layout: &Layout,
     lines: &mut u64,
     line: &mut PageLine,
-) -> Result<(), Failure>
+) -> Sent
     requires room { length line.old ≤ most_width }
     requires count { lines.old + 1 < 2 ^ 64 }
     ensures sent { Transmits K.can_fail (K.contents sink.old) (K.contents sink.new)
@@ -97,7 +92,7 @@ pub(crate) fn fill_page<K: Sink>(
     layout: &Layout,
     lines: &mut u64,
     line: &mut PageLine,
-) -> Result<(), Failure>
+) -> Sent
     requires empty { line.old ≡ [] }
     requires count { lines.old + most_lines < 2 ^ 64 }
     ensures { FillsPage K.can_fail (K.contents sink.old) (K.contents sink.new) layout.now lines.old lines.new

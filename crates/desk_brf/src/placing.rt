@@ -12,7 +12,7 @@ use super::page::put_line;
 use super::page_line::PageLine;
 use super::word::{skip_blanks, word_len};
 use cell_core::Cell;
-use desk_ends::{Failure, Sink};
+use desk_ends::{Sent, Sink};
 use desk_model::Style;
 
 /// The blanks before the first line of a paragraph.
@@ -91,7 +91,7 @@ fn put_words<K: Sink>(
     lines: &mut u64,
     style: Style,
     cells: &[Cell],
-) -> Result<(), Failure>
+) -> Sent
     requires at_word { IsAtWord cells.now }
     requires dots { All IsSixDot cells.now }
     requires count { lines.old + length cells.now + 1 < 2 ^ 64 }
@@ -113,12 +113,7 @@ fn put_words<K: Sink>(
 }
 
 /// Sends the empty line before a heading that doesn't begin a page.
-fn put_gap<K: Sink>(
-    sink: &mut K,
-    layout: &Layout,
-    lines: &mut u64,
-    style: Style,
-) -> Result<(), Failure>
+fn put_gap<K: Sink>(sink: &mut K, layout: &Layout, lines: &mut u64, style: Style) -> Sent
     requires count { lines.old + 1 < 2 ^ 64 }
     ensures sent { Transmits K.can_fail (K.contents sink.old) (K.contents sink.new)
         (bytes_of_lines layout.now lines.old (gap_before layout.now lines.old style ([] ∷ []))) [] (is_ok result) }
@@ -139,7 +134,7 @@ pub(crate) fn put_paragraph<K: Sink>(
     lines: &mut u64,
     style: Style,
     cells: &[Cell],
-) -> Result<(), Failure>
+) -> Sent
     requires dots { All IsSixDot cells.now }
     requires count { lines.old + length cells.now + 2 < 2 ^ 64 }
     ensures lines { PutsParagraph K.can_fail (K.contents sink.old) (K.contents sink.new) layout.now

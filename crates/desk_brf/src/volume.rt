@@ -15,7 +15,7 @@ use super::placing::put_paragraph;
 use super::volumes::{Volumes, cells_of};
 use cell_core::Cell;
 use desk_book::Book;
-use desk_ends::{Failure, Sink};
+use desk_ends::{Failure, Sent, Sink};
 use thiserror::Error;
 
 /// How many cells have none of the dots 7 and 8.
@@ -103,7 +103,7 @@ fn put_paragraphs<K: Sink>(
     layout: &Layout,
     volume: u64,
     lines: &mut u64,
-) -> Result<(), Failure>
+) -> Sent
     requires six_dot { All (HasSixDotCells book.now) (volume_of book.now volume) }
     requires none { lines.old ≡ 0 }
     ensures lines { PutsParagraphs K.can_fail (K.contents sink.old) (K.contents sink.new)

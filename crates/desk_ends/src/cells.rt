@@ -6,13 +6,13 @@ ghost use Rattle.std.specs.Prelude.{encode_utf8, is_ok, ◌++◌};
 
 use super::block::Block;
 use super::bytes::make_room;
-use super::ends::{Failure, Sink};
+use super::ends::{Sent, Sink};
 use cell_core::Cell;
 
 /// Puts the cells, as characters, after the block, and sends it whenever it is full. Most choices
 /// make one cell, so one has a way of its own, without a loop.
 #[inline(always)]
-pub fn put_cells<K: Sink>(sink: &mut K, block: &mut Block, cells: &[Cell]) -> Result<(), Failure>
+pub fn put_cells<K: Sink>(sink: &mut K, block: &mut Block, cells: &[Cell]) -> Sent
     ensures { Puts K.Sink sink.old sink.new
         (block.old ++ text_of cells.now) block.new (is_ok result) }
 {
@@ -25,7 +25,7 @@ pub fn put_cells<K: Sink>(sink: &mut K, block: &mut Block, cells: &[Cell]) -> Re
 
 /// Puts cells, one after another.
 #[inline(never)]
-fn put_each<K: Sink>(sink: &mut K, block: &mut Block, cells: &[Cell]) -> Result<(), Failure>
+fn put_each<K: Sink>(sink: &mut K, block: &mut Block, cells: &[Cell]) -> Sent
     ensures { Puts K.Sink sink.old sink.new
         (block.old ++ text_of cells.now) block.new (is_ok result) }
 {
@@ -37,7 +37,7 @@ fn put_each<K: Sink>(sink: &mut K, block: &mut Block, cells: &[Cell]) -> Result<
 
 /// Puts a cell, as a character, after the block, which is sent first if it has no room for one.
 #[inline(always)]
-pub fn put_cell<K: Sink>(sink: &mut K, block: &mut Block, cell: Cell) -> Result<(), Failure>
+pub fn put_cell<K: Sink>(sink: &mut K, block: &mut Block, cell: Cell) -> Sent
     ensures { Puts K.Sink sink.old sink.new
         (block.old ++ encode_utf8 (braille_character cell)) block.new (is_ok result) }
 {

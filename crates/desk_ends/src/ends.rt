@@ -16,6 +16,9 @@ use thiserror::Error;
 #[error("a read or a write failed")]
 pub struct Failure;
 
+/// What comes of sending: all went well, or an end failed.
+pub type Sent = Result<(), Failure>;
+
 /// Where bytes come from.
 pub trait Source {
     // The bytes that are left, if they are known.

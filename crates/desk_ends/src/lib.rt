@@ -28,7 +28,7 @@ pub use block::Block;
 pub use buffered_writer::BufferedWriter;
 pub use bytes::{put_byte, put_bytes, send_block};
 pub use cells::{put_cell, put_cells};
-pub use ends::{Failure, Memory, Sink, Source};
+pub use ends::{Failure, Memory, Sent, Sink, Source};
 pub use input::Input;
 pub use limits::{CHUNK_BYTES, MOST_INPUT, MOST_LINE_BYTES};
 pub use line::{Line, split_line, without_ending};

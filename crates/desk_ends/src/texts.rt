@@ -2,10 +2,10 @@
 ghost use Rattle.desk_ends.specs.Sending.{Sends};
 ghost use Rattle.std.specs.Prelude.{is_ok, flat_map};
 
-use super::ends::{Failure, Sink};
+use super::ends::{Sent, Sink};
 
 /// Writes the whole text, or a beginning of it. A write that takes no byte has failed.
-pub fn send<K: Sink>(sink: &mut K, text: &[u8]) -> Result<(), Failure>
+pub fn send<K: Sink>(sink: &mut K, text: &[u8]) -> Sent
     ensures { Sends K.Sink sink.old sink.new text.now (is_ok result) }
 {
     let mut rest = text;
@@ -17,7 +17,7 @@ pub fn send<K: Sink>(sink: &mut K, text: &[u8]) -> Result<(), Failure>
 }
 
 /// Writes the texts one after another, or a beginning of them.
-pub fn send_parts<K: Sink>(sink: &mut K, parts: &[&[u8]]) -> Result<(), Failure>
+pub fn send_parts<K: Sink>(sink: &mut K, parts: &[&[u8]]) -> Sent
     ensures { Sends K.Sink sink.old sink.new
         (flat_map (λ part. part.now) parts.now) (is_ok result) }
 {

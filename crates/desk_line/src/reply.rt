@@ -8,7 +8,7 @@ use super::request::Query;
 use super::shown::{put_braille, put_history, put_list, put_marks, put_place, put_print};
 use super::text_output::put_line;
 use desk_book::Book;
-use desk_ends::{Block, Failure, Sink, send};
+use desk_ends::{Block, Sent, Sink, send};
 use desk_model::Refusal;
 use thiserror::Error;
 
@@ -36,12 +36,7 @@ pub fn write_reply<K: Sink>(sink: &mut K, book: &Book, answer: &Answer) -> Resul
 /// # Errors
 ///
 /// If a write failed. What went out is then a beginning of the reply.
-pub fn send_reply<K: Sink>(
-    sink: &mut K,
-    block: &mut Block,
-    book: &Book,
-    answer: &Answer,
-) -> Result<(), Failure>
+pub fn send_reply<K: Sink>(sink: &mut K, block: &mut Block, book: &Book, answer: &Answer) -> Sent
     ensures { IsReplied K.can_fail (K.contents sink.old) (K.contents sink.new)
         book.now answer.now (is_ok result) }
 {
@@ -51,12 +46,7 @@ pub fn send_reply<K: Sink>(
 }
 
 /// Puts the reply to a request.
-fn put_reply<K: Sink>(
-    sink: &mut K,
-    block: &mut Block,
-    book: &Book,
-    answer: &Answer,
-) -> Result<(), Failure>
+fn put_reply<K: Sink>(sink: &mut K, block: &mut Block, book: &Book, answer: &Answer) -> Sent
     ensures { PutsReply K.Sink sink.old sink.new block.old block.new
         book.now answer.now (is_ok result) }
 {
@@ -74,7 +64,7 @@ fn put_reply<K: Sink>(
 }
 
 /// Puts a refusal with its numbers.
-fn put_refusal<K: Sink>(sink: &mut K, block: &mut Block, refusal: Refusal) -> Result<(), Failure>
+fn put_refusal<K: Sink>(sink: &mut K, block: &mut Block, refusal: Refusal) -> Sent
     ensures { Puts K.Sink sink.old sink.new
         (block.old ++ refusal_line refusal) block.new (is_ok result) }
 {
@@ -107,12 +97,7 @@ fn put_refusal<K: Sink>(sink: &mut K, block: &mut Block, refusal: Refusal) -> Re
 }
 
 /// Puts what a query shows, or its refusal.
-fn put_query<K: Sink>(
-    sink: &mut K,
-    block: &mut Block,
-    book: &Book,
-    query: Query,
-) -> Result<(), Failure>
+fn put_query<K: Sink>(sink: &mut K, block: &mut Block, book: &Book, query: Query) -> Sent
     ensures { PutsQueryReply K.Sink sink.old sink.new block.old block.new
         book.now query (is_ok result) }
 {
@@ -131,7 +116,7 @@ fn put_shown<K: Sink>(
     block: &mut Block,
     book: &Book,
     query: Query,
-) -> Result<Result<(), Failure>, Refusal>
+) -> Result<Sent, Refusal>
     ensures { MatchResult result
         (λ put. PutsShown K.Sink sink.old sink.new block.old block.new book.now query (is_ok put))
         (λ refusal. Refuses book.now query refusal × (sink.new ≡ sink.old) × (block.new ≡ block.old)) }

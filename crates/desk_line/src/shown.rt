@@ -12,16 +12,12 @@ ghost use Rattle.std.specs.Prelude.{decimal, is_ok, map, ◌++◌, ◌≡◌};
 use super::text_output::{put_characters, put_fields};
 use cell_core::Cell;
 use desk_book::{Done, History, HistoryItem, List, ListItem, MarkItem, ParagraphMarks};
-use desk_ends::{Block, Failure, Sink, put_byte, put_bytes, put_cells};
+use desk_ends::{Block, Sent, Sink, put_byte, put_bytes, put_cells};
 use desk_model::Style;
 use itoa::Buffer;
 
 /// Puts a print.
-pub(crate) fn put_print<K: Sink>(
-    sink: &mut K,
-    block: &mut Block,
-    print: &[char],
-) -> Result<(), Failure>
+pub(crate) fn put_print<K: Sink>(sink: &mut K, block: &mut Block, print: &[char]) -> Sent
     ensures { Puts K.Sink sink.old sink.new
         (block.old ++ shown_line (shown_text print.now)) block.new (is_ok result) }
 {
@@ -31,11 +27,7 @@ pub(crate) fn put_print<K: Sink>(
 }
 
 /// Puts braille.
-pub(crate) fn put_braille<K: Sink>(
-    sink: &mut K,
-    block: &mut Block,
-    cells: &[Cell],
-) -> Result<(), Failure>
+pub(crate) fn put_braille<K: Sink>(sink: &mut K, block: &mut Block, cells: &[Cell]) -> Sent
     ensures { Puts K.Sink sink.old sink.new
         (block.old ++ shown_line (text_of cells.now)) block.new (is_ok result) }
 {
@@ -45,11 +37,7 @@ pub(crate) fn put_braille<K: Sink>(
 }
 
 /// Puts the number of a place or of a cell.
-pub(crate) fn put_place<K: Sink>(
-    sink: &mut K,
-    block: &mut Block,
-    place: usize,
-) -> Result<(), Failure>
+pub(crate) fn put_place<K: Sink>(sink: &mut K, block: &mut Block, place: usize) -> Sent
     ensures { Puts K.Sink sink.old sink.new
         (block.old ++ shown_line (decimal place)) block.new (is_ok result) }
 {
@@ -58,11 +46,7 @@ pub(crate) fn put_place<K: Sink>(
 }
 
 /// Puts the entries of a history.
-pub(crate) fn put_history<K: Sink>(
-    sink: &mut K,
-    block: &mut Block,
-    history: History<'_>,
-) -> Result<(), Failure>
+pub(crate) fn put_history<K: Sink>(sink: &mut K, block: &mut Block, history: History<'_>) -> Sent
     ensures { Puts K.Sink sink.old sink.new
         (block.old ++ flat_map shown_line (map entry_line history.entry)) block.new (is_ok result) }
 {
@@ -73,11 +57,7 @@ pub(crate) fn put_history<K: Sink>(
 }
 
 /// Puts an entry of a history.
-fn put_entry<K: Sink>(
-    sink: &mut K,
-    block: &mut Block,
-    item: &HistoryItem<'_>,
-) -> Result<(), Failure>
+fn put_entry<K: Sink>(sink: &mut K, block: &mut Block, item: &HistoryItem<'_>) -> Sent
     ensures { (entry : Entry) → TellsOf entry item.now.done
         → Puts K.Sink sink.old sink.new
         (block.old ++ shown_line (entry_line (item.now.number, entry))) block.new (is_ok result) }
@@ -116,11 +96,7 @@ fn put_entry<K: Sink>(
 }
 
 /// Puts the marks of a paragraph.
-pub(crate) fn put_marks<K: Sink>(
-    sink: &mut K,
-    block: &mut Block,
-    marks: ParagraphMarks<'_>,
-) -> Result<(), Failure>
+pub(crate) fn put_marks<K: Sink>(sink: &mut K, block: &mut Block, marks: ParagraphMarks<'_>) -> Sent
     ensures { Puts K.Sink sink.old sink.new
         (block.old ++ flat_map shown_line (map mark_line marks.entry)) block.new (is_ok result) }
 {
@@ -131,7 +107,7 @@ pub(crate) fn put_marks<K: Sink>(
 }
 
 /// Puts a mark.
-fn put_mark<K: Sink>(sink: &mut K, block: &mut Block, mark: &MarkItem<'_>) -> Result<(), Failure>
+fn put_mark<K: Sink>(sink: &mut K, block: &mut Block, mark: &MarkItem<'_>) -> Sent
     ensures { (told : BookMark) → TellsOfMark told mark.now
         → Puts K.Sink sink.old sink.new
         (block.old ++ shown_line (mark_line told)) block.new (is_ok result) }
@@ -149,11 +125,7 @@ fn put_mark<K: Sink>(sink: &mut K, block: &mut Block, mark: &MarkItem<'_>) -> Re
 }
 
 /// Puts the paragraphs of a book.
-pub(crate) fn put_list<K: Sink>(
-    sink: &mut K,
-    block: &mut Block,
-    list: List<'_>,
-) -> Result<(), Failure>
+pub(crate) fn put_list<K: Sink>(sink: &mut K, block: &mut Block, list: List<'_>) -> Sent
     ensures { Puts K.Sink sink.old sink.new
         (block.old ++ flat_map shown_line (map list_line list.entry)) block.new (is_ok result) }
 {
@@ -164,11 +136,7 @@ pub(crate) fn put_list<K: Sink>(
 }
 
 /// Puts a paragraph of the list.
-fn put_listed<K: Sink>(
-    sink: &mut K,
-    block: &mut Block,
-    paragraph: &ListItem<'_>,
-) -> Result<(), Failure>
+fn put_listed<K: Sink>(sink: &mut K, block: &mut Block, paragraph: &ListItem<'_>) -> Sent
     ensures { (told : BookParagraph) → IsListed told paragraph.now
         → Puts K.Sink sink.old sink.new
         (block.old ++ shown_line (list_line told)) block.new (is_ok result) }

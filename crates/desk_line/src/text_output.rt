@@ -4,12 +4,12 @@ ghost use Rattle.desk_line.specs.Reply.{line_of, shown_text, word_and};
 ghost use Rattle.std.specs.Char.{encode_utf8};
 ghost use Rattle.std.specs.Prelude.{codes, decimal, is_ok, map, ◌++◌, ◌<◌, ◌≤◌, ◌∷◌};
 
-use desk_ends::{Block, Failure, Sink, put_byte, put_bytes};
+use desk_ends::{Block, Sent, Sink, put_byte, put_bytes};
 use itoa::Buffer;
 
 /// Puts a character in UTF-8.
 #[inline(always)]
-fn put_character<K: Sink>(sink: &mut K, block: &mut Block, character: char) -> Result<(), Failure>
+fn put_character<K: Sink>(sink: &mut K, block: &mut Block, character: char) -> Sent
     ensures { Puts K.Sink sink.old sink.new
         (block.old ++ encode_utf8 character) block.new (is_ok result) }
 {
@@ -24,7 +24,7 @@ fn put_character<K: Sink>(sink: &mut K, block: &mut Block, character: char) -> R
 
 /// Puts a character of two bytes in UTF-8: 0xC0 and its upper five bits, 0x80 and its lower six.
 #[inline(always)]
-fn put_pair<K: Sink>(sink: &mut K, block: &mut Block, character: char) -> Result<(), Failure>
+fn put_pair<K: Sink>(sink: &mut K, block: &mut Block, character: char) -> Sent
     requires wide { 128 ≤ character }
     requires short { character < 2048 }
     ensures { Puts K.Sink sink.old sink.new
@@ -36,7 +36,7 @@ fn put_pair<K: Sink>(sink: &mut K, block: &mut Block, character: char) -> Result
 }
 
 /// Puts a character in UTF-8, however many bytes it has.
-fn put_wide<K: Sink>(sink: &mut K, block: &mut Block, character: char) -> Result<(), Failure>
+fn put_wide<K: Sink>(sink: &mut K, block: &mut Block, character: char) -> Sent
     ensures { Puts K.Sink sink.old sink.new
         (block.old ++ encode_utf8 character) block.new (is_ok result) }
 {
@@ -46,11 +46,7 @@ fn put_wide<K: Sink>(sink: &mut K, block: &mut Block, character: char) -> Result
 
 /// Puts characters in UTF-8.
 #[inline(never)]
-pub(crate) fn put_characters<K: Sink>(
-    sink: &mut K,
-    block: &mut Block,
-    characters: &[char],
-) -> Result<(), Failure>
+pub(crate) fn put_characters<K: Sink>(sink: &mut K, block: &mut Block, characters: &[char]) -> Sent
     ensures { Puts K.Sink sink.old sink.new
         (block.old ++ shown_text characters.now) block.new (is_ok result) }
 {
@@ -66,7 +62,7 @@ pub(crate) fn put_line<K: Sink>(
     block: &mut Block,
     word: &[u8],
     numbers: &[u64],
-) -> Result<(), Failure>
+) -> Sent
     ensures { Puts K.Sink sink.old sink.new
         (block.old ++ word_and word.now numbers.now) block.new (is_ok result) }
 {
@@ -78,11 +74,7 @@ pub(crate) fn put_line<K: Sink>(
 }
 
 /// Puts a line of a bar and fields after it.
-pub(crate) fn put_fields<K: Sink>(
-    sink: &mut K,
-    block: &mut Block,
-    fields: &[&[u8]],
-) -> Result<(), Failure>
+pub(crate) fn put_fields<K: Sink>(sink: &mut K, block: &mut Block, fields: &[&[u8]]) -> Sent
     ensures { Puts K.Sink sink.old sink.new
         (block.old ++ line_of (codes "|" ∷ map (λ field. field.now) fields.now)) block.new (is_ok result) }
 {
@@ -94,7 +86,7 @@ pub(crate) fn put_fields<K: Sink>(
 }
 
 /// Puts a blank and a number in decimal digits.
-fn put_number<K: Sink>(sink: &mut K, block: &mut Block, number: u64) -> Result<(), Failure>
+fn put_number<K: Sink>(sink: &mut K, block: &mut Block, number: u64) -> Sent
     ensures { Puts K.Sink sink.old sink.new
         (block.old ++ 32 ∷ decimal number) block.new (is_ok result) }
 {
@@ -103,7 +95,7 @@ fn put_number<K: Sink>(sink: &mut K, block: &mut Block, number: u64) -> Result<(
 }
 
 /// Puts a blank and a field.
-fn put_field<K: Sink>(sink: &mut K, block: &mut Block, field: &[u8]) -> Result<(), Failure>
+fn put_field<K: Sink>(sink: &mut K, block: &mut Block, field: &[u8]) -> Sent
     ensures { Puts K.Sink sink.old sink.new
         (block.old ++ 32 ∷ field.now) block.new (is_ok result) }
 {

@@ -15,7 +15,7 @@ use super::shelf::{Databases, Shelf};
 use super::stop::Stop;
 use super::table_file::read_table;
 use desk_brf::Layout;
-use desk_ends::{Failure, Sink, Source, send, send_parts};
+use desk_ends::{Sent, Sink, Source, send, send_parts};
 use desk_translate::{Ended, translate_lines};
 use desk_words::{Action, Reading, read_words};
 use itoa::{Buffer, Integer};
@@ -164,7 +164,7 @@ pub fn refuse<E: Sink>(errors: &mut E, fault: &ProgramFault) -> u8
 }
 
 /// Sends the line of a fault.
-fn tell<E: Sink>(errors: &mut E, fault: &ProgramFault) -> Result<(), Failure>
+fn tell<E: Sink>(errors: &mut E, fault: &ProgramFault) -> Sent
     ensures { Sends E.Sink errors.old errors.new (fault_line fault.now) (is_ok result) }
 {
     match fault {
@@ -182,7 +182,7 @@ fn tell<E: Sink>(errors: &mut E, fault: &ProgramFault) -> Result<(), Failure>
 }
 
 /// Sends the line of a fault with one detail.
-fn tell_one<E: Sink, I: Integer>(errors: &mut E, code: &[u8], detail: I) -> Result<(), Failure>
+fn tell_one<E: Sink, I: Integer>(errors: &mut E, code: &[u8], detail: I) -> Sent
     ensures { Sends E.Sink errors.old errors.new
         (codes "braildesk: no " ++ code.now ++ 32 ∷ I.text detail ++ 10 ∷ []) (is_ok result) }
 {
@@ -197,7 +197,7 @@ fn tell_two<E: Sink, I: Integer, J: Integer>(
     code: &[u8],
     first: I,
     second: J,
-) -> Result<(), Failure>
+) -> Sent
     ensures { Sends E.Sink errors.old errors.new
         (codes "braildesk: no " ++ code.now ++ 32 ∷ I.text first ++ 32 ∷ J.text second ++ 10 ∷ [])
         (is_ok result) }

@@ -8,7 +8,7 @@ ghost use Rattle.std.specs.Prelude.{IsTrue, List, MatchResult, false, is_ok, tru
 
 use super::no_request::NoRequest;
 use desk_book::Book;
-use desk_ends::{Block, Failure, Sink};
+use desk_ends::{Block, Sent, Sink};
 use desk_line::{Answer, Request, send_reply};
 use desk_model::Command;
 use desk_store::Store;
@@ -72,12 +72,7 @@ fn carry_out<S: Alter>(
 }
 
 /// Replies to a request through the output buffer, and flushes the reply.
-pub(crate) fn reply<K: Sink>(
-    sink: &mut K,
-    block: &mut Block,
-    book: &Book,
-    answer: &Answer,
-) -> Result<(), Failure>
+pub(crate) fn reply<K: Sink>(sink: &mut K, block: &mut Block, book: &Book, answer: &Answer) -> Sent
     ensures { SendsReply K.can_fail (K.contents sink.old) (K.contents sink.new) (K.flushed sink.new)
         book.now answer.now (is_ok result) }
 {

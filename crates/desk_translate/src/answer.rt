@@ -7,7 +7,7 @@ ghost use Rattle.std.specs.Prelude.{List, MatchResult, OnOk, [], is_ok, ◌++◌
 
 use super::braille::send_braille;
 use super::print::{Print, TooManyCharacters};
-use desk_ends::{Block, Failure, Line, MOST_LINE_BYTES, Sink, send, send_parts, without_ending};
+use desk_ends::{Block, Line, MOST_LINE_BYTES, Sent, Sink, send, send_parts, without_ending};
 use itoa::Buffer;
 use louis_translate::RuleBook;
 
@@ -41,12 +41,7 @@ impl Workspace {
     }
 
     /// Answers a line that is held, with its ending or without.
-    pub fn answer_line<K: Sink, B: RuleBook>(
-        &mut self,
-        sink: &mut K,
-        book: &B,
-        line: &Line,
-    ) -> Result<(), Failure>
+    pub fn answer_line<K: Sink, B: RuleBook>(&mut self, sink: &mut K, book: &B, line: &Line) -> Sent
         ensures { (bytes : List ℕ) → line.now ≡ kept_line bytes
             → SendsLine K.Sink sink.old sink.new (B.meaning book.now) (without_ending bytes) (is_ok result) }
     {
@@ -57,12 +52,7 @@ impl Workspace {
     }
 
     /// Answers what is left at the end of the input, and flushes all answers.
-    pub fn finish<K: Sink, B: RuleBook>(
-        &mut self,
-        sink: &mut K,
-        book: &B,
-        line: &Line,
-    ) -> Result<(), Failure>
+    pub fn finish<K: Sink, B: RuleBook>(&mut self, sink: &mut K, book: &B, line: &Line) -> Sent
         ensures flushed { OnOk result (HasFlushed K.Sink sink.new) }
         ensures sent { (bytes : List ℕ) → line.now ≡ kept_line bytes
             → SendsLast K.Sink sink.old sink.new (B.meaning book.now) bytes (is_ok result) }
@@ -72,12 +62,7 @@ impl Workspace {
     }
 
     /// Answers the last line, if it has a byte.
-    fn answer_last<K: Sink, B: RuleBook>(
-        &mut self,
-        sink: &mut K,
-        book: &B,
-        line: &Line,
-    ) -> Result<(), Failure>
+    fn answer_last<K: Sink, B: RuleBook>(&mut self, sink: &mut K, book: &B, line: &Line) -> Sent
         ensures { (bytes : List ℕ) → line.now ≡ kept_line bytes
             → SendsLast K.Sink sink.old sink.new (B.meaning book.now) bytes (is_ok result) }
     {
@@ -88,12 +73,7 @@ impl Workspace {
     }
 
     /// Answers the bytes of a line, without its ending.
-    fn answer<K: Sink, B: RuleBook>(
-        &mut self,
-        sink: &mut K,
-        book: &B,
-        line: &[u8],
-    ) -> Result<(), Failure>
+    fn answer<K: Sink, B: RuleBook>(&mut self, sink: &mut K, book: &B, line: &[u8]) -> Sent
         ensures { SendsLine K.Sink sink.old sink.new (B.meaning book.now) line.now (is_ok result) }
     {
         match read_print(&mut self.print, book, line) {
@@ -124,7 +104,7 @@ fn read_print<B: RuleBook>(print: &mut Print, book: &B, line: &[u8]) -> Result<(
 }
 
 /// Sends a refusal and a line feed.
-pub fn refuse<K: Sink>(sink: &mut K, refusal: NoBraille) -> Result<(), Failure>
+pub fn refuse<K: Sink>(sink: &mut K, refusal: NoBraille) -> Sent
     ensures { Sends K.Sink sink.old sink.new (refusal_text refusal ++ 10 ∷ []) (is_ok result) }
 {
     match refusal {

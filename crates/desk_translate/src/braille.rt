@@ -8,7 +8,7 @@ ghost use Rattle.louis_translate.specs.Tiling.{Tiles};
 ghost use Rattle.louis_translate.specs.declared.choices.Choice.{Choice as ChoiceTerm};
 ghost use Rattle.std.specs.Prelude.{List, [], is_ok, ◌++◌, ◌∷◌};
 
-use desk_ends::{Block, Failure, Sink, put_cell, put_cells, send_block};
+use desk_ends::{Block, Sent, Sink, put_cell, put_cells, send_block};
 use louis_translate::{Pieces, RuleBook};
 
 /// Sends the braille of a print and a line feed.
@@ -17,7 +17,7 @@ pub fn send_braille<K: Sink, B: RuleBook>(
     block: &mut Block,
     book: &B,
     print: &[char],
-) -> Result<(), Failure>
+) -> Sent
     requires { AreDefined (B.meaning book.now) print.now }
     ensures { (choices : List ChoiceTerm) → Tiles (B.meaning book.now) print.now choices
         → Sends K.Sink sink.old sink.new
@@ -38,7 +38,7 @@ fn put_print<K: Sink, B: RuleBook>(
     block: &mut Block,
     book: &B,
     print: &[char],
-) -> Result<(), Failure>
+) -> Sent
     requires { AreDefined (B.meaning book.now) print.now }
     ensures { (choices : List ChoiceTerm) → Tiles (B.meaning book.now) print.now choices
         → Puts K.Sink sink.old sink.new
@@ -61,7 +61,7 @@ fn put_run<K: Sink, B: RuleBook>(
     sink: &mut K,
     block: &mut Block,
     pieces: &mut Pieces<'_, B>,
-) -> Result<(), Failure>
+) -> Sent
     ensures { PutsFirst K.Sink sink.old sink.new block.old block.new pieces.old pieces.new (is_ok result) }
 {
     while let Some(cell) = pieces.next_lone() {
