@@ -1,5 +1,5 @@
-//! What `--help` says. `ABOUT` is what the program does, `NEW_ABOUT` what its action `new` does, and
-//! `NEW` the end of that action's help; so for each action.
+//! What `--help` says: of the program `ABOUT` and, at its end, `WHOLE`; of an action such as `new`
+//! `NEW_ABOUT` and, at its end, `NEW`.
 
 pub const ABOUT: &str = "braildesk, the desk program of a braille transcribing office";
 
@@ -16,7 +16,6 @@ pub const CHECK_ABOUT: &str = "Checks a book's file and says how many changes we
 /// What the operand of `translate` is.
 pub const TABLE: &str = "A table file, or @en for the supplied table of uncontracted English";
 
-/// The end of the program's help.
 pub const WHOLE: &str = "\
 Example:
   braildesk new book.braildesk
