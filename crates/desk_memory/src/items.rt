@@ -147,35 +147,20 @@ impl<T: Drop> Items<T> {
         self.items = items;
     }
 
-    /// The items with one more at a place, before those that stand there and after. It allocates
-    /// nothing.
-    pub(crate) fn with_item_at(self, room: Room<T>, place: usize, item: T) -> Self
-        requires few { length self + 1 < 2 ^ 32 }
-        requires room { Suffices (length self) room }
-        requires place { place ≤ length self }
-        ensures { result ≡ insert self place item }
+    /// Puts an item at a place, before those that stand there and after. It allocates nothing.
+    pub(crate) fn insert(&mut self, room: Room<T>, place: usize, item: T)
+        requires few { length self.old + 1 < 2 ^ 32 }
+        requires room { Suffices (length self.old) room }
+        requires place { place ≤ length self.old }
+        ensures { self.new ≡ insert self.old place item }
     {
-        let Items {
-            mut items,
-            room: had,
-        } = self;
-        let room_now = grown(had, items.len() + 1);
-        match room.items {
-            None => {
-                items.insert(place, item).unwrap();
-                Items {
-                    items,
-                    room: room_now,
-                }
-            }
-            Some(mut more) => {
-                more.append(&mut items).unwrap();
-                more.insert(place, item).unwrap();
-                Items {
-                    items: more,
-                    room: room_now,
-                }
-            }
-        }
+        self.room = grown(self.room, self.items.len() + 1);
+        let Some(mut items) = room.items else {
+            self.items.insert(place, item).unwrap();
+            return;
+        };
+        items.append(&mut self.items).unwrap();
+        items.insert(place, item).unwrap();
+        self.items = items;
     }
 }

@@ -4,14 +4,10 @@ ghost use Rattle.desk_memory.specs.KeptMarks.{span_kept, with_kept_moved, with_k
 ghost use Rattle.desk_memory.specs.Kept.{mark_kept};
 ghost use Rattle.desk_model.specs.Book.{new_mark};
 ghost use Rattle.desk_model.specs.Limits.{most_print};
-ghost use Rattle.desk_memory.specs.Room.{Suffices};
-ghost use Rattle.desk_model.specs.Limits.{most_marks};
-ghost use Rattle.std.specs.Prelude.{option_copied, ◌≡◌, ◌+◌, ◌-◌, ◌<◌, ◌≤◌, ◌^◌, [], ◌∷◌, ◌++◌, ℕ, IfOk, None, length};
+ghost use Rattle.std.specs.Prelude.{option_copied, ◌≡◌, ◌+◌, ◌-◌, ◌<◌, ◌≤◌, ℕ, None, length};
 
-use super::items::{Items, Room};
+use super::items::Items;
 use desk_model::{Span, Text};
-use std::alloc::{AllocError, Global};
-use std::marker::Model;
 
 /// A mark, as it is kept.
 pub struct KeptMark {
@@ -98,56 +94,10 @@ fn give_way(marks: &mut [KeptMark], indexes: &[usize], start: usize, removed: us
     }
 }
 
-/// Marks with the ids 1, 2, .. in the order of their coming.
-#[derive(Drop)]
-pub struct Marks {
-    // the mark with id n has index n - 1
-    items: Items<KeptMark>,
-}
+/// Marks with the ids 1, 2, .. in the order of their coming: the one with id n has index n - 1.
+pub type Marks = Items<KeptMark>;
 
-impl Model for Marks {
-    ghost use Rattle.desk_memory.specs.declared.marks.KeptMark.{KeptMark};
-    ghost use Rattle.std.specs.Prelude.{List};
-
-    ghost Value = { List KeptMark };
-
-    ghost view = { λ m. m.items };
-}
-
-impl Marks {
-    /// No marks.
-    pub fn new(alloc: Global) -> Self
-        ensures { result ≡ [] }
-    {
-        Marks {
-            items: Items::new(alloc),
-        }
-    }
-
-    /// The marks of a list in the order of their ids.
-    pub fn from_vec(items: Vec<KeptMark>) -> Result<Self, AllocError>
-        requires { length items.items ≤ most_marks }
-        ensures { IfOk result (λ marks. marks ≡ items.items) }
-    {
-        Ok(Marks {
-            items: Items::from_vec(items)?,
-        })
-    }
-
-    /// The marks in the order of their ids.
-    pub fn as_slice(&self) -> &[KeptMark]
-        ensures { result.now ≡ self.now }
-    {
-        self.items.as_slice()
-    }
-
-    /// How many there are.
-    pub fn len(&self) -> usize
-        ensures { result ≡ length self.now }
-    {
-        self.items.len()
-    }
-
+impl Items<KeptMark> {
     /// The mark with an id, if there is one.
     pub fn get(&self, id: u64) -> Option<&KeptMark>
         ensures { option_copied result ≡ kept_mark id self.now }
@@ -155,24 +105,7 @@ impl Marks {
         if id == 0 {
             return None;
         }
-        self.items.as_slice().get((id - 1) as usize)
-    }
-
-    /// What one more mark needs.
-    pub fn room(&self, alloc: Global) -> Result<Room<KeptMark>, AllocError>
-        requires { length self.now + 1 < 2 ^ 32 }
-        ensures { IfOk result (Suffices (length self.now)) }
-    {
-        self.items.room(alloc)
-    }
-
-    /// Puts a mark after the others. It allocates nothing.
-    pub fn push(&mut self, room: Room<KeptMark>, mark: KeptMark)
-        requires few { length self.old + 1 < 2 ^ 32 }
-        requires room { Suffices (length self.old) room }
-        ensures { self.new ≡ self.old ++ mark ∷ [] }
-    {
-        self.items.push(room, mark);
+        self.items.get((id - 1) as usize)
     }
 
     /// Resolves the mark with an id, if there is one.
@@ -182,7 +115,7 @@ impl Marks {
         if id == 0 {
             return;
         }
-        if let Some(mark) = self.items.items.get_mut((id - 1) as usize) {
+        if let Some(mark) = self.items.get_mut((id - 1) as usize) {
             mark.resolved = true;
         }
     }
@@ -197,6 +130,6 @@ impl Marks {
         ensures { (id : ℕ) → indexes.now ≡ indexes_on id self.old
             → self.new ≡ with_kept_moved id start removed added self.old }
     {
-        give_way(&mut self.items.items, indexes, start, removed, added);
+        give_way(&mut self.items, indexes, start, removed, added);
     }
 }

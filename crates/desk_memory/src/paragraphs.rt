@@ -354,40 +354,34 @@ impl Paragraphs {
         Ok(Order { ids })
     }
 
-    /// These paragraphs and a new one, which stands at a place of the order. It allocates nothing.
-    pub fn with_paragraph(
-        self,
+    /// Adds a paragraph, which stands at a place of the order. It allocates nothing.
+    pub fn add(
+        &mut self,
         paragraph: Paragraph,
         room: Room<Paragraph>,
         order_room: Room<u64>,
         place: usize,
-    ) -> Self
-        requires few { length self + 1 < 2 ^ 32 }
-        requires room { Suffices (length self) room }
-        requires order_room { Suffices (length self) order_room }
-        requires place { place ≤ length self }
-        requires order { IsPermutation (range_with_len 1 (length self + 1)) (insert (ids self) place (length self + 1)) }
-        ensures { result
-            ≡ in_order_of (insert (ids self) place (length self + 1)) (self ++ (length self + 1, paragraph) ∷ []) }
+    )
+        requires few { length self.old + 1 < 2 ^ 32 }
+        requires room { Suffices (length self.old) room }
+        requires order_room { Suffices (length self.old) order_room }
+        requires place { place ≤ length self.old }
+        requires order { IsPermutation (range_with_len 1 (length self.old + 1))
+            (insert (ids self.old) place (length self.old + 1)) }
+        ensures { self.new ≡ in_order_of (insert (ids self.old) place (length self.old + 1))
+            (self.old ++ (length self.old + 1, paragraph) ∷ []) }
     {
-        let id = self.len() as u64 + 1;
-        let Paragraphs { mut items, order } = self;
-        items.push(room, paragraph);
-        let order = order.with_item_at(order_room, place, id);
-        Paragraphs { items, order }
+        let id = self.items.len() as u64 + 1;
+        self.items.push(room, paragraph);
+        self.order.insert(order_room, place, id);
     }
 
-    /// These paragraphs in another order. It allocates nothing.
-    pub fn with_order(self, order: Order) -> Self
-        requires { IsPermutation (range_with_len 1 (length self)) order }
-        ensures { result ≡ in_order_of order self }
+    /// Puts the paragraphs in another order. It allocates nothing.
+    pub fn reorder(&mut self, order: Order)
+        requires { IsPermutation (range_with_len 1 (length self.old)) order }
+        ensures { self.new ≡ in_order_of order self.old }
     {
-        let Paragraphs {
-            items,
-            order: mut ids,
-        } = self;
-        put_over(&mut ids, &order.ids);
-        Paragraphs { items, order: ids }
+        put_over(&mut self.order, &order.ids);
     }
 
     /// Gives the paragraph with an id, if there is one, a style and flags.

@@ -202,17 +202,16 @@ impl Tables {
         *old = table;
     }
 
-    /// These tables and a new one. It allocates nothing.
-    pub fn with_table(self, name: Text, table: BoxedTable, room: TablesRoom) -> Self
-        requires room { length self < room }
-        requires new { lookup (pointwise nat_eq name) self ≡ None }
-        ensures { result ≡ with_table name table self }
+    /// Adds a table under a name that no other has. It allocates nothing.
+    pub fn add(&mut self, name: Text, table: BoxedTable, room: TablesRoom)
+        requires room { length self.old < room }
+        requires new { lookup (pointwise nat_eq name) self.old ≡ None }
+        ensures { self.new ≡ with_table name table self.old }
     {
         // the room is for all of them, so nothing is asked for here
         let mut entries = room.entries;
-        let mut old = self.entries;
-        entries.append(&mut old).unwrap();
+        entries.append(&mut self.entries).unwrap();
         entries.insert(name.into_string(), table).unwrap();
-        Tables { entries }
+        self.entries = entries;
     }
 }

@@ -28,43 +28,14 @@ impl From<AllocError> for RowsFault {
     }
 }
 
-/// A row that isn't sound.
-#[derive(Drop)]
-pub(crate) struct Unsound {
-    /// Its id.
-    pub(crate) id: i64,
-}
-
-impl From<Unsound> for RowsFault {
-    ghost use Rattle.desk_rebuild.specs.declared.damage.RowsFault.TheVariants.{Damaged};
-    ghost use Rattle.std.specs.Prelude.{◌≡◌};
-
-    ghost from_gives = { λ row fault. fault ≡ Damaged row.id };
-
-    fn from(row: Unsound) -> Self {
-        RowsFault::Damaged(row.id)
-    }
-}
-
-impl RowsFault {
-    /// The fault of the parts whose rows of this table weren't taken.
-    pub(crate) fn of(self, table: FileTable) -> PartsFault
-        ensures { result ≡ fault_in table self }
-    {
-        match self {
-            RowsFault::Damaged(id) => PartsFault::Damaged { table, id },
-            RowsFault::NoMemory => PartsFault::NoMemory,
-        }
-    }
-}
-
 /// What was read of a table, or the fault, reported of this table.
 pub(crate) fn of_table<T>(table: FileTable, read: Result<T, RowsFault>) -> Result<T, PartsFault>
     ensures { MatchResult read (λ rows. result ≡ Ok rows) (λ fault. result ≡ Err (fault_in table fault)) }
 {
     match read {
         Ok(rows) => Ok(rows),
-        Err(fault) => Err(fault.of(table)),
+        Err(RowsFault::Damaged(id)) => Err(PartsFault::Damaged { table, id }),
+        Err(RowsFault::NoMemory) => Err(PartsFault::NoMemory),
     }
 }
 

@@ -12,7 +12,7 @@ ghost use Rattle.desk_parts.specs.declared.file_table.FileTable.{FileTable};
 ghost use Rattle.std.specs.Prelude.{All, IsPermutation, ◌≡◌, ◌↔◌, ◌≤◌, [], List, IfErr, IfOk, IsTrue, MatchOption};
 ghost use Rattle.std.specs.Prelude.{MatchResult, OnOk, length, map, pos, chars};
 
-use super::damage::{RowsFault, Unsound, flag_of, of_table};
+use super::damage::{RowsFault, flag_of, of_table};
 use crate::ordered_rows::is_next;
 use desk_memory::{KeptMark, MOST_MARKS, MOST_NOTE, Paragraph, count_of, first_barred};
 use desk_model::{PartsFault, Text};
@@ -70,20 +70,17 @@ fn mark_of(items: &[Paragraph], row: MarkRow) -> Option<KeptMark>
 }
 
 /// The mark of the row that comes after so many, if it is sound.
-fn judged(items: &[Paragraph], row: MarkRow, count: usize) -> Result<KeptMark, Unsound>
+fn judged(items: &[Paragraph], row: MarkRow, count: usize) -> Result<KeptMark, RowsFault>
     ensures { MatchResult result
         (λ mark. IsSoundAt (mark_rule items.now) count row
         × HasUtf8Texts FileTable.Mark row × IsKeptOf row mark)
-        (λ unsound. (unsound.id ≡ row.id) × ¬ IsSoundAt (mark_rule items.now) count row) }
+        (λ fault. (fault ≡ RowsFault.Damaged row.id) × ¬ IsSoundAt (mark_rule items.now) count row) }
 {
     let id = row.id;
     if !is_next(id, count, MOST_MARKS) {
-        return Err(Unsound { id });
+        return Err(RowsFault::Damaged(id));
     }
-    match mark_of(items, row) {
-        Some(mark) => Ok(mark),
-        None => Err(Unsound { id }),
-    }
+    mark_of(items, row).ok_or(RowsFault::Damaged(id))
 }
 
 /// The marks of rows in the order of their ids, or the first of these that isn't sound.

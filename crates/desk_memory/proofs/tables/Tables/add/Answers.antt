@@ -1,7 +1,7 @@
 use Rattle.std.proofs.Common.{length, string_eq, sym, ap, ◌∙◌, arith}
 use Rattle.indexmap.specs.IndexMap.{insert_all}
 use Rattle.desk_memory.proofs.ByName.{by_name-joined, length-by_name}
-use Rattle.desk_memory.proofs.tables.Tables.with_table.Goals as goal
+use Rattle.desk_memory.proofs.tables.Tables.add.Goals as goal
 
 pub unwrap-requires : goal.unwrap-requires
 unwrap-requires c =
@@ -17,6 +17,6 @@ pub returns : goal.returns
 returns c =
     let moved = rw c.unwrap.ensures at c.append.ensures.entries in
     let inserted = rw c.unwrap-2.ensures at c.insert.ensures.entries in
-    by_name-joined c.self.inside.entries.entries c.append.new.self.entries c.insert.new.self.entries c.into_string.result c.args.name c.args.table c.args.self
+    by_name-joined c.self.inside.entries.entries c.append.new.self.entries c.insert.new.self.entries c.into_string.result c.args.name c.args.table c.args.self.now
     c.self.invariant c.self.view_is c.into_string.ensures c.requires.new
     (moved ∙ ap (λ start. insert_all string_eq start c.self.inside.entries.entries) c.room.invariant) inserted
