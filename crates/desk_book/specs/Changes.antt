@@ -10,6 +10,7 @@ use Rattle.louis_table.specs.Table.{Means}
 use Rattle.desk_book.specs.declared.change.Effect.{Effect}
 use Rattle.desk_book.specs.declared.change.Effect.TheVariants.{AddTable, ReplaceTable, AddParagraph, ChangePrint}
 use Rattle.desk_book.specs.declared.change.Effect.TheVariants.{AddMark, ResolveMark, SetFlags, ChangeTable, Reorder}
+use Rattle.desk_memory.specs.declared.marks.KeptMark.{KeptMark}
 use Rattle.desk_memory.specs.declared.paragraphs.PrintChange.{PrintChange}
 use Rattle.desk_model.specs.declared.command.Anchor.{Anchor}
 use Rattle.desk_model.specs.declared.command.Command.{Command}
@@ -19,7 +20,7 @@ use Rattle.desk_model.specs.Book.{Book, Paragraph, text_of, paragraph_of}
 use Rattle.desk_book.specs.ChangePuts.{effect_puts, version_put}
 use Rattle.desk_model.specs.Loans.{GetsEntry, GetsFlags, GetsResolved, GetsTable, Reorders}
 use Rattle.desk_memory.specs.Histories.{HaveTaken, TookFrom, entry_kept}
-use Rattle.desk_memory.specs.Kept.{mark_kept, new_cells, paragraph_kept}
+use Rattle.desk_memory.specs.Kept.{IsKept, KeptParagraphs, KeptTables, book_kept, mark_kept, new_cells, paragraph_kept}
 use Rattle.desk_model.specs.Limits.{most_entries, most_marks, most_paragraphs, most_print}
 use Rattle.desk_model.specs.Marks.{mark_moved_by}
 use Rattle.desk_model.specs.ParagraphMarks.{marks_on}
@@ -148,6 +149,11 @@ pub record IsEffect (book : Book) (version : ℕ) (effect : Effect) (next : Book
   pub makes : Makes book command next
   pub at : version ≡ next.version
   pub does : Does book command next effect
+
+-- it is one on the book that these parts are kept of
+abbrev pub IsEffectOn : (was : ℕ) → KeptTables → KeptParagraphs → List KeptMark → (at : ℕ) → Effect → Book → Type 0
+IsEffectOn was tables paragraphs marks at effect next =
+    IsKept was tables paragraphs marks × IsEffect (book_kept was tables paragraphs marks) at effect next
 
 -- a change as its callers see it: the version that it gives its book, and the number that the
 -- command answers. What it does is named here alone, so that nothing that is said of a change

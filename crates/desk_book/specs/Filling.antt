@@ -1,11 +1,10 @@
 -- What is left of what a book puts into new tables of its file.
-use Rattle.std.specs.Prelude.{ℕ, ◌≤◌, List, map, drop, length}
-use Rattle.std.specs.List.{All, enumerate_from, flat_map}
+use Rattle.std.specs.Prelude.{ℕ, List, [], ◌∷◌, ◌++◌, map, drop}
+use Rattle.std.specs.List.{enumerate_from, flat_map}
 use Rattle.desk_memory.specs.declared.history.KeptEntry.{KeptEntry}
 use Rattle.desk_memory.specs.declared.paragraphs.Paragraph.{Paragraph as KeptParagraph}
 use Rattle.desk_book.specs.ChangePuts.{cache_put, entry_row}
 use Rattle.desk_memory.specs.Kept.{KeptParagraphs}
-use Rattle.desk_model.specs.Limits.{most_entries, most_paragraphs}
 use Rattle.desk_parts.specs.declared.file_table.FileTable.TheVariants.{NamedCorr}
 use Rattle.desk_parts.specs.Puts.{PutRow, RowPut}
 
@@ -26,6 +25,15 @@ history_puts (id, kept) = entry_puts_from id 0 kept.history
 abbrev pub histories_from : ℕ → KeptParagraphs → List RowPut
 histories_from place kept = flat_map history_puts (drop place kept)
 
+-- the entries of the first paragraph from an index on, and all of those after it
+abbrev pub entries_after : ℕ → KeptParagraphs → List RowPut
+entries_after at [] = []
+entries_after at ((id, kept) ∷ more) = entry_puts_from id at kept.history ++ flat_map history_puts more
+
+-- the entries of the paragraphs from a place on, without so many of the first of them
+abbrev pub entries_left : (place at : ℕ) → KeptParagraphs → List RowPut
+entries_left place at kept = entries_after at (drop place kept)
+
 -- the braille of a paragraph
 abbrev pub braille_put : ℕ × KeptParagraph → RowPut
 braille_put (id, kept) = cache_put id kept.cells
@@ -33,9 +41,3 @@ braille_put (id, kept) = cache_put id kept.cells
 -- the braille of the paragraphs from a place on
 abbrev pub braille_from : ℕ → KeptParagraphs → List RowPut
 braille_from place kept = map braille_put (drop place kept)
-
--- there are no more paragraphs than a book may have, each with no more entries than a history may
--- have
-abbrev pub HaveHistories : KeptParagraphs → Type 0
-HaveHistories kept =
-    (length kept ≤ most_paragraphs) × All (λ entry. length entry.1.history ≤ most_entries) kept

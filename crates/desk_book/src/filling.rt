@@ -1,86 +1,37 @@
 //! What a book puts into new tables of its file.
 ghost use Rattle.desk_model.specs.FilledRows.{Fills};
-ghost use Rattle.desk_book.specs.Filling.{HaveHistories, histories_from};
-ghost use Rattle.desk_parts.specs.Puts.{LendsFirst, put_of};
-ghost use Rattle.std.specs.Prelude.{◌≡◌, [], ◌∷◌, ◌++◌, IfNone, IfSome, unwrap_or};
+ghost use Rattle.desk_book.specs.Filling.{braille_from, entries_left, histories_from};
+ghost use Rattle.desk_model.specs.Limits.{most_paragraphs};
+ghost use Rattle.desk_parts.specs.Puts.{LendsFirst, put_of, puts_in};
+ghost use Rattle.std.specs.Prelude.{◌≡◌, ◌≤◌, [], ◌∷◌, ◌++◌, IfNone, IfSome, length};
 
 use super::book::Book;
 use super::puts::{cache, entry, number};
-use desk_memory::{KeptEntry, Paragraphs};
+use desk_memory::Paragraphs;
 use desk_model::NewTables;
 use desk_parts::{BookRow, Put};
 use std::marker::Model;
 
-/// The entries of a paragraph's history. Contracts see those that are left.
-#[derive(Drop)]
-struct HistoryPuts<'a> {
-    id: u64,
-    entries: &'a [KeptEntry],
-    at: usize,
-}
-
-impl<'a> Model for HistoryPuts<'a> {
-    ghost use Rattle.desk_book.specs.Filling.{entry_puts_from};
-    ghost use Rattle.desk_model.specs.Limits.{most_entries};
-    ghost use Rattle.desk_parts.proofs.PutCodes.{puts_code};
-    ghost use Rattle.desk_parts.specs.Puts.{RowPuts};
-    ghost use Rattle.std.specs.Prelude.{◌≤◌, length};
-
-    ghost Value = { RowPuts };
-
-    ghost coded = { puts_code };
-
-    ghost view = { λ p. entry_puts_from p.id p.at p.entries.now };
-
-    ghost invariant = { λ p. length p.entries.now ≤ most_entries };
-}
-
-impl<'a> HistoryPuts<'a> {
-    fn next(&mut self) -> Option<Put<'a>>
-        ensures { LendsFirst self.old result self.new }
-    {
-        let Some(kept) = self.entries.get(self.at) else {
-            return None;
-        };
-        self.at += 1;
-        Some(entry(self.id, self.at as u64, kept))
-    }
-}
-
-/// The entries of the first paragraph, of those from a place on, that has any.
-#[derive(Drop)]
-struct FirstHistory<'a> {
-    /// The first entry.
-    put: Put<'a>,
-    /// Those after it.
-    history: HistoryPuts<'a>,
-    /// The place after the paragraph's.
-    next: usize,
-}
-
-/// The entries of the first paragraph, of those from a place on, that has any.
-fn first_history(paragraphs: &Paragraphs, from: usize) -> Option<FirstHistory<'_>>
-    requires { HaveHistories paragraphs.now }
-    ensures found { IfSome result (λ found. histories_from from paragraphs.now
-        ≡ put_of found.put ∷ (found.history ++ histories_from found.next paragraphs.now)) }
-    ensures none { IfNone result (histories_from from paragraphs.now ≡ []) }
+/// The first entry of the paragraphs from a place on, without so many entries of the first of them:
+/// its paragraph's place, how many entries this has up to it, and what is put.
+fn first_entry(
+    paragraphs: &Paragraphs,
+    from: usize,
+    without: usize,
+) -> Option<(usize, usize, Put<'_>)>
+    ensures found { IfSome result (λ found. entries_left from without paragraphs.now
+        ≡ put_of found.2 ∷ entries_left found.0 found.1 paragraphs.now) }
+    ensures none { IfNone result (entries_left from without paragraphs.now ≡ []) }
 {
+    let mut at = without;
     for place in from..paragraphs.len() {
         let Some((id, paragraph)) = paragraphs.at(place) else {
             unreachable!()
         };
-        let mut history = HistoryPuts {
-            id,
-            entries: paragraph.history.as_slice(),
-            at: 0,
-        };
-        if let Some(put) = history.next() {
-            return Some(FirstHistory {
-                put,
-                history,
-                next: place + 1,
-            });
+        if let Some(kept) = paragraph.history.as_slice().get(at) {
+            return Some((place, at + 1, entry(id, at as u64 + 1, kept)));
         }
+        at = 0;
     }
     None
 }
@@ -88,53 +39,33 @@ fn first_history(paragraphs: &Paragraphs, from: usize) -> Option<FirstHistory<'_
 /// The entries of all histories, paragraph by paragraph. Contracts see those that are left.
 #[derive(Drop)]
 struct EntryPuts<'a> {
-    history: HistoryPuts<'a>,
     paragraphs: &'a Paragraphs,
-    // the place of the paragraph after that with this history
-    next: usize,
+    // the place of the first paragraph that may have more, and how many of its entries were put
+    place: usize,
+    at: usize,
 }
 
 impl<'a> Model for EntryPuts<'a> {
-    ghost use Rattle.desk_book.specs.Filling.{HaveHistories, histories_from};
+    ghost use Rattle.desk_book.specs.Filling.{entries_left};
     ghost use Rattle.desk_parts.proofs.PutCodes.{puts_code};
     ghost use Rattle.desk_parts.specs.Puts.{RowPuts};
-    ghost use Rattle.std.specs.Prelude.{◌++◌};
 
     ghost Value = { RowPuts };
 
     ghost coded = { puts_code };
 
-    ghost view = { λ p. p.history ++ histories_from p.next p.paragraphs.now };
-
-    ghost invariant = { λ p. HaveHistories p.paragraphs.now };
+    ghost view = { λ p. entries_left p.place p.at p.paragraphs.now };
 }
 
 impl<'a> EntryPuts<'a> {
-    /// All entries.
-    fn new(paragraphs: &'a Paragraphs) -> Self
-        requires { HaveHistories paragraphs.now }
-        ensures { result ≡ histories_from 0 paragraphs.now }
-    {
-        EntryPuts {
-            history: HistoryPuts {
-                id: 0,
-                entries: &[],
-                at: 0,
-            },
-            paragraphs,
-            next: 0,
-        }
-    }
-
     fn next(&mut self) -> Option<Put<'a>>
         ensures { LendsFirst self.old result self.new }
     {
-        if let Some(put) = self.history.next() {
-            return Some(put);
-        }
-        let FirstHistory { put, history, next } = first_history(self.paragraphs, self.next)?;
-        self.history = history;
-        self.next = next;
+        let Some((place, at, put)) = first_entry(self.paragraphs, self.place, self.at) else {
+            return None;
+        };
+        self.place = place;
+        self.at = at;
         Some(put)
     }
 }
@@ -174,45 +105,25 @@ impl<'a> BraillePuts<'a> {
     }
 }
 
-/// The next entry, if entries are put.
-fn next_entry<'a>(entries: &mut Option<EntryPuts<'a>>) -> Option<Put<'a>>
-    ensures { LendsFirst (unwrap_or entries.old []) result (unwrap_or entries.new []) }
-{
-    match entries {
-        Some(puts) => puts.next(),
-        None => None,
-    }
-}
-
-/// The next paragraph's braille, if braille is put.
-fn next_braille<'a>(braille: &mut Option<BraillePuts<'a>>) -> Option<Put<'a>>
-    ensures { LendsFirst (unwrap_or braille.old []) result (unwrap_or braille.new []) }
-{
-    match braille {
-        Some(puts) => puts.next(),
-        None => None,
-    }
-}
-
 /// What a book puts into new tables of its file, in order. It allocates nothing. Contracts see what
 /// is left.
 #[derive(Drop)]
 pub struct Filling<'a> {
     book: Option<Put<'a>>,
-    entries: Option<EntryPuts<'a>>,
-    braille: Option<BraillePuts<'a>>,
+    entries: EntryPuts<'a>,
+    braille: BraillePuts<'a>,
 }
 
 impl<'a> Model for Filling<'a> {
     ghost use Rattle.desk_parts.proofs.PutCodes.{puts_code};
     ghost use Rattle.desk_parts.specs.Puts.{RowPuts, puts_in};
-    ghost use Rattle.std.specs.Prelude.{[], ◌++◌, unwrap_or};
+    ghost use Rattle.std.specs.Prelude.{◌++◌};
 
     ghost Value = { RowPuts };
 
     ghost coded = { puts_code };
 
-    ghost view = { λ f. puts_in f.book ++ (unwrap_or f.entries [] ++ unwrap_or f.braille []) };
+    ghost view = { λ f. puts_in f.book ++ (f.entries ++ f.braille) };
 }
 
 impl<'a> Iterator for Filling<'a> {
@@ -228,10 +139,35 @@ impl<'a> Iterator for Filling<'a> {
         if let Some(put) = self.book.take() {
             return Some(put);
         }
-        if let Some(put) = next_entry(&mut self.entries) {
+        if let Some(put) = self.entries.next() {
             return Some(put);
         }
-        next_braille(&mut self.braille)
+        self.braille.next()
+    }
+}
+
+impl<'a> Filling<'a> {
+    /// A row of the book, the entries of the paragraphs from a place on, and the braille of those
+    /// from another place on.
+    fn new(
+        book: Option<Put<'a>>,
+        paragraphs: &'a Paragraphs,
+        place: usize,
+        at: usize,
+    ) -> Self
+        requires { length paragraphs.now ≤ most_paragraphs }
+        ensures { result
+            ≡ puts_in book.entry ++ (histories_from place paragraphs.now ++ braille_from at paragraphs.now) }
+    {
+        Filling {
+            book,
+            entries: EntryPuts {
+                paragraphs,
+                place,
+                at: 0,
+            },
+            braille: BraillePuts { paragraphs, at },
+        }
     }
 }
 
@@ -248,27 +184,12 @@ impl Book {
             format: 2,
             version: number(self.version),
         }));
-        let entries = EntryPuts::new(&self.paragraphs);
-        let braille = BraillePuts {
-            paragraphs: &self.paragraphs,
-            at: 0,
-        };
+        let paragraphs = &self.paragraphs;
+        let end = paragraphs.len();
         match tables {
-            NewTables::EntriesAndBraille => Filling {
-                book,
-                entries: Some(entries),
-                braille: Some(braille),
-            },
-            NewTables::Entries => Filling {
-                book,
-                entries: Some(entries),
-                braille: None,
-            },
-            NewTables::Braille => Filling {
-                book: None,
-                entries: None,
-                braille: Some(braille),
-            },
+            NewTables::EntriesAndBraille => Filling::new(book, paragraphs, 0, 0),
+            NewTables::Entries => Filling::new(book, paragraphs, 0, end),
+            NewTables::Braille => Filling::new(None, paragraphs, end, 0),
         }
     }
 }

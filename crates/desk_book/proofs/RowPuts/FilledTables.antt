@@ -1,9 +1,9 @@
 -- What a book puts into new tables of its file, by what is kept of it.
-use Rattle.std.proofs.Common.{◌≡◌, ℕ, ◌+◌, ◌<◌, ◌≤◌, ℤ, pos, SFits, to_z, of_z, w64, List, [], ◌∷◌, ◌++◌, map, take, length, get_or, Some, Contains, append-nil, refl, sym, ap, ap₂, subst, ◌∙◌, arith}
+use Rattle.std.proofs.Common.{◌≡◌, ℕ, ◌+◌, ◌<◌, ◌≤◌, ℤ, pos, SFits, to_z, of_z, w64, List, [], ◌∷◌, ◌++◌, drop, map, take, length, get_or, None, Some, Contains, append-nil, refl, sym, ap, ap₂, subst, ◌∙◌, arith}
 use Rattle.std.specs.List.{All, enumerate_from, flat_map}
 use Rattle.std.specs.Prelude.{slice_get}
 use Rattle.std.proofs.Math.Facts.{to_z-of_z}
-use Rattle.std.proofs.lemmas.List.{get_or-map, length-map, length-take-le, map-append}
+use Rattle.std.proofs.lemmas.List.{drop_all, get_or-map, length-map, length-take-le, map-append}
 use Rattle.std.proofs.lemmas.List.Elements.{All-append, All-contains_itself, All-head, All-map, All-nil, All-tail, All-weaker}
 use Rattle.std.proofs.lemmas.List.FromFn.{get_or-enumerate_from, length-enumerate_from}
 use Rattle.std.proofs.lemmas.Option.{slice_get-get_or}
@@ -17,10 +17,11 @@ use Rattle.desk_memory.specs.declared.marks.KeptMark.{KeptMark}
 use Rattle.desk_memory.specs.declared.paragraphs.Paragraph.{Paragraph as KeptParagraph}
 use Rattle.desk_model.specs.Book.{Book, Entry, Paragraph}
 use Rattle.desk_book.specs.ChangePuts.{entry_row}
+use Rattle.desk_model.specs.Limits.{most_paragraphs}
 use Rattle.desk_model.specs.Loans.{row_number}
 use Rattle.desk_parts.specs.FileRows.{HasUtf8Texts, spelled}
 use Rattle.desk_model.specs.FilledRows.{AreEntriesOf, Fills}
-use Rattle.desk_book.specs.Filling.{HaveHistories, braille_from, braille_put, histories_from, history_puts}
+use Rattle.desk_book.specs.Filling.{braille_from, braille_put, entries_after, entries_left, entry_put, entry_puts_from, histories_from, history_puts}
 use Rattle.desk_memory.specs.Histories.{entries_kept, entry_kept}
 use Rattle.desk_memory.specs.Kept.{IsKept, IsKeptParagraph, KeptParagraphs, KeptTables, book_kept, paragraph_kept}
 use Rattle.desk_parts.specs.declared.file_table.FileTable.TheVariants as file
@@ -32,6 +33,7 @@ use Rattle.desk_model.proofs.Lists.Items.{All-from_map, drop-there}
 use Rattle.desk_memory.proofs.Callers.{means-kept, text_of-kept}
 use Rattle.desk_model.proofs.Lists.Members.{Contains-map}
 use Rattle.desk_model.proofs.Lists.Permutations.{IsPermutation-same}
+use Rattle.desk_book.proofs.RowPuts.PutLists.{numbered-past, numbered-there}
 use Rattle.desk_book.proofs.RowPuts.PutPlaces.{map-agree}
 use Rattle.desk_book.proofs.RowPuts.PutPrints.{entry-spelled, entry-texts}
 use Rattle.desk_model.proofs.Rows.PutRows.{number-small}
@@ -178,54 +180,74 @@ module _ (version : ℕ) (tables : KeptTables) (kept : KeptParagraphs) (marks : 
         cached-own (get_or kept k d) (All-contains_itself kept k d within) (sound-kept k d within) (is.translated k d within));
   }
 
-  pub have-histories : HaveHistories kept
-  have-histories = (
-    (let few : length book.paragraphs ≤ 20000 = is.sound.few_paragraphs in omega (arith, length-map kept paragraph_kept, few)),
-    (λ k d within.
-        let entry : ℕ × KeptParagraph = get_or kept k d in
-        let few : length (entries_kept entry.1.history) ≤ 10000 = (sound-kept k d within).1.history.few in
-        omega (arith, length-map entry.1.history entry_kept, few)),
-  )
+  pub few-kept : length kept ≤ most_paragraphs
+  few-kept = let few : length book.paragraphs ≤ 20000 = is.sound.few_paragraphs in omega (arith, length-map kept paragraph_kept, few)
 
   -- what the lists of entries and of braille are fills these tables
   module _ (whole : Book) (same : book ≡ whole) (news : NewTables) where
     abbrev row_at : ℤ → RowPut
     row_at n = PutRow file.Book (record { id = pos 1; format = pos 2; version = n })
 
-    module _ (n : ℤ) (fits : SFits w64 n) (at : n ≡ row_number version) (entries : RowPuts) (are : entries ≡ histories_from 0 kept) where
+    all-put : (end : ℕ) → end ≡ length kept → drop end kept ≡ []
+    all-put end is_end = drop_all end kept (omega (arith, is_end))
+
+    module _ (n : ℤ) (fits : SFits w64 n) (at : n ≡ row_number version) where
       abbrev version_put : RowPut
       version_put = row_at (to_z w64 (of_z w64 n))
 
       version_is : to_z w64 (of_z w64 n) ≡ pos version
       version_is = let small = is.sound.version in to_z-of_z {w = w64} {z = n} fits ∙ (at ∙ number-small version (omega arith))
 
-      pub filled-both : news ≡ EntriesAndBraille → Fills news whole (version_put ∷ (entries ++ braille_from 0 kept))
+      pub filled-both : news ≡ EntriesAndBraille → Fills news whole (version_put ∷ (histories_from 0 kept ++ braille_from 0 kept))
       filled-both which =
-          subst (λ (t : NewTables). Fills t whole (version_put ∷ (entries ++ braille_from 0 kept))) (sym which)
-          (subst (λ (b : Book). Fills EntriesAndBraille b (version_put ∷ (entries ++ braille_from 0 kept))) same (
+          subst (λ (t : NewTables). Fills t whole (version_put ∷ (histories_from 0 kept ++ braille_from 0 kept))) (sym which)
+          (subst (λ (b : Book). Fills EntriesAndBraille b (version_put ∷ (histories_from 0 kept ++ braille_from 0 kept))) same (
             entries_of kept,
             caches_of kept,
             of-book,
             are-cached,
-            λ i. row_at (version_is i) ∷ ((are ∙ entries-put kept) i ++ caches-put kept i),
+            λ i. row_at (version_is i) ∷ (entries-put kept i ++ caches-put kept i),
           ))
 
-      pub filled-entries : news ≡ Entries → Fills news whole (version_put ∷ (entries ++ []))
-      filled-entries which =
-          subst (λ (t : NewTables). Fills t whole (version_put ∷ (entries ++ []))) (sym which)
-          (subst (λ (b : Book). Fills Entries b (version_put ∷ (entries ++ []))) same (
+      pub filled-entries : (end : ℕ) → end ≡ length kept → news ≡ Entries → Fills news whole (version_put ∷ (histories_from 0 kept ++ braille_from end kept))
+      filled-entries end is_end which =
+          subst (λ (t : NewTables). Fills t whole (version_put ∷ (histories_from 0 kept ++ braille_from end kept))) (sym which)
+          (subst (λ (b : Book). Fills Entries b (version_put ∷ (histories_from 0 kept ++ braille_from end kept))) same (
             entries_of kept,
             of-book,
-            λ i. row_at (version_is i) ∷ (append-nil entries ∙ (are ∙ entries-put kept)) i,
+            λ i. row_at (version_is i) ∷ (ap (λ (left : List (ℕ × KeptParagraph)). histories_from 0 kept ++ map braille_put left) (all-put end is_end) ∙ (append-nil (histories_from 0 kept) ∙ entries-put kept)) i,
           ))
 
-    pub filled-braille : news ≡ Braille → Fills news whole (braille_from 0 kept)
-    filled-braille which =
-        subst (λ (t : NewTables). Fills t whole (braille_from 0 kept)) (sym which)
-        (subst (λ (b : Book). Fills Braille b (braille_from 0 kept)) same (caches_of kept, are-cached, caches-put kept))
+    pub filled-braille : (end : ℕ) → end ≡ length kept → news ≡ Braille → Fills news whole (histories_from end kept ++ braille_from 0 kept)
+    filled-braille end is_end which =
+        subst (λ (t : NewTables). Fills t whole (histories_from end kept ++ braille_from 0 kept)) (sym which)
+        (subst (λ (b : Book). Fills Braille b (histories_from end kept ++ braille_from 0 kept)) same
+        (caches_of kept, are-cached, ap (λ (left : List (ℕ × KeptParagraph)). flat_map history_puts left ++ braille_from 0 kept) (all-put end is_end) ∙ caches-put kept))
 
 -- ---- the paragraphs from a place on
 
-module _ (kept : KeptParagraphs) (place : ℕ) where
-  pub histories-there : (entry : ℕ × KeptParagraph) → slice_get kept place ≡ Some entry → histories_from place kept ≡ history_puts entry ++ histories_from (place + 1) kept
-  histories-there entry at = ap (flat_map history_puts) (drop-there kept place entry at).0
+pub entries-whole : (kept : KeptParagraphs) → entries_after 0 kept ≡ flat_map history_puts kept
+entries-whole [] = refl
+entries-whole (entry ∷ kept) = refl
+
+module _ (kept : KeptParagraphs) (place at : ℕ) where
+  -- where no paragraph is there
+  pub entries-past : drop place kept ≡ [] → entries_left place at kept ≡ []
+  entries-past none = ap (entries_after at) none
+
+  -- where one is
+  module _ (id : ℕ) (paragraph : KeptParagraph) (there : slice_get kept place ≡ Some (id, paragraph)) where
+    entries-there : (n : ℕ) → entries_left place n kept ≡ entry_puts_from id n paragraph.history ++ histories_from (place + 1) kept
+    entries-there n = ap (entries_after n) (drop-there kept place (id, paragraph) there).0
+
+    -- without more entries
+    pub entries-none : slice_get paragraph.history at ≡ None → entries_left place at kept ≡ entries_left (place + 1) 0 kept
+    entries-none none =
+        entries-there at ∙ (ap (λ (left : List (ℕ × KeptEntry)). map (entry_put id) left ++ histories_from (place + 1) kept) (numbered-past paragraph.history at none)
+        ∙ sym (entries-whole (drop (place + 1) kept)))
+
+    -- with one more
+    pub entries-next : (entry : KeptEntry) → slice_get paragraph.history at ≡ Some entry → entries_left place at kept ≡ entry_put id (at + 1, entry) ∷ entries_left place (at + 1) kept
+    entries-next entry next =
+        entries-there at ∙ (ap (λ (left : List (ℕ × KeptEntry)). map (entry_put id) left ++ histories_from (place + 1) kept) (numbered-there paragraph.history at entry next)
+        ∙ ap (λ (left : RowPuts). entry_put id (at + 1, entry) ∷ left) (sym (entries-there (at + 1))))

@@ -18,7 +18,7 @@ use Rattle.desk_memory.specs.declared.history.KeptEntry.TheVariants.{Corrects, U
 use Rattle.desk_model.specs.declared.command.Command.{Command}
 use Rattle.desk_parts.specs.Puts.{RowPut}
 use Rattle.desk_model.specs.Book.{Book, Mark, Paragraph}
-use Rattle.desk_book.specs.ChangePuts.{cache_put, cells_from, cells_put, effect_puts, elsewhere_from, elsewhere_put, entry_row, further_from, further_put, place_put, print_put, span_put, stays_in, tab_put, version_put}
+use Rattle.desk_book.specs.ChangePuts.{cache_put, cells_from, cells_put, effect_puts, elsewhere_put, entry_row, further_from, further_put, place_put, print_put, span_put, stays_in, tab_put, version_put}
 use Rattle.desk_model.specs.Loans.{AreLent, IsAdded, GetsEntry, IsLent, Reorders, StandsAt, next_entry_number, row_number}
 use Rattle.desk_book.specs.Changes.{Carries, Change, Does, change_puts, puts-change_by, has-effect}
 use Rattle.desk_memory.specs.Kept.{mark_kept}
