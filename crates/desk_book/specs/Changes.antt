@@ -150,7 +150,7 @@ pub record IsEffect (book : Book) (version : ℕ) (effect : Effect) (next : Book
   pub at : version ≡ next.version
   pub does : Does book command next effect
 
--- it is one on the book that these parts are kept of
+-- the effect is one on the book that these parts are kept of
 abbrev pub IsEffectOn : (was : ℕ) → KeptTables → KeptParagraphs → List KeptMark → (at : ℕ) → Effect → Book → Type 0
 IsEffectOn was tables paragraphs marks at effect next =
     IsKept was tables paragraphs marks × IsEffect (book_kept was tables paragraphs marks) at effect next

@@ -13,7 +13,7 @@ use desk_parts::{BookRow, Put};
 use std::marker::Model;
 
 /// The first entry of the paragraphs from a place on, without so many entries of the first of them:
-/// its paragraph's place, how many entries this has up to it, and what is put.
+/// the place of its paragraph, its number in the history, and what is put.
 fn first_entry(
     paragraphs: &Paragraphs,
     from: usize,
@@ -147,14 +147,9 @@ impl<'a> Iterator for Filling<'a> {
 }
 
 impl<'a> Filling<'a> {
-    /// A row of the book, the entries of the paragraphs from a place on, and the braille of those
-    /// from another place on.
-    fn new(
-        book: Option<Put<'a>>,
-        paragraphs: &'a Paragraphs,
-        place: usize,
-        at: usize,
-    ) -> Self
+    /// A row of the book, the entries of the paragraphs from `place` on, and the braille of those
+    /// from `at` on. From the number of paragraphs on there are none.
+    fn new(book: Option<Put<'a>>, paragraphs: &'a Paragraphs, place: usize, at: usize) -> Self
         requires { length paragraphs.now ≤ most_paragraphs }
         ensures { result
             ≡ puts_in book.entry ++ (histories_from place paragraphs.now ++ braille_from at paragraphs.now) }

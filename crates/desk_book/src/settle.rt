@@ -7,7 +7,7 @@ use super::book::Book;
 use super::change::{Change, Effect};
 use desk_memory::{Marks, Paragraphs, Tables};
 
-/// Makes of the parts of a book those of the next one. It allocates nothing.
+/// Turns the parts of a book into those of the next one. It allocates nothing.
 fn apply(effect: Effect, tables: &mut Tables, paragraphs: &mut Paragraphs, marks: &mut Marks)
     requires { (was : ℕ) × (at : ℕ) × (next : _)
         × IsEffectOn was tables.old paragraphs.old marks.old at effect next }

@@ -16,7 +16,7 @@ use thiserror::Error;
 #[error("a read or a write failed")]
 pub struct Failure;
 
-/// What comes of sending: all went well, or an end failed.
+/// What comes of sending: nothing more, or that a write or a flush failed.
 pub type Sent = Result<(), Failure>;
 
 /// Where bytes come from.

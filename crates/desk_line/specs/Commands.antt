@@ -18,7 +18,7 @@ use Rattle.desk_line.specs.Lines.{IsShort}
 abbrev pub span : {A : Type 0} → (ℕ → ℕ → ℕ → List ℕ → A) → Grammar A
 span make = Then Number (λ id. Then Number (λ start. Then Number (λ count. Rest (make id start count))))
 
--- what stands after the word of a command that has no text, and that command
+-- what stands after the word of a command without a text, and the command that it makes
 abbrev pub textless : List ℕ → Grammar Directive
 textless word =
     if bytes_eq word (codes "undo") then Then Number (λ id. Last (Whole (commands.Undo id)))

@@ -49,7 +49,7 @@ pub(crate) fn read_directive<'a>(word: &Field<'_>, fields: Fields<'a>) -> Option
     }
 }
 
-/// The command that has no text, if the word is of one.
+/// The command that has no text, if the word is that of one.
 fn read_textless<'a>(word: &Field<'_>, fields: Fields<'a>) -> Option<Directive<'a>>
     ensures { result ≡ read (textless word.now) fields.entry }
 {

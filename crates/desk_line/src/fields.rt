@@ -91,7 +91,7 @@ impl<'a> Fields<'a> {
         self.rest.is_none()
     }
 
-    /// The value that a line gives which ends here, if no field is left.
+    /// The value, if no field is left.
     pub(crate) fn end<T: Drop>(self, value: T) -> Option<T>
         ensures { result ≡ (if is_end self.entry then Some value else None) }
     {

@@ -83,7 +83,7 @@ impl<'a> Fields<'a> {
     }
 
     /// The first field as where a paragraph is put, `front`, `end` or the number of the paragraph
-    /// before it, and the fields after it.
+    /// before, and the fields after the first.
     #[tactic(auto, unfolding(crate::specs::Reading::first_of, crate::specs::Reading::anchor_in))]
     pub(crate) fn place(self) -> Option<(Anchor, Self)>
         ensures { result ≡ first_of Place self.entry }
@@ -114,7 +114,7 @@ impl<'a> Fields<'a> {
         }
     }
 
-    /// The first field as whether a flag is set, `on` or `off`, and the fields after it.
+    /// The first field as a flag, `on` or `off`, and the fields after it.
     #[tactic(auto, unfolding(crate::specs::Reading::first_of, crate::specs::Reading::flag_in))]
     pub(crate) fn flag(self) -> Option<(bool, Self)>
         ensures { result ≡ first_of Flag self.entry }

@@ -1,7 +1,7 @@
 //! What is asked of a book.
 use desk_model::Command;
 
-/// What is asked of a book: most often of the paragraph with an id. Places of a print and cells of
+/// A query of a book, mostly of one paragraph, which its id names. Places of a print and cells of
 /// its braille count from 0. No query changes the book or allocates.
 #[derive(Clone, Copy, Debug, PartialEq, Eq)]
 pub enum Query {

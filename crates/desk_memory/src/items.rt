@@ -104,7 +104,7 @@ impl<T: Drop> Items<T> {
     }
 
     /// The item with an index, if there is one, to be changed.
-    pub(crate) fn get_mut(&mut self, index: usize) -> Option<&mut T>
+    pub(crate) fn item_mut(&mut self, index: usize) -> Option<&mut T>
         ensures* lends { sem 𝓛 (lends_item T.row self.entry index result) }
         ensures value { option_copied_mut result ≡ slice_get self.old index }
     {

@@ -4,7 +4,7 @@ ghost use Rattle.desk_memory.specs.KeptMarks.{span_kept, with_kept_moved, with_k
 ghost use Rattle.desk_memory.specs.Kept.{mark_kept};
 ghost use Rattle.desk_model.specs.Book.{new_mark};
 ghost use Rattle.desk_model.specs.Limits.{most_print};
-ghost use Rattle.std.specs.Prelude.{option_copied, ◌≡◌, ◌+◌, ◌-◌, ◌<◌, ◌≤◌, ℕ, None, length};
+ghost use Rattle.std.specs.Prelude.{option_copied, ◌≡◌, ◌+◌, ◌-◌, ◌<◌, ◌≤◌, ℕ, None};
 
 use super::items::Items;
 use desk_model::{Span, Text};

@@ -280,7 +280,7 @@ impl Paragraphs {
             → with_kept_change id (λ _. change lent.now) self.old ≡ with_kept_change id change self.old) }
     {
         let index = self.index_of(id)?;
-        self.items.get_mut(index)
+        self.items.item_mut(index)
     }
 
     /// The indexes of the marks of the paragraph with an id, if there is one.

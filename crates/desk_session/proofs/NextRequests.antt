@@ -12,7 +12,7 @@ use Rattle.desk_ends.specs.Input.{Input, LineEnds, ReadsLine, UsesInput}
 use Rattle.desk_ends.specs.Limits.{most_line_bytes}
 use Rattle.desk_ends.specs.Lines.{EndsLine, HasNoFeed, IsFed, IsLine, feeds, kept_line, without_ending}
 use Rattle.desk_ends.proofs.FirstLine.{after-fed, after-none}
-use Rattle.desk_ends.proofs.LineFeeds.{fed-feeds, feeds-append, lines-fed, lines-few, no-feeds}
+use Rattle.desk_ends.proofs.LineFeeds.{fed-feeds, feeds-append, lines-fed, lines-few}
 use Rattle.desk_ends.proofs.OneLine.{ends-append, ends-some, fed-ends, fed-first, kept_line-none, kept_line-some, lone-line, one-line}
 use Rattle.desk_ends.proofs.UsedInput.{UsesInput-then, no-parts}
 use Rattle.desk_session.specs.declared.no_request.NoRequest.{NoRequest}
@@ -22,7 +22,7 @@ use Rattle.desk_line.specs.declared.request.Request.{Request}
 use Rattle.desk_line.specs.Head.{Says}
 use Rattle.desk_line.specs.Lines.{IsShort, after_first_line}
 use Rattle.desk_line.specs.Request.{HasHead, IsLast, IsNoRequest, IsWhole, Reads, Takes, block_lines, said, unsaid}
-use Rattle.desk_line.proofs.CutLaws.{none-whole, whole-feeds}
+use Rattle.desk_line.proofs.CutLaws.{none-whole}
 use Rattle.desk_line.proofs.HeadLaws.{head-found}
 use Rattle.desk_line.proofs.HeadLines.{head-of-long}
 use Rattle.desk_line.proofs.RequestLaws.{asks-for-memory, takes-none, unsaid-none}

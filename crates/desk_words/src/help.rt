@@ -1,5 +1,5 @@
-//! What `--help` says: of the program `ABOUT` and, at its end, `WHOLE`; of an action such as `new`
-//! `NEW_ABOUT` and, at its end, `NEW`.
+//! What `--help` says. The program has `ABOUT` at its front and `WHOLE` at its end; an action has
+//! such a pair too, as `new` has `NEW_ABOUT` and `NEW`.
 
 pub const ABOUT: &str = "braildesk, the desk program of a braille transcribing office";
 

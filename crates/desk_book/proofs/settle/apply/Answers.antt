@@ -106,7 +106,7 @@ give_way-requires-clause-indexes c =
     let here = on c.in-ChangePrint.is it.3 in (
       c.in-ChangePrint.id,
       settled.indexes-print_changed it.0 c.args.tables.now c.args.paragraphs.now c.args.marks.now it.2 it.1 c.in-ChangePrint.id c.in-ChangePrint.change here.at here.does.1 it.3.0
-      c.marks_of-indexes.result.now c.marks_of-indexes.ensures,
+          c.marks_of-indexes.result.now c.marks_of-indexes.ensures,
     )
 
 pub give_way-requires-clause-marks : goal.give_way-requires-clause-marks

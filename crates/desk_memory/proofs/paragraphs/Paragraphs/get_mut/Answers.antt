@@ -18,10 +18,10 @@ pub returns : goal.returns
 returns c =
     let inside = c.self.inside in
     let found = c.in_ok-index.ensures.found in (
-      λ i. read_of (ghost_name_of c.get_mut.result) (λ new. written inside.items inside.order c.args.self.now c.self.invariant c.self.view_is c.args.id c.in_ok-index.index found new i) (c.self.view_is i),
+      λ i. read_of (ghost_name_of c.item_mut.result) (λ new. written inside.items inside.order c.args.self.now c.self.invariant c.self.view_is c.args.id c.in_ok-index.index found new i) (c.self.view_is i),
       record {
         lends = tt;
-        value = c.get_mut.ensures.value ∙ sym (looked-up inside.items inside.order c.args.self.now c.self.invariant c.self.view_is c.args.id c.in_ok-index.index found);
-        alone = alone inside.items inside.order c.args.self.now c.self.invariant c.self.view_is c.args.id c.in_ok-index.index found c.get_mut.result c.get_mut.ensures.value;
+        value = c.item_mut.ensures.value ∙ sym (looked-up inside.items inside.order c.args.self.now c.self.invariant c.self.view_is c.args.id c.in_ok-index.index found);
+        alone = alone inside.items inside.order c.args.self.now c.self.invariant c.self.view_is c.args.id c.in_ok-index.index found c.item_mut.result c.item_mut.ensures.value;
       },
     )
