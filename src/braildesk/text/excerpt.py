@@ -27,18 +27,31 @@ class Excerpts:
 
         Where words are left out stands an ellipsis, also within the brackets if they are too long.
         """
-        if not self._is_plain or width < stop - start + _BRACKETS:
+        room = width - (stop - start) - _BRACKETS
+        if not self._is_plain or room < 0:
             return _in_brackets(self._text, start, stop, width)
-        return self._plain_line(start, stop, width)
+        return self._plain_line("", start, stop, room)
 
-    def _plain_line(self, start: int, stop: int, width: int) -> str:
-        """Such a line with room for the words of a text that is plain."""
-        text, room = self._text, width - _BRACKETS - (stop - start)
+    def _plain_line(self, head: str, start: int, stop: int, room: int) -> str:
+        """A head and such a line of a text that is plain, with so much room beside the words."""
+        text, spaced = self._text, self._spaced
         half, rest = room // 2, len(text) - stop
         before = room - rest if room - rest > half else half
-        front = _ending(text, self._spaced, start, before)
-        after = _opening(text, self._spaced, stop, room - len(front))
-        return f"{front}[{text[start:stop]}]{after}"
+        # a blank is found on both sides nearly always, so that it is looked for here already
+        if start <= before:
+            front = text[:start]
+        elif (blank := spaced.find(" ", start - before, start - 1)) >= 0:
+            front = _CUT + text[blank + 1 : start]
+        else:
+            front = _ending(text, spaced, start, before)
+        left = room - len(front)
+        if rest <= left:
+            after = text[stop:]
+        elif (blank := spaced.rfind(" ", stop + 1, stop + left)) >= 0:
+            after = text[stop:blank] + _CUT
+        else:
+            after = _opening(text, spaced, stop, left)
+        return f"{head}{front}[{text[start:stop]}]{after}"
 
     def lines(self, head: str, start: int, stop: int, width: int) -> list[str]:
         """A head and an excerpt after it, in as few lines of the width as have all of the words.
@@ -50,7 +63,7 @@ class Excerpts:
         room = width - (len(head) if head.isascii() else columns(head))
         text, size = self._text, stop - start + _BRACKETS
         if self._is_plain and size + _BESIDE <= room:
-            return [head + self._plain_line(start, stop, room)]
+            return [self._plain_line(head, start, stop, room - size)]
         if not self._is_plain:
             size = columns(f"[{visible(text[start:stop])}]")
         others = len(text) - (stop - start)
