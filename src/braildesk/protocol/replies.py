@@ -1,7 +1,6 @@
 """Replies of a session, read from the bytes that come."""
 
 from collections import deque
-from collections.abc import Iterator
 from functools import lru_cache
 from typing import NamedTuple
 
@@ -36,14 +35,17 @@ class Reader:
 
     def feed(self, data: bytes) -> None:
         """Takes the next bytes."""
-        whole, end, rest = (self._rest + data).rpartition(b"\n")
-        self._rest = rest
-        if end:
-            for line in _decoded(whole):
-                if line.startswith("| "):
-                    self._lines.append(line[2:])
+        *lines, self._rest = (self._rest + data).split(b"\n")
+        for line in lines:
+            try:
+                if line.startswith(b"| "):
+                    self._lines.append(line[2:].decode())
                 else:
-                    self._end(line)
+                    self._replies.append(Reply(tuple(self._lines), *_ending(line)))
+                    self._lines.clear()
+            except ValueError:
+                # it isn't UTF-8, or has no numbers
+                raise Unreadable(line) from None
 
     @property
     def has_reply(self) -> bool:
@@ -54,33 +56,12 @@ class Reader:
         """The next reply that is there whole."""
         return self._replies.popleft() if self._replies else None
 
-    def _end(self, text: str) -> None:
-        """Takes the line that ends a reply."""
-        self._replies.append(Reply(tuple(self._lines), *_ending(text)))
-        self._lines = []
-
 
 # replies to queries end in the same line until the book has another version
 @lru_cache(maxsize=16)
-def _ending(text: str) -> tuple[str, tuple[int, ...]]:
-    """The word and the numbers of the line that ends a reply."""
-    word, *numbers = text.split(" ")
-    try:
-        found = word, tuple(map(int, numbers))
-    except ValueError:
-        raise Unreadable(text.encode()) from None
+def _ending(line: bytes) -> tuple[str, tuple[int, ...]]:
+    """The word and the numbers of the line that ends a reply; ``ValueError`` if it isn't one."""
+    word, *numbers = line.decode().split(" ")
     if word not in ("ok", "no", "end") or not numbers:
-        raise Unreadable(text.encode())
-    return found
-
-
-def _decoded(lines: bytes) -> Iterator[str]:
-    """Lines as characters. The one that isn't UTF-8 is given up, once those before it were given."""
-    try:
-        yield from lines.decode().split("\n")
-    except UnicodeDecodeError:
-        for line in lines.split(b"\n"):
-            try:
-                yield line.decode()
-            except UnicodeDecodeError:
-                raise Unreadable(line) from None
+        raise ValueError(word)
+    return word, tuple(map(int, numbers))
