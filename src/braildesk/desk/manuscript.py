@@ -85,10 +85,11 @@ class Passage:
     @cached_property
     def text(self) -> str:
         """The print of the paragraph, in normal form C."""
-        return composed(self._joined)
+        return composed(self.joined)
 
     @property
-    def _joined(self) -> str:
+    def joined(self) -> str:
+        """The same as it stands in the file."""
         return " ".join([line.text for line in self.lines])
 
     def position(self, place: int) -> Position:
@@ -101,7 +102,7 @@ class Passage:
         fronts, rest = self._fronts(), iter(places)
         place = next(rest, None)
         before = there = 0
-        for chunk in chunks(self._joined):
+        for chunk in chunks(self.joined):
             if place is None:
                 return
             if there + (length := len(composed(chunk))) <= place:
@@ -172,8 +173,9 @@ def text_lines(data: bytes) -> Iterator[str]:
 def _lines(data: bytes) -> Iterator[TextLine]:
     for number, whole in enumerate(text_lines(data), start=1):
         shown = whole.replace("\t", " ").replace("\f", " ")
-        front = len(shown) - len(shown.lstrip(" "))
-        yield TextLine(shown.strip(" "), Position(number, front + 1))
+        text = shown.lstrip(" ")
+        front = len(shown) - len(text)
+        yield TextLine(text.rstrip(" "), Position(number, front + 1))
 
 
 def decoded(data: bytes) -> str:

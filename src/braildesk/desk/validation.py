@@ -9,6 +9,7 @@ from braildesk import Refused, Table, translate
 from braildesk.desk.manuscript import Passage, Position
 from braildesk.text import limits
 from braildesk.text.characters import characters_of
+from braildesk.text.sequences import is_plain
 
 
 @dataclass(frozen=True)
@@ -55,18 +56,22 @@ def faults(
     A table refuses nothing else of a print but characters that it doesn't define, and a character
     is defined or isn't wherever it stands. So each is asked for once, by itself.
     """
-    whole = "".join(passage.text for passage in passages)
-    there = characters_of(whole)
+    texts = [passage.joined for passage in passages]
+    there = characters_of("".join(texts))
+    if not is_plain("".join(there)):
+        # others may be joined in normal form C, or stand for others there
+        texts = [passage.text for passage in passages]
+        there = characters_of("".join(texts))
     barred = {each for each in there if unicodedata.category(each) == "Cc"}
     others = sorted(there - barred)
     lacking = _refused(others, translate(table, others, while_waiting=while_waiting))
-    counts = Counter(whole if barred or lacking else "")
+    counts = Counter("".join(texts) if barred or lacking else "")
     found = [
         *_of_characters(passages, barred, lambda each: Barred(each, counts[each])),
         *_of_characters(
             passages, lacking, lambda each: Lacking(each, counts[each], table.name)
         ),
-        *(_too_long(each) for each in passages if _is_too_long(each)),
+        *(_too_long(each) for each, text in zip(passages, texts) if _is_too_long(text)),
     ]
     return sorted(found, key=lambda fault: fault.position)
 
@@ -76,8 +81,8 @@ def _refused(asked: Sequence[str], answers: Sequence[str | Refused]) -> set[str]
     return {character for character, answer in pairs if isinstance(answer, Refused)}
 
 
-def _is_too_long(passage: Passage) -> bool:
-    return len(passage.text) > limits.PRINT_CHARACTERS
+def _is_too_long(text: str) -> bool:
+    return len(text) > limits.PRINT_CHARACTERS
 
 
 def _of_characters(
