@@ -24,7 +24,12 @@ COUNT = 600
 #: What each paragraph of the book has, once.
 WORDS = "far away"
 #: How many of our modules are imported, and how many in all, at most.
-MODULES = {"--help": (24, 119), "show": (50, 163), "marks": (51, 163)}
+MODULES = {
+    "--help": (24, 119),
+    "show": (50, 163),
+    "marks": (51, 163),
+    "find": (51, 163),
+}
 #: Modules that take as long as all of a short command, and are needed by few.
 DEAR = {
     "braildesk.desk.drafts",
@@ -126,17 +131,17 @@ def imported(moon: Path, *words: str) -> set[str]:
     return set(done.stderr.decode().splitlines()[-1].split())
 
 
-@pytest.mark.parametrize("words", [["--help"], ["show"], ["marks"]])
+@pytest.mark.parametrize("words", [["--help"], ["show"], ["marks"], ["find", "moon"]])
 def test_a_short_command_imports_what_it_needs(moon: Path, words: list[str]) -> None:
-    if words != ["--help"]:
-        words = [*words, str(moon)]
-    found = imported(moon, *words)
+    command, *others = words
+    book = [] if command == "--help" else [str(moon)]
+    found = imported(moon, command, *book, *others)
     assert not DEAR & found
     own = {each for each in found if each.split(".")[0] in ("braildesk", "scribe")}
-    most_own, most = MODULES[words[0]]
+    most_own, most = MODULES[command]
     assert len(own) <= most_own and len(found) <= most, sorted(found)
-    others = {f"scribe.cli.commands.{module}" for module, _ in COMMANDS.values()}
-    assert others & found <= {f"scribe.cli.commands.{words[0]}"}
+    modules = {f"scribe.cli.commands.{module}" for module, _ in COMMANDS.values()}
+    assert modules & found <= {f"scribe.cli.commands.{command}"}
 
 
 def test_an_import_of_a_text_imports_nothing_that_reads_documents(moon: Path) -> None:

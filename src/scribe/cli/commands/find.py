@@ -2,6 +2,7 @@
 
 from argparse import Namespace
 from collections.abc import Callable, Iterable
+from typing import TYPE_CHECKING
 
 from braildesk import Session
 from braildesk.desk.find import (
@@ -13,7 +14,6 @@ from braildesk.desk.find import (
     print_of,
     tallied,
 )
-from braildesk.desk.page_places import PageMap
 from braildesk.text.cells import NotCells, braille_patterns
 from braildesk.text.characters import code_and_name
 from braildesk.text.sequences import composed
@@ -23,8 +23,10 @@ from scribe.cli.page_size import add_pages, page_map
 from scribe.cli.parser import Parser, WordsRefused, add_width
 from scribe.words.console import Console
 from scribe.words.find import cell_lines, found_summary, word_lines
-from scribe.words.pages import page_place
 from scribe.words.typed import words
+
+if TYPE_CHECKING:
+    from braildesk.desk.page_places import PageMap
 
 MORE = """\
 Each place is shown by its paragraph, its first character, counted from 1, and the words
@@ -87,18 +89,23 @@ def answer(session: Session, arguments: Namespace, console: Console) -> None:
     console.say(found_summary(text, tally, others, _OFFER))
 
 
-def _of_words(pages: PageMap | None, hit: Hit) -> Callable[[int], str]:
+def _of_words(pages: "PageMap | None", hit: Hit) -> Callable[[int], str]:
     """What is said of where a character stands on the pages: nothing if none were asked for."""
     if pages is None:
         return lambda _: ""
+    # imported here, since it is seldom asked for
+    from scribe.words.pages import page_place
+
     its, number, text = pages, hit.paragraph.id, hit.text
     return lambda place: f", {page_place(its.of_character(number, place, text))}"
 
 
-def _of_cells(pages: PageMap | None, hit: Hit) -> Callable[[int], str]:
+def _of_cells(pages: "PageMap | None", hit: Hit) -> Callable[[int], str]:
     """What is said of where a cell stands on the pages: nothing if none were asked for."""
     if pages is None:
         return lambda _: ""
+    from scribe.words.pages import page_place
+
     its, number = pages, hit.paragraph.id
     return lambda cell: f", {page_place(its.of_cell(number, cell))}"
 
