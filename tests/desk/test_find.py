@@ -1,6 +1,7 @@
 """`scribe find`: where words or cells stand in a book."""
 
 from pathlib import Path
+from unicodedata import normalize
 
 import pytest
 from tool import Ran, scribe
@@ -8,6 +9,7 @@ from tool import Ran, scribe
 from braildesk import Session
 from braildesk.desk.find import alike, unlike
 from braildesk.desk.tables import FOLDER
+from braildesk.text.sequences import is_plain
 
 # a contraction of two letters, which has one cell, and a letter without a composed form
 TABLE = b"space \\s 0\nletter a 1\nletter n 1345\nletter q 12345\nletter \\x0307 4\nalways an 2\n"
@@ -142,6 +144,15 @@ def test_cells_of_a_contraction_stand_for_all_of_it(empty_book: Path) -> None:
         "Paragraph 2, cell 4: ⠟⠂⠀[⠂]\n"
         "  character 5: qan [an]\n"
     )
+
+
+def test_plain_characters_are_in_normal_form_c_wherever_they_stand() -> None:
+    every = list(map(chr, range(0x30000)))
+    plain = {each for each in every if is_plain(each)}
+    joining = {each for its in every for each in normalize("NFD", its)[1:]}
+    assert {"a", "é", "’", "⠁"} <= plain
+    assert all(normalize("NFC", each) == each for each in plain)
+    assert not plain & joining
 
 
 def test_words_are_found_in_normal_form_c(empty_book: Path) -> None:

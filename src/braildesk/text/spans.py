@@ -34,10 +34,13 @@ def find_spans(text: str, sought: str, form: Form = composed) -> tuple[Span, ...
 
     Those that overlap are all given. None begins or ends within a combining sequence.
     """
-    wanted, whole = form(sought), form(text)
+    wanted = form(sought)
+    # a text that is plain is in normal form C
+    is_same = form is composed and wanted in text and is_plain(text)
+    whole = text if is_same else form(text)
     if not wanted or wanted not in whole:
         return ()
-    size, stored = len(wanted), _places(text, whole, form)
+    size, stored = len(wanted), None if is_same else _places(text, whole, form)
     starts = _starts(whole, wanted)
     if stored is None:
         return tuple([_span(Span, (start, start + size)) for start in starts])
