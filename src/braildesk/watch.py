@@ -12,7 +12,7 @@ _READ = 1 << 16
 class Watch:
     """Watches an open file from now on; raises ``OSError`` where that can't be done.
 
-    What another machine does to a file over a network isn't seen.
+    What another machine does to a file over a network isn't seen, nor what a memory mapping does.
     """
 
     def __init__(self, descriptor: int) -> None:
