@@ -22,6 +22,7 @@ from braildesk.refusals import DeskError, Failed, Refused, cannot_open, refused_
 from braildesk.session import Session
 from braildesk.workshop import (
     Swapped,
+    create,
     give_access,
     made_beside,
     open_made,
@@ -99,11 +100,10 @@ def _make(
     """Makes a book where none is, and gives it its name once it is whole."""
     target = real_path(asked.path)
     with made_beside(target) as made:
-        # by the program it would have a mode that no group may write by, whatever the umask says
-        file = os.open(made, os.O_WRONLY | os.O_CREAT | os.O_EXCL, 0o666)
-        begun = os.fstat(file)
-        os.close(file)
         try:
+            # by the program it would have a mode that no group may write by, whatever the umask says
+            with create(made, 0o666) as file:
+                begun = os.fstat(file.fileno())
             programs.make_book(made, program, named=asked.path)
             _carry_out(made, program, holding)
             open_made(made, begun).close()

@@ -65,10 +65,11 @@ def _made_in(parent: str) -> Iterator[Path]:
         os.close(descriptor)
 
 
-def create(path: Path) -> BinaryIO:
-    """A new file, which is its owner's alone until it is given its access."""
+def create(path: Path, mode: int = 0o600) -> BinaryIO:
+    """A new file where one is made, which is its owner's alone until it is given its access."""
     flags = os.O_RDWR | os.O_CREAT | os.O_EXCL | os.O_NOFOLLOW | os.O_CLOEXEC
-    return open(os.open(path, flags, 0o600), "r+b")
+    with _folder_of(path) as folder:
+        return open(os.open(path.name, flags, mode, dir_fd=folder), "r+b")
 
 
 def open_made(made: Path, like: os.stat_result) -> BinaryIO:
@@ -89,32 +90,34 @@ def open_made(made: Path, like: os.stat_result) -> BinaryIO:
 
 def put(made: Path, target: str) -> None:
     """Gives a file its name, which nothing may have yet (``FileExistsError``)."""
-    try:
-        _rename(made, target)
-    except OSError as error:
-        if error.errno not in _NOT_KNOWN:
-            raise
-        os.link(made, target)
-        made.unlink()
+    with _folder_of(made) as folder:
+        try:
+            _rename(folder, made.name, target)
+        except OSError as error:
+            if error.errno not in _NOT_KNOWN:
+                raise
+            os.link(made.name, target, src_dir_fd=folder)
+            os.unlink(made.name, dir_fd=folder)
     _sync_folder(target)
 
 
 def put_over(made: Path, target: str) -> None:
     """Gives a file the name of another, which is no more then, nor is the log beside it."""
-    log, aside = f"{target}-wal", f"{made}-wal"
+    log, aside = f"{target}-wal", f"{made.name}-wal"
     is_aside = True
-    try:
-        # it belongs to the older file, and would damage the new one
-        os.replace(log, aside)
-    except FileNotFoundError:
-        # what lies aside then is the new file's own, if anything does
-        is_aside = False
-    try:
-        os.replace(made, target)
-    except OSError:
-        if is_aside:
-            os.replace(aside, log)
-        raise
+    with _folder_of(made) as folder:
+        try:
+            # it belongs to the older file, and would damage the new one
+            os.replace(log, aside, dst_dir_fd=folder)
+        except FileNotFoundError:
+            # what lies aside then is the new file's own, if anything does
+            is_aside = False
+        try:
+            os.replace(made.name, target, src_dir_fd=folder)
+        except OSError:
+            if is_aside:
+                os.replace(aside, log, src_dir_fd=folder)
+            raise
     _sync_folder(target)
 
 
@@ -151,6 +154,23 @@ def copy_bytes(source: int, target: int) -> None:
         ):
             place += os.pwrite(target, data, place)
     os.ftruncate(target, size)
+
+
+@contextmanager
+def _folder_of(made: Path) -> Iterator[int]:
+    """The folder in which a file is made; ``Swapped`` if a link is in its place.
+
+    Through that what is made would come into any folder of who makes it.
+    """
+    flags = os.O_PATH | os.O_DIRECTORY | os.O_NOFOLLOW | os.O_CLOEXEC
+    try:
+        folder = os.open(made.parent, flags)
+    except (FileNotFoundError, NotADirectoryError) as error:
+        raise Swapped from error
+    try:
+        yield folder
+    finally:
+        os.close(folder)
 
 
 def _own_folder(parent: str) -> tuple[int, str]:
@@ -213,8 +233,8 @@ def _remove(descriptor: int, folder: str) -> None:
             os.rmdir(folder)
 
 
-def _rename(made: Path, target: str) -> None:
-    """Renames a file if nothing has the new name."""
+def _rename(folder: int, name: str, target: str) -> None:
+    """Renames a file of an open folder if nothing has the new name."""
     import ctypes  # which few sessions need
 
     library = ctypes.CDLL(None, use_errno=True)
@@ -222,8 +242,8 @@ def _rename(made: Path, target: str) -> None:
         rename = library.renameat2
     except AttributeError:
         raise OSError(errno.ENOSYS, os.strerror(errno.ENOSYS)) from None
-    words = os.fsencode(made), os.fsencode(target)
-    if rename(_HERE, words[0], _HERE, words[1], _NO_REPLACE):
+    words = os.fsencode(name), os.fsencode(target)
+    if rename(folder, words[0], _HERE, words[1], _NO_REPLACE):
         number = ctypes.get_errno()
         raise OSError(number, os.strerror(number), target)
 

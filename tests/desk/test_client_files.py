@@ -454,6 +454,31 @@ def test_a_link_in_place_of_a_new_book_gets_no_name(
     assert (os.path.lexists(to), private.read_text()) == (False, "mine")
 
 
+@pytest.mark.parametrize("is_copy", [True, False])
+def test_a_link_in_place_of_the_folder_in_which_a_book_is_made_leads_no_file_elsewhere(
+    book: Path, tmp_path: Path, monkeypatch: pytest.MonkeyPatch, is_copy: bool
+) -> None:
+    private, shared = tmp_path / "private", tmp_path / "shared"
+    private.mkdir()
+    shared.mkdir()
+    own_folder, to = workshop._own_folder, shared / "made"
+
+    def swapped(parent: str) -> tuple[int, str]:
+        descriptor, folder = own_folder(parent)
+        if parent == str(shared):
+            os.rename(folder, shared / "moved")
+            os.symlink(private, folder)
+        return descriptor, folder
+
+    monkeypatch.setattr(workshop, "_own_folder", swapped)
+    with pytest.raises(Failed) as caught:
+        braildesk.copy(book, to) if is_copy else braildesk.new_book(to)
+    assert caught.value.sentence.endswith(
+        ": another program put something else in the place of what was made."
+    )
+    assert (names(private), os.path.lexists(to)) == (set(), False)
+
+
 def test_a_group_that_is_not_the_books_may_do_no_more_with_its_copy_than_anybody(
     book: Path, tmp_path: Path, monkeypatch: pytest.MonkeyPatch
 ) -> None:
