@@ -91,7 +91,7 @@ class Session:
         #: The requests of ``each`` whose answers weren't taken yet, in order.
         self._sent: deque[Request[Any] | Refused] = deque()
         self._is_streaming = False
-        self._thread = threading.get_ident()
+        self._owner = _here()
         self._is_closed = False
         #: Whether the file isn't looked at any more, since what it held is being saved.
         self._is_saving = False
@@ -231,7 +231,7 @@ class Session:
 
     def take_over(self) -> None:
         """Has the session belong to the thread that calls this. No other one uses it by then."""
-        self._thread = threading.get_ident()
+        self._owner = _here()
 
     def tables(self) -> tuple[Table, ...]:
         """The tables of the book, in the order of their names, with their texts as they are now."""
@@ -272,7 +272,7 @@ class Session:
             raise RuntimeError("the answers of each() are still being given")
 
     def _judge_thread(self) -> None:
-        if threading.get_ident() != self._thread:
+        if _here() != self._owner:
             raise RuntimeError(
                 "A session can be used by the thread that opened it alone. Nothing was sent. Open"
                 " the book in the thread that uses it."
@@ -765,6 +765,11 @@ class Session:
     def version(self) -> int:
         """The version of the book."""
         return self.ask(requests.Version())
+
+
+def _here() -> tuple[int, int]:
+    """The process and the thread that run this: a process that was forked has the pipes too."""
+    return os.getpid(), threading.get_ident()
 
 
 def _started(words: list[str], while_waiting: Callable[[], None]) -> Pipe:

@@ -170,6 +170,21 @@ def test_another_thread_is_refused(session: Session) -> None:
     assert session.version() == 1
 
 
+def test_a_process_that_was_forked_takes_no_answer_of_the_session(book: Path) -> None:
+    with Session(book) as session:
+        child = os.fork()
+        if child == 0:
+            try:
+                session.version()
+            except RuntimeError:
+                os._exit(7)
+            finally:
+                os._exit(0)
+        _, status = os.waitpid(child, 0)
+        assert os.waitstatus_to_exitcode(status) == 7
+        assert session.version() == 1
+
+
 def test_a_session_that_is_left_open_is_warned_of(book: Path) -> None:
     session = Session(book)
     with pytest.warns(
