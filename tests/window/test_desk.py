@@ -10,13 +10,15 @@ from PyQt6.QtCore import QMimeData, QPointF, Qt, QTimer, QUrl
 from PyQt6.QtGui import QDropEvent
 from PyQt6.QtWidgets import QApplication, QDialog, QLabel
 
-from braildesk import Style, requests
+from braildesk import Session, Style, requests
 from braildesk.desk.drafts import Drafts
+from braildesk.desk.export import Job
 from braildesk.desk.layout import PageSize
 from braildesk.text.spans import Span
 
 from scribe.window import dialogs
 from scribe.window.desk import Desk
+from scribe.words.console import Console
 
 
 def _paste(desk: Desk, text: str) -> None:
@@ -136,6 +138,28 @@ def test_a_manuscript_is_imported_with_its_headings_and_a_report(
     assert desk.window.message.text == (
         "Taken back: 2 paragraphs were imported, 4 to 5. The book keeps them, struck."
     )
+
+
+def test_what_others_changed_during_an_export_is_said(
+    desk: Desk, tmp_path: Path, monkeypatch: pytest.MonkeyPatch
+) -> None:
+    def changed(job: Job, console: Console) -> None:
+        with Session(job.book) as session:
+            session.strike(1)
+        console.show("The volumes are written.")
+
+    reported: list[str] = []
+    monkeypatch.setattr(
+        dialogs, "report", lambda _, title, lines: reported.extend(lines)
+    )
+    monkeypatch.setattr(dialogs, "folder", lambda *_: str(tmp_path))
+    monkeypatch.setattr("scribe.window.files.export_in_words", changed)
+    desk.act("export")
+    assert reported == [
+        "Another program changed the book meanwhile. It is at version 6 now, and is shown as it"
+        " is.",
+        "The volumes are written.",
+    ]
 
 
 def test_what_takes_long_is_cancelled_by_its_dialog(desk: Desk) -> None:

@@ -303,7 +303,9 @@ class Desk:
         if ending.question:
             state = replace(state, question=ending.question)
         state = with_imported(before, state)
-        lines = (*_changed_between(before, state), *ending.lines)
+        versions = state.version - before.version
+        more = deeds.changed_between(before.book, state.book, state.version, versions)
+        lines = (*more, *ending.lines)
         if lines:
             state = replace(state, pages=Pages(ending.title, lines))
         return refreshed(self._session, state)
@@ -907,17 +909,6 @@ def _is_gone_on_from(asked: Command[Any] | Action | None) -> bool:
     """Whether another new paragraph is typed after what a key asked for."""
     is_of_new = isinstance(asked, TypeAll) and asked.purpose.is_new
     return is_of_new or isinstance(asked, requests.Type)
-
-
-def _changed_between(before: State, after: State) -> tuple[str, ...]:
-    """What is said if the book has been changed by more than an import."""
-    commands = deeds.commands_between(before.book, after.book)
-    if after.version - before.version == commands:
-        return ()
-    return (
-        f"Another program changed the book meanwhile. It is at version {after.version:,} now,"
-        " and is shown as it is.",
-    )
 
 
 def _displaced_by(lost: Lost, state: State) -> State:

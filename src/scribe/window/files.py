@@ -19,6 +19,7 @@ from scribe.window.book import Contents
 from scribe.window.desk import Desk
 from scribe.window.dialogs import IsStopped, Say
 from scribe.words.console import Console, Heard
+from scribe.words.deeds import changed_between
 from scribe.words.export import export_in_words
 from scribe.words.status import in_sentences
 from scribe.words.import_text import import_in_words, question
@@ -169,7 +170,10 @@ class Files:
             desk.book.close()
             _told(act, _Beside(BytesIO(), heard, heard, check, tell=say), problems)
             lines = tuple(heard.getvalue().splitlines())
-            return desk.book.imported(before), lines
+            now = desk.book.imported(before)
+            book, commands = now.paragraphs, now.version - before.version
+            more = changed_between(before.paragraphs, book, now.version, commands)
+            return now, (*more, *lines)
 
         try:
             contents, lines = dialogs.long(desk.window, desk.work, title, whole)

@@ -131,6 +131,18 @@ def commands_between(before: Sequence[Paragraph], now: Sequence[Paragraph]) -> i
     return count
 
 
+def changed_between(
+    before: Sequence[Paragraph], now: Sequence[Paragraph], version: int, commands: int
+) -> tuple[str, ...]:
+    """What is said if a book, which is at a version now, had more commands than an import was."""
+    if commands == commands_between(before, now):
+        return ()
+    return (
+        f"Another program changed the book meanwhile. It is at version {version:,} now, and is"
+        " shown as it is.",
+    )
+
+
 def together(deeds: Sequence[Deed]) -> Deed:
     """What one key did by several commands: a correction perhaps, and new paragraphs."""
     backs = [command for each in reversed(deeds) for command in each.back]
