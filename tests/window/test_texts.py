@@ -114,6 +114,20 @@ def test_wide_characters_and_cells_of_eight_dots_go_with_each_other(own: Desk) -
     assert window.cells.text == "MM⣍AM"
 
 
+def test_a_text_that_the_window_cannot_show_is_not_changed_by_who_goes_through_it(
+    application: QApplication, tmp_path: Path
+) -> None:
+    table = requests.Table("odd", b"letter a 1\npunctuation \\xfdd0 2\n")
+    prints = [requests.Type("end", "odd", text) for text in ("a\ufdd0a", "aa")]
+    new_book(book := tmp_path / "odd.braildesk", holding=[table, *prints])
+    desk = Desk(book, None, 0.0, PageSize())
+    desk.begin()
+    assert desk.settle()
+    desk.choose(1)
+    assert (desk.window.print.text, desk.contents.version) == ("aa", 3)
+    desk.close()
+
+
 def test_text_from_right_to_left_is_gone_through_and_corrected(own: Desk) -> None:
     window = own.window
     own.choose(1)

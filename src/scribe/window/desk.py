@@ -51,6 +51,9 @@ Result = TypeVar("Result")
 NO_PARAGRAPH = "The book has no paragraph yet. Ctrl+Enter begins one."
 STRUCK = "is struck. Ctrl+D restores it, so that it can be changed."
 CLOSED = "The book is closed: Open the book again, in the menu Book, opens it."
+_ONLY_HERE = (
+    "What is typed can't be kept elsewhere: it is lost if the window is closed."
+)
 
 
 @dataclass(frozen=True)
@@ -317,6 +320,9 @@ class Desk:
         self._is_showing = True
         try:
             window.print.show_text(text)
+            if window.print.text != text:
+                # Qt ends a line at two characters that no text should have
+                window.print.setReadOnly(True)
             window.print.put_caret(min(place, len(text)))
             window.cells.show_text(self.shown(reading.its.braille if reading else ""))
             window.marks.show_text("\n".join(mark_line(mark, text) for mark in marks))
@@ -565,9 +571,13 @@ class Desk:
         return place_kept(text, self.print_of(text), place)
 
     def is_typed(self) -> bool:
-        """Whether a text is typed that the book doesn't have; none is while no paragraph is shown."""
+        """Whether a text is typed that the book doesn't have.
+
+        None is while no paragraph is shown, and none where nothing can be typed.
+        """
         is_shown = self.reading is not None or self.new is not None
-        return is_shown and self.typed_text() != self.before()
+        may_be = is_shown and not self.window.print.isReadOnly()
+        return may_be and self.typed_text() != self.before()
 
     def draft(self) -> Draft | None:
         """What is typed and not in the book yet."""
@@ -608,6 +618,13 @@ class Desk:
         fault = self.aside.result(lambda: self.unsent.put_by(draft), False)
         self.have_wait(None)
         return fault or "Ctrl+B brings it back."
+
+    def is_waiting(self) -> bool:
+        """Whether what is typed is kept as what waits, if anything is typed."""
+        draft = self.draft()
+        self.keep_draft(draft)
+        self.wait_for_draft()
+        return draft is None or self.unsent.waiting == draft
 
     def wait_for_draft(self) -> None:
         """Waits until what is typed is kept as what waits."""
@@ -671,6 +688,7 @@ class Desk:
         self._is_showing = True
         self.window.print.put_caret(min(place, len(text)))
         self._is_showing = False
+        self.window.print.have_kept()
         if done is None:
             self.show_reading(place)
         else:
@@ -780,8 +798,10 @@ class Desk:
             found, said = None, [lost.sentence, str(failed)]
         if found is None:
             self.is_closed, self.loss = True, " ".join(said)
-            if self.draft() is not None:
+            if self.draft() is not None and self.is_waiting():
                 said.append(f"What is typed is kept in {self.drafts.place}.")
+            elif self.draft() is not None:
+                said.append(_ONLY_HERE)
             self.refuse(" ".join(said))
             return
         said.append(self.taken_again(found))
@@ -825,7 +845,7 @@ class Desk:
             return False
         self._is_acting = True
         try:
-            if self.is_closed or self.settle():
+            if self.is_waiting() if self.is_closed else self.settle():
                 return True
         finally:
             self._is_acting = False
@@ -833,6 +853,8 @@ class Desk:
 
     def is_left(self) -> bool:
         """Asks whether the window goes while something is typed that wasn't kept."""
-        said = self.window.message.text
-        asked = f"{said}\n\nWhat is typed waits, and is offered when the book is opened again."
+        waits = "What is typed waits, and is offered when the book is opened again."
+        if not self.is_waiting():
+            waits = _ONLY_HERE
+        asked = f"{self.window.message.text}\n\n{waits}"
         return choice(self.window, "Not kept", asked, ("&Close", "&Stay")) == 0

@@ -210,17 +210,28 @@ class Print(Field):
         super().__init__("Print", False)
 
     def event(self, event: QEvent | None) -> bool:
-        """Undo is an action of the desk, which knows whether something is typed."""
+        """Undo is an action of the desk, which knows whether something is typed.
+
+        So is what the key of redo does where nothing typed was taken back.
+        """
         if event is None:
             return False
-        if (
-            event.type() == QEvent.Type.ShortcutOverride
-            and isinstance(event, QKeyEvent)
-            and event.matches(QKeySequence.StandardKey.Undo)
+        if event.type() == QEvent.Type.ShortcutOverride and isinstance(
+            event, QKeyEvent
         ):
-            event.ignore()
-            return False
+            document, kinds = self.document(), QKeySequence.StandardKey
+            assert document is not None
+            is_redo = event.matches(kinds.Redo) and not document.isRedoAvailable()
+            if is_redo or event.matches(kinds.Undo):
+                event.ignore()
+                return False
         return super().event(event)
+
+    def have_kept(self) -> None:
+        """What was typed is kept, and isn't taken back as what is typed any more."""
+        document = self.document()
+        assert document is not None
+        document.clearUndoRedoStacks()
 
     def insertFromMimeData(self, source: QMimeData | None) -> None:
         """One line goes in where the caret is; of several it is asked what they are."""

@@ -154,9 +154,11 @@ class Typed:
             self._noted(draft.cells or Span(0, 1), draft.text)
             return
         lines = draft.text.split("\n")
+        if len(lines) > 1:
+            # until they are typed the first doesn't wait without the others
+            desk.have_wait(draft)
         is_edit = draft.aim is Aim.EDIT and row is not None
-        its = desk.reading.its.paragraph if desk.reading else None
-        if is_edit and its is not None and not its.struck:
+        if is_edit and not desk.window.print.isReadOnly():
             desk.window.print.setFocus()
             desk.window.print.selectAll()
             desk.window.print.textCursor().insertText(lines[0])
@@ -252,7 +254,8 @@ class Typed:
             assert left is not None
             desk.new = None
             desk.show(desk.asked(desk.book.contents), left.paragraph)
-            desk.put_by(left)
+            if not desk.is_ending:
+                desk.put_by(left)
             why = getattr(part.cause, "sentence", "Stopped.")
             raise Stop(
                 f"{part.done:,} typed. {why} The others can be brought back: Ctrl+B."
