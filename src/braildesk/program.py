@@ -206,7 +206,7 @@ def judge(asked: AskedOfFile, program: str) -> None:
     """
     if isinstance(asked, TableFile):
         return
-    _judge_size(asked)
+    _judge_file(asked)
     try:
         fault = _fault_of(asked.path, program)
     except (OSError, ValueError, Refused):
@@ -215,19 +215,22 @@ def judge(asked: AskedOfFile, program: str) -> None:
         raise cannot_open(asked, fault)
 
 
-def _judge_size(asked: AskedOfFile) -> None:
+def _judge_file(asked: AskedOfFile) -> None:
     """Refuses a file of no bytes, of which the program would make a database without a book.
 
-    It refuses one of too many bytes too, at which the program would look for very long.
+    It refuses one that is no database too, beside which the program would leave a log, and one of too
+    many bytes, at which it would look for very long.
     """
     try:
         found = os.stat(asked.path)
         size = found.st_size if stat.S_ISREG(found.st_mode) else None
-        is_empty = size == 0 and not has_work(log_path(asked.path))
+        is_alone = not has_work(log_path(asked.path))
     except (OSError, ValueError):
         return
-    if is_empty and not isinstance(asked, NewBook):
+    if size == 0 and is_alone and not isinstance(asked, NewBook):
         raise refused(Code.NOT_A_BOOK, asked)
+    if size and is_alone and not opening.may_be_book(asked.path):
+        raise cannot_open(asked, opening.why(asked))
     if size is not None and size > limits.BOOK_BYTES:
         raise cannot_open(asked, Why.TOO_LARGE_FOR_BOOK)
 

@@ -211,10 +211,10 @@ def test_a_book_that_can_not_be_replaced_keeps_its_work(
     killed_after(old, "of the old book")
     replace = os.replace
 
-    def refused(source: Path | str, target: Path | str) -> None:
+    def refused(source: Path | str, target: Path | str, **folders: int) -> None:
         if str(target) == str(old):
             raise PermissionError(errno.EPERM, "Operation not permitted")
-        replace(source, target)
+        replace(source, target, **folders)
 
     with monkeypatch.context() as patched:
         patched.setattr(os, "replace", refused)
@@ -342,6 +342,16 @@ def meanwhile(monkeypatch: pytest.MonkeyPatch, deed: Callable[[], object]) -> No
         return version
 
     monkeypatch.setattr(braildesk.program, "check", checked)
+
+
+def test_nothing_is_made_beside_a_file_that_is_no_book(tmp_path: Path) -> None:
+    letter = tmp_path / "letter"
+    letter.write_text("Dear Anna,\n")
+    for act in (Session, braildesk.check, braildesk.new_book):
+        with pytest.raises(CannotOpen) as caught:
+            act(letter)
+        assert caught.value.why is Why.NO_DATABASE
+    assert names(tmp_path) == {"letter"}
 
 
 def test_no_session_opens_a_book_that_is_being_replaced(
