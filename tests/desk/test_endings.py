@@ -79,6 +79,15 @@ def test_a_fault_whose_details_can_not_be_kept_is_a_sentence_too(
     )
 
 
+def test_a_fault_is_a_sentence_also_where_no_more_files_can_be_opened(
+    tmp_path: Path,
+) -> None:
+    fault = "sys.modules.update(traceback=None) or OSError(24, 'Too many open files')"
+    ran = faulty(fault, tmp_path)
+    said = f"scribe stopped (OSError: [Errno 24] Too many open files). {IN_THE_BOOK}\n"
+    assert ran == Ran(3, "ok 8\n", said)
+
+
 def test_a_want_of_memory_is_no_fault_of_scribe(tmp_path: Path) -> None:
     assert faulty("MemoryError()", tmp_path) == Ran(
         3,

@@ -50,7 +50,13 @@ def _status(run: Callable[[], int], may_change: Callable[[], bool]) -> int:
         ):
             say_last(sentence)
     except Exception as fault:
-        say_last(of_fault(fault, _kept_at(fault, may_change)))
+        kept = _kept_at(fault, may_change)
+        try:
+            said = of_fault(fault, kept)
+        except Exception:
+            # what it needs can't be read, as if no file more may be open
+            said = f"scribe stopped ({type(fault).__name__}: {fault}). {kept}"
+        say_last(said)
     return Status.FAILED
 
 
