@@ -4,7 +4,7 @@ import errno
 import os
 import sqlite3
 from collections.abc import Iterator, Sequence
-from contextlib import closing, contextmanager
+from contextlib import ExitStack, closing, contextmanager
 from dataclasses import dataclass, replace
 from os import fsencode, fspath
 from pathlib import Path
@@ -22,9 +22,11 @@ from braildesk.refusals import DeskError, Failed, Refused, cannot_open, refused_
 from braildesk.session import Session
 from braildesk.workshop import (
     Swapped,
+    copy_bytes,
     create,
     give_access,
     made_beside,
+    made_for_a_while,
     open_made,
     put,
     put_over,
@@ -77,8 +79,10 @@ def _new_book(
             return
     except FileExistsError:
         pass  # another program made one in this moment
-    except OSError:
-        raise cannot_open(asked, opening.why(asked)) from None
+    except OSError as error:
+        is_full = error.errno in (errno.ENOSPC, errno.EDQUOT)
+        why = Why.NO_ROOM if is_full else opening.why(asked)
+        raise cannot_open(asked, why) from None
     programs.make_book(asked.path, program)
     _carry_out(asked.path, program, holding)
 
@@ -97,31 +101,42 @@ def _leads_nowhere(path: str) -> bool:
 def _make(
     asked: NewBook, program: StrPath | None, holding: Sequence[Command[Any]]
 ) -> None:
-    """Makes a book where none is, and gives it its name once it is whole."""
+    """Makes a book where none is, and gives it its name once it is whole.
+
+    The program makes it in a folder of which nobody else can put another in the place.
+    """
     target = real_path(asked.path)
-    with made_beside(target) as made:
+    with made_beside(target) as made, ExitStack() as stack:
         try:
+            begun = stack.enter_context(_temporary())
+            programs.make_book(begun, program, named=asked.path)
+            _carry_out(begun, program, holding)
+            if has_work(f"{begun}-wal"):
+                raise Failed("See to the disk.")
             # by the program it would have a mode that no group may write by, whatever the umask says
-            with create(made, 0o666) as file:
-                begun = os.fstat(file.fileno())
-            programs.make_book(made, program, named=asked.path)
-            _carry_out(made, program, holding)
-            open_made(made, begun).close()
-        except (DeskError, Swapped) as failed:
-            is_of_made = made.parent.name in str(failed)
-            if not (is_of_made or isinstance(failed, Failed | Swapped)):
-                raise
-            # nobody knows the path at which it was made
-            why = f"{Swapped().strerror}." if is_of_made else _sentence(failed)
+            with open(begun, "rb") as whole, create(made, 0o666) as file:
+                copy_bytes(whole.fileno(), file.fileno())
+                os.fsync(file.fileno())
+                written = os.fstat(file.fileno())
+            open_made(made, written).close()
+            put(made, target)
+        except (Failed, Swapped) as failed:
             raise Failed(
-                f"The new book “{asked.path}” could not be written, and there is none: {why}"
+                f"The new book “{asked.path}” could not be written, and there is none:"
+                f" {_sentence(failed)}"
             ) from failed
-        if has_work(f"{made}-wal"):
-            raise Failed(
-                f"The new book “{asked.path}” could not be written, and there is none. See to the"
-                " disk."
-            )
-        put(made, target)
+
+
+@contextmanager
+def _temporary() -> Iterator[Path]:
+    """A path in a temporary folder; ``Failed`` if none can be made."""
+    with ExitStack() as stack:
+        try:
+            path = stack.enter_context(made_for_a_while())
+        except OSError as error:
+            why = f"no temporary folder can be made ({error.strerror or error})"
+            raise Failed(f"{why}. Let TMPDIR name a folder with room.") from error
+        yield path
 
 
 def _sentence(failed: DeskError | Swapped) -> str:

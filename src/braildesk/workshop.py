@@ -69,7 +69,10 @@ def create(path: Path, mode: int = 0o600) -> BinaryIO:
     """A new file where one is made, which is its owner's alone until it is given its access."""
     flags = os.O_RDWR | os.O_CREAT | os.O_EXCL | os.O_NOFOLLOW | os.O_CLOEXEC
     with _folder_of(path) as folder:
-        return open(os.open(path.name, flags, mode, dir_fd=folder), "r+b")
+        try:
+            return open(os.open(path.name, flags, mode, dir_fd=folder), "r+b")
+        except FileExistsError as error:
+            raise Swapped from error
 
 
 def open_made(made: Path, like: os.stat_result) -> BinaryIO:

@@ -347,7 +347,12 @@ def meanwhile(monkeypatch: pytest.MonkeyPatch, deed: Callable[[], object]) -> No
 def test_nothing_is_made_beside_a_file_that_is_no_book(tmp_path: Path) -> None:
     letter = tmp_path / "letter"
     letter.write_text("Dear Anna,\n")
-    for act in (Session, braildesk.check, braildesk.new_book):
+    acts: list[Callable[[Path], object]] = [
+        Session,
+        braildesk.check,
+        braildesk.new_book,
+    ]
+    for act in acts:
         with pytest.raises(CannotOpen) as caught:
             act(letter)
         assert caught.value.why is Why.NO_DATABASE
@@ -487,6 +492,52 @@ def test_a_link_in_place_of_the_folder_in_which_a_book_is_made_leads_no_file_els
         ": another program put something else in the place of what was made."
     )
     assert (names(private), os.path.lexists(to)) == (set(), False)
+
+
+def test_the_program_is_led_nowhere_while_it_makes_a_book(
+    tmp_path: Path, monkeypatch: pytest.MonkeyPatch
+) -> None:
+    private, shared = tmp_path / "private", tmp_path / "shared"
+    private.mkdir()
+    shared.mkdir()
+    make_book, to = braildesk.program.make_book, shared / "new"
+
+    def swapped(path: Path, program: str | None, named: str) -> None:
+        (making,) = shared.glob(".braildesk-*")
+        making.rename(shared / "moved")
+        making.symlink_to(private)
+        make_book(path, program, named)
+
+    monkeypatch.setattr(braildesk.program, "make_book", swapped)
+    with pytest.raises(Failed):
+        braildesk.new_book(to)
+    assert (names(private), os.path.lexists(to)) == (set(), False)
+
+
+def test_a_new_book_that_finds_no_room_says_so_though_there_is_some_by_then(
+    tmp_path: Path, monkeypatch: pytest.MonkeyPatch
+) -> None:
+    def full(source: int, target: int) -> None:
+        raise OSError(errno.ENOSPC, "No space left on device")
+
+    monkeypatch.setattr("braildesk.making.copy_bytes", full)
+    with pytest.raises(CannotOpen) as caught:
+        braildesk.new_book(tmp_path / "new")
+    assert caught.value.why is Why.NO_ROOM
+    assert names(tmp_path) == set()
+
+
+def test_a_new_book_that_has_no_temporary_folder_says_so(
+    tmp_path: Path, monkeypatch: pytest.MonkeyPatch
+) -> None:
+    monkeypatch.setattr(tempfile, "tempdir", str(tmp_path / "none"))
+    with pytest.raises(Failed) as caught:
+        braildesk.new_book(tmp_path / "new")
+    assert caught.value.sentence == (
+        f"The new book “{tmp_path}/new” could not be written, and there is none: no temporary"
+        " folder can be made (No such file or directory). Let TMPDIR name a folder with room."
+    )
+    assert names(tmp_path) == set()
 
 
 def test_a_group_that_is_not_the_books_may_do_no_more_with_its_copy_than_anybody(
