@@ -9,7 +9,7 @@ from braildesk.protocol.asked import Asked, AskedOfFile, Refusal
 from braildesk.protocol.codes import NUMBERS, Code, code_of
 from braildesk.protocol.requests import Request
 from braildesk.protocol.sentences import Why
-from braildesk.protocol.wording import worded
+from braildesk.protocol.wording import reason, worded
 
 
 class DeskError(Exception):
@@ -19,6 +19,11 @@ class DeskError(Exception):
     def sentence(self) -> str:
         """What a person reads: what happened, what it means for the book, what to do."""
         return super().__str__()
+
+    @property
+    def reason(self) -> str:
+        """The sentence for what failed after other things were done: it says nothing of these."""
+        return self.sentence
 
     def __str__(self) -> str:
         return self.sentence
@@ -58,6 +63,11 @@ class Refused(DeskError):
     def sentence(self) -> str:
         """What a person reads: what happened, what it means for the book, what to do."""
         return worded(self.refusal)
+
+    @property
+    def reason(self) -> str:
+        """The sentence without what the refusal means for the book."""
+        return reason(self.refusal)
 
 
 class NotFound(Refused):

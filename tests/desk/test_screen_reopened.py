@@ -256,7 +256,7 @@ def test_a_book_that_cannot_be_opened_again_says_why_until_it_can(
     with once_free(moon):
         sat.state = sat.desk.lost(sat.state)
         assert sat.state.is_lost and sat.state.pages
-        in_use = f"Another program has “{moon}” open. Nothing was changed. End that one first."
+        in_use = f"Another program has “{moon}” open. End that one first."
         assert sat.state.pages.lines[:2] == (
             "The session was ended by signal 9. Nothing was changed by this session.",
             in_use,
@@ -271,6 +271,23 @@ def test_a_book_that_cannot_be_opened_again_says_why_until_it_can(
         assert sat.state.is_lost and not sat.state.is_over
     sat.press("enter", "y", "enter")
     assert sat.state.kept == "kept: paragraph 4"
+
+
+def test_a_book_that_another_program_took_is_not_said_to_be_unchanged(
+    moon: Path, sit: Sit
+) -> None:
+    sat = sit(moon)
+    sat.press("s")
+    os.kill(sat.desk.pid, signal.SIGKILL)
+    with once_free(moon):
+        sat.state = sat.desk.lost(sat.state)
+        assert sat.state.pages and sat.state.pages.lines == (
+            "The session was ended by signal 9. The last command that was reported as kept is the striking of"
+            " paragraph 1, by which the book came to version 8. All up to it is in the book.",
+            f"Another program has “{moon}” open. End that one first.",
+        )
+        sat.press("enter")
+        assert "Nothing was changed" not in " ".join(sat.lines)
 
 
 def test_who_types_goes_on_where_the_log_of_the_book_was_removed(

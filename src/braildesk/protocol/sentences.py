@@ -70,10 +70,10 @@ SENTENCES: Mapping[int, str] = MappingProxyType(
         Code.NO_MEMORY: "There was no memory for this. {nothing} Close other programs, and ask again.",
         Code.NOT_KEPT: "{command} was not reported as kept, since the file of the book could not be written or"
         " read. See to the disk{room}.",
-        Code.NOT_A_BOOK: "{path} is no book. Nothing was changed. Check that the path is right.",
-        Code.DAMAGED: "The book {path} is damaged: its file has a wrong row in {part}. Nothing was changed."
+        Code.NOT_A_BOOK: "{path} is no book. {nothing} Check that the path is right.",
+        Code.DAMAGED: "The book {path} is damaged: its file has a wrong row in {part}. {nothing}"
         " Keep the file as it is, and go on with an earlier copy.",
-        Code.NEWER_FORMAT: "The book {path} was made by a newer braildesk than this one. Nothing was changed."
+        Code.NEWER_FORMAT: "The book {path} was made by a newer braildesk than this one. {nothing}"
         " Use that one, or a newer.",
         Code.NOT_FOR_EMBOSSERS: "Cell {cell} of paragraph {paragraph} has dot 7 or 8, which pages for embossers can't"
         " have. Nothing was exported. Correct the table of that paragraph.",
@@ -148,37 +148,37 @@ UNOPENED = MappingProxyType(
         Why.FOLDER: "{path} is a folder and no file. Give the path of a file in it.",
         Why.NO_FILE: "{path} is a pipe, a socket or a device, and no file. It was not opened. Give"
         " the path of a file.",
-        Why.DENIED: "You aren't permitted to open {path}. Nothing was changed. Ask who owns it"
+        Why.DENIED: "You aren't permitted to open {path}. {nothing} Ask who owns it"
         " for leave to read and write it and to write in its folder.",
         Why.READ_ONLY: "{path} is on a disk that can only be read, and a book is opened where it can"
-        " be written. Nothing was changed. Copy the book to another disk.",
-        Why.NO_ROOM: "There is no room on the disk of {path}. Nothing was changed. Make room there,"
+        " be written. {nothing} Copy the book to another disk.",
+        Why.NO_ROOM: "There is no room on the disk of {path}. {nothing} Make room there,"
         " and try again.",
-        Why.NO_DATABASE: "{path} is no book, since it isn't even a database. Nothing was changed."
+        Why.NO_DATABASE: "{path} is no book, since it isn't even a database. {nothing}"
         " Check that the path is right.",
-        Why.IN_USE: "Another program has {path} open. Nothing was changed. End that one first.",
+        Why.IN_USE: "Another program has {path} open. {nothing} End that one first.",
         Why.LINKED: "The file {path} has another name too (a hard link). By each name its newest"
-        " work would be looked for in another place, so it is opened by none. Nothing was changed."
+        " work would be looked for in another place, so it is opened by none. {nothing}"
         " Remove the other name; if one of them has a file ending in -wal beside it, keep that one.",
         Why.OTHER_LOG: "The file {log} isn't that of {path} as it is: {path} is whole without it,"
         " and with it would be damaged or lose what it has. It may be that another file was put in"
-        " the place of the book. Nothing was changed. Keep both files; to go on with {path} as it"
+        " the place of the book. {nothing} Keep both files; to go on with {path} as it"
         " is, move {log} away.",
         Why.NO_LOG: "What stands at {log} is no file of its own, but a link, a folder, a pipe or"
-        " another such thing, and the newest work of {path} would be looked for there. Nothing was"
-        " changed. Move it away.",
+        " another such thing, and the newest work of {path} would be looked for there. {nothing}"
+        " Move it away.",
         Why.JOURNAL: "Beside {path} lies {journal}, which braildesk never makes: another program"
-        " was stopped while it changed that file, or somebody put it there. Nothing was changed."
+        " was stopped while it changed that file, or somebody put it there. {nothing}"
         " Keep both files, and go on with an earlier copy.",
         Why.COMPUTED: "{path} was not opened, since it isn't made as books are: one of its tables"
-        " is a view or has another part that is computed, and may have no end. Nothing was changed."
+        " is a view or has another part that is computed, and may have no end. {nothing}"
         " Ask whoever made it for the book itself.",
         Why.TOO_LONG: "{path} was not opened, since it isn't made as books are: a text in it is longer"
-        " than any of a book, or its rows have no end. Nothing was changed. Ask whoever made it for"
+        " than any of a book, or its rows have no end. {nothing} Ask whoever made it for"
         " the book itself.",
-        Why.NO_SCHEMA: "The list of the tables in {path} can't be read. Nothing was changed. Keep"
+        Why.NO_SCHEMA: "The list of the tables in {path} can't be read. {nothing} Keep"
         " the file as it is, and go on with an earlier copy.",
-        Why.CUT_SHORT: "The book {path} is cut short: its end is missing. Nothing was changed."
+        Why.CUT_SHORT: "The book {path} is cut short: its end is missing. {nothing}"
         " Keep the file as it is, and go on with an earlier copy.",
         Why.TOO_LARGE: f"{{path}} is too large for a table, which has at most"
         f" {limits.TABLE_BYTES:,} bytes.",

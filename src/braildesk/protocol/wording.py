@@ -6,6 +6,7 @@ from collections.abc import Callable
 from braildesk.protocol import requests
 from braildesk.protocol.asked import (
     Asked,
+    AskedOfFile,
     BookFile,
     PrintLine,
     NewBook,
@@ -24,15 +25,23 @@ from braildesk.text.characters import around, code_point, named, shortened
 
 def worded(refusal: Refusal) -> str:
     """The sentence of a refusal."""
-    fields = _Fields(refusal)
-    sentence = SENTENCES.get(refusal.code)
-    if sentence is None:
-        return (
-            f"braildesk refused this by a code that isn't known here: {refusal.code}."
-        )
-    if not fields.nothing:
-        sentence = sentence.replace(" {nothing}", "")
-    return sentence.format_map(fields)
+    fields, form = _Fields(refusal), _form(refusal)
+    return (form if fields.nothing else _alone(form)).format_map(fields)
+
+
+def reason(refusal: Refusal) -> str:
+    """The sentence without what the refusal means for the book, which was changed before."""
+    return _alone(_form(refusal)).format_map(_Fields(refusal))
+
+
+def _form(refusal: Refusal) -> str:
+    unknown = f"braildesk refused this by a code that isn't known here: {refusal.code}."
+    form = SENTENCES.get(refusal.code, unknown)
+    return form.replace("{unopened}", UNOPENED[refusal.why])
+
+
+def _alone(form: str) -> str:
+    return form.replace(" {nothing}", "")
 
 
 def said_of_room(room: int | None) -> str:
@@ -53,6 +62,14 @@ _GIVEN = {
     "width": "so many",
     "lines": "so many",
 }
+
+#: The refusals of a file that is opened.
+_OF_FILES = (
+    Code.CANNOT_OPEN,
+    Code.NOT_A_BOOK,
+    Code.DAMAGED,
+    Code.NEWER_FORMAT,
+)
 
 
 class _Fields:
@@ -81,6 +98,8 @@ class _Fields:
                 return "Nothing was changed."
             case PrintLine():
                 return "This line was not translated."
+            case AskedOfFile() if self._refusal.code in _OF_FILES:
+                return "Nothing was changed."
         return ""
 
     @property
@@ -273,11 +292,6 @@ class _Fields:
         """In which rows of a file something is damaged."""
         part = PARTS.get(self._refusal.table or 0, f"table {self._refusal.table}")
         return part.format_map({"id": self._refusal.id})
-
-    @property
-    def unopened(self) -> str:
-        """Why a file can't be opened."""
-        return UNOPENED[self._refusal.why].format_map(self)
 
     @property
     def room(self) -> str:

@@ -289,8 +289,8 @@ class Desk:
             state = self._opened_again(state)
         except Lost as lost:
             return self._after_loss(state, lost)
-        except (DeskError, Stop) as failed:
-            return _closed(state, failed.sentence, done)
+        except DeskError as failed:
+            return _closed(state, failed.reason, done)
         except OSError as failure:
             return _closed(state, of_system(failure), done)
         if ending.kept:
@@ -509,7 +509,7 @@ class Desk:
         except Lost as lost:
             return self._ended(_displaced_by(lost, state), lost.sentence)
         except DeskError as failed:
-            return _closed(state, failed.sentence)
+            return _closed(state, failed.reason)
         except OSError as failure:
             return _closed(state, of_system(failure))
 
@@ -543,7 +543,7 @@ class Desk:
             found = self._opened_again(replace(found, version=lost.version))
             return refreshed(self._session, self._offered(found, waits))
         except DeskError as failed:
-            return self._ended(state, lost.sentence, failed.sentence)
+            return self._ended(state, lost.sentence, failed.reason)
         except OSError as failure:
             return self._ended(state, lost.sentence, of_system(failure))
 
@@ -920,9 +920,6 @@ def _displaced_by(lost: Lost, state: State) -> State:
 def _closed(state: State, sentence: str, done: Sequence[str] = ()) -> State:
     """The state if the book could not be opened again, after what was done before that."""
     before = state.pages.lines if state.is_lost and state.pages else ()
-    if done:
-        # the sentence is of the opening alone
-        sentence = sentence.replace(" Nothing was changed.", "")
     # what was said before is still true, and is said once
     lines = dict.fromkeys((*done, *sentence.split("\n"), *before))
     return replace(

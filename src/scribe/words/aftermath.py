@@ -17,7 +17,7 @@ def after_loss(path: Path, lost: Lost) -> list[str]:
         try:
             session.close()
         except DeskError as failed:
-            return [lost.sentence, failed.sentence]
+            return [lost.sentence, failed.reason]
     return said
 
 
@@ -33,7 +33,7 @@ def opened_again(
     try:
         session, found = aftermath.opened_again(path, lost)
     except DeskError as failed:
-        return None, [lost.sentence, failed.sentence]
+        return None, [lost.sentence, failed.reason]
     except OSError as failure:
         why = f"The book could not be opened again: {failure.strerror}."
         return None, [lost.sentence, why]

@@ -280,8 +280,7 @@ def no_place(none: NoPlace) -> str:
 
 def not_given(table: str, paragraph: int, refused: Refused) -> str:
     """The sentence for a table that was put into the book, and that a paragraph isn't given."""
-    why = refused.sentence.replace(" Nothing was changed.", "")
-    return f"{why} Table {table} is in the book now, and paragraph {paragraph} wasn't given it."
+    return f"{refused.reason} Table {table} is in the book now, and paragraph {paragraph} wasn't given it."
 
 
 def history_lines(found: Iterable[Step], width: int) -> Iterator[list[str]]:
