@@ -92,3 +92,49 @@ def test_a_signal_ends_the_screen_while_it_waits_and_what_is_typed_is_kept(
     waits = Drafts(moon).waiting()
     assert waits and waits.text == "Oh, The moon is far away."
     once_free(moon).close()
+
+
+@pytest.mark.parametrize("typed_on", ["It stood.\rIt set.", "ab\r"])
+def test_what_is_typed_on_after_enter_while_the_screen_waits_is_kept_as_other_paragraphs(
+    moon: Path, at: Open, typed_on: str
+) -> None:
+    terminal = at(moon)
+    terminal.wait("? shows the keys.")
+    terminal.keys("o", *"It rose.")
+    terminal.wait("It rose.")
+    os.kill(terminal.program(), signal.SIGSTOP)
+    terminal.keys("enter")
+    terminal.wait(WAITING)
+    terminal.send(typed_on)
+    terminal.send_signal(signal.SIGTERM)
+    assert terminal.ended() == 3
+    waits = Drafts(moon).waiting()
+    assert waits and waits.text.split("\n") == [
+        "It rose.",
+        *typed_on.strip().split("\r"),
+    ]
+    once_free(moon).close()
+
+
+@pytest.mark.parametrize("keys", [["down"], ["enter", *"Oh, ", "enter"]])
+def test_what_is_typed_for_a_new_paragraph_while_the_screen_waits_is_set_aside(
+    moon: Path, at: Open, keys: list[str]
+) -> None:
+    terminal = at(moon)
+    terminal.wait("? shows the keys.")
+    *first, last = keys
+    terminal.keys(*first)
+    terminal.settle()
+    os.kill(terminal.program(), signal.SIGSTOP)
+    terminal.keys(last)
+    terminal.wait(WAITING)
+    terminal.send("oThe sun rose.\r")
+    terminal.send_signal(signal.SIGTERM)
+    assert terminal.ended() == 3
+    drafts = Drafts(moon)
+    assert [each.text for each in drafts.given_up()] == ["oThe sun rose."]
+    waits = drafts.waiting()
+    assert (waits.text if waits else "") == (
+        "Oh, The moon is far away." if first else ""
+    )
+    once_free(moon).close()

@@ -84,7 +84,7 @@ class Arrivals:
         held, self._held = self._held, []
         if not (self.is_unread or _is_pasted(held)):
             return list(held)
-        text = "".join(_TEXT.get(key, key) for key in held)
+        text = "".join(map(text_of, held))
         if self.is_unread and len(set(text.strip())) < 2:
             return [UNREAD] if held else []
         return [Pasted(text, is_keys=True)]
@@ -155,3 +155,10 @@ def _presses(strokes: Sequence[Stroke]) -> Iterator[Stroke]:
 def is_text(key: str) -> bool:
     """Whether a key stands for text that is typed."""
     return key in _TEXT or len(key) == 1
+
+
+def text_of(stroke: Stroke) -> str:
+    """The text of a key or of what was pasted; nothing if it stands for none."""
+    if isinstance(stroke, Pasted):
+        return stroke.text
+    return _TEXT.get(stroke, stroke) if is_text(stroke) else ""

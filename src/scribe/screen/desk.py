@@ -201,6 +201,10 @@ class Desk:
                 step = Step(replace(step.state, question=question))
         return self._taken(step).after(state)
 
+    def set_aside(self, state: State, text: str) -> State:
+        """The state after text that isn't of what is typed was kept, for U to bring back."""
+        return self._taken(Step(state, PutBy(text)))
+
     def resized(self, state: State, size: Size) -> State:
         """The state on a terminal of another size."""
         place, span = state.place, state.anchor

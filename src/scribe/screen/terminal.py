@@ -28,7 +28,14 @@ from braildesk.text.characters import visible
 from braildesk.text.sequences import JOINING_JAMO
 
 from scribe.screen.actions import ExportTo, ImportFrom, TypeAll
-from scribe.screen.arrivals import UNREAD, Arrivals, Lull, ToBeRead, is_text
+from scribe.screen.arrivals import (
+    UNREAD,
+    Arrivals,
+    Lull,
+    ToBeRead,
+    is_text,
+    text_of,
+)
 from scribe.screen.desk import Desk, preview_of
 from scribe.screen.drawing import Drawing, draw
 from scribe.screen.keyboard import Keyboard, Pasted, Stroke
@@ -196,26 +203,50 @@ class Screen:
             self._keep_last()
 
     def _take_rest(self) -> None:
-        """Keeps text that came and wasn't taken in before the end; no key of it is obeyed."""
+        """Keeps text that came and wasn't taken in before the end; no key of it is obeyed.
+
+        What comes after Enter is another new paragraph, or else is set aside.
+        """
         self.state = replace(self.state, is_over=True)
-        came = [*self._waiting, *self._arrivals.rest()]
-        came += [*self._keyboard.strokes(self._unread), *self._keyboard.rest()]
+        unread = self._keyboard.strokes(self._unread)
+        came = [*self._waiting, *self._arrivals.came(unread, self._clock())]
+        came += [*self._arrivals.rest(), *self._keyboard.rest()]
+        if self._ends_among_lines:
+            text = "".join(map(text_of, came))
+            came = [Pasted(f"\n{text}")] if text else []
         is_of_line = self.state.typed is not None and self.state.question is None
-        letters = (each for each in came if isinstance(each, str) and len(each) == 1)
-        typed_on = "".join(letters) if self._ends_among_lines else ""
-        if typed_on:
-            self.state = self._desk.paste(self.state, f"\n{typed_on}")
+        is_ended = False
         for stroke in came:
             if isinstance(stroke, Pasted):
-                text, is_keys = stroke.text, stroke.is_keys
-                self.state = self._desk.paste(self.state, text, is_keys)
-                if self.state.typed is None and not self.state.is_lost:
-                    self.unseen = (*self.unseen, self.state.message)
+                self._take_pasted(stroke, is_ended)
             elif is_of_line and len(stroke) == 1:
                 self.state = self._desk.paste(self.state, stroke)
             else:
-                # what comes after Enter, or another such key, may be for another line
-                is_of_line = False
+                # what comes after another key may be no text
+                is_enter = is_of_line and stroke == "enter"
+                is_of_line = is_enter and self._is_another_begun()
+                is_ended = is_ended or is_enter and not is_of_line
+
+    def _take_pasted(self, pasted: Pasted, is_aside: bool) -> None:
+        """Keeps a text at the end: it goes into what is typed, or is set aside, which is said."""
+        if is_aside:
+            self.state = self._desk.set_aside(self.state, pasted.text)
+        else:
+            self.state = self._desk.paste(self.state, pasted.text, pasted.is_keys)
+        if (is_aside or self.state.typed is None) and not self.state.is_lost:
+            self.unseen = (*self.unseen, self.state.message)
+
+    def _is_another_begun(self) -> bool:
+        """Whether Enter, which is kept with what is typed, has another new paragraph be typed."""
+        typed, asked = self.state.typed, self.state.question
+        if typed is None or not typed.purpose.is_new:
+            return False
+        if asked is not None:
+            self.state = self._desk.paste(self.state, "\n")
+            return bool(asked.lines[-1].strip())
+        typed = replace(typed, place=len(typed.text))
+        self.state = replace(self.state, typed=typed, ended=typed)
+        return bool(typed.text.strip())
 
     def _keep_last(self) -> None:
         """Keeps what is typed at the end, and has it said if it can't be, or if it waits."""
@@ -358,7 +389,8 @@ class Screen:
         rest = deque(strokes)
         try:
             while rest:
-                self._carry_out(rest.popleft())
+                self._carry_out(rest[0])
+                rest.popleft()
         except Interrupted:
             # text among what is left is kept at the end
             self._waiting += rest
