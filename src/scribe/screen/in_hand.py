@@ -10,8 +10,8 @@ from braildesk.desk.places import words_of
 from braildesk.desk.search import Found
 from braildesk.text.spans import Span
 
-from scribe.screen.field import Field, Purpose
-from scribe.screen.state import InHand, State
+from scribe.screen.field import Purpose
+from scribe.screen.state import InHand, State, prompted
 from scribe.words.paragraph import quoted
 
 _FIRST = "No open mark up to the end of the book: this is the first in it."
@@ -83,8 +83,8 @@ def asked_for_note(session: Session, state: State, cells: Span) -> State:
     its = state.reading
     assert its is not None
     words = words_of(session, its.paragraph.id, cells, its.text, its.braille)
-    said = f"On {quoted(its.text[words.start : words.stop])}. {_OF_MARK}"
-    return replace(state, typed=Field(Purpose.NOTE, said=said))
+    said = f"On {quoted(its.text[words.start : words.stop])}."
+    return prompted(state, Purpose.NOTE, said, _OF_MARK)
 
 
 def touched(marks: list[Mark]) -> str:

@@ -36,7 +36,7 @@ from scribe.screen.moves import (
 )
 from scribe.screen.pasted_lines import is_cut
 from scribe.screen.question_keys import answered
-from scribe.screen.state import Pages, Pane, Question, State, Step
+from scribe.screen.state import Pages, Pane, Question, State, Step, prompted
 from scribe.screen.typing_keys import (
     KEYS_OF_LINE,
     KEYS_OF_PRINT,
@@ -168,8 +168,8 @@ def _folder(state: State) -> Step:
     return Step(replace(state, typed=Field(Purpose.FOLDER, said=said)))
 
 
-def _typed_for(purpose: Purpose, said: str = "") -> Callable[[State], Step]:
-    return lambda state: Step(replace(state, typed=Field(purpose, said=said)))
+def _typed_for(purpose: Purpose, hint: str = "") -> Callable[[State], Step]:
+    return lambda state: Step(prompted(state, purpose, hint=hint))
 
 
 def _edit(state: State) -> Step:

@@ -185,6 +185,8 @@ class State:
     in_hand: InHand | None = None
     found: WordsFound | None = None
     typed: Field | None = None
+    #: The purposes of which a hint was said already: it is said once.
+    hinted: frozenset[Purpose] = frozenset()
     #: What was last cut out of a text that is typed.
     cut: Cut | None = None
     #: A text to whose end Enter came among keys that came all at once, while nothing else is done.
@@ -392,6 +394,14 @@ def so_far(state: State, done: int) -> State:
 def saying_first(sentence: str, state: State) -> State:
     """The state in which a sentence is said before what has to be said anyway."""
     return state.saying(f"{sentence} {state.message}".strip())
+
+
+def prompted(state: State, purpose: Purpose, said: str = "", hint: str = "") -> State:
+    """The state in which a text is typed, with what is said of it; a hint is said the first time."""
+    if hint and purpose not in state.hinted:
+        said = f"{said} {hint}".lstrip()
+    field = Field(purpose, said=said)
+    return replace(state, typed=field, hinted=state.hinted | {purpose})
 
 
 def at_paragraph(state: State, number: int) -> State:
