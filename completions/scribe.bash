@@ -18,7 +18,7 @@ _scribe() {
             import) words='--lines --table --after --dry-run --from --format --volumes --notes --replace --report
                 --continue --again --leave' ;;
             show) words='--paragraphs --print --braille --ascii --ascii-small --unicode --width' ;;
-            list) words='--paragraphs --width' ;;
+            list) words='--paragraphs --headings --width' ;;
             history) words='--by --width' ;;
             compare) words='--width' ;;
             marks) words='--open --pages --page-width --page-lines --width' ;;

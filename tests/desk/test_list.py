@@ -53,6 +53,16 @@ def test_some_paragraphs_are_listed_alone(stars: Path) -> None:
     )
 
 
+def test_headings_are_listed_alone(stars: Path) -> None:
+    assert listed(stars, "--headings").shown.splitlines() == [
+        "Paragraph 2, heading, begins a volume, 9 characters: The Tides",
+    ]
+    given = "list --headings\nlist 1 --headings\n"
+    ran = scribe("talk", stars, folder=stars.parent, given=given)
+    assert "2, heading, begins a volume, 9 characters: The Tides\n" in ran.shown
+    assert ran.said == "There are no headings there.\n"
+
+
 @pytest.mark.parametrize("width", [10, 20, 32, 40, 55])
 def test_no_line_is_over_the_width(stars: Path, width: int) -> None:
     ran = listed(stars, "--width", str(width))
