@@ -95,8 +95,9 @@ def test_a_signal_ends_the_screen_while_it_waits_and_what_is_typed_is_kept(
 
 
 @pytest.mark.parametrize("typed_on", ["It stood.\rIt set.", "ab\r"])
+@pytest.mark.parametrize("is_closed", [False, True])
 def test_what_is_typed_on_after_enter_while_the_screen_waits_is_kept_as_other_paragraphs(
-    moon: Path, at: Open, typed_on: str
+    moon: Path, at: Open, typed_on: str, is_closed: bool
 ) -> None:
     terminal = at(moon)
     terminal.wait("? shows the keys.")
@@ -106,8 +107,13 @@ def test_what_is_typed_on_after_enter_while_the_screen_waits_is_kept_as_other_pa
     terminal.keys("enter")
     terminal.wait(WAITING)
     terminal.send(typed_on)
-    terminal.send_signal(signal.SIGTERM)
-    assert terminal.ended() == 3
+    if is_closed:
+        terminal.await_read()
+        terminal.hang_up()
+        assert terminal.left() == 3
+    else:
+        terminal.send_signal(signal.SIGTERM)
+        assert terminal.ended() == 3
     waits = Drafts(moon).waiting()
     assert waits and waits.text.split("\n") == [
         "It rose.",

@@ -146,7 +146,7 @@ class Screen:
         self._lull = Lull()
         self._timer: asyncio.TimerHandle | None = None
         self._waiting: list[Stroke] = []
-        #: What had come and wasn't read as scribe was told to end.
+        #: What came while the program didn't answer, or as scribe was told to end.
         self._unread = ""
         # since when there was no time for keys, and when they were read last
         self._busy_from = self._read_at = clock()
@@ -360,6 +360,7 @@ class Screen:
 
     def _came(self, text: str) -> None:
         """Characters came: keys that may have waited while there was no time for them."""
+        text, self._unread = self._unread + text, ""
         now, read_at = self._clock(), self._read_at
         self._read_at = now
         since = None if self._is_idle else max(self._busy_from, read_at)
@@ -370,6 +371,11 @@ class Screen:
         strokes = self._keyboard.strokes(text)
         self._lull.came(len(text), self._keyboard.is_pasting, now)
         self._do(self._arrivals.came(strokes, now, since))
+
+    def _take_in(self) -> None:
+        """Takes in what came while the program didn't answer."""
+        if self._unread and not self._is_told_to_end:
+            self._came(self._input.rest())
 
     def _paused(self) -> None:
         """Nothing comes after Escape, so it is that key."""
@@ -438,6 +444,10 @@ class Screen:
             return False
         return bool(question.lines) or question.parts is not None
 
+    @property
+    def _is_told_to_end(self) -> bool:
+        return self.ended_by is not None or self.is_hung_up
+
     def _wait_for_held(self) -> None:
         if self._timer is not None:
             self._timer.cancel()
@@ -461,7 +471,11 @@ class Screen:
 
     def _waits(self) -> None:
         """Says that the program doesn't answer, while no key can act; a signal ends the waiting."""
-        is_told = self.ended_by is not None or self.is_hung_up
+        if not self.state.away and self._app.is_running and self._app.loop is not None:
+            # a terminal that is closed has nothing any more
+            self._unread += self._input.rest()
+            self._app.loop.call_soon(self._take_in)
+        is_told = self._is_told_to_end
         # an export and an import end between their own steps, and the book is opened again then
         if is_told and not isinstance(self.state.away, ExportTo | ImportFrom):
             raise Interrupted(self.ended_by or signal.SIGHUP)
