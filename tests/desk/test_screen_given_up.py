@@ -230,6 +230,32 @@ def test_what_cant_be_kept_is_there_until_the_end(moon: Path, sit: Sit) -> None:
     folder.unlink()
 
 
+def test_what_couldnt_be_kept_is_kept_once_it_can_be(moon: Path, sit: Sit) -> None:
+    sat = sit(moon)
+    folder = sat.desk.drafts.place.parent
+    shutil.rmtree(folder, ignore_errors=True)
+    folder.write_text("in the way")
+    sat.press("o", *"It rose.", "escape", "o", *"It set.", "escape")
+    folder.unlink()
+    sat.press("down")
+    texts = [each.text for each in Drafts(moon).given_up()]
+    assert texts == ["It set.", "It rose."]
+
+
+def test_what_was_given_up_and_is_kept_nowhere_is_said_at_the_end(
+    moon: Path, at: Open
+) -> None:
+    terminal = at(moon, XDG_STATE_HOME="/proc/nowhere")
+    terminal.wait("? shows the keys.")
+    terminal.keys("o", *"It rose.")
+    terminal.wait("It rose.")
+    terminal.keys("escape")
+    terminal.wait("It is here only until")
+    terminal.keys("q")
+    assert terminal.ended() == 0
+    assert "This was given up, and is kept nowhere:\nIt rose.\n" in terminal.said
+
+
 def test_lines_that_were_pasted_into_an_edit_and_cut_short_go_on(
     moon: Path, sit: Sit
 ) -> None:

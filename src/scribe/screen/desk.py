@@ -152,6 +152,11 @@ class Desk:
         """Whether a text is kept that the book doesn't have, to be offered at the next opening."""
         return self._unsent.waiting is not None
 
+    @property
+    def unkept(self) -> tuple[str, ...]:
+        """The texts that were given up and are kept nowhere."""
+        return self._unsent.unkept
+
     def take_over(self) -> None:
         """Has the session belong to the thread that calls this, before or after work aside."""
         self._session.take_over()

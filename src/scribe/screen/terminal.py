@@ -63,6 +63,7 @@ _SAVE_SECONDS = 1.0
 # how long Escape waits for a key that would make it Alt
 _ESCAPE_SECONDS = 0.1
 _WAITS = "What was typed and isn't in the book is kept, and is offered when the book is next opened."
+_UNKEPT = "This was given up, and is kept nowhere:"
 _NO_END = "The end of the pasted text didn't come. All that came is taken as pasted, and keys act again."
 _TOO_SOON = "That key came before the question could be read, and was no answer to it."
 
@@ -258,6 +259,8 @@ class Screen:
             self.unseen = (*self.unseen, kept.message, *typed)
         elif self.ended_by is not None and self._desk.has_waiting and not kept.is_lost:
             self.unseen = (*self.unseen, _WAITS)
+        for text in self._desk.unkept:
+            self.unseen = (*self.unseen, _UNKEPT, visible(text))
         self.state = kept
 
     def _settle(self) -> None:

@@ -100,6 +100,7 @@ class Unsent:
     def keep(self, typed: Draft | None) -> None:
         """Has what is typed wait, or what was left for later, or nothing; may raise `NotKept`."""
         wanted = typed or self._later
+        self._keep_here()
         if wanted == self.waiting:
             return
         if wanted is None:
@@ -113,6 +114,20 @@ class Unsent:
                 self._drafts.put_by(self._later)
             self._drafts.save(wanted)
         self.waiting, self.typed_at = wanted, None
+
+    def _keep_here(self) -> None:
+        """Tries again to keep what was given up and couldn't be kept, the oldest first."""
+        while self._here:
+            try:
+                self._drafts.put_by(self._here[-1])
+            except NotKept:
+                return
+            self._here.pop()
+
+    @property
+    def unkept(self) -> tuple[str, ...]:
+        """The texts that were given up and are kept nowhere, the newest first."""
+        return tuple(each.text for each in self._here)
 
     def keep_cut(self, text: str) -> None:
         """Keeps what was last cut out of a text, or nothing; may raise `NotKept`."""
