@@ -72,6 +72,13 @@ class Talk:
         children = Path(f"/proc/{self._child.pid}/task/{self._child.pid}/children")
         return int(children.read_text().split()[0])
 
+    def hang_up(self) -> int:
+        """Closes the terminal, as its window does, and gives how scribe ended."""
+        self._child.ptyproc.fileobj.close()
+        status = os.waitpid(self._child.pid, 0)[1]
+        self._child.ptyproc.terminated = True
+        return os.waitstatus_to_exitcode(status)
+
     def close(self) -> None:
         self._child.close(force=True)
 
@@ -623,6 +630,20 @@ def test_a_talk_whose_book_can_not_be_opened_again_ends(talk: Talk, moon: Path) 
     ran = talk.end("strike 1\r")
     assert ran.status == 3
     assert "There is no file" in " ".join(ran.shown.split())
+
+
+@pytest.mark.parametrize("typed", ["", "strike"])
+def test_a_talk_whose_terminal_is_closed_ends_without_a_fault(
+    moon: Path, typed: str
+) -> None:
+    home = moon.parent / "state"
+    talk = Talk(moon, XDG_STATE_HOME=str(home))
+    talk.type("strike 1")
+    talk.keys(typed)
+    assert talk.hang_up() in (3, -signal.SIGHUP)
+    assert not list(home.rglob("fault.txt"))
+    with braildesk.Session(moon) as session:
+        assert session.last_version == 8
 
 
 def test_no_line_is_over_the_width_and_nothing_moves_the_cursor(moon: Path) -> None:

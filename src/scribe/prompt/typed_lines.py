@@ -214,11 +214,13 @@ class TypedLines(AbstractContextManager["TypedLines"]):
             signal.signal(signal.SIGALRM, before)
 
     def _set(self, echoes: bool) -> None:
-        mode = termios.tcgetattr(0)
-        mode[3] &= ~termios.ICANON
-        mode[3] = mode[3] | termios.ECHO if echoes else mode[3] & ~termios.ECHO
-        mode[6][termios.VMIN], mode[6][termios.VTIME] = 1, 0
-        termios.tcsetattr(0, termios.TCSADRAIN, mode)
+        # a terminal that was closed needs no care
+        with suppress(termios.error):
+            mode = termios.tcgetattr(0)
+            mode[3] &= ~termios.ICANON
+            mode[3] = mode[3] | termios.ECHO if echoes else mode[3] & ~termios.ECHO
+            mode[6][termios.VMIN], mode[6][termios.VTIME] = 1, 0
+            termios.tcsetattr(0, termios.TCSADRAIN, mode)
 
 
 def are_typed() -> bool:
