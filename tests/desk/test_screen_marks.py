@@ -58,6 +58,23 @@ def test_what_a_mark_goes_on_is_said_before_its_note_is_typed(
     assert sat.state.heard == (f"{wanted} r resolves a mark, and nothing takes it out.")
 
 
+@pytest.mark.parametrize(
+    "key, said, hint",
+    [
+        ("m", "On “T”.", "r resolves a mark, and nothing takes it out."),
+        ("g", "", "A paragraph's number, or page 6 line 9, or words to find."),
+    ],
+)
+def test_a_hint_is_said_the_first_time(
+    moon: Path, sit: Sit, key: str, said: str, hint: str
+) -> None:
+    sat = sit(moon)
+    sat.press(key)
+    assert sat.state.heard == f"{said} {hint}".lstrip()
+    sat.press("escape", key)
+    assert sat.state.heard == said
+
+
 @pytest.mark.parametrize("size", SIZES, ids=str)
 @pytest.mark.parametrize("fix", FIXES)
 def test_r_resolves_the_mark_that_n_went_to_whatever_was_typed(
