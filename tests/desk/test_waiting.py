@@ -12,7 +12,7 @@ from braildesk.desk.drafts import Drafts
 
 from scribe.cli import run_words
 from scribe.words.console import Console
-from terminal import Open, once_free
+from terminal import Open, Terminal, once_free
 
 WAITING = "Waiting for braildesk to answer."
 
@@ -94,6 +94,19 @@ def test_a_signal_ends_the_screen_while_it_waits_and_what_is_typed_is_kept(
     once_free(moon).close()
 
 
+def end(terminal: Terminal, is_closed: bool) -> None:
+    """Closes the terminal of a scribe that waits, once it has read the keys, or tells it to end."""
+    if is_closed:
+        # the keys come to the other end of the terminal a moment later
+        time.sleep(0.2)
+        terminal.await_read()
+        terminal.hang_up()
+        assert terminal.left() == 3
+    else:
+        terminal.send_signal(signal.SIGTERM)
+        assert terminal.ended() == 3
+
+
 @pytest.mark.parametrize("typed_on", ["It stood.\rIt set.", "ab\r"])
 @pytest.mark.parametrize("is_closed", [False, True])
 def test_what_is_typed_on_after_enter_while_the_screen_waits_is_kept_as_other_paragraphs(
@@ -107,13 +120,7 @@ def test_what_is_typed_on_after_enter_while_the_screen_waits_is_kept_as_other_pa
     terminal.keys("enter")
     terminal.wait(WAITING)
     terminal.send(typed_on)
-    if is_closed:
-        terminal.await_read()
-        terminal.hang_up()
-        assert terminal.left() == 3
-    else:
-        terminal.send_signal(signal.SIGTERM)
-        assert terminal.ended() == 3
+    end(terminal, is_closed)
     waits = Drafts(moon).waiting()
     assert waits and waits.text.split("\n") == [
         "It rose.",
@@ -123,8 +130,9 @@ def test_what_is_typed_on_after_enter_while_the_screen_waits_is_kept_as_other_pa
 
 
 @pytest.mark.parametrize("keys", [["down"], ["enter", *"Oh, ", "enter"]])
+@pytest.mark.parametrize("is_closed", [False, True])
 def test_what_is_typed_for_a_new_paragraph_while_the_screen_waits_is_set_aside(
-    moon: Path, at: Open, keys: list[str]
+    moon: Path, at: Open, keys: list[str], is_closed: bool
 ) -> None:
     terminal = at(moon)
     terminal.wait("? shows the keys.")
@@ -135,8 +143,7 @@ def test_what_is_typed_for_a_new_paragraph_while_the_screen_waits_is_set_aside(
     terminal.keys(last)
     terminal.wait(WAITING)
     terminal.send("oThe sun rose.\r")
-    terminal.send_signal(signal.SIGTERM)
-    assert terminal.ended() == 3
+    end(terminal, is_closed)
     drafts = Drafts(moon)
     assert [each.text for each in drafts.given_up()] == ["oThe sun rose."]
     waits = drafts.waiting()

@@ -363,7 +363,11 @@ class Screen:
 
     def _came(self, text: str) -> None:
         """Characters came: keys that may have waited while there was no time for them."""
-        text, self._unread = self._unread + text, ""
+        self._unread += text
+        if self._is_told_to_end:
+            # no key is obeyed any more
+            return
+        text, self._unread = self._unread, ""
         now, read_at = self._clock(), self._read_at
         self._read_at = now
         since = None if self._is_idle else max(self._busy_from, read_at)
@@ -377,7 +381,7 @@ class Screen:
 
     def _take_in(self) -> None:
         """Takes in what came while the program didn't answer."""
-        if self._unread and not self._is_told_to_end:
+        if self._unread:
             self._came(self._input.rest())
 
     def _paused(self) -> None:
