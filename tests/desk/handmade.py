@@ -16,7 +16,7 @@ _NAMES = " ".join(
         ("v", "urn:schemas-microsoft-com:vml"),
     )
 )
-_PARTS = ("styles", "footnotes", "header")
+_PARTS = ("styles", "footnotes", "header", "numbering")
 _TYPES = f"""<Types xmlns="{_OOXML}/package/2006/content-types">
 <Default Extension="rels" ContentType="application/vnd.openxmlformats-package.relationships+xml"/>
 <Default Extension="xml" ContentType="application/xml"/>
@@ -86,10 +86,39 @@ def text_box(text: str) -> str:
     )
 
 
-def paragraph(*inner: str, style: str = "") -> str:
-    """A paragraph of a style, as ``Heading1``."""
-    properties = f'<w:pPr><w:pStyle w:val="{style}"/></w:pPr>' if style else ""
+def paragraph(*inner: str, style: str = "", properties: str = "") -> str:
+    """A paragraph of a style, as ``Heading1``, with other properties."""
+    if style:
+        properties = f'<w:pStyle w:val="{style}"/>{properties}'
+    if properties:
+        properties = f"<w:pPr>{properties}</w:pPr>"
     return f"<w:p>{properties}{''.join(inner)}</w:p>"
+
+
+def in_list(number: int, level: int = 0) -> str:
+    """What a paragraph, or a style, has that is in a list."""
+    return f'<w:numPr><w:ilvl w:val="{level}"/><w:numId w:val="{number}"/></w:numPr>'
+
+
+def level(place: int, form: str, text: str, *more: str, start: int = 1) -> str:
+    """A level of a list, by the form of its own number and the text around all of them."""
+    return (
+        f'<w:lvl w:ilvl="{place}"><w:start w:val="{start}"/><w:numFmt w:val="{form}"/>'
+        f'{"".join(more)}<w:lvlText w:val="{text}"/></w:lvl>'
+    )
+
+
+def lists(*levels: str, also: str = "") -> str:
+    """Lists with the numbers from 1 on, each of some levels, and further ones."""
+    abstract = "".join(
+        f'<w:abstractNum w:abstractNumId="{number}">{each}</w:abstractNum>'
+        for number, each in enumerate(levels, start=1)
+    )
+    named = "".join(
+        f'<w:num w:numId="{number}"><w:abstractNumId w:val="{number}"/></w:num>'
+        for number in range(1, len(levels) + 1)
+    )
+    return abstract + named + also
 
 
 def table(*rows: Sequence[str]) -> str:
@@ -103,18 +132,25 @@ def table(*rows: Sequence[str]) -> str:
 
 
 def docx(
-    path: Path, body: str, notes: Iterable[tuple[int, str]] = (), header: str = ""
+    path: Path,
+    body: str,
+    notes: Iterable[tuple[int, str]] = (),
+    header: str = "",
+    *,
+    numbering: str = "",
+    styles: str = "",
 ) -> Path:
-    """A document with a body, footnotes and a running header."""
+    """A document with a body, footnotes, a running header, lists and further styles."""
     footnotes = "".join(
         f'<w:footnote w:id="{number}">{paragraph(run(text))}</w:footnote>'
         for number, text in notes
     )
     parts = {
         "document": ("document", f"<w:body>{body}</w:body>"),
-        "styles": ("styles", _STYLES),
+        "styles": ("styles", _STYLES + styles),
         "footnotes": ("footnotes", footnotes),
         "header": ("hdr", paragraph(run(header)) if header else ""),
+        "numbering": ("numbering", numbering),
     }
     with zipfile.ZipFile(path, "w", zipfile.ZIP_DEFLATED) as container:
         container.writestr("[Content_Types].xml", _TYPES)

@@ -13,10 +13,11 @@ command that wasn't answered.
 Pages are laid out by ``layout``; ``page_places`` says what stands on which of them, ``volume_plan``
 where volumes should begin, and ``export`` and ``proof`` write them. A manuscript is read by
 ``manuscripts``: a text by ``manuscript``, a document by ``document`` of the package ``documents``
-(with ``kinds``, ``pages``, ``pandoc``, ``tree``, ``notes``, ``contents`` and ``reading``), with
-``replacements`` for characters that no table has. ``validation`` says what keeps it from being
-typed, ``intake`` and ``typist`` type it, ``import_text`` is the whole, and ``import_note``,
-``origin``, ``unfinished`` and ``earlier`` are about imports that were cut short or made before.
+(with ``kinds``, ``pages``, ``numbers``, ``pandoc``, ``tree``, ``notes``, ``contents`` and
+``reading``), with ``replacements`` for characters that no table has. ``validation`` says what keeps
+it from being typed, ``intake`` and ``typist`` type it, ``import_text`` is the whole, and
+``import_note``, ``origin``, ``unfinished`` and ``earlier`` are about imports that were cut short or
+made before.
 ``compare`` finds the words in which a book differs from a manuscript, and ``contracted`` has what a
 table is made with for one. What a person typed is a ``draft``; ``drafts`` keeps them, as
 ``record``s in an ``own_folder``, and ``whole_file`` writes any file whole or not at all.

@@ -78,6 +78,10 @@ _SAID = {
         "1 emphasis, as by italics, is lost",
         "{} emphases, as by italics, are lost",
     ),
+    LossKind.NUMBER: (
+        "1 number of a list is typed in digits, and is otherwise in print",
+        "{} numbers of lists are typed in digits, and are otherwise in print",
+    ),
     LossKind.LEVEL: (
         "1 heading is below the first level, and a book has only one",
         "{} headings are below the first level, and a book has only one",

@@ -1,7 +1,8 @@
 """Manuscripts as publishers send them, read as the paragraphs of a book.
 
-Documents are read by pandoc (`pages`, `pandoc`, `tree`, `notes`). What it leaves out without a sign is found by
-comparing the words of its paragraphs with those that the file itself has (`contents`).
+Documents are read by pandoc (`pages`, `numbers`, `pandoc`, `tree`, `notes`). What it leaves out
+without a sign is found by comparing the words of its paragraphs with those that the file itself has
+(`contents`).
 
 RTF and DOC are turned into DOCX by LibreOffice first: pandoc loses print of the one without a word, and
 doesn't read the other. ODT is where pandoc loses words of it, as the heads of tables, if fewer are
@@ -17,6 +18,7 @@ from braildesk.desk.documents import contents, pages, pandoc
 from braildesk.desk.documents.contents import Contents
 from braildesk.desk.documents.kinds import ManuscriptKind, NotRead
 from braildesk.desk.documents.notes import with_notes
+from braildesk.desk.documents.numbers import with_numbers
 from braildesk.desk.documents.reading import (
     Loss,
     LossKind,
@@ -86,6 +88,9 @@ def _read(
     data: bytes, kind: ManuscriptKind, own: Contents, reading: ReadingOptions
 ) -> Manuscript:
     """What pandoc reads, compared with what the file has."""
+    numbers: list[Loss] = []
+    if kind is ManuscriptKind.DOCX:
+        data, numbers = with_numbers(data, reading.bullet)
     tree, left_out = pandoc.tree(_readable(data, kind), kind)
     try:
         noted = with_notes(tree)
@@ -99,7 +104,7 @@ def _read(
         passages += contents.addresses_of(text)
     missing = contents.missing(passages, [part.text for part in found.parts])
     parts = tuple(each for part in found.parts for each in short_enough(part))
-    losses = (*found.losses, *_too_long(found.parts), *own.losses)
+    losses = (*found.losses, *numbers, *_too_long(found.parts), *own.losses)
     return Manuscript(kind, parts, losses, tuple(missing))
 
 

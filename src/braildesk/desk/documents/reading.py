@@ -33,6 +33,7 @@ class LossKind(Enum):
     MATHEMATICS = auto()
     TABLE = auto()
     PICTURE = auto()
+    NUMBER = auto()
     LEVEL = auto()
     LENGTH = auto()
     RAW = auto()

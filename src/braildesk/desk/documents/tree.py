@@ -381,7 +381,7 @@ def _numbered(number: int, attributes: Sequence[Any]) -> str:
         case "LowerAlpha" | "UpperAlpha":
             shown = _letters(number)
         case "LowerRoman" | "UpperRoman":
-            shown = _roman(number)
+            shown = roman(number)
         case _:
             shown = str(number)
     if style["t"].startswith("Lower"):
@@ -408,7 +408,8 @@ _ROMAN = (
 )  # fmt: skip
 
 
-def _roman(number: int) -> str:
+def roman(number: int) -> str:
+    """A number as Rome wrote it."""
     shown = ""
     for value, letters in _ROMAN:
         count, number = divmod(number, value)

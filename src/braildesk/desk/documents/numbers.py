@@ -1,0 +1,286 @@
+"""The numbers and bullets that Word shows before paragraphs, written into those of a document in DOCX.
+
+Word keeps them apart from the print: a paragraph or its style names a list and a level of it, and each level
+has a form, such as “§ %1 (%2)”. pandoc knows few of these forms, and drops the numbers of headings.
+"""
+
+import re
+from collections.abc import Callable, Iterator, Mapping
+from dataclasses import dataclass, field
+from io import BytesIO
+from xml.etree import ElementTree
+from xml.etree.ElementTree import Element
+from xml.sax.saxutils import escape
+from zipfile import ZipFile
+
+from braildesk.desk.documents.kinds import is_media, part_of, unpacked
+from braildesk.desk.documents.reading import Loss, LossKind, plain
+from braildesk.desk.documents.tree import roman
+
+_W = "{http://schemas.openxmlformats.org/wordprocessingml/2006/main}"
+_FALLBACK = "{http://schemas.openxmlformats.org/markup-compatibility/2006}Fallback"
+_NUMBERING, _STYLES = "word/numbering.xml", "word/styles.xml"
+_TEXTS = re.compile(r"word/(document|footnotes|endnotes)\d*\.xml")
+#: The tag with which a paragraph begins, and its stroke if the paragraph has nothing.
+_PARAGRAPH = re.compile(rb"<w:p(?:\s[^<>]*?)?(/?)>")
+#: Where the form of a level has the number of a level, from 1 on.
+_PLACE = re.compile("%([1-9])")
+_BULLET = "bullet"
+#: The greatest number of a list in Word, and the longest form of a number.
+_MOST, _FORM = 32_767, 255
+#: What a paragraph has whose end is deleted or moved away.
+_GONE = ("del", "moveFrom")
+_OFF = ("0", "false", "off")
+#: How many characters are shown of a paragraph whose number isn't written as it is in print.
+_SHOWN = 60
+
+
+def _letters(number: int) -> str:
+    """A number as Word counts by letters: after Z come AA and BB, and A again after thirty Z."""
+    times, place = divmod(number - 1, 26)
+    return chr(ord("A") + place) * (times % 30 + 1)
+
+
+_FORMS: Mapping[str, Callable[[int], str]] = {
+    "none": lambda number: "",
+    "decimal": str,
+    "decimalZero": "{:02}".format,
+    "upperRoman": roman,
+    "lowerRoman": lambda number: roman(number).lower(),
+    "upperLetter": _letters,
+    "lowerLetter": lambda number: _letters(number).lower(),
+}
+
+
+def with_numbers(data: bytes, bullet: str) -> tuple[bytes, list[Loss]]:
+    """A document without lists, whose paragraphs begin with their numbers; and those not as in print.
+
+    It has no pictures any more, which aren't looked at. Raises `NoDocument`.
+    """
+    losses: list[Loss] = []
+    made = BytesIO()
+    with unpacked(data) as container, ZipFile(made, "w") as other:
+        parts = {
+            name: b"" if is_media(name) else part_of(container, name)
+            for name in container.namelist()
+        }
+        if (numbering := parts.pop(_NUMBERING, None)) is None:
+            return data, losses
+        lists = _Lists(numbering, parts.get(_STYLES), bullet)
+        for name, part in parts.items():
+            if _TEXTS.fullmatch(name):
+                part = _numbered(part, lists.labels(ElementTree.fromstring(part)))
+            other.writestr(name, part)
+    return made.getvalue(), lists.losses
+
+
+def _numbered(part: bytes, labels: Iterator[str]) -> bytes:
+    """A part of a document with what stands at the front of each of its paragraphs."""
+
+    def begun(tag: re.Match[bytes]) -> bytes:
+        if not (label := next(labels)):
+            return tag[0]
+        run = f'<w:r><w:t xml:space="preserve">{escape(label)}</w:t></w:r>'.encode()
+        if tag[1]:
+            return tag[0].removesuffix(b"/>") + b">" + run + b"</w:p>"
+        return tag[0] + run
+
+    return _PARAGRAPH.sub(begun, part)
+
+
+@dataclass(frozen=True, slots=True)
+class _Level:
+    """A level of a list: its form, and with which number it begins."""
+
+    start: int
+    kind: str
+    text: str
+    #: After which level, from 1 on, it begins anew; None after each that is above it.
+    restart: int | None
+    #: Whether the numbers of the levels above it are in digits here.
+    is_legal: bool
+    #: What stands between the number and the text.
+    end: str
+    style: str
+
+
+@dataclass(frozen=True, slots=True)
+class _List:
+    """A list that paragraphs name: the one with which it shares its count, its levels, and where it begins."""
+
+    counted: str
+    levels: Mapping[int, _Level]
+    starts: Mapping[int, int]
+
+
+@dataclass(frozen=True, slots=True)
+class _Style:
+    """What a style of paragraphs says of their numbers, and the style from which it takes the rest."""
+
+    base: str
+    named: str
+    level: str
+
+
+@dataclass
+class _Count:
+    """How far the lists of a part are counted: by the list and the level."""
+
+    counts: dict[str, dict[int, int]] = field(default_factory=dict)
+    begun: set[tuple[str, int]] = field(default_factory=set)
+
+    def go_on(self, name: str, found: _List, level: int) -> Mapping[int, int]:
+        """The numbers of the levels at the next paragraph of a list."""
+        counts = self.counts.setdefault(found.counted, {})
+        if level in found.starts and (name, level) not in self.begun:
+            counts.pop(level, None)
+        self.begun.add((name, level))
+        for lower in [each for each in counts if each > level]:
+            restart = found.levels[lower].restart if lower in found.levels else None
+            if restart is None or level < restart:
+                del counts[lower]
+        counts[level] = counts.get(level, _start(found, level) - 1) + 1
+        for higher in range(level):
+            counts.setdefault(higher, _start(found, higher))
+        return counts
+
+
+def _start(found: _List, level: int) -> int:
+    own = found.levels[level].start if level in found.levels else 0
+    return found.starts.get(level, own)
+
+
+class _Lists:
+    """The lists of a document, and the styles whose paragraphs are in them."""
+
+    def __init__(self, numbering: bytes, styles: bytes | None, bullet: str) -> None:
+        self._lists = dict(_lists(ElementTree.fromstring(numbering)))
+        known = Element("") if styles is None else ElementTree.fromstring(styles)
+        self._styles = dict(_styles(known))
+        #: The style of the paragraphs that name none.
+        self._usual = next(_usual(known), "")
+        self._bullet = bullet
+        #: The numbers that are in digits, as words and others are only in print.
+        self.losses: list[Loss] = []
+
+    def labels(self, root: Element) -> Iterator[str]:
+        """What stands at the front of each paragraph of a part."""
+        older = {id(each) for box in root.iter(_FALLBACK) for each in box.iter()}
+        count = _Count()
+        for paragraph in root.iter(f"{_W}p"):
+            name, level = self._named(paragraph)
+            found = self._lists.get(name)
+            if found is None or level not in found.levels or id(paragraph) in older:
+                yield ""
+            else:
+                numbers = count.go_on(name, found, level)
+                yield self._label(paragraph, found, level, numbers)
+
+    def _named(self, paragraph: Element) -> tuple[str, int]:
+        """The list that a paragraph or its style names, and its level there."""
+        properties = paragraph.find(f"{_W}pPr")
+        if properties is None:
+            properties = Element("")
+        if any(properties.find(f"{_W}rPr/{_W}{tag}") is not None for tag in _GONE):
+            return "", 0
+        said = [_style(properties, _value(properties, "pStyle") or self._usual)]
+        names: list[str] = []
+        while (base := said[-1].base) in self._styles and base not in names:
+            names.append(base)
+            said.append(self._styles[base])
+        name = next((each.named for each in said if each.named), "")
+        levels = self._lists[name].levels if name in self._lists else {}
+        of_style = (str(n) for n, each in levels.items() if each.style in names)
+        level = next((each.level for each in said if each.level), "")
+        return name, int(level or next(of_style, "0"))
+
+    def _label(
+        self, paragraph: Element, found: _List, level: int, numbers: Mapping[int, int]
+    ) -> str:
+        """What stands at the front of a paragraph, by the numbers of its list's levels."""
+        own = found.levels[level]
+        if own.kind == _BULLET:
+            return f"{self._bullet} " if own.text.strip() else ""
+        unknown = False
+
+        def shown(place: re.Match[str]) -> str:
+            nonlocal unknown
+            there = int(place[1]) - 1
+            if there not in numbers or there not in found.levels:
+                return ""
+            kind = found.levels[there].kind
+            unknown |= kind not in _FORMS
+            return _FORMS.get("" if own.is_legal else kind, str)(numbers[there])
+
+        label = _PLACE.sub(shown, own.text)
+        if unknown:
+            text = "".join(each.text or "" for each in paragraph.iter(f"{_W}t"))
+            self.losses.append(
+                Loss(LossKind.NUMBER, plain(label), plain(f"{label} {text}")[:_SHOWN])
+            )
+        return label and label + own.end
+
+
+def _value(element: Element, name: str) -> str:
+    child = element.find(f"{_W}{name}")
+    return "" if child is None else child.get(f"{_W}val", "")
+
+
+def _usual(root: Element) -> Iterator[str]:
+    for style in root.iterfind(f"{_W}style[@{_W}type='paragraph']"):
+        if style.get(f"{_W}default") in ("1", "true", "on"):
+            yield style.get(f"{_W}styleId", "")
+
+
+def _style(properties: Element | None, base: str) -> _Style:
+    """What the properties of paragraphs say of their numbers."""
+    found = None if properties is None else properties.find(f"{_W}numPr")
+    if found is None:
+        return _Style(base, "", "")
+    return _Style(base, _value(found, "numId"), _value(found, "ilvl"))
+
+
+def _styles(root: Element) -> Iterator[tuple[str, _Style]]:
+    for style in root.iterfind(f"{_W}style"):
+        properties = style.find(f"{_W}pPr")
+        yield style.get(f"{_W}styleId", ""), _style(
+            properties, _value(style, "basedOn")
+        )
+
+
+def _lists(root: Element) -> Iterator[tuple[str, _List]]:
+    """The lists that paragraphs name; one that has its levels by a style takes those of another."""
+    abstract = {
+        each.get(f"{_W}abstractNumId", ""): each
+        for each in root.iterfind(f"{_W}abstractNum")
+    }
+    by_style = {_value(each, "styleLink"): name for name, each in abstract.items()}
+    for each in root.iterfind(f"{_W}num"):
+        name = _value(each, "abstractNumId")
+        if name not in abstract:
+            continue
+        name = by_style.get(_value(abstract[name], "numStyleLink") or " ", name)
+        levels, starts = dict(_levels(abstract[name])), {}
+        for override in each.iterfind(f"{_W}lvlOverride"):
+            levels |= _levels(override)
+            if start := _value(override, "startOverride"):
+                starts[_at(override)] = min(int(start), _MOST)
+        yield each.get(f"{_W}numId", ""), _List(name, levels, starts)
+
+
+def _at(level: Element) -> int:
+    return int(level.get(f"{_W}ilvl", "0"))
+
+
+def _levels(element: Element) -> Iterator[tuple[int, _Level]]:
+    for level in element.iterfind(f"{_W}lvl"):
+        restart, legal = _value(level, "lvlRestart"), level.find(f"{_W}isLgl")
+        yield _at(level), _Level(
+            min(int(_value(level, "start") or 0), _MOST),
+            _value(level, "numFmt") or "decimal",
+            _value(level, "lvlText")[:_FORM],
+            int(restart) if restart else None,
+            legal is not None and legal.get(f"{_W}val") not in _OFF,
+            "" if _value(level, "suff") == "nothing" else " ",
+            _value(level, "pStyle"),
+        )

@@ -1,0 +1,147 @@
+"""The numbers and bullets that Word shows before paragraphs, as they are in print."""
+
+from pathlib import Path
+
+import pytest
+
+from braildesk.desk.documents.reading import LossKind, ReadingOptions
+from braildesk.desk.manuscripts import read_manuscript
+
+from handmade import docx, in_list, level, lists, paragraph, run
+
+LEGAL = level(0, "decimal", "\u00a7 %1") + level(1, "lowerLetter", "(%2)")
+PARTS = level(0, "upperRoman", "Part %1:") + level(1, "decimal", "%1.%2")
+
+
+def item(text: str, number: int, place: int = 0) -> str:
+    return paragraph(run(text), properties=in_list(number, place))
+
+
+def texts(folder: Path, body: str, numbering: str, styles: str = "") -> list[str]:
+    path = docx(folder / "lists.docx", body, numbering=numbering, styles=styles)
+    found = read_manuscript(path)
+    assert found.missing == ()
+    return found.texts
+
+
+def test_items_have_the_numbers_that_their_list_gives_them(tmp_path: Path) -> None:
+    body = (
+        item("Tides", 1)
+        + item("The sea", 1, 1)
+        + item("The moon", 1, 1)
+        + paragraph(run("Between"))
+        + item("Stars", 1)
+        + item("The sun", 1, 1)
+    )
+    assert texts(tmp_path, body, lists(LEGAL)) == [
+        "\u00a7 1 Tides",
+        "(a) The sea",
+        "(b) The moon",
+        "Between",
+        "\u00a7 2 Stars",
+        "(a) The sun",
+    ]
+
+
+def test_headings_have_the_numbers_of_their_styles(tmp_path: Path) -> None:
+    styles = (
+        '<w:style w:type="paragraph" w:styleId="Part"><w:name w:val="heading 1"/>'
+        f"<w:pPr>{in_list(1)}</w:pPr></w:style>"
+        '<w:style w:type="paragraph" w:styleId="Own"><w:basedOn w:val="Part"/>'
+        '<w:pPr><w:numPr><w:ilvl w:val="1"/></w:numPr></w:pPr></w:style>'
+    )
+    body = (
+        paragraph(run("Water"), style="Part")
+        + paragraph(run("Rain"), style="Own")
+        + paragraph(run("None"), style="Part", properties=in_list(0))
+        + paragraph(run("Air"), style="Part")
+        + paragraph(style="Part")
+    )
+    assert texts(tmp_path, body, lists(PARTS), styles) == [
+        "Part I: Water",
+        "I.1 Rain",
+        "None",
+        "Part II: Air",
+        "Part III:",
+    ]
+
+
+@pytest.mark.parametrize(
+    "form, start, shown",
+    [
+        ("decimal", 7, "7 a"),
+        ("decimalZero", 7, "07 a"),
+        ("upperRoman", 14, "XIV a"),
+        ("lowerRoman", 9, "ix a"),
+        ("upperLetter", 26, "Z a"),
+        ("lowerLetter", 27, "aa a"),
+        ("lowerLetter", 28, "bb a"),
+        ("none", 5, "a"),
+    ],
+)
+def test_a_number_has_the_form_of_its_level(
+    tmp_path: Path, form: str, start: int, shown: str
+) -> None:
+    numbering = lists(level(0, form, "%1", start=start))
+    assert texts(tmp_path, item("a", 1), numbering) == [shown]
+
+
+def test_a_list_that_is_said_to_begin_anew_does(tmp_path: Path) -> None:
+    also = (
+        '<w:num w:numId="2"><w:abstractNumId w:val="1"/></w:num>'
+        '<w:num w:numId="3"><w:abstractNumId w:val="1"/>'
+        '<w:lvlOverride w:ilvl="0"><w:startOverride w:val="5"/></w:lvlOverride></w:num>'
+    )
+    body = "".join(item("a", number) for number in (1, 2, 3, 3, 1))
+    numbering = lists(level(0, "decimal", "%1)"), also=also)
+    assert texts(tmp_path, body, numbering) == ["1) a", "2) a", "5) a", "6) a", "7) a"]
+
+
+def test_a_level_goes_on_where_it_is_said_to(tmp_path: Path) -> None:
+    going_on = level(0, "decimal", "Part %1") + level(
+        1, "decimal", "Chapter %2", '<w:lvlRestart w:val="0"/>'
+    )
+    body = item("a", 1) + item("b", 1, 1) + item("c", 1) + item("d", 1, 1)
+    assert texts(tmp_path, body, lists(going_on)) == [
+        "Part 1 a",
+        "Chapter 1 b",
+        "Part 2 c",
+        "Chapter 2 d",
+    ]
+
+
+def test_legal_numbers_are_in_digits_and_nothing_may_part_them(tmp_path: Path) -> None:
+    legal = level(0, "upperRoman", "%1") + level(
+        1, "decimal", "%1.%2:", "<w:isLgl/>", '<w:suff w:val="nothing"/>'
+    )
+    body = item("a", 1) + item("b", 1, 1)
+    assert texts(tmp_path, body, lists(legal)) == ["I a", "1.1:b"]
+
+
+def test_bullets_are_those_of_the_book_and_a_blank_one_is_none(tmp_path: Path) -> None:
+    numbering = lists(level(0, "bullet", "\uf0b7") + level(1, "bullet", " "))
+    path = docx(
+        tmp_path / "a.docx", item("a", 1) + item("b", 1, 1), numbering=numbering
+    )
+    assert read_manuscript(path).texts == ["\u2022 a", "b"]
+    assert read_manuscript(path, ReadingOptions(bullet="-")).texts == ["- a", "b"]
+
+
+def test_a_deleted_paragraph_has_no_number(tmp_path: Path) -> None:
+    gone = in_list(1) + '<w:rPr><w:del w:id="1" w:author="A"/></w:rPr>'
+    body = item("a", 1) + paragraph(properties=gone) + item("b", 1)
+    numbering = lists(level(0, "decimal", "%1."))
+    assert texts(tmp_path, body, numbering) == ["1. a", "2. b"]
+
+
+def test_a_number_that_is_otherwise_in_print_is_noted(tmp_path: Path) -> None:
+    numbering = lists(level(0, "cardinalText", "Chapter %1"))
+    path = docx(tmp_path / "words.docx", item("The sea", 1), numbering=numbering)
+    found = read_manuscript(path)
+    assert found.texts == ["Chapter 1 The sea"]
+    (loss,) = found.losses
+    assert (loss.what, loss.words, loss.around) == (
+        LossKind.NUMBER,
+        "Chapter 1",
+        "Chapter 1 The sea",
+    )
