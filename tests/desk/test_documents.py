@@ -631,7 +631,7 @@ def test_tags_of_a_page_are_no_print_that_is_lost(tmp_path: Path) -> None:
 PACKAGE = (
     '<package xmlns="http://www.idpf.org/2007/opf" version="3.0"><metadata/><manifest>'
     '<item id="a" href="a%20b.xhtml" media-type="application/xhtml+xml"/>'
-    '<item id="n" href="nav.xhtml" media-type="application/xhtml+xml"/>'
+    '<item id="n" href="nav.xhtml" media-type="application/xhtml+xml" properties="nav"/>'
     '<item id="z" href="z.xhtml" media-type="application/xhtml+xml"/></manifest>'
     '<spine><itemref idref="n" linear="no"/><itemref idref="a"/><itemref idref="z" linear="no"/></spine>'
     "</package>"
@@ -665,8 +665,39 @@ def test_a_book_in_epub_has_its_title_page_and_its_notes(tmp_path: Path) -> None
     found = read_manuscript(tmp_path / "moon.epub")
     assert found.texts[:2] == ["The Moon", "Anna"]
     assert "Very far." in " ".join(found.texts)
-    assert found.missing == (Missing("Aside", "", ""),)
+    assert found.texts[-1] == "Aside"
+    assert found.missing == ()
     assert lost(found, LossKind.CONTENTS) == ["One"]
+
+
+def test_pages_outside_of_the_order_of_reading_are_typed_and_named(
+    tmp_path: Path,
+) -> None:
+    package = (
+        '<o:package xmlns:o="http://www.idpf.org/2007/opf" version="3.0"><o:metadata/>'
+        '<o:manifest><o:item id="a" href="a.xhtml" media-type="{0}"/>'
+        '<o:item id="b" href="b.xhtml" media-type="{0}"/>'
+        '<o:item id="n" href="notes/n.xhtml" media-type="{0}"/>'
+        '<o:item id="t" href="t.xhtml" media-type="{0}" properties="nav"/>'
+        '<o:item id="g" href="gone.xhtml" media-type="{0}"/></o:manifest>'
+        '<o:spine><o:itemref idref="a"/><o:itemref idref="b" linear="no"/></o:spine></o:package>'
+    ).format("application/xhtml+xml")
+    parts = {
+        "mimetype": EPUB,
+        "META-INF/container.xml": ROOT,
+        "in/book.opf": package,
+        "in/a.xhtml": PAGE.format(
+            '<p>Far.<a epub:type="noteref" href="notes/n.xhtml#n1">1</a> Old.</p>'
+        ),
+        "in/b.xhtml": PAGE.format("<p>The answers</p>"),
+        "in/notes/n.xhtml": PAGE.format('<p id="n1">1. Very far.</p><p>More</p>'),
+        "in/t.xhtml": PAGE.format('<nav epub:type="toc"><ol><li>One</li></ol></nav>'),
+    }
+    container_of(tmp_path / "moon.epub", **parts)
+    found = read_manuscript(tmp_path / "moon.epub")
+    assert found.texts == ["Far.[1] Old.", "[1: Very far.]", "The answers", "More"]
+    assert found.missing == ()
+    assert lost(found, LossKind.ASIDE) == ["The answers", "1. Very far. More"]
 
 
 def test_a_text_in_odt_that_is_hidden_or_deleted_or_at_the_edge_is_noted(

@@ -54,6 +54,10 @@ _SAID = {
         "1 table of contents of the file is left out",
         "{} tables of contents of the file are left out",
     ),
+    LossKind.ASIDE: (
+        "1 page outside of the order of reading is typed too",
+        "{} pages outside of the order of reading are typed too",
+    ),
     LossKind.MATHEMATICS: (
         "1 formula is typed as it is written in TeX",
         "{} formulas are typed as they are written in TeX",

@@ -11,16 +11,15 @@ from collections.abc import Collection, Iterable, Iterator, Sequence
 from dataclasses import dataclass, field
 from html.parser import HTMLParser
 from pathlib import PurePosixPath
-from posixpath import normpath
-from urllib.parse import unquote
 from xml.etree import ElementTree
 from xml.etree.ElementTree import Element
 
 from braildesk.desk.documents.kinds import ManuscriptKind, part_of, unpacked
 from braildesk.desk.documents.notes import BACK
+from braildesk.desk.documents.package import Package
 from braildesk.desk.documents.reading import Loss, LossKind, Missing, plain
 
-#: How many characters of a table of contents are shown.
+#: How many characters are shown of a table of contents, or of a page.
 _CONTENTS = 60
 _WORD = re.compile(r"\w+(?:[’'\u2010\u2011-]\w+)*")
 _NUMBERED = re.compile(r"(.*[^\W\d_])(\d{1,4})")
@@ -351,25 +350,20 @@ def _odt_runs(element: Element, inner: list[Element]) -> Iterator[str]:
 
 
 def _of_epub(container: zipfile.ZipFile, found: Contents) -> None:
-    """The pages of a book in the order in which it is read."""
-    rootfile = _root(container, "META-INF/container.xml").find(".//{*}rootfile")
-    package = "" if rootfile is None else rootfile.get("full-path", "")
-    root = _root(container, package)
-    items = {
-        item.get("id"): item.get("href", "") for item in root.iterfind(".//{*}item")
-    }
-    folder = PurePosixPath(package).parent
-    for reference in root.iterfind(".//{*}itemref"):
-        href = unquote(items[reference.get("idref")])
-        page = _page_of(part_of(container, normpath(str(folder / href))))
-        found.passages += page.passages
-        # a page by itself is left out by pandoc, and most such are lists of the pages for programs
-        if reference.get("linear") == "no":
-            found.lose(
-                LossKind.CONTENTS, " ".join("".join(page.lists).split())[:_CONTENTS]
-            )
-        else:
-            found.passages += page.lists
+    """The pages of a book, those at the end to which no order of reading leads."""
+    for page in Package(container).pages():
+        read = _page_of(part_of(container, page.part))
+        found.passages += read.passages
+        if page.is_list and not page.is_in_order:
+            found.lose(LossKind.CONTENTS, _first(read.lists))
+            continue
+        found.passages += read.lists
+        if not page.is_in_order:
+            found.lose(LossKind.ASIDE, _first(read.passages))
+
+
+def _first(texts: Sequence[str]) -> str:
+    return " ".join(" ".join(texts).split())[:_CONTENTS]
 
 
 _READERS = {

@@ -1,6 +1,6 @@
 """Manuscripts as publishers send them, read as the paragraphs of a book.
 
-Documents are read by pandoc (`pages`, `numbers`, `pandoc`, `tree`, `notes`). What it leaves out
+Documents are read by pandoc (`pages`, `package`, `numbers`, `pandoc`, `tree`, `notes`). What it leaves out
 without a sign is found by comparing the words of its paragraphs with those that the file itself has
 (`contents`).
 

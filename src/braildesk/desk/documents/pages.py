@@ -1,8 +1,8 @@
 """Pages of HTML written so that pandoc keeps the names to which their links lead.
 
 pandoc drops the names of paragraphs and terms, and the description of a picture that has a caption. It
-doesn't know where an aside ends, and leaves out the title pages of a book in EPUB, and each CR, also
-where no LF follows.
+doesn't know where an aside ends, nor that a link leads to another folder of a book in EPUB, and leaves
+out the title pages of one, and each CR, also where no LF follows.
 """
 
 import re
@@ -10,9 +10,12 @@ from io import BytesIO
 from zipfile import ZipFile
 
 from braildesk.desk.documents.kinds import is_media, part_of, unpacked
+from braildesk.desk.documents.package import Package
 
 _LINE_END = re.compile(rb"\r\n?")
 _TITLE_PAGE = re.compile(rb"""(epub:type\s*=\s*["'][^"']*)titlepage""")
+#: The folders in a link to another page of the same book.
+_FOLDERS = re.compile(rb"""(<a\s[^<>]*?href\s*=\s*["'])[^"'#:?<>]*/([^"'#:?<>/]+#)""")
 _DIVISION = re.compile(rb"<(/?)(?:aside|figure|figcaption)\b", re.IGNORECASE)
 _NAMED = re.compile(
     rb"""<(?:p|dt)\s(?:[^<>]*\s)?id\s*=\s*(["'])([^"'<>]*)\1[^<>]*(?<!/)>""",
@@ -31,16 +34,19 @@ def readable_page(page: bytes) -> bytes:
 
 
 def readable_book(data: bytes) -> bytes:
-    """A book in EPUB of such pages, whose title pages aren't called so.
+    """A book in EPUB of such pages, all of which are read, and whose title pages aren't called so.
 
     It has no pictures any more, which aren't looked at.
     """
     with unpacked(data) as container:
         names = [each for each in container.namelist() if not each.endswith("/")]
         pages = {name: part_of(container, name) for name in names if not is_media(name)}
+        package = Package(container)
+        pages[package.part] = package.whole()
     made = BytesIO()
     with ZipFile(made, "w") as other:
         for name in names:
             page = with_line_feeds(pages.get(name, b""))
-            other.writestr(name, readable_page(_TITLE_PAGE.sub(rb"\1front", page)))
+            page = _FOLDERS.sub(rb"\1\2", _TITLE_PAGE.sub(rb"\1front", page))
+            other.writestr(name, readable_page(page))
     return made.getvalue()

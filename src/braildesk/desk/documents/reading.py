@@ -42,6 +42,7 @@ class LossKind(Enum):
     DELETED = auto()
     COMMENT = auto()
     CONTENTS = auto()
+    ASIDE = auto()
     EMBEDDED = auto()
 
 

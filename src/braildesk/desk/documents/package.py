@@ -1,0 +1,87 @@
+"""The pages of a book in EPUB, of which some may be outside of the order in which it is read.
+
+Notes and answers are often there, and links lead to them; pandoc leaves them out.
+"""
+
+from collections.abc import Iterator
+from dataclasses import dataclass
+from pathlib import PurePosixPath
+from posixpath import normpath
+from urllib.parse import unquote
+from xml.etree import ElementTree
+from xml.etree.ElementTree import Element, SubElement
+from zipfile import ZipFile
+
+from braildesk.desk.documents.kinds import part_of
+
+_PAGE = "application/xhtml+xml"
+
+
+@dataclass(frozen=True, slots=True)
+class Page:
+    """A page: its part of the container, and whether the order of reading has it."""
+
+    part: str
+    is_in_order: bool
+    #: Whether it is the list by which a program finds the pages.
+    is_list: bool
+
+
+class Package:
+    """The part of a book that says which pages it has."""
+
+    def __init__(self, container: ZipFile) -> None:
+        rootfile = _root(container, "META-INF/container.xml").find(".//{*}rootfile")
+        self.part = "" if rootfile is None else rootfile.get("full-path", "")
+        self._root = _root(container, self.part)
+        self._parts = frozenset(container.namelist())
+        self._items = {
+            item.get("id"): item for item in self._root.iterfind(".//{*}item")
+        }
+        self._order = list(self._root.iterfind(".//{*}itemref"))
+
+    def pages(self) -> Iterator[Page]:
+        """All pages, those at the end to which no order of reading leads."""
+        for reference in self._order:
+            item = self._items[reference.get("idref")]
+            yield self._page(item, reference.get("linear") != "no")
+        for item in self._outside():
+            yield self._page(item, False)
+
+    def whole(self) -> bytes:
+        """It itself, with all pages in the order of reading but the list for programs."""
+        for reference in self._order:
+            if not _is_list(self._items[reference.get("idref")]):
+                reference.attrib.pop("linear", None)
+        spine = self._root.find(".//{*}spine")
+        if spine is not None:
+            name = spine.tag.removesuffix("spine") + "itemref"
+            for item in self._outside():
+                SubElement(spine, name, idref=item.get("id", ""))
+        return ElementTree.tostring(self._root)
+
+    def _outside(self) -> list[Element]:
+        there = {reference.get("idref") for reference in self._order}
+        return [
+            item
+            for name, item in self._items.items()
+            if name not in there
+            and item.get("media-type") == _PAGE
+            and not _is_list(item)
+            and self._part_of(item) in self._parts
+        ]
+
+    def _page(self, item: Element, is_in_order: bool) -> Page:
+        return Page(self._part_of(item), is_in_order, _is_list(item))
+
+    def _part_of(self, item: Element) -> str:
+        folder = PurePosixPath(self.part).parent
+        return normpath(str(folder / unquote(item.get("href", ""))))
+
+
+def _is_list(item: Element) -> bool:
+    return "nav" in item.get("properties", "").split()
+
+
+def _root(container: ZipFile, part: str) -> Element:
+    return ElementTree.fromstring(part_of(container, part))
