@@ -21,7 +21,7 @@ from braildesk.desk.own_folder import MOST_BYTES
 from braildesk.desk.record import NotSuch, Record
 from braildesk.text.spans import Span
 
-from scribe.words.drafts import not_kept
+from scribe.words.drafts import Unsent, not_kept
 from sitting import Sit
 from strangers import NEEDS_ROOT, STRANGER, as_stranger
 
@@ -219,10 +219,18 @@ def test_a_text_that_is_given_up_twice_is_kept_once_as_the_newest(
 def test_long_texts_that_were_given_up_make_room_for_the_newest(
     moon: Path, store: Path
 ) -> None:
-    drafts = Drafts(moon)
-    for letter in "abc":
-        drafts.put_by(Draft(Aim.AFTER, 1, "en", "", letter * 900_000))
-    assert [each.text[0] for each in drafts.given_up()] == ["c", "b"]
+    texts = [Draft(Aim.AFTER, 1, "en", "", letter * 900_000) for letter in "abc"]
+    unsent = Unsent(Drafts(moon))
+    assert [unsent.put_by(each) for each in texts] == [
+        "",
+        "",
+        "It is kept. 1 text given up before is kept no more for lack of room, and is here only"
+        " until scribe ends.",
+    ]
+    assert [each.text[0] for each in unsent.texts()] == ["c", "b", "a"]
+    assert [each.text[0] for each in Unsent(Drafts(moon)).texts()] == ["c", "b"]
+    unsent.take_up(texts[0], texts[0].text)
+    assert [each.text[0] for each in unsent.texts()] == ["c", "b"]
 
 
 def test_a_text_that_is_too_long_is_not_kept_and_the_one_before_it_stays(

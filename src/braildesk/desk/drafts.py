@@ -135,13 +135,18 @@ class Drafts:
         """Takes away the text that waits: the book has it, or nobody wants it."""
         self._remove(Begun.WAITING)
 
-    def put_by(self, draft: Draft) -> None:
-        """Keeps a text as the newest of the last ten given up; the one that waits stays."""
+    def put_by(self, draft: Draft) -> tuple[Draft, ...]:
+        """Keeps a text as the newest of the last ten given up; the one that waits stays.
+
+        Those of the ten for which there is no room aren't kept any more, and are the result.
+        """
         others = [each for each in self.given_up() if each.text != draft.text]
-        values = [each.values() for each in (draft, *others)][:MOST_GIVEN_UP]
+        texts = (draft, *others)[:MOST_GIVEN_UP]
+        values = [each.values() for each in texts]
         while len(values) > 1 and len(json.dumps(values)) > MOST_BYTES // 2:
             values.pop()
         self._write(Begun.GIVEN_UP, {"texts": values})
+        return texts[len(values) :]
 
     def take_out(self, text: str) -> None:
         """Takes a text out of those given up: it is typed further, and waits until it is sent."""

@@ -12,6 +12,7 @@ from braildesk.desk.drafts import (
     NotSaved,
     NotTaken,
 )
+from scribe.words.paragraph import counted
 
 _BEGUN = {
     Begun.WAITING: "What is typed",
@@ -90,6 +91,8 @@ class Unsent:
         self._later: Draft | None = None
         # what was given up and couldn't be kept, the newest first
         self._here: list[Draft] = []
+        # what was given up before and had no room any more, the newest first
+        self._older: tuple[Draft, ...] = ()
 
     def read(self) -> None:
         """Reads what waits from before, or raises `NotKept`."""
@@ -111,7 +114,8 @@ class Unsent:
         else:
             if self._later is not None and self.waiting == self._later:
                 # it is found there if the machine stops before it waits again
-                self._drafts.put_by(self._later)
+                older = self._drafts.put_by(self._later)
+                self._older = (*older, *self._older)
             self._drafts.save(wanted)
         self.waiting, self.typed_at = wanted, None
 
@@ -139,11 +143,18 @@ class Unsent:
         """Keeps a text as the newest of those given up, and says what is in the way of that."""
         self._forget(draft.text)
         try:
-            self._drafts.put_by(draft)
+            older = self._drafts.put_by(draft)
         except NotKept as fault:
             self._here.insert(0, draft)
             return f"{not_kept(fault)} It is here only until scribe ends."
-        return ""
+        self._older = (*older, *self._older)
+        if not older:
+            return ""
+        count, is_are = counted(len(older), "text"), "is" if len(older) == 1 else "are"
+        return (
+            f"It is kept. {count} given up before {is_are} kept no more for lack of room, and"
+            f" {is_are} here only until scribe ends."
+        )
 
     def put_off(self) -> None:
         """Leaves the text that waits for later."""
@@ -154,6 +165,7 @@ class Unsent:
         self._forget(text)
         self.keep(draft)
         self._here = [each for each in self._here if each.text != text]
+        self._older = tuple(each for each in self._older if each.text != text)
         self._drafts.take_out(text)
 
     def _forget(self, text: str) -> None:
@@ -170,5 +182,5 @@ class Unsent:
             if not first:
                 raise
             kept = ()
-        texts = {each.text for each in first}
-        return (*first, *(each for each in kept if each.text not in texts))
+        found = {each.text: each for each in (*first, *kept, *self._older)}
+        return tuple(found.values())
