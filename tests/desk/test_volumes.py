@@ -271,3 +271,22 @@ def test_as_few_chapters_are_cut_and_as_few_volumes_made_as_can_be(
         not lines[place].is_heading or lines[place - 1].is_heading for place in starts
     )
     assert best is not None and cut == best[0]
+
+
+def test_a_volume_with_cells_of_eight_dots_is_said_not_to_be_exported(
+    empty_book: Path,
+) -> None:
+    with Session(empty_book) as session:
+        session.put_table("own", b"letter a 1\nletter b 17\n")
+        session.add_paragraph("end", "own", "a")
+        session.add_paragraph("end", "own", "aba")
+        session.set_begins_volume(2, True)
+    ran = volumes(empty_book, *SIZE)
+    assert (ran.status, ran.shown.count("\n")) == (0, 2)
+    said = (
+        "Cell 2 of paragraph 2 has dot 7 or 8, which pages for embossers can't have, so volume 2"
+        " can't be exported. Correct the table of that paragraph.\n"
+    )
+    assert ran.said == f"2 volumes, 2 pages of 5 lines of 12 cells.\n{said}"
+    proof = scribe("proof", empty_book, "a.html", folder=empty_book.parent)
+    assert (proof.status, proof.shown, proof.said) == (0, "a.html: 2 pages.\n", said)

@@ -4,6 +4,7 @@ docs/FORMATS.md says under "Pages for embossers" how. Lines and pages are counte
 paragraph from 0.
 """
 
+import re
 from bisect import bisect_left, bisect_right
 from collections.abc import Iterable, Iterator, Sequence
 from dataclasses import dataclass
@@ -15,6 +16,7 @@ from braildesk.text.cells import EMPTY_CELL, braille_ascii
 
 _BODY_INDENT = 2
 _HEADING_INDENT = 4
+_EIGHT_DOTS = re.compile("[\u2840-\u28ff]")
 _DIGITS = str.maketrans("1234567890", "ABCDEFGHIJ")
 # how many paragraphs are asked for at once if not all may be needed
 _BATCH = 64
@@ -52,6 +54,12 @@ class Section:
     def indents(self) -> Span:
         """The empty cells at the front of its first line, and of its others."""
         return (_HEADING_INDENT,) * 2 if self.is_heading else (_BODY_INDENT, 0)
+
+    @property
+    def eight_dots(self) -> int | None:
+        """The place of the first cell with dot 7 or 8, with which no volume is exported."""
+        found = _EIGHT_DOTS.search(self.braille)
+        return found.start() if found else None
 
 
 @dataclass(frozen=True)
@@ -224,6 +232,13 @@ class Volume:
     def is_whole(self) -> bool:
         """Whether all its pages are laid out."""
         return len(self.layout.placed) == len(self.paragraphs)
+
+    @property
+    def eight_dots(self) -> tuple[int, int] | None:
+        """The first paragraph with a cell of eight dots, if there is one, and the place of that cell."""
+        sections = (placed.section for placed in self.layout.placed)
+        found = ((each.paragraph, each.eight_dots) for each in sections)
+        return next(((n, cell) for n, cell in found if cell is not None), None)
 
     @property
     def brailles(self) -> dict[int, str]:

@@ -53,6 +53,8 @@ class ProofPage:
     #: Counted from 1 in each volume.
     number: int
     lines: tuple[ProofLine, ...]
+    #: The first paragraph of its volume with a cell of eight dots, and the place of that cell.
+    eight_dots: tuple[int, int] | None = None
 
     @property
     def open_marks(self) -> int:
@@ -213,9 +215,10 @@ def _after_blank(text: str, place: int) -> int:
 
 def _pages(its: Volume, line: "_Lines") -> Iterator[ProofPage]:
     headings = {each.id for each in its.paragraphs if each.style is Style.HEADING}
+    eight_dots = its.eight_dots
     for page, rows in groupby(its.layout.rows, lambda row: row.page):
         lines = tuple(line.of(row, row.paragraph in headings) for row in rows)
-        yield ProofPage(its.number, page, lines)
+        yield ProofPage(its.number, page, lines, eight_dots)
 
 
 class _Lines:

@@ -33,21 +33,32 @@ class Planned:
 
     paragraphs: range
     pages: int
+    #: The first paragraph with a cell of eight dots, if there is one, and the place of that cell.
+    eight_dots: tuple[int, int] | None = None
 
 
 @dataclass(frozen=True)
 class Lines:
-    """What of a paragraph decides where it stands: how many lines it has, and whether it is a heading."""
+    """What of a paragraph decides where it stands: how many lines it has, and whether it is a heading.
+
+    And the place of its first cell of eight dots, which keep a volume from being exported.
+    """
 
     paragraph: int
     count: int
     is_heading: bool
+    eight_dots: int | None = None
 
 
 def lines_of(its: Iterable[Section], page_size: PageSize) -> list[Lines]:
     """The lines of paragraphs."""
     return [
-        Lines(each.paragraph, len(spans_of(each, page_size.width)), each.is_heading)
+        Lines(
+            each.paragraph,
+            len(spans_of(each, page_size.width)),
+            each.is_heading,
+            each.eight_dots,
+        )
         for each in its
     ]
 
@@ -103,9 +114,19 @@ def _planned(
 ) -> list[Planned]:
     stops = [*starts[1:], len(lines)]
     return [
-        Planned(range(start, stop), _pages(lines[start:stop], page_size.text_lines))
+        Planned(
+            range(start, stop),
+            _pages(lines[start:stop], page_size.text_lines),
+            next(_eight_dots(lines[start:stop]), None),
+        )
         for start, stop in zip(starts, stops)
     ]
+
+
+def _eight_dots(lines: Sequence[Lines]) -> Iterator[tuple[int, int]]:
+    for each in lines:
+        if each.eight_dots is not None:
+            yield each.paragraph, each.eight_dots
 
 
 def _pages(lines: Sequence[Lines], text_lines: int) -> int:

@@ -44,7 +44,7 @@ from scribe.words.change_all import Count, nowhere, proposal_lines
 from scribe.words.deeds import Deed
 from scribe.words.paragraph import counted, quoted
 from scribe.words.status import Interrupted
-from scribe.words.volumes import summary, to_set, volume_lines, was_set
+from scribe.words.volumes import faults, summary, to_set, volume_lines, was_set
 
 # a book of so many characters is read in a moment
 _MANY = 250_000
@@ -302,11 +302,13 @@ def _volumes(session: Session, state: State, most: int | None) -> State:
         title = f"Proposed: {summary(volumes, size)}"
         changed = to_be_set(book, volumes)
         front = list(to_set(changed, "y does it"))
-    firsts = [Target(book[each.paragraphs.start].id) for each in volumes]
+    targets = [Target(book[0].id)] * len(front)
+    targets += [Target(each.eight_dots[0]) for each in volumes if each.eight_dots]
+    targets += [Target(book[each.paragraphs.start].id) for each in volumes]
     listed = Pages(
         title,
-        (*front, *volume_lines(session, book, volumes)),
-        targets=(*([Target(book[0].id)] * len(front)), *firsts),
+        (*front, *faults(volumes), *volume_lines(session, book, volumes)),
+        targets=tuple(targets),
         offer=SetVolumes(tuple(changed)),
     )
     # what is proposed is read from its head on

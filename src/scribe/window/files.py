@@ -23,7 +23,8 @@ from scribe.words.deeds import changed_between
 from scribe.words.export import export_in_words
 from scribe.words.status import in_sentences
 from scribe.words.import_text import import_in_words, question
-from scribe.words.pages import described
+from scribe.words.pages import described, not_exported
+from scribe.words.paragraph import counted
 from scribe.words.proof_html import Proof, elsewhere
 from scribe.words.status import Interrupted, Stop
 from scribe.words.typed import typed_path
@@ -99,7 +100,7 @@ class Files:
 
         file = path
 
-        def act(say: Say, is_stopped: IsStopped) -> tuple[int, int]:
+        def act(say: Say, is_stopped: IsStopped) -> tuple[str, ...]:
             session, pages = desk.book.session, []
             for page in proof_pages(session, page_size):
                 if is_stopped():
@@ -112,11 +113,11 @@ class Files:
             text = "".join(proof.html(pages)).encode()
             with in_sentences():
                 write_whole(file, text, Access.of(desk.path))
-            return len(pages), left
+            said = f"{file}: {counted(len(pages), 'page')}."
+            eight_dots = not_exported((each.volume, each.eight_dots) for each in pages)
+            return (said, *([elsewhere(left)] if left else []), *eight_dots)
 
-        count, left = dialogs.long(desk.window, desk.work, "Proof", act)
-        said = f"{path}: {count:,} {'page' if count == 1 else 'pages'}."
-        desk.say(f"{said} {elsewhere(left)}" if left else said)
+        desk.say(" ".join(dialogs.long(desk.window, desk.work, "Proof", act)))
 
     def imported(self, path: Path, way: Way = Way.ASK) -> None:
         """Types the paragraphs of a text after the chosen one."""

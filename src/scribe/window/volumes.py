@@ -17,7 +17,7 @@ from scribe.window.desk import Desk
 from scribe.window.dialogs import IsStopped, Say
 from scribe.words.paragraph import counted
 from scribe.words.status import Stop
-from scribe.words.volumes import summary, to_begin, volume_lines
+from scribe.words.volumes import faults, summary, to_begin, volume_lines
 
 _ASKED = "How many pages a volume has at most:"
 
@@ -33,7 +33,8 @@ class Volumes:
         desk = self.desk
         desk.settled()
         book, volumes, lines = self._looked_at("Volumes", None)
-        title = f"Volumes: {summary(volumes, desk.page_size)}"
+        size = desk.page_size
+        title = " ".join([f"Volumes: {summary(volumes, size)}", *faults(volumes)])
         line = dialogs.line_of(desk.window, title, lines, 0)
         if line is None:
             return
@@ -56,7 +57,7 @@ class Volumes:
         most = int(word[:9])
         book, volumes, lines = self._looked_at("Part into volumes", most)
         changed = to_be_set(book, volumes)
-        whole = summary(volumes, desk.page_size)
+        whole = " ".join([summary(volumes, desk.page_size), *faults(volumes)])
         if not changed:
             desk.say(f"The volumes begin there already: {whole}")
             return

@@ -16,10 +16,9 @@ from braildesk.desk.layout import (
     spans_of,
 )
 from braildesk.desk.places import words_of
-from braildesk.text.cells import braille_ascii
 from braildesk.text.spans import Span
 
-from scribe.words.pages import described, no_line
+from scribe.words.pages import described, no_line, not_exported
 
 # a volume of so many characters is laid out in a moment
 _MANY = 250_000
@@ -154,8 +153,9 @@ def laid_out(
     count = len(volume.paragraphs)
     lines: list[range] = []
     for each in placed(sections(session, volume.paragraphs), volume.page_size):
-        fault = _not_for_pages(volume.number, each.section)
-        if fault:
+        if (cell := each.section.eight_dots) is not None:
+            place = each.section.paragraph, cell
+            (fault,) = not_exported([(volume.number, place)])
             return replace(volume, fault=fault)
         lines.append(each.lines)
         if len(lines) % _PACE == 0:
@@ -258,16 +258,3 @@ def _lines_of(session: Session, volume: VolumeLines, page: int) -> list[str]:
         for each in sections(session, chosen)
     ]
     return Layout(volume.page_size, tuple(found)).page(page + 1)
-
-
-def _not_for_pages(volume: int, section: Section) -> str:
-    """Why a volume has no pages: a cell that isn't in Braille ASCII; nothing if it has them."""
-    letters = braille_ascii(section.braille)
-    if letters.isascii():
-        return ""
-    place = next(n for n, letter in enumerate(letters) if not letter.isascii())
-    return (
-        f"Cell {place + 1:,} of paragraph {section.paragraph} has dot 7 or 8, which pages for"
-        f" embossers can't have, so volume {volume} has none. Correct the table of that"
-        " paragraph."
-    )

@@ -1,6 +1,6 @@
 """Pages in words: their size, also as people type it, and what stands on which page and line."""
 
-from collections.abc import Sequence
+from collections.abc import Iterable, Sequence
 
 from braildesk.desk.layout import PageSize, Volume
 from braildesk.desk.page_places import PagePlace, PrintedRow
@@ -58,6 +58,20 @@ def volume_title(its: Volume, pages: int) -> str:
     """A volume, how many pages it has, and of which size."""
     size = described(its.layout.page_size)
     return f"Volume {its.number}: {counted(pages, 'page')} of {size}."
+
+
+def not_exported(volumes: Iterable[tuple[int, tuple[int, int] | None]]) -> list[str]:
+    """What is said of each volume with a cell of eight dots: a paragraph, and the place of the cell."""
+    found = dict(volumes).items()
+    return [_not_exported(number, *cell) for number, cell in found if cell is not None]
+
+
+def _not_exported(volume: int, paragraph: int, cell: int) -> str:
+    return (
+        f"Cell {cell + 1:,} of paragraph {paragraph} has dot 7 or 8, which pages for embossers"
+        f" can't have, so volume {volume} can't be exported. Correct the table of that"
+        " paragraph."
+    )
 
 
 def not_there(volumes: Sequence[int], what: str) -> str:

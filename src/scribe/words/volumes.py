@@ -9,7 +9,7 @@ from braildesk.desk.volume_plan import Planned, TooManyPages
 from braildesk.text.characters import visible
 from braildesk.text.excerpt import opening
 
-from scribe.words.pages import described
+from scribe.words.pages import described, not_exported
 from scribe.words.paragraph import counted
 
 
@@ -29,6 +29,11 @@ def volume_lines(
         pages = counted(its.pages, "page")
         line = f"Volume {nth}: {pages}, from paragraph {first.id}, {style}: {words}"
         yield line.removesuffix(": ")
+
+
+def faults(volumes: Sequence[Planned]) -> list[str]:
+    """What keeps volumes from being exported."""
+    return not_exported((nth, each.eight_dots) for nth, each in enumerate(volumes, 1))
 
 
 def summary(volumes: Sequence[Planned], page_size: PageSize) -> str:

@@ -12,6 +12,7 @@ from scribe.cli.book_command import looked_at
 from scribe.cli.page_size import add_page_size, page_size_of
 from scribe.cli.parser import Subparsers, add_file, command_parser
 from scribe.words.console import Console
+from scribe.words.pages import not_exported
 from scribe.words.proof_html import Proof, elsewhere
 from scribe.words.status import Status, Stop, may_not_last
 
@@ -85,7 +86,9 @@ def run(arguments: Namespace, console: Console) -> Status:
         ) from error
     count = "1 page" if len(pages) == 1 else f"{len(pages):,} pages"
     console.show(f"{arguments.proof}: {count}.")
-    console.say(*others)
+    console.say(
+        *others, *not_exported((page.volume, page.eight_dots) for page in found)
+    )
     return Status.DONE
 
 

@@ -19,7 +19,14 @@ from scribe.cli.page_size import add_page_size, page_size_of
 from scribe.cli.parser import Parser, WordsRefused, number
 from scribe.words.console import Console
 from scribe.words.status import Stop
-from scribe.words.volumes import stopped_after, summary, to_set, volume_lines, was_set
+from scribe.words.volumes import (
+    faults,
+    stopped_after,
+    summary,
+    to_set,
+    volume_lines,
+    was_set,
+)
 
 MORE = """\
 Without --pages the volumes are shown as they are. With --pages it is proposed where
@@ -75,7 +82,7 @@ def _show(
     if most is not None:
         volumes = planned(lines, page_size, most)
     console.show(*volume_lines(session, book, volumes))
-    console.say(summary(volumes, page_size))
+    console.say(summary(volumes, page_size), *faults(volumes))
     if most is not None:
         console.say(*to_set(to_be_set(book, volumes)))
 
@@ -96,7 +103,7 @@ def _set(
         for _ in set_volumes(session, changed):
             pass
         console.show(*volume_lines(session, book, volumes))
-        console.say(summary(volumes, page_size))
+        console.say(summary(volumes, page_size), *faults(volumes))
         console.say(*was_set(changed, session.last_version))
 
 
