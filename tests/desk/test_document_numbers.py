@@ -1,9 +1,12 @@
 """The numbers and bullets that Word shows before paragraphs, as they are in print."""
 
+import zipfile
 from pathlib import Path
 
 import pytest
 
+from braildesk.desk.documents.contents import contents_of
+from braildesk.desk.documents.kinds import ManuscriptKind
 from braildesk.desk.documents.reading import LossKind, ReadingOptions
 from braildesk.desk.manuscripts import read_manuscript
 
@@ -145,3 +148,46 @@ def test_a_number_that_is_otherwise_in_print_is_noted(tmp_path: Path) -> None:
         "Chapter 1",
         "Chapter 1 The sea",
     )
+
+
+def test_numbers_of_odt_that_are_otherwise_in_print_are_noted(tmp_path: Path) -> None:
+    names = " ".join(
+        f'xmlns:{name}="urn:oasis:names:tc:opendocument:xmlns:{name}:1.0"'
+        for name in ("office", "style", "text")
+    )
+    form = '<text:{0}-level-style{1} text:level="{2}" style:num-format="{3}" {4}/>'
+    lists_of = (
+        '<text:list-style style:name="L">'
+        + form.format("list", "-number", 1, "1", 'style:num-prefix="\u00a7 "')
+        + form.format("list", "-number", 2, "a", 'style:num-suffix=")"')
+        + form.format(
+            "list", "-number", 3, "1", 'style:num-suffix="." text:display-levels="2"'
+        )
+        + "</text:list-style>"
+    )
+    outline = (
+        '<text:outline-style style:name="Outline">'
+        + form.format("outline", "", 1, "I", 'style:num-suffix="."')
+        + form.format("outline", "", 2, "", "")
+        + "</text:outline-style>"
+    )
+    item = (
+        "<text:list><text:list-item><text:p>{}</text:p>{}</text:list-item></text:list>"
+    )
+    listed = item.format("Tides", item.format("Sea", item.format("Deep", "")))
+    text = (
+        '<text:h text:outline-level="1">Water</text:h><text:h text:outline-level="2">Rain</text:h>'
+        + listed.replace("<text:list>", '<text:list text:style-name="L">', 1)
+    )
+    parts = {
+        "content.xml": f"<office:document-content {names}><office:automatic-styles>{lists_of}"
+        f"</office:automatic-styles><office:body><office:text>{text}</office:text></office:body>"
+        "</office:document-content>",
+        "styles.xml": f"<office:document-styles {names}>{outline}</office:document-styles>",
+    }
+    path = tmp_path / "lists.odt"
+    with zipfile.ZipFile(path, "w") as container:
+        for name, part in parts.items():
+            container.writestr(name, part)
+    found = contents_of(path.read_bytes(), ManuscriptKind.ODT)
+    assert [each.words for each in found.numbers] == ["Water", "Tides", "Deep"]

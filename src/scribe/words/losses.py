@@ -83,8 +83,8 @@ _SAID = {
         "{} emphases, as by italics, are lost",
     ),
     LossKind.NUMBER: (
-        "1 number of a list is typed in digits, and is otherwise in print",
-        "{} numbers of lists are typed in digits, and are otherwise in print",
+        "1 number of a list or of a heading isn't typed as it is in print",
+        "{} numbers of lists or headings aren't typed as they are in print",
     ),
     LossKind.LEVEL: (
         "1 heading is below the first level, and a book has only one",

@@ -19,8 +19,8 @@ from braildesk.desk.documents.notes import BACK
 from braildesk.desk.documents.package import Package
 from braildesk.desk.documents.reading import Loss, LossKind, Missing, plain
 
-#: How many characters are shown of a table of contents, or of a page.
-_CONTENTS = 60
+#: How many characters are shown of a table of contents, of a page, or of an item of a list.
+_SHOWN = 60
 _WORD = re.compile(r"\w+(?:[’'\u2010\u2011-]\w+)*")
 _NUMBERED = re.compile(r"(.*[^\W\d_])(\d{1,4})")
 #: How many words before and after missing ones are shown.
@@ -48,6 +48,7 @@ _EMBEDDED = re.compile(
     r"word/(embeddings|afchunk)[^/]*(/.+|\..+)|word/.*\.(mht|altchunk)"
 )
 _DELETED = (f"{_W}del", f"{_W}moveFrom")
+_ODT_BULLET = f"{_TEXT}list-level-style-bullet"
 _ODT_DELETED = f"{_TEXT}deletion"
 _ANNOTATION = f"{_OFFICE}annotation"
 _NUMBER = re.compile(r"[\W\d_]*")
@@ -70,6 +71,8 @@ class Contents:
 
     passages: list[str] = field(default_factory=list)
     losses: list[Loss] = field(default_factory=list)
+    #: The numbers of lists and headings that aren't typed as they are in print.
+    numbers: list[Loss] = field(default_factory=list)
 
     def lose(self, what: LossKind, words: str) -> None:
         """Notes words, if there are any."""
@@ -312,10 +315,55 @@ def _of_odt(container: zipfile.ZipFile, found: Contents) -> None:
         for each in root.iter(f"{_TEXT}{tag}"):
             if each.get(f"{_TEXT}style-name") in hidden:
                 found.lose(LossKind.HIDDEN, "".join(_odt_runs(each, [])))
-    if "styles.xml" in names:
-        for edges in _root(container, "styles.xml").iter(f"{_OFFICE}master-styles"):
-            for passage in _odt_paragraphs(edges):
-                found.add_edge(passage)
+    styles = _root(container, "styles.xml") if "styles.xml" in names else Element("")
+    for edges in styles.iter(f"{_OFFICE}master-styles"):
+        for passage in _odt_paragraphs(edges):
+            found.add_edge(passage)
+    forms = {**_odt_forms(styles), **_odt_forms(root)}
+    for item, name, depth in _odt_numbered(root, "", 0):
+        form = forms.get((name, depth))
+        if form is not None and not (name and _is_typed(form)):
+            words = next(_odt_paragraphs(item), "")[:_SHOWN]
+            found.numbers.append(Loss(LossKind.NUMBER, words, words))
+
+
+def _odt_forms(root: Element) -> dict[tuple[str, int], Element]:
+    """The forms of numbers by the style of the list, none for headings, and the level."""
+    found = {}
+    for style in root.iter():
+        if style.tag in (f"{_TEXT}list-style", f"{_TEXT}outline-style"):
+            is_list = style.tag == f"{_TEXT}list-style"
+            name = style.get(f"{_STYLE}name", "") if is_list else ""
+            for level in style:
+                if level.get(f"{_STYLE}num-format") and level.tag != _ODT_BULLET:
+                    found[name, int(level.get(f"{_TEXT}level", "0"))] = level
+    return found
+
+
+def _odt_numbered(
+    element: Element, name: str, depth: int
+) -> Iterator[tuple[Element, str, int]]:
+    """The items of lists and the headings below an element, with the style and the level of each."""
+    for child in element:
+        if child.tag == f"{_TEXT}list":
+            own = child.get(f"{_TEXT}style-name", name)
+            yield from _odt_numbered(child, own, depth + 1)
+            continue
+        if child.tag == f"{_TEXT}list-item":
+            yield child, name, depth
+        elif child.tag == f"{_TEXT}h" and not name:
+            yield child, "", int(child.get(f"{_TEXT}outline-level", "1"))
+        yield from _odt_numbered(child, name, depth)
+
+
+def _is_typed(form: Element) -> bool:
+    """Whether pandoc has such numbers: of one level, and with nothing but usual marks around them."""
+    around = form.get(f"{_STYLE}num-prefix", ""), form.get(f"{_STYLE}num-suffix", "")
+    return (
+        form.get(f"{_STYLE}num-format") in ("1", "i", "I", "a", "A")
+        and around in (("", "."), ("", ")"), ("(", ")"))
+        and form.get(f"{_TEXT}display-levels", "1") == "1"
+    )
 
 
 def _odt_paragraphs(element: Element, is_whole: bool = False) -> Iterator[str]:
@@ -363,7 +411,7 @@ def _of_epub(container: zipfile.ZipFile, found: Contents) -> None:
 
 
 def _first(texts: Sequence[str]) -> str:
-    return " ".join(" ".join(texts).split())[:_CONTENTS]
+    return " ".join(" ".join(texts).split())[:_SHOWN]
 
 
 _READERS = {

@@ -5,8 +5,8 @@ without a sign is found by comparing the words of its paragraphs with those that
 (`contents`).
 
 RTF and DOC are turned into DOCX by LibreOffice first: pandoc loses print of the one without a word, and
-doesn't read the other. ODT is where pandoc loses words of it, as the heads of tables, if fewer are
-lost so: the text boxes that LibreOffice makes of frames are lost in their turn.
+doesn't read the other. ODT is where pandoc loses words of it, as the heads of tables, or numbers, if
+fewer are lost so: the text boxes that LibreOffice makes of frames are lost in their turn.
 """
 
 import re
@@ -62,8 +62,8 @@ def read_document(
         data = pages.with_line_feeds(_characters(data, kind).encode())
     own = contents.contents_of(data, kind)
     found = _read(data, kind, own, reading)
-    if kind is ManuscriptKind.ODT and found.missing and pandoc.office():
-        return min(found, _by_docx(data, own, reading, found), key=_words_missing)
+    if kind is ManuscriptKind.ODT and any(_lost(found)) and pandoc.office():
+        return min(found, _by_docx(data, own, reading, found), key=_lost)
     return found
 
 
@@ -80,15 +80,18 @@ def _by_docx(
         return otherwise
 
 
-def _words_missing(manuscript: Manuscript) -> int:
-    return sum(len(each.words.split()) for each in manuscript.missing)
+def _lost(manuscript: Manuscript) -> tuple[int, int]:
+    """How many words are missing, and how many numbers aren't as in print."""
+    words = sum(len(each.words.split()) for each in manuscript.missing)
+    kinds = [loss.what for loss in manuscript.losses]
+    return words, kinds.count(LossKind.NUMBER)
 
 
 def _read(
     data: bytes, kind: ManuscriptKind, own: Contents, reading: ReadingOptions
 ) -> Manuscript:
     """What pandoc reads, compared with what the file has."""
-    numbers: list[Loss] = []
+    numbers = own.numbers
     if kind is ManuscriptKind.DOCX:
         data, numbers = with_numbers(data, reading.bullet)
     tree, left_out = pandoc.tree(_readable(data, kind), kind)
