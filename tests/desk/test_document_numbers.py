@@ -191,3 +191,16 @@ def test_numbers_of_odt_that_are_otherwise_in_print_are_noted(tmp_path: Path) ->
             container.writestr(name, part)
     found = contents_of(path.read_bytes(), ManuscriptKind.ODT)
     assert [each.words for each in found.numbers] == ["Water", "Tides", "Deep"]
+
+
+def test_numbers_that_a_page_gives_its_items_itself_are_noted(tmp_path: Path) -> None:
+    path = tmp_path / "items.html"
+    path.write_text(
+        "<html><ol start=3><li>a<li value=4>b<li value=9>c<ul><li>d</ul><li>e</ol>"
+        "<ul><li value=7>f</ul><ol><li value=x>g</ol></html>"
+    )
+    found = read_manuscript(path)
+    assert [(each.what, each.words) for each in found.losses] == [
+        (LossKind.NUMBER, "9"),
+        (LossKind.NUMBER, "10"),
+    ]

@@ -79,6 +79,10 @@ class Contents:
         if shown := plain(words.replace("\n", " ")):
             self.losses.append(Loss(what, shown, shown))
 
+    def note_numbers(self, numbers: Iterable[str]) -> None:
+        """Notes numbers that aren't typed as they are in print."""
+        self.numbers += [Loss(LossKind.NUMBER, each, each) for each in numbers]
+
     def add_edge(self, passage: str) -> None:
         """Adds what stands at the edge of pages, unless it is no more than their number."""
         if not _NUMBER.fullmatch(passage):
@@ -89,7 +93,9 @@ def contents_of(data: bytes, kind: ManuscriptKind) -> Contents:
     """What the file of a document has; nothing for the kinds that are text."""
     found = Contents()
     if kind is ManuscriptKind.HTML:
-        found.passages += _page_of(data).passages
+        page = _page_of(data)
+        found.passages += page.passages
+        found.note_numbers(page.numbers)
     if kind in _READERS:
         with unpacked(data) as container:
             _READERS[kind](container, found)
@@ -402,6 +408,7 @@ def _of_epub(container: zipfile.ZipFile, found: Contents) -> None:
     for page in Package(container).pages():
         read = _page_of(part_of(container, page.part))
         found.passages += read.passages
+        found.note_numbers(read.numbers)
         if page.is_list and not page.is_in_order:
             found.lose(LossKind.CONTENTS, _first(read.lists))
             continue
@@ -437,6 +444,10 @@ class _Html(HTMLParser):
         self.texts: list[str] = [""]
         #: The texts of the lists by which a program finds the pages.
         self.lists: list[str] = [""]
+        #: The numbers of items that pandoc counts on from those before.
+        self.numbers: list[str] = []
+        # of each list with numbers that is open the last one in print and that which is typed
+        self._counts: list[tuple[int, int] | None] = []
         self._silent = 0
         self._in_list = False
         #: The element that leads back from a note, and how many of its name are open in it.
@@ -452,6 +463,7 @@ class _Html(HTMLParser):
         types = (dict(attrs).get("epub:type") or "").split()
         if tag == "nav" and not self._LISTS.isdisjoint(types):
             self._in_list = True
+        self._count(tag, dict(attrs))
         self._open += tag == self._back
         if not self._back and tag in ("a", "span") and _is_back(dict(attrs)):
             self._back, self._open = tag, 1
@@ -466,6 +478,8 @@ class _Html(HTMLParser):
     def handle_endtag(self, tag: str) -> None:
         self._silent = max(self._silent - (tag in self._SILENT), 0)
         self._in_list = self._in_list and tag != "nav"
+        if tag in ("ol", "ul") and self._counts:
+            self._counts.pop()
         self._open -= tag == self._back
         if not self._open:
             self._back = ""
@@ -482,6 +496,18 @@ class _Html(HTMLParser):
             return super().parse_marked_section(i, bool(report))
         return self.parse_bogus_comment(i)
 
+    def _count(self, tag: str, attributes: dict[str, str | None]) -> None:
+        """Counts the items of lists as a page shows them, and as they are typed."""
+        if tag in ("ol", "ul"):
+            front = _whole(attributes.get("start"), 1) - 1
+            self._counts.append((front, front) if tag == "ol" else None)
+        elif tag == "li" and self._counts and self._counts[-1]:
+            shown, typed = self._counts[-1]
+            shown, typed = _whole(attributes.get("value"), shown + 1), typed + 1
+            self._counts[-1] = shown, typed
+            if shown != typed:
+                self.numbers.append(str(shown))
+
     def _describe(self, tag: str, attrs: list[tuple[str, str | None]]) -> None:
         """Takes the description of a picture for print."""
         if tag == "img":
@@ -492,6 +518,10 @@ class _Html(HTMLParser):
             self.texts.append("")
             self.lists.append("\n")
             self._back, self._open = "", 0
+
+
+def _whole(text: str | None, usual: int) -> int:
+    return int(text) if text and re.fullmatch("-?[0-9]{1,9}", text) else usual
 
 
 def _is_back(attributes: dict[str, str | None]) -> bool:
