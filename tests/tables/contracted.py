@@ -60,6 +60,9 @@ PICTURES = "gimp/2.0/help/{}/*.html"
 PACKAGES = "doc/aptitude/html/{}/*.html"
 ACCOUNTS = "doc/gnucash-docs/gnucash-guide-{}/*.html"
 DATABASE = "doc/postgresql-doc-15/html/*.html"
+LANGUAGE = "doc/python3.11/html/[htu]*/*.html"
+VERSIONS = "doc/git-doc/*.html"
+SERVER = "doc/apache2-doc/manual/en/**/*.html"
 KEPT = Path(__file__).with_suffix(".tsv")
 COLUMNS = "made_for text words right within paragraphs held_back lines seconds".split()
 PAGE = (
@@ -92,6 +95,9 @@ TEXTS = (
     Text("packages.en", PACKAGES.format("en")),
     Text("accounts.en", ACCOUNTS.format("en"), MOST_WORDS),
     Text("database.en", DATABASE, MOST_WORDS),
+    Text("language.en", LANGUAGE, MOST_WORDS),
+    Text("versions.en", VERSIONS, MOST_WORDS),
+    Text("server.en", SERVER, MOST_WORDS),
     Text("handbook.de", HANDBOOK.format("de-DE"), MOST_WORDS),
     Text("install.de", GUIDE.format("de")),
     Text("story.de", STORY.format("de")),
@@ -126,6 +132,9 @@ TITLES = {
     "packages": "the manual of aptitude",
     "accounts": "the guide to GnuCash",
     "database": "the manual of PostgreSQL",
+    "language": "the documentation of Python",
+    "versions": "the manual of Git",
+    "server": "the manual of Apache",
 }
 LISTS = {"en": "british-english", "de": "ngerman", "fr": "french"}
 

@@ -17,7 +17,7 @@ mkdir -p "$folder/packages" "$folder/tree"
 for package in wbritish wngerman wfrench debian-handbook installation-guide-amd64 dict-devil anarchism \
     wesnoth-1.16-httt gnome-user-docs debian-faq debian-faq-de debian-faq-fr debian-reference-{en,de,fr} \
     developers-reference{,-de,-fr} gimp-help-{en,de,fr} aptitude-doc-{en,fr} \
-    gnucash-docs postgresql-doc-15; do
+    gnucash-docs postgresql-doc-15 python3.11-doc git-doc apache2-doc; do
     (cd "$folder/packages" && [ -n "$(ls "$package"_*.deb 2>/dev/null)" ] || apt-get download -q "$package")
     [ -e "$folder/tree/usr/share/doc/$package" ] || dpkg-deb -x "$folder/packages/$package"_*.deb "$folder/tree"
 done
