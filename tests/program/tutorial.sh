@@ -43,7 +43,7 @@ replay() { # DOCUMENT
 }
 
 different=0
-for document in README.md docs/{transcriber,proofreader,embosser,tables,FORMATS}.md; do
+for document in README.md docs/{transcriber,proofreader,embosser,tables,contracted,FORMATS}.md; do
     name=$(basename "$document")
     count=$(grep -c '^\$ ' "$document")
     mkdir "$scratch/$name"
