@@ -80,6 +80,7 @@ STANDING = (
     + """\
 punctuation - 36
 punctuation % 46-356
+punctuation + 346
 punctuation / 456-34
 nocontractsign 56
 seqdelimiter -
@@ -338,13 +339,14 @@ def test_a_mark_beside_which_no_letter_stands_alone_is_a_letter_to_its_neighbour
     means = Means(None, None, lambda what: lambda done, total: None)
     text = Manuscript("text", ["b"])
     draft = tailor(small(tmp_path, STANDING), text, means).made.draft
-    assert (draft.classes["%"], draft.classes["/"]) == ("letter", "punctuation")
+    assert [draft.classes[one] for one in "%+/"] == ["letter"] * 2 + ["punctuation"]
     chooser = Chooser(read(draft.text().encode()).table)
     for line, wanted in (
         ("b", "⠰⠃"),
         ("%b", "⠨⠴⠃"),
         ("%B", "⠨⠴⠠⠃"),
         ("%b.", "⠨⠴⠃⠲"),
+        ("B+", "⠠⠃⠬"),
         ("BB/a", "⠠⠠⠃⠃⠸⠌⠁"),
     ):
         assert chooser.cells(chooser.printed(line)) == cells_of(wanted), line
@@ -359,6 +361,61 @@ def test_a_word_that_a_table_names_is_learned_with_those_of_a_list(
     text = Manuscript("text", ["abb"])
     draft = tailor(small(tmp_path, STANDING), text, means).made.draft
     assert draft.rules["word", "hab"][0] == cells_of("⠓⠁")
+
+
+def test_letters_that_have_a_sign_alone_are_learned_with_longer_ones_that_have_none(
+    tmp_path: Path,
+) -> None:
+    words = "\n".join("".join(part) for part in product("abet", repeat=4))
+    (tmp_path / "words").write_text(words)
+    table = small(tmp_path, STANDING + "contraction ta\ncontraction tax\n")
+    means = Means(
+        WordList.of(tmp_path / "words"), None, lambda what: lambda done, total: None
+    )
+    draft = tailor(table, Manuscript("text", ["abba"]), means).made.draft
+    chooser = Chooser(read(draft.text().encode()).table)
+    for line, wanted in (
+        ("ta", "⠰⠞⠁"),
+        ("ta.", "⠰⠞⠁⠲"),
+        ("tax", "⠰⠞⠁⠭"),
+        ("tat", "⠞⠁⠞"),
+        ("taxa", "⠞⠁⠭⠁"),
+        ("ta/be", "⠞⠁⠸⠌⠃⠑"),
+    ):
+        assert chooser.cells(chooser.printed(line)) == cells_of(wanted), line
+
+
+def test_letters_and_contracted_words_are_learned_beside_the_marks_of_names() -> None:
+    marks = "".join(f"punctuation {one} 256\n" for one in "_/.=")
+    table = read(SMALL_LETTERS + f"{marks}letter B 12\n".encode()).table
+    chooser = Chooser(table)
+    words = WordList(Path("words"), {"ab": 1, "abb": 1, "abba": 1}, {"b": LONE})
+    contracted = {"ab": "⠆", "abba": "⠆⠂", "abbaabba": "⠆⠂⠆⠂"}
+    pieces = {word: cells_of(its) for word, its in contracted.items()}
+    liblouis = cast(Liblouis, Spelling(table, pieces))
+    found = list_examples(words, liblouis, chooser, "b", nothing)
+    tokens = "".join(f" {one.token.strip(' ')} " for one in found)
+    for one, mark in product(("ab", "abba", "b", "B"), "_/."):
+        for form in (f"{one}[{mark}]abb?a?", f"abb?a?[{mark}]{one}", f"[{mark}]{one}"):
+            assert re.search(f" {form} ", tokens), form
+    learned_from_list(words, chooser, found, 100, nothing)
+    for token, wanted in (
+        ("ab", "⠆"),
+        ("ab_abb", "⠁⠃⠲⠁⠃⠃"),
+        ("abb/ab", "⠁⠃⠃⠲⠁⠃"),
+    ):
+        assert chooser.cells(chooser.printed(token)) == cells_of(wanted), token
+
+
+def test_a_letter_with_a_mark_is_learned_but_before_a_full_stop_as_initials_are() -> (
+    None
+):
+    table = read(SMALL_LETTERS + b"punctuation . 256\npunctuation , 2\n").table
+    words = WordList(Path("words"), {"ab": 1}, {"b": LONE})
+    liblouis = cast(Liblouis, Spelling(table, {}))
+    found = list_examples(words, liblouis, Chooser(table), "b", nothing)
+    tokens = {one.token.strip(" ") for one in found}
+    assert tokens >= {"b,", "b.b."} and "b." not in tokens
 
 
 def test_a_word_with_a_mark_within_is_learned_where_no_other_needs_its_rule() -> None:

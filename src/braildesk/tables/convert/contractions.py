@@ -27,6 +27,14 @@ def named_words(source: Source) -> Iterator[str]:
                 yield word
 
 
+def signed_words(source: Source) -> Iterator[str]:
+    """The letters that would be read as a contraction where they stand alone, so that they have a sign there."""
+    for line in source.lines:
+        if line.opcode == "contraction" and line.is_for_print and line.operands:
+            if line.operands[0].isalpha():
+                yield line.operands[0]
+
+
 def read_rules(subject: Subject, draft: TableDraft) -> list[tuple[str, TableLine]]:
     """Adds the rules that the table has. Returns those that can't be carried over, each with the reason."""
     left = []

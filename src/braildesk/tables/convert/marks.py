@@ -62,7 +62,7 @@ BEFORE_EQUALS: Final = "+-*/<>!:"
 ENDING: Final = ",;:.?!"
 """The marks that are asked for after a closing one with a blank after them."""
 
-BEFORE_WORDS: Final = "%~^\\$@#<"
+BEFORE_WORDS: Final = "%~^\\$@#<+"
 """The marks before a word or a letter, and hardly ever after capitals, that may be letters to their neighbours."""
 
 _BEFORE_DIGIT: Final = ((Side.EDGE, Side.DIGIT), (Side.LETTER, Side.DIGIT))

@@ -108,12 +108,17 @@ JOINED: Final = (
     *_shapes("words in brackets", "[{w}]", "<{w}>", "{w}[{d}]", "{w}({w})"),
     *_shapes("letters beside a mark", "{w}.{l}", "{w}.{l}/", "{w}({l})", "{w}/{l}"),
     *_shapes("letters beside a mark", "{l}.{w}", "{l}-{w}", "{l}.{l}.", "{w}-{l}"),
-    *_shapes("letters beside a mark", "-{l}", "({l})", "'{l}'", '"{l}"', "{l}."),
+    *_shapes(
+        "letters beside a mark", "-{l}", "({l})", "'{l}'", '"{l}"', "{l}.", "-{l}."
+    ),
     *_shapes("letters beside a mark", "{L}.{w}", "{L}.{W}", "{L}.{d}", "{L}.{L}.{L}."),
     *_shapes("letters beside a mark", "{L}&{L}", "{L}/{L}", "~{l}", "^{L}", "{w}={L}"),
     *_shapes("letters at an apostrophe", "{l}'{w}", "{l}\u2019{w}", "{w}'{l}"),
     *_shapes("letters beside a number", "{w}{d}", "{l}{d}", "{d}{l}", "{w}{d}.{w}"),
     *_shapes("letters beside a number", "{d}{w}", "{d}.{l}", "{w}-{d}.{d}", "{w}_{d}"),
+    *_shapes(
+        "words between angles", "<{w}>:<{w}>", "<{w}>.<{w}>", "<{w}>.{w}", "<{w}>:{w}"
+    ),
     *_shapes("marks alone", '"{m}"', '"{m}".', '"{m}{m}"', "({m})", "'{m}'", '"-{L}"'),
     *_shapes("ordinals and years", "{d}st", "{d}nd", "{d}rd", "{d}th", "{d}s", "{d}er"),
     *_shapes(
@@ -125,6 +130,7 @@ JOINED: Final = (
 ENCLOSED: Final = (
     *("{},", "{}.", "{};", "{}:", "{}?", "{}!", "({})", "({}", "{})"),
     *('"{}"', '"{}".', '"{}",', '("{}")', "'{}'", "\u201c{}\u201d"),
+    *('"{}', '{}"', "\u201c{}", "{}\u201d", "\u2018{}", "{}\u2019", "\u2018{}\u2019"),
 )
 """What may stand around such a token."""
 

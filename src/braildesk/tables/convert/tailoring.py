@@ -18,7 +18,7 @@ from braildesk.tables import Table, read
 from braildesk.tables.convert.addition import Addition
 from braildesk.tables.convert.causes import Difference, Judge
 from braildesk.tables.convert.chooser import Chooser
-from braildesk.tables.convert.contractions import named_words
+from braildesk.tables.convert.contractions import named_words, signed_words
 from braildesk.tables.convert.draft import (
     MOST_LINES,
     Origin,
@@ -89,9 +89,10 @@ class Means:
     report: Report
     addition: Addition | None = None
 
-    def naming(self, named: Iterable[str]) -> Means:
+    def naming(self, named: Iterable[str], signed: Iterable[str]) -> Means:
         """The same, with the words that a table names in the list, if there is one."""
-        return replace(self, words=self.words and self.words.naming(named))
+        words = self.words and self.words.naming(named).signing(signed)
+        return replace(self, words=words)
 
 
 @dataclass(frozen=True)
@@ -162,7 +163,9 @@ class _Tailoring:
         self._subject: Final = subject
         self._liblouis: Final = subject.liblouis
         self._manuscript: Final = manuscript
-        self._means: Final = means.naming(named_words(subject.source))
+        self._means: Final = means.naming(
+            named_words(subject.source), signed_words(subject.source)
+        )
         self._trial: Final = ProgramTrial(folder)
         self._made: Final = make_to_learn(subject, self._trial)
         table = read(self._made.draft.text().encode()).table

@@ -7,12 +7,13 @@ learned from, and a rule stays only if a word of the list bears it out.
 from __future__ import annotations
 
 import hashlib
+import random
 import string
 import zlib
 from collections import Counter
-from collections.abc import Iterable, Sequence
+from collections.abc import Iterable, Iterator, Sequence
 from dataclasses import dataclass, replace
-from itertools import cycle
+from itertools import cycle, product
 from pathlib import Path
 from typing import Final, Protocol
 
@@ -31,7 +32,7 @@ from braildesk.tables.convert.oracle import Liblouis
 from braildesk.tables.convert.shapes import ENCLOSED, JOINED, Material, lines_of
 from braildesk.tables.convert.words import forms_in
 
-METHOD: Final = 4
+METHOD: Final = 5
 """Counted up with each change of what is learned from a list."""
 
 MOST_FORMS: Final = 120_000
@@ -49,6 +50,18 @@ USUALLY: Final = 5.0
 BESIDE: Final = 0.1
 """What a token with a mark or a number within counts at most beside a manuscript, whose words go before it."""
 
+MARKS_IN_NAMES: Final = "_/."
+"""The marks of names of files and the like, beside which letters, words of one cell and others are learned."""
+
+MARKS_BESIDE_LETTERS: Final = MARKS_IN_NAMES + "="
+"""Those beside which letters are."""
+
+PLACES_IN_NAMES: Final = ("{one}{mark}{word}", "{word}{mark}{one}", "{mark}{one}")
+"""Where one stands beside such a mark."""
+
+LONGER_BY: Final = 5
+"""One letter of so many is put after those that have a sign alone, so that longer words have none."""
+
 JOINED_OF_EACH: Final = 200
 """How many tokens of each shape with marks or numbers within are made of a list of many words."""
 
@@ -60,12 +73,17 @@ SEED: Final = 1
 
 def _made_of(forms: Sequence[str]) -> dict[str, float]:
     """Letters alone and tokens with marks or numbers within, of the words of a list."""
-    words = [one.lower() for one in forms if one.isalpha() and one[1:].islower()]
+    words = _small(forms)
     having = Counter(one for word in words for one in {*word} if len(one.upper()) == 1)
     usual = [one for one in having if one.isascii() or having[one] > RARE * len(words)]
     each = min(JOINED_OF_EACH, len(words) // len(JOINED))
     found = _joined(words, sorted(usual), each)
     return found | dict.fromkeys(sorted(having) if found else (), LONE)
+
+
+def _small(forms: Iterable[str]) -> list[str]:
+    """The words of letters alone, but those with capitals within, in small letters."""
+    return [one.lower() for one in forms if one.isalpha() and one[1:].islower()]
 
 
 def _joined(
@@ -106,6 +124,8 @@ class WordList:
     path: Path
     weights: dict[str, float]
     joined: dict[str, float]
+    signed: tuple[str, ...] = ()
+    """Those of the words that have a sign where they stand alone."""
 
     @classmethod
     def of(cls, path: Path) -> WordList:
@@ -119,6 +139,18 @@ class WordList:
     def naming(self, named: Iterable[str]) -> WordList:
         """The list with the words that a table names."""
         return replace(self, weights=dict.fromkeys(named, 1.0) | self.weights)
+
+    def signing(self, signed: Iterable[str]) -> WordList:
+        """The list with what has a sign where it stands alone, and with longer words that have none."""
+        letters = sorted(self.letters)[::LONGER_BY]
+        own = dict.fromkeys(signed if letters else (), 1.0)
+        longer = dict.fromkeys(map("".join, product(own, letters)), LESS)
+        return replace(self, weights=longer | own | self.weights, signed=(*own,))
+
+    @property
+    def letters(self) -> list[str]:
+        """The letters alone, which a list of many words has."""
+        return [one for one in self.joined if len(one) == 1]
 
     @property
     def digest(self) -> str:
@@ -134,16 +166,58 @@ def list_examples(
 ) -> list[Example]:
     """The words of a list as examples, and the tokens that are made of them."""
     weights = words.weights | words.joined
-    known = [one for one in chooser.whole_words() if len(one) > 1]
     if words.joined:
+        known = [one for one in chooser.whole_words() if len(one) > 1]
         short = dict.fromkeys([*known, *_short(liblouis, words)])
-        marked = (form.format(one) for one in short for form in ENCLOSED)
+        others = [one for one in words.signed if len(one) == 2]
+        others += _held(liblouis, words)
+        weights = _in_names(words, [*short, *others]) | weights
         if known:
             letters = sorted({one for word in known for one in word})
             weights = _joined(known, letters, 2 * len(known)) | weights
-        # words of one cell have it alone before all, and beside few marks
-        weights |= dict.fromkeys(marked, USUALLY) | dict.fromkeys(short, LONE)
+        # such words have their cells alone before all, and beside few marks
+        weights |= dict.fromkeys(_enclosed(others), 1.0)
+        weights |= dict.fromkeys(others, USUALLY)
+        weights |= dict.fromkeys(_enclosed(short), USUALLY)
+        weights |= dict.fromkeys(_enclosed(words.letters, but="{}."), USUALLY)
+        weights |= dict.fromkeys(_initials(words.letters), USUALLY)
+        weights |= dict.fromkeys(short, LONE)
     return examples(liblouis, chooser, weights, frame, progress)
+
+
+def _enclosed(ones: Iterable[str], but: str | None = None) -> Iterator[str]:
+    """Letters or words with the marks that texts have beside them, but for one form.
+
+    A letter before a full stop is mostly an initial, whose rule capitals have too.
+    """
+    forms = [form for form in ENCLOSED if form != but]
+    return (form.format(one) for one in ones for form in forms)
+
+
+def _initials(letters: Sequence[str]) -> Iterator[str]:
+    """Each letter as the last of two initials, small and as a capital."""
+    for first, last in zip(letters, [*letters[1:], *letters[:1]]):
+        yield f"{first}.{last}."
+        yield f"{first}.{last}.".upper()
+
+
+def _in_names(words: WordList, ones: Sequence[str]) -> dict[str, float]:
+    """Letters and some words beside each mark of names, with another word beyond it.
+
+    Beside such a mark few stand alone, and tokens made by chance leave some of them out.
+    """
+    others = _small(words.weights)
+    random.Random(SEED).shuffle(others)
+    word = cycle(others)
+    upper = [one.upper() for one in words.letters if one.isascii()]
+    return {
+        place.format(one=one, mark=mark, word=next(word)): 1.0
+        for those, marks in (
+            ([*words.letters, *upper], MARKS_BESIDE_LETTERS),
+            (ones, MARKS_IN_NAMES),
+        )
+        for one, mark, place in product(those, marks, PLACES_IN_NAMES)
+    }
 
 
 def _short(liblouis: Liblouis, words: WordList) -> list[str]:
@@ -151,6 +225,18 @@ def _short(liblouis: Liblouis, words: WordList) -> list[str]:
     asked = [one for one in words.weights if len(one) > 1 and one.islower()]
     cells = zip(asked, liblouis.ask(asked), strict=True)
     return [word for word, its in cells if its is not None and len(its) == 1]
+
+
+def _held(liblouis: Liblouis, words: WordList) -> list[str]:
+    """The words of four letters or more and two cells, which they have within a word too.
+
+    No rule for a mark and the first letter of another word may end within them.
+    """
+    asked = [one for one in words.weights if len(one) > 3 and one.islower()]
+    cells = zip(asked, liblouis.ask(asked), strict=True)
+    few = {one: its for one, its in cells if its is not None and len(its) == 2}
+    twice = zip(few, liblouis.ask(one * 2 for one in few), strict=True)
+    return [one for one, its in twice if its == few[one] * 2]
 
 
 def name_of(words: WordList, draft: TableDraft, version: str) -> str:
