@@ -164,5 +164,5 @@ def test_a_cell_that_pages_can_not_have_is_said_where_it_is(
     sat.press("p")
     assert sat.state.message == (
         "Cell 2 of paragraph 2 has dot 7 or 8, which pages for embossers can't have, so volume 1"
-        " has none. Correct the table of that paragraph."
+        " can't be exported. Correct the table of that paragraph."
     )
