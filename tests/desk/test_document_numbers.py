@@ -204,3 +204,52 @@ def test_numbers_that_a_page_gives_its_items_itself_are_noted(tmp_path: Path) ->
         (LossKind.NUMBER, "9"),
         (LossKind.NUMBER, "10"),
     ]
+
+
+def test_a_number_stands_before_all_that_a_deleted_end_joins(tmp_path: Path) -> None:
+    gone = '<w:rPr><w:del w:id="1" w:author="A"/></w:rPr>'
+    body = paragraph(run("a"), properties=gone) + item("b", 1) + item("c", 1)
+    numbering = lists(level(0, "decimal", "%1."))
+    assert texts(tmp_path, body, numbering) == ["1. a b", "2. c"]
+
+
+def test_lists_that_no_program_writes_keep_no_document_from_being_read(
+    tmp_path: Path,
+) -> None:
+    body = item("a", 1, 5_000_000) + item("b", 1)
+    numbering = (
+        lists(level(0, "upperLetter", "%1.") + level(5_000_000, "decimal", "%1."))
+        .replace('"1"/><w:numFmt', '"no"/><w:numFmt', 1)
+        .replace("<w:lvlText", '<w:lvlRestart w:val="no"/><w:lvlText')
+    )
+    assert texts(tmp_path, body, numbering) == ["A. a", "B. b"]
+
+
+def test_nothing_is_counted_by_a_letter_before_the_first(tmp_path: Path) -> None:
+    numbering = lists(level(0, "upperLetter", "%1.", start=0))
+    body = item("a", 1) + item("b", 1)
+    assert texts(tmp_path, body, numbering) == [". a", "A. b"]
+
+
+@pytest.mark.parametrize(
+    "part, old, new",
+    [
+        ("document", "<w:body>", "<w:body><!-- <w:p> -->"),
+        ("document", "openxmlformats.org/wordprocessingml/2006", "other.org"),
+        ("styles", "</w:styles>", ""),
+    ],
+)
+def test_what_no_word_writes_is_read_as_it_is(
+    tmp_path: Path, part: str, old: str, new: str
+) -> None:
+    numbering = lists(level(0, "decimal", "%1."))
+    path = docx(tmp_path / "a.docx", item("a", 1) + item("b", 1), numbering=numbering)
+    with zipfile.ZipFile(path) as container:
+        parts = {name: container.read(name) for name in container.namelist()}
+    name = f"word/{part}.xml"
+    assert old.encode() in parts[name]
+    parts[name] = parts[name].replace(old.encode(), new.encode())
+    with zipfile.ZipFile(path, "w") as container:
+        for name, whole in parts.items():
+            container.writestr(name, whole)
+    assert read_manuscript(path).texts == ["1. a", "2. b"]

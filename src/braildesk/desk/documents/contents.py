@@ -17,7 +17,7 @@ from xml.etree.ElementTree import Element
 from braildesk.desk.documents.kinds import ManuscriptKind, part_of, unpacked
 from braildesk.desk.documents.notes import BACK
 from braildesk.desk.documents.package import Package
-from braildesk.desk.documents.reading import Loss, LossKind, Missing, plain
+from braildesk.desk.documents.reading import Loss, LossKind, Missing, plain, whole
 
 #: How many characters are shown of a table of contents, of a page, or of an item of a list.
 _SHOWN = 60
@@ -342,7 +342,7 @@ def _odt_forms(root: Element) -> dict[tuple[str, int], Element]:
             name = style.get(f"{_STYLE}name", "") if is_list else ""
             for level in style:
                 if level.get(f"{_STYLE}num-format") and level.tag != _ODT_BULLET:
-                    found[name, int(level.get(f"{_TEXT}level", "0"))] = level
+                    found[name, whole(level.get(f"{_TEXT}level"), 0)] = level
     return found
 
 
@@ -358,7 +358,7 @@ def _odt_numbered(
         if child.tag == f"{_TEXT}list-item":
             yield child, name, depth
         elif child.tag == f"{_TEXT}h" and not name:
-            yield child, "", int(child.get(f"{_TEXT}outline-level", "1"))
+            yield child, "", whole(child.get(f"{_TEXT}outline-level"), 1)
         yield from _odt_numbered(child, name, depth)
 
 
@@ -499,11 +499,11 @@ class _Html(HTMLParser):
     def _count(self, tag: str, attributes: dict[str, str | None]) -> None:
         """Counts the items of lists as a page shows them, and as they are typed."""
         if tag in ("ol", "ul"):
-            front = _whole(attributes.get("start"), 1) - 1
+            front = whole(attributes.get("start"), 1) - 1
             self._counts.append((front, front) if tag == "ol" else None)
         elif tag == "li" and self._counts and self._counts[-1]:
             shown, typed = self._counts[-1]
-            shown, typed = _whole(attributes.get("value"), shown + 1), typed + 1
+            shown, typed = whole(attributes.get("value"), shown + 1), typed + 1
             self._counts[-1] = shown, typed
             if shown != typed:
                 self.numbers.append(str(shown))
@@ -518,10 +518,6 @@ class _Html(HTMLParser):
             self.texts.append("")
             self.lists.append("\n")
             self._back, self._open = "", 0
-
-
-def _whole(text: str | None, usual: int) -> int:
-    return int(text) if text and re.fullmatch("-?[0-9]{1,9}", text) else usual
 
 
 def _is_back(attributes: dict[str, str | None]) -> bool:

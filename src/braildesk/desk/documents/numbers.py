@@ -9,12 +9,12 @@ from collections.abc import Callable, Iterator, Mapping
 from dataclasses import dataclass, field
 from io import BytesIO
 from xml.etree import ElementTree
-from xml.etree.ElementTree import Element
+from xml.etree.ElementTree import Element, ParseError
 from xml.sax.saxutils import escape
 from zipfile import ZipFile
 
 from braildesk.desk.documents.kinds import is_media, part_of, unpacked
-from braildesk.desk.documents.reading import Loss, LossKind, plain
+from braildesk.desk.documents.reading import Loss, LossKind, plain, whole
 from braildesk.desk.documents.tree import roman
 
 _W = "{http://schemas.openxmlformats.org/wordprocessingml/2006/main}"
@@ -36,9 +36,9 @@ _SHOWN = 60
 
 
 def _letters(number: int) -> str:
-    """A number as Word counts by letters: after Z come AA and BB, and A again after thirty Z."""
+    """A number as Word counts by letters: after Z come AA and BB, and A again after thirty Z; 0 has none."""
     times, place = divmod(number - 1, 26)
-    return chr(ord("A") + place) * (times % 30 + 1)
+    return chr(ord("A") + place) * (times % 30 + 1) if number else ""
 
 
 _FORMS: Mapping[str, Callable[[int], str]] = {
@@ -55,7 +55,8 @@ _FORMS: Mapping[str, Callable[[int], str]] = {
 def with_numbers(data: bytes, bullet: str) -> tuple[bytes, list[Loss]]:
     """A document without lists, whose paragraphs begin with their numbers; and those not as in print.
 
-    It has no pictures any more, which aren't looked at. Raises `NoDocument`.
+    It has no pictures any more, which aren't looked at. One whose lists can't be read, or whose tags
+    aren't those that Word writes, is left as it is. Raises `NoDocument`.
     """
     losses: list[Loss] = []
     made = BytesIO()
@@ -66,10 +67,16 @@ def with_numbers(data: bytes, bullet: str) -> tuple[bytes, list[Loss]]:
         }
         if (numbering := parts.pop(_NUMBERING, None)) is None:
             return data, losses
-        lists = _Lists(numbering, parts.get(_STYLES), bullet)
+        try:
+            lists = _Lists(numbering, parts.get(_STYLES), bullet)
+        except ParseError:
+            return data, losses
         for name, part in parts.items():
             if _TEXTS.fullmatch(name):
-                part = _numbered(part, lists.labels(ElementTree.fromstring(part)))
+                labels = lists.labels(ElementTree.fromstring(part))
+                if len(labels) != len(_PARAGRAPH.findall(part)):
+                    return data, losses
+                part = _numbered(part, iter(labels))
             other.writestr(name, part)
     return made.getvalue(), lists.losses
 
@@ -140,8 +147,9 @@ class _Count:
             if restart is None or level < restart:
                 del counts[lower]
         counts[level] = counts.get(level, _start(found, level) - 1) + 1
-        for higher in range(level):
-            counts.setdefault(higher, _start(found, higher))
+        for higher in found.levels:
+            if higher < level:
+                counts.setdefault(higher, _start(found, higher))
         return counts
 
 
@@ -163,25 +171,28 @@ class _Lists:
         #: The numbers that are in digits, as words and others are only in print.
         self.losses: list[Loss] = []
 
-    def labels(self, root: Element) -> Iterator[str]:
+    def labels(self, root: Element) -> list[str]:
         """What stands at the front of each paragraph of a part."""
+        labels: dict[int, str] = {}
+        firsts = dict(_joined(root))
         older = {id(each) for box in root.iter(_FALLBACK) for each in box.iter()}
         count = _Count()
         for paragraph in root.iter(f"{_W}p"):
             name, level = self._named(paragraph)
             found = self._lists.get(name)
-            if found is None or level not in found.levels or id(paragraph) in older:
-                yield ""
-            else:
+            labels[id(paragraph)] = ""
+            if found and level in found.levels and id(paragraph) not in older:
                 numbers = count.go_on(name, found, level)
-                yield self._label(paragraph, found, level, numbers)
+                first = firsts.get(id(paragraph), id(paragraph))
+                labels[first] = self._label(paragraph, found, level, numbers)
+        return list(labels.values())
 
     def _named(self, paragraph: Element) -> tuple[str, int]:
         """The list that a paragraph or its style names, and its level there."""
         properties = paragraph.find(f"{_W}pPr")
         if properties is None:
             properties = Element("")
-        if any(properties.find(f"{_W}rPr/{_W}{tag}") is not None for tag in _GONE):
+        if _is_gone(paragraph):
             return "", 0
         said = [_style(properties, _value(properties, "pStyle") or self._usual)]
         names: list[str] = []
@@ -192,7 +203,7 @@ class _Lists:
         levels = self._lists[name].levels if name in self._lists else {}
         of_style = (str(n) for n, each in levels.items() if each.style in names)
         level = next((each.level for each in said if each.level), "")
-        return name, int(level or next(of_style, "0"))
+        return name, whole(level or next(of_style, ""), 0)
 
     def _label(
         self, paragraph: Element, found: _List, level: int, numbers: Mapping[int, int]
@@ -219,6 +230,22 @@ class _Lists:
                 Loss(LossKind.NUMBER, plain(label), plain(f"{label} {text}")[:_SHOWN])
             )
         return label and label + own.end
+
+
+def _is_gone(paragraph: Element) -> bool:
+    """Whether the end of a paragraph is deleted or moved away, so that the next one goes on with it."""
+    ends = (paragraph.find(f"{_W}pPr/{_W}rPr/{_W}{tag}") for tag in _GONE)
+    return any(end is not None for end in ends)
+
+
+def _joined(root: Element) -> Iterator[tuple[int, int]]:
+    """Each paragraph that goes on with others, and the first of these, at whose front its number stands."""
+    for parent in root.iter():
+        first = None
+        for paragraph in parent.iterfind(f"{_W}p"):
+            begun = first or id(paragraph)
+            yield id(paragraph), begun
+            first = begun if _is_gone(paragraph) else None
 
 
 def _value(element: Element, name: str) -> str:
@@ -264,22 +291,26 @@ def _lists(root: Element) -> Iterator[tuple[str, _List]]:
         for override in each.iterfind(f"{_W}lvlOverride"):
             levels |= _levels(override)
             if start := _value(override, "startOverride"):
-                starts[_at(override)] = min(int(start), _MOST)
+                starts[_at(override)] = _first(start)
         yield each.get(f"{_W}numId", ""), _List(name, levels, starts)
 
 
 def _at(level: Element) -> int:
-    return int(level.get(f"{_W}ilvl", "0"))
+    return whole(level.get(f"{_W}ilvl", "0"), -1)
+
+
+def _first(start: str) -> int:
+    return min(max(whole(start, 1), 0), _MOST)
 
 
 def _levels(element: Element) -> Iterator[tuple[int, _Level]]:
     for level in element.iterfind(f"{_W}lvl"):
         restart, legal = _value(level, "lvlRestart"), level.find(f"{_W}isLgl")
         yield _at(level), _Level(
-            min(int(_value(level, "start") or 0), _MOST),
+            _first(_value(level, "start") or "0"),
             _value(level, "numFmt") or "decimal",
             _value(level, "lvlText")[:_FORM],
-            int(restart) if restart else None,
+            whole(restart, _MOST) if restart else None,
             legal is not None and legal.get(f"{_W}val") not in _OFF,
             "" if _value(level, "suff") == "nothing" else " ",
             _value(level, "pStyle"),

@@ -113,6 +113,11 @@ class Manuscript:
         return [part.text for part in self.parts]
 
 
+def whole(text: str | None, usual: int) -> int:
+    """The whole number that a text is, or the usual one if it is none."""
+    return int(text) if text and re.fullmatch("-?[0-9]{1,9}", text) else usual
+
+
 def plain(text: str) -> str:
     """A text as a print has it: with one blank for several, and none around it."""
     return _BLANKS.sub(" ", _UNSEEN.sub("", text)).strip(" \n")
