@@ -700,6 +700,33 @@ def test_pages_outside_of_the_order_of_reading_are_typed_and_named(
     assert lost(found, LossKind.ASIDE) == ["The answers", "1. Very far. More"]
 
 
+def test_a_page_of_two_names_is_typed_once_and_no_link_leads_to_a_namesake(
+    tmp_path: Path,
+) -> None:
+    item = '<item id="{0}" href="{1}.xhtml" media-type="application/xhtml+xml"/>'
+    names = ["a x/a", "a2 x/a", "nx x/n", "nx2 x/n", "ny y/n"]
+    package = (
+        '<package xmlns="http://www.idpf.org/2007/opf" version="3.0"><metadata/><manifest>'
+        + "".join(item.format(*name.split()) for name in names)
+        + '</manifest><spine><itemref idref="a"/></spine></package>'
+    )
+    parts = {
+        "mimetype": EPUB,
+        "META-INF/container.xml": ROOT,
+        "in/book.opf": package,
+        "in/x/a.xhtml": PAGE.format(
+            '<p>Far.<a epub:type="noteref" href="../y/n.xhtml#n1">1</a></p>'
+        ),
+        "in/x/n.xhtml": PAGE.format('<p id="n1">Of another</p>'),
+        "in/y/n.xhtml": PAGE.format('<p id="n1">Very far.</p>'),
+    }
+    container_of(tmp_path / "moon.epub", **parts)
+    found = read_manuscript(tmp_path / "moon.epub")
+    assert "Far.[1]" not in found.texts
+    assert found.texts[1:] == ["Of another", "Very far."]
+    assert lost(found, LossKind.ASIDE) == ["Of another", "Very far."]
+
+
 def test_a_text_in_odt_that_is_hidden_or_deleted_or_at_the_edge_is_noted(
     tmp_path: Path,
 ) -> None:

@@ -61,14 +61,19 @@ class Package:
         return ElementTree.tostring(self._root)
 
     def _outside(self) -> list[Element]:
-        there = {reference.get("idref") for reference in self._order}
+        # a page may have two names
+        found = {self._part_of(item): item for item in self._items.values()}
+        there = {
+            self._part_of(self._items[reference.get("idref")])
+            for reference in self._order
+        }
         return [
             item
-            for name, item in self._items.items()
-            if name not in there
+            for part, item in found.items()
+            if part not in there
             and item.get("media-type") == _PAGE
             and not _is_list(item)
-            and self._part_of(item) in self._parts
+            and part in self._parts
         ]
 
     def _page(self, item: Element, is_in_order: bool) -> Page:
