@@ -253,3 +253,15 @@ def test_what_no_word_writes_is_read_as_it_is(
         for name, whole in parts.items():
             container.writestr(name, whole)
     assert read_manuscript(path).texts == ["1. a", "2. b"]
+
+
+def test_numbers_of_a_list_that_a_page_counts_downwards_are_noted(
+    tmp_path: Path,
+) -> None:
+    path = tmp_path / "items.html"
+    path.write_text(
+        "<html><ol reversed><li>a<ul><li>b</ul><li>c<li value=8>d<li>e</ol>"
+        "<ol reversed start=6><li>f<li>g</ol></html>"
+    )
+    noted = [each.words for each in read_manuscript(path).losses]
+    assert noted == ["4", "3", "8", "7", "5"]

@@ -428,6 +428,26 @@ _READERS = {
 }
 
 
+@dataclass
+class _Numbers:
+    """A list with numbers on a page: where it begins, if that is said, and the numbers of items."""
+
+    start: int | None
+    is_reversed: bool
+    own: list[int | None] = field(default_factory=list)
+
+    def otherwise(self) -> Iterator[str]:
+        """The numbers that pandoc counts otherwise, which knows only where a list begins."""
+        first = shown = 1 if self.start is None else self.start
+        if self.is_reversed and self.start is None:
+            shown = len(self.own)
+        for typed, own in enumerate(self.own, first):
+            shown = shown if own is None else own
+            if shown != typed:
+                yield str(shown)
+            shown += -1 if self.is_reversed else 1
+
+
 class _Html(HTMLParser):
     """The text of a page, parted where a block begins or ends."""
 
@@ -444,10 +464,9 @@ class _Html(HTMLParser):
         self.texts: list[str] = [""]
         #: The texts of the lists by which a program finds the pages.
         self.lists: list[str] = [""]
-        #: The numbers of items that pandoc counts on from those before.
-        self.numbers: list[str] = []
-        # of each list with numbers that is open the last one in print and that which is typed
-        self._counts: list[tuple[int, int] | None] = []
+        self._numbered: list[_Numbers] = []
+        # the lists that are open, of which some have no numbers
+        self._counts: list[_Numbers | None] = []
         self._silent = 0
         self._in_list = False
         #: The element that leads back from a note, and how many of its name are open in it.
@@ -457,6 +476,11 @@ class _Html(HTMLParser):
     def passages(self) -> list[str]:
         """The texts that have print."""
         return [text for text in self.texts if text.strip()]
+
+    @property
+    def numbers(self) -> list[str]:
+        """The numbers of items that aren't typed as a page shows them."""
+        return [number for each in self._numbered for number in each.otherwise()]
 
     def handle_starttag(self, tag: str, attrs: list[tuple[str, str | None]]) -> None:
         self._silent += tag in self._SILENT
@@ -497,16 +521,15 @@ class _Html(HTMLParser):
         return self.parse_bogus_comment(i)
 
     def _count(self, tag: str, attributes: dict[str, str | None]) -> None:
-        """Counts the items of lists as a page shows them, and as they are typed."""
-        if tag in ("ol", "ul"):
-            front = whole(attributes.get("start"), 1) - 1
-            self._counts.append((front, front) if tag == "ol" else None)
-        elif tag == "li" and self._counts and self._counts[-1]:
-            shown, typed = self._counts[-1]
-            shown, typed = whole(attributes.get("value"), shown + 1), typed + 1
-            self._counts[-1] = shown, typed
-            if shown != typed:
-                self.numbers.append(str(shown))
+        """Notes a list, or an item of the list that is open."""
+        if tag == "ol":
+            start = whole(attributes.get("start"), None)
+            self._numbered.append(_Numbers(start, "reversed" in attributes))
+            self._counts.append(self._numbered[-1])
+        elif tag == "ul":
+            self._counts.append(None)
+        elif tag == "li" and self._counts and (its := self._counts[-1]):
+            its.own.append(whole(attributes.get("value"), None))
 
     def _describe(self, tag: str, attrs: list[tuple[str, str | None]]) -> None:
         """Takes the description of a picture for print."""

@@ -4,6 +4,7 @@ import re
 from collections.abc import Iterator
 from dataclasses import dataclass
 from enum import Enum, auto
+from typing import TypeVar
 
 from braildesk.desk.documents.kinds import ManuscriptKind
 from braildesk.text import limits
@@ -19,6 +20,7 @@ _BLANKS = re.compile(
 )
 #: What only says where a line may end or may not.
 _UNSEEN = re.compile("[\u00ad\u200b\u2060\ufeff]")
+_Usual = TypeVar("_Usual", int, None)
 #: Where a sentence ends: at its mark, with the quotation marks and brackets that close after it.
 _SENTENCE_END = re.compile("[.!?\u2026]['\"\u2019\u201d\u00bb)\\]]* ")
 
@@ -113,8 +115,8 @@ class Manuscript:
         return [part.text for part in self.parts]
 
 
-def whole(text: str | None, usual: int) -> int:
-    """The whole number that a text is, or the usual one if it is none."""
+def whole(text: str | None, usual: _Usual) -> int | _Usual:
+    """The whole number that a text is, or what is usual if it is none."""
     return int(text) if text and re.fullmatch("-?[0-9]{1,9}", text) else usual
 
 
