@@ -10,7 +10,8 @@ from threading import Event
 from typing import Any
 
 import pytest
-from PyQt6.QtCore import QTimer
+from PyQt6.QtCore import Qt, QTimer
+from PyQt6.QtGui import QKeyEvent
 from PyQt6.QtWidgets import QApplication, QDialog, QLabel, QPushButton, QWidget
 
 from braildesk import Session, requests
@@ -217,6 +218,39 @@ def test_a_table_is_cancelled_while_the_book_takes_it(
     with Session(moon) as session:
         assert [each.name for each in session.tables()] == ["en", "ueb"]
         assert {each.table for each in session.paragraphs()} == {"en"}
+
+
+@pytest.mark.parametrize(
+    ("key", "is_ended"),
+    [
+        (Qt.Key.Key_Return, False),
+        (Qt.Key.Key_Enter, False),
+        (Qt.Key.Key_Escape, True),
+    ],
+)
+def test_enter_does_not_end_what_takes_long(
+    desk: Desk, monkeypatch: pytest.MonkeyPatch, key: Qt.Key, is_ended: bool
+) -> None:
+    monkeypatch.setattr(dialogs, "_SHOWN_AFTER_SECONDS", 0)
+    pressed = Event()
+
+    def press() -> None:
+        over = QApplication.activeModalWidget()
+        button = over.findChild(QPushButton) if over is not None else None
+        if button is not None and not pressed.is_set():
+            none = Qt.KeyboardModifier.NoModifier
+            event = QKeyEvent(QKeyEvent.Type.KeyPress, key, none)
+            QApplication.sendEvent(button, event)
+            pressed.set()
+
+    def work(say: dialogs.Say, is_stopped: dialogs.IsStopped) -> bool:
+        return pressed.wait(60) and is_stopped()
+
+    timer = QTimer()
+    timer.timeout.connect(press)
+    timer.start(1)
+    assert dialogs.long(desk.window, desk.work, "Table", work) is is_ended
+    timer.stop()
 
 
 def test_a_window_that_is_ended_while_it_works_ends_after_the_step(

@@ -8,7 +8,7 @@ from pathlib import Path
 from typing import TypeVar
 
 from PyQt6.QtCore import QEventLoop, Qt, QTimer
-from PyQt6.QtGui import QFont
+from PyQt6.QtGui import QFont, QKeyEvent
 from PyQt6.QtWidgets import (
     QCheckBox,
     QDialog,
@@ -241,6 +241,22 @@ class _Lines(QDialog):
         return self._field.textCursor().blockNumber() if is_given else None
 
 
+class _Cancel(QPushButton):
+    """A button that Enter doesn't press, which may be meant for what was there before the dialog."""
+
+    def __init__(self) -> None:
+        super().__init__("Cancel")
+        self.setAutoDefault(False)
+
+    def keyPressEvent(self, event: QKeyEvent | None) -> None:
+        """Presses it by any other key that does so."""
+        if event is not None and event.key() not in (
+            Qt.Key.Key_Return,
+            Qt.Key.Key_Enter,
+        ):
+            super().keyPressEvent(event)
+
+
 class _Progress(QDialog):
     """What is said of something that takes long, and a button that ends it."""
 
@@ -250,7 +266,7 @@ class _Progress(QDialog):
         self.resize(480, 120)
         self._label = QLabel(f"{title}. Please wait.")
         self._label.setWordWrap(True)
-        self._cancel = QPushButton("Cancel")
+        self._cancel = _Cancel()
         self._cancel.clicked.connect(self.reject)
         column = QVBoxLayout(self)
         column.addWidget(self._label)
