@@ -4,6 +4,7 @@ import sys
 import time
 from collections.abc import Callable, Sequence
 from pathlib import Path
+from typing import Any
 
 import pytest
 from PyQt6.QtCore import QMimeData, QPointF, Qt, QTimer, QUrl
@@ -13,12 +14,14 @@ from PyQt6.QtWidgets import QApplication, QDialog, QLabel
 from braildesk import Session, Style, requests
 from braildesk.desk.drafts import Drafts
 from braildesk.desk.export import Job
+from braildesk.desk.import_text import Import
 from braildesk.desk.layout import PageSize
 from braildesk.text.spans import Span
 
 from scribe.window import dialogs
 from scribe.window.desk import Desk
 from scribe.words.console import Console
+from scribe.words.import_text import import_in_words
 
 
 def _paste(desk: Desk, text: str) -> None:
@@ -279,3 +282,30 @@ def test_the_history_says_who_changed_what(
         (title, ["Nothing was corrected yet."]),
         (title, ["Correction 1, by anna, for 4 characters: The [Sun]"]),
     ]
+
+
+def test_what_an_import_did_is_said_also_if_another_program_has_the_book_after_it(
+    desk: Desk, monkeypatch: pytest.MonkeyPatch, tmp_path: Path
+) -> None:
+    shown: list[str] = []
+    monkeypatch.setattr(dialogs, "report", lambda _, title, lines: shown.extend(lines))
+    others: list[Session] = []
+
+    def then_opened_by_another(job: Import, *words: Any) -> None:
+        import_in_words(job, *words)
+        others.append(Session(job.book))
+
+    monkeypatch.setattr("scribe.window.files.import_in_words", then_opened_by_another)
+    text = tmp_path / "tides.txt"
+    text.write_text("One.\n\nTwo.\n")
+    desk.window.dropped.emit(text)
+    said = [
+        "2 paragraphs typed, numbers 4 to 5, by the table en.",
+        f"Another program has “{desk.path}” open. End that one first.",
+    ]
+    assert (desk.window.message.text, shown) == (" ".join(said), said)
+    assert desk.is_closed and desk.loss == " ".join(said)
+    others[0].take_over()
+    others[0].close()
+    desk.act("open_again")
+    assert [each.id for each in desk.contents.paragraphs] == [1, 4, 5, 2, 3]

@@ -1,12 +1,12 @@
 """Texts that come into the book at work, and the volumes and proofs that go out of it."""
 
 import signal
-from collections.abc import Callable
+from collections.abc import Callable, Sequence
 from dataclasses import dataclass, replace
 from io import BytesIO
 from pathlib import Path
 
-from braildesk import After, DeskError
+from braildesk import After, DeskError, Lost
 from braildesk.desk import USUAL_WAIT
 from braildesk.desk.earlier import Undecided, Way
 from braildesk.desk.export import Job
@@ -21,12 +21,11 @@ from scribe.window.dialogs import IsStopped, Say
 from scribe.words.console import Console, Heard
 from scribe.words.deeds import changed_between
 from scribe.words.export import export_in_words
-from scribe.words.status import in_sentences
+from scribe.words.status import Interrupted, Stop, in_sentences, of_system
 from scribe.words.import_text import import_in_words, question
 from scribe.words.pages import described, not_exported
 from scribe.words.paragraph import counted
 from scribe.words.proof_html import Proof, elsewhere
-from scribe.words.status import Interrupted, Stop
 from scribe.words.typed import typed_path
 
 _TEXTS = (
@@ -160,6 +159,7 @@ class Files:
         desk = self.desk
         before = desk.contents
         problems: list[Undecided] = []
+        done: list[str] = []
         desk.unwatch()
 
         def whole(say: Say, is_stopped: IsStopped) -> tuple[Contents, tuple[str, ...]]:
@@ -170,17 +170,19 @@ class Files:
             heard = Heard(say)
             desk.book.close()
             _told(act, _Beside(BytesIO(), heard, heard, check, tell=say), problems)
-            lines = tuple(heard.getvalue().splitlines())
+            done.extend(heard.getvalue().splitlines())
             now = desk.book.imported(before)
             book, commands = now.paragraphs, now.version - before.version
             more = changed_between(before.paragraphs, book, now.version, commands)
-            return now, (*more, *lines)
+            return now, (*more, *done)
 
         try:
             contents, lines = dialogs.long(desk.window, desk.work, title, whole)
-        except DeskError as failed:
-            desk.is_closed, desk.loss = True, failed.sentence
+        except Lost:
+            desk.is_closed = True
             raise
+        except (DeskError, OSError) as failed:
+            raise self._closed(title, done, failed) from failed
         desk.watch()
         desk.window.model.all_unread()
         desk.show(contents, None)
@@ -188,6 +190,17 @@ class Files:
             raise problems[0]
         desk.say(lines[-1] if lines else f"{title}: done.")
         dialogs.report(desk.window, title, lines)
+
+    def _closed(
+        self, title: str, done: Sequence[str], failed: DeskError | OSError
+    ) -> Stop:
+        """Shows what was done before the book could not be opened again; what the message says."""
+        desk = self.desk
+        why = failed.reason if isinstance(failed, DeskError) else of_system(failed)
+        desk.is_closed, desk.loss = True, " ".join([*done, why])
+        if done:
+            dialogs.report(desk.window, title, [*done, why])
+        return Stop(" ".join([*done[-1:], why]))
 
 
 def _told(
