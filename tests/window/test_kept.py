@@ -2,11 +2,13 @@
 
 import os
 import signal
+import subprocess
+import sys
 from pathlib import Path
 
 import pytest
 
-from braildesk import Session
+from braildesk import DeskError, Session
 from braildesk.desk.draft import Aim, Draft
 from braildesk.desk.drafts import Drafts
 
@@ -106,12 +108,37 @@ def test_a_session_that_was_killed_is_opened_again_and_the_text_stays(
     assert prints(moon)[0] == "The Moons"
 
 
+def _cannot_be_opened(window: Reader, book: Path, sentence: str) -> None:
+    """Waits until a dialog says why there is no window of a book, and closes it."""
+    top = window.dialog(book.name)
+    window.part("label", sentence, top)
+    window.press("Return")
+    _, said = window.program.communicate()
+    assert (window.program.returncode, said.decode()) == (2, f"{sentence}\n")
+
+
 def test_a_book_that_is_open_elsewhere_is_not_shown(moon: Path, at: Open) -> None:
     with Session(moon):
-        window = at(moon, is_waited_for=False)
-        _, said = window.program.communicate()
-    assert window.program.returncode == 2
-    assert f"Another program has “{moon}” open." in said.decode()
+        sentence = f"Another program has “{moon}” open. Nothing was changed. End that one first."
+        _cannot_be_opened(at(moon, is_waited_for=False), moon, sentence)
+
+
+def test_a_file_that_is_no_book_is_not_shown(tmp_path: Path, at: Open) -> None:
+    (path := tmp_path / "text.braildesk").write_text("The moon is far away.\n")
+    with pytest.raises(DeskError) as refused:
+        Session(path)
+    window = at(path, is_waited_for=False)
+    _cannot_be_opened(window, path, refused.value.sentence)
+
+
+def test_a_terminal_alone_reads_why_a_book_is_not_shown(moon: Path) -> None:
+    terminal, its_end = os.openpty()
+    words = [sys.executable, "-m", "scribe", "window", str(moon)]
+    with Session(moon):
+        assert subprocess.run(words, stderr=its_end, timeout=60).returncode == 2
+    assert b"Another program has" in os.read(terminal, 1000)
+    os.close(terminal)
+    os.close(its_end)
 
 
 @pytest.mark.parametrize("is_kept", [True, False])

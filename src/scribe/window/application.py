@@ -12,10 +12,12 @@ from PyQt6.sip import voidptr
 
 from braildesk import Lost
 from braildesk.desk.layout import PageSize
+from braildesk.text.characters import visible
 
 from scribe.window.actions import Actions
 from scribe.window.contrast import Contrast
 from scribe.window.desk import Desk
+from scribe.window.dialogs import choice
 from scribe.words.status import Interrupted
 
 _SIGNALS = (signal.SIGHUP, signal.SIGTERM, signal.SIGINT, signal.SIGXCPU)
@@ -53,8 +55,8 @@ class Application:
         """What became of the file of a book in which nothing was kept, once it is closed."""
         return self._desk.book.session.strayed
 
-    def run(self) -> None:
-        """Shows the book until its window is closed; raises what ends it otherwise."""
+    def begin(self) -> None:
+        """Opens the book; raises what the client raises."""
         desk = self._desk
         self._contrast.follow()
         try:
@@ -63,6 +65,18 @@ class Application:
             desk.is_closed = True
             desk.close()
             raise
+
+    def tell(self, sentence: str) -> None:
+        """Shows a sentence in the place of a book that isn't open, until it is closed."""
+        for number in _SIGNALS:
+            # nothing is at stake, and Python does nothing while Qt waits
+            if signal.getsignal(number) is not signal.SIG_IGN:
+                signal.signal(number, signal.SIG_DFL)
+        choice(self._desk.window, self._desk.path.name, visible(sentence), ["&Close"])
+
+    def run(self) -> None:
+        """Shows the book until its window is closed; raises what ends it otherwise."""
+        desk = self._desk
         before, sys.excepthook = sys.excepthook, self._failed
         ends, notifier = self._take_signals()
         try:

@@ -49,8 +49,17 @@ def run(arguments: Namespace, console: Console) -> Status:
             " scribe edit shows a book in a terminal without it.",
             Status.FAILED,
         ) from None
+    from braildesk import DeskError
+
     size = page_size_of(arguments)
     application = Application(arguments.file, arguments.by, arguments.wait, size)
+    try:
+        application.begin()
+    except DeskError as failed:
+        if not console.errors.isatty():
+            # who starts it from a menu or a manager of files reads no standard error
+            application.tell(failed.sentence)
+        raise
     application.run()
     if application.loss:
         console.say(application.loss)
