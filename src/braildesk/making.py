@@ -18,7 +18,14 @@ from braildesk.program import StrPath
 from braildesk.protocol.asked import BookFile, NewBook, log_path, real_path
 from braildesk.protocol.requests import Command
 from braildesk.protocol.sentences import Why
-from braildesk.refusals import DeskError, Failed, Refused, cannot_open, refused_as
+from braildesk.refusals import (
+    CannotOpen,
+    DeskError,
+    Failed,
+    Refused,
+    cannot_open,
+    refused_as,
+)
 from braildesk.session import Session
 from braildesk.workshop import (
     Swapped,
@@ -31,6 +38,8 @@ from braildesk.workshop import (
     put,
     put_over,
 )
+
+_ROOM = "Let TMPDIR name a folder with room."
 
 
 class NotMade(DeskError):
@@ -109,8 +118,12 @@ def _make(
     with made_beside(target) as made, ExitStack() as stack:
         try:
             begun = stack.enter_context(_temporary())
-            programs.make_book(begun, program, named=asked.path)
-            _carry_out(begun, program, holding)
+            try:
+                programs.make_book(begun, program, named=asked.path)
+                _carry_out(begun, program, holding)
+            except CannotOpen as refusal:
+                why = f"{begun.parent.parent}, the temporary folder, takes no file"
+                raise Failed(f"{why}. {_ROOM}") from refusal
             if has_work(f"{begun}-wal"):
                 raise Failed("See to the disk.")
             # by the program it would have a mode that no group may write by, whatever the umask says
@@ -135,7 +148,7 @@ def _temporary() -> Iterator[Path]:
             path = stack.enter_context(made_for_a_while())
         except OSError as error:
             why = f"no temporary folder can be made ({error.strerror or error})"
-            raise Failed(f"{why}. Let TMPDIR name a folder with room.") from error
+            raise Failed(f"{why}. {_ROOM}") from error
         yield path
 
 

@@ -1369,10 +1369,13 @@ def limited(folder: Path, blocks: int) -> Path:
 
 
 def test_a_new_book_for_which_there_is_no_room_is_refused(tmp_path: Path) -> None:
-    with pytest.raises(CannotOpen) as caught:
+    with pytest.raises(Failed) as caught:
         braildesk.new_book(tmp_path / "new", program=limited(tmp_path, 8))
-    assert caught.value.why == Why.UNKNOWN
-    assert "that there is room on the disk" in caught.value.sentence
+    assert caught.value.sentence == (
+        f"The new book “{tmp_path / 'new'}” could not be written, and there is none:"
+        f" {tempfile.gettempdir()}, the temporary folder, takes no file. Let TMPDIR name a folder with room."
+    )
+    assert not (tmp_path / "new").exists()
 
 
 def test_a_file_of_no_bytes_is_no_book_and_stays_as_it_is(tmp_path: Path) -> None:

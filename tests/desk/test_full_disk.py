@@ -235,3 +235,24 @@ def test_a_disk_that_can_only_be_read_is_said(
             f"“{file}” is on a disk that can only be read, and a book is opened where it can be"
             " written. Nothing was changed. Copy the book to another disk.\n"
         )
+
+
+def test_a_new_book_says_that_the_temporary_folder_has_no_room(tmp_path: Path) -> None:
+    small, book = tmp_path / "small", tmp_path / "new.braildesk"
+    small.mkdir()
+    if not may_mount(small):
+        pytest.skip("only root can mount a disk, and not in each container")
+    done = subprocess.run(
+        ["unshare", "-m", "sh", "-c", MOUNTED.replace("2m", "40k"), "sh", str(small)]
+        + [sys.executable, "-m", "scribe", "new", str(book)],
+        env=environment(TMPDIR=str(small), COLUMNS="400"),
+        stdin=subprocess.DEVNULL,
+        capture_output=True,
+        text=True,
+    )
+    assert done.returncode == 3
+    assert done.stderr == (
+        f"The new book “{book}” could not be written, and there is none: {small}, the temporary"
+        " folder, takes no file. Let TMPDIR name a folder with room.\n"
+    )
+    assert not book.exists()
