@@ -9,7 +9,7 @@ tests/needs.sh git
 git ls-files 'crates/*/specs/*.antt' | xargs -d '\n' awk '
     function lacks(line, what) { print "tests/make/sentences.sh: " FILENAME ":" line " lacks " what > "/dev/stderr"; failed = 1 }
     FNR == 1 && FILENAME !~ /\/Lib\.antt$/ && !/^-- [^-]/ { lacks(1, "a sentence that says what the file decides") }
-    /^ *((unfoldable|abbrev) pub|pub (record|data)) / {
+    /^ *((unfoldable|abbrev) pub|pub (record|data)) |^pub [^ ]+ : / {
         definitions++
         if (above !~ /^ *-- [^-]/) lacks(FNR, "a sentence above the definition: " $0)
     }

@@ -175,6 +175,7 @@ change_code effects =
 pub change_by : (version : ℕ) (number : Option ℕ) → Effect → Change
 change_by version number effect = record { version = version; number = number; effect = effect }
 
+-- the change made by these has this number
 pub number-change_by : (version : ℕ) (number : Option ℕ) (effect : Effect)
     → (change_by version number effect).number ≡ number
 unfolding change_by
@@ -190,6 +191,7 @@ pub record Carries (book : Book) (command : Command) (next : Book) (change : Cha
   pub number : change.number ≡ number_of book command
   does : Does book command next change.effect
 
+-- a change made by these carries what they are said to do
 pub Carries-change_by : (book : Book) (command : Command) (next : Book)
     → (version : ℕ) (number : Option ℕ) (effect : Effect)
     → IsAccepted book None command → HasCharacters command → Makes book command next
@@ -231,6 +233,7 @@ Does-change_by book command next version number effect carries = carries.does
 pub change_puts : Book → Change → List RowPut
 change_puts book change = version_put change.version ∷ effect_puts book change.effect
 
+-- a change made by these puts its version, and what its effect puts
 pub puts-change_by : (book : Book) (version : ℕ) (number : Option ℕ) (effect : Effect)
     → change_puts book (change_by version number effect) ≡ version_put version ∷ effect_puts book effect
 unfolding change_by change_puts

@@ -1,4 +1,5 @@
--- What is said of corrections and undos while they are planned.
+-- What is said of corrections and undos while they are planned. Only private functions and proofs
+-- need these words.
 use Rattle.std.specs.Prelude.{◌≡◌, ◌⊎◌, ℕ, ◌<◌, ◌≤◌, true, List, length, Some, None}
 use Rattle.louis_table.specs.Meaning.{Meaning}
 use Rattle.louis_translate.specs.Position.{AreDefined, IsFirstUndefined}

@@ -1,4 +1,5 @@
--- What is said of marks while they are planned.
+-- What is said of marks while they are planned. Only private functions and proofs
+-- need these words.
 use Rattle.std.specs.Prelude.{◌≡◌, ◌⊎◌, ℕ, ◌+◌, ◌-◌, ◌<◌, ◌≤◌, List, length, Some}
 use Rattle.louis_table.specs.Meaning.{Meaning}
 use Rattle.louis_translate.specs.declared.choices.Choice.{Choice}
