@@ -1,6 +1,6 @@
 """One sentence for each code by which something is refused.
 
-What stands in braces is filled by ``refusals.py`` from what was asked and what was answered.
+What stands in braces is filled by ``wording.py`` from what was asked and what was answered.
 """
 
 import signal
