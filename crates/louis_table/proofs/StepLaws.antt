@@ -1,6 +1,6 @@
 -- What the steps of reading a line come to.
-use Rattle.std.proofs.Common.{◌≡◌, ◌≢◌, ℕ, Bool, true, false, ◌||◌, eqb, List, [], ◌∷◌, length, get_or, Option, Some, None, option_map, Result, Ok, Err, codes, refl, sym, ap, subst, ◌∙◌, ◌⊎◌, inl, inr, arith, true≢false, rules, OnOk, is_err, encode_utf8_all, bytes_eq}
-use Rattle.std.specs.Option.{option_zip}
+use Rattle.std.proofs.Common.{◌≡◌, ◌≢◌, ℕ, Bool, true, false, ◌||◌, eqb, List, [], ◌∷◌, length, get_or, Option, Some, None, option_map, Result, Ok, Err, codes, refl, sym, ap, subst, ◌∙◌, ◌<◌, ◌≤◌, ◌⊎◌, inl, inr, arith, true≢false, rules, IsErrAnd, encode_utf8_all, bytes_eq}
+use Rattle.std.specs.Option.{ok_or, option_zip}
 use Rattle.std.proofs.lemmas.Bool.{eq-eqb, ne_eqb, eqb-true, cond-true, cond-false}
 use Rattle.std.proofs.lemmas.List.{nil_from_length}
 use Rattle.cell_core.specs.Dots.{Dots}
@@ -15,10 +15,11 @@ use Rattle.louis_table.specs.declared.opcode.Opcode.TheVariants.{Define, UpLow, 
 use Rattle.louis_table.specs.declared.fault.LineFault.{LineFault}
 use Rattle.louis_table.specs.declared.fault.LineFault.TheVariants as line_faults
 use Rattle.louis_table.specs.declared.fault.Cause.{Cause}
+use Rattle.louis_table.specs.declared.line_entry.LineEntry.{LineEntry}
 use Rattle.louis_table.specs.Meaning.{Meaning}
 use Rattle.louis_table.specs.Table.{Entry, Defines, Pairs, Replaces, Announces, Collects, AreCharactersFor}
 use Rattle.louis_table.specs.Steps.Fields.{field_at}
-use Rattle.louis_table.specs.Steps.Characters.{only_character, only_pair, characters_in}
+use Rattle.louis_table.specs.Steps.Characters.{characters_in}
 use Rattle.louis_table.specs.Steps.Opcode.{opcode_named}
 use Rattle.louis_table.specs.Steps.Fault.{cause_number}
 use Rattle.louis_table.specs.Steps.Dots.{pair_parts, pair_in, rule_in, both_of, are_many, ReadsDots, Fits, are_many_of_two, are_many_written}
@@ -35,10 +36,6 @@ nil_from_test xs b e t = nil_from_length xs (eqb-true _ _ (sym e ∙ t))
 
 pub not_nil_from_test : (xs : List ℕ) (b : Bool) → b ≡ eqb (length xs) 0 → b ≡ false → xs ≢ []
 not_nil_from_test xs b e f n = true≢false (sym (eq-eqb _ _ (ap length n)) ∙ (sym e ∙ f))
-
-pub on_ok : {T E P : Type 0} (r : Result T E) → OnOk r P → is_err r ≡ false → P
-on_ok (Ok x) h e = h
-on_ok (Err x) h e = absurd (true≢false e)
 
 -- ---- the cells of a dots operand, by its text
 
@@ -252,22 +249,27 @@ pub IsVerdict-TakesLine : (old new : Draft) (before : ℕ) (line : List ℕ) (fa
 IsVerdict-TakesLine old new before line (line_faults.Bad cause) h = judge-from_line old.table before line (cause_number cause) h
 IsVerdict-TakesLine old new before line line_faults.NoMemory h = tt
 
+-- ---- what a missing value is reported for
+
+pub is_there : {T E : Type 0} (o : Option T) (e : E) {r : Result T E} {x : T} → r ≡ ok_or o e → r ≡ Ok x → o ≡ Some x
+is_there None e is told = absurd (let same = sym is ∙ told in cc)
+is_there (Some y) e is told = let same = sym is ∙ told in cc
+
+pub is_missing : {T : Type 0} (o : Option T) (fault : LineFault) {r : Result T LineFault} {f : LineFault} (exit : Result LineEntry LineFault) (verdict : Result (Option Entry) ℕ)
+    → r ≡ ok_or o fault → r ≡ Err f → IsErrAnd exit (λ told. told ≡ f) → (o ≡ None → IsVerdict (Err fault) verdict) → IsVerdict exit verdict
+is_missing None fault (Err told) verdict is was same lacks = subst (λ e. IsVerdict (Err e) verdict) (let told-is = sym is ∙ was in cc) (lacks refl)
+is_missing (Some x) fault exit verdict is was same lacks = absurd (let other = sym is ∙ was in cc)
+is_missing None fault (Ok x) verdict is was same lacks = absurd same
+
 -- ---- texts of one and two
 
-pub only_character-Some : (text : List ℕ) (c : ℕ) → Some c ≡ only_character text → text ≡ c ∷ []
-only_character-Some [] c e = absurd cc
-only_character-Some (d ∷ []) c e = let same : c ≡ d = cc in ap (λ (x : ℕ). x ∷ []) (sym same)
-only_character-Some (d ∷ x ∷ text) c e = absurd cc
+pub only_one : (text : List ℕ) (c : ℕ) → 1 ≤ length text → length text < 2 → c ≡ get_or text 0 c → text ≡ c ∷ []
+only_one [] c some few is = absurd (omega arith)
+only_one (x ∷ []) c some few is = ap (λ (y : ℕ). y ∷ []) (sym is)
+only_one (x ∷ y ∷ text) c some few is = absurd (omega arith)
 
-pub only_character-None : (text : List ℕ) → None ≡ only_character text → length text ≢ 1
-only_character-None [] e = λ n. omega arith
-only_character-None (d ∷ []) e = absurd cc
-only_character-None (d ∷ x ∷ text) e = λ n. omega arith
-
-pub only_pair-Some : (text : List ℕ) (p : ℕ × ℕ) → Some p ≡ only_pair text → text ≡ p.0 ∷ p.1 ∷ []
-only_pair-Some (c ∷ d ∷ []) p e = let same : p ≡ (c, d) = cc in sym (ap (λ (q : ℕ × ℕ). q.0 ∷ q.1 ∷ []) same)
-only_pair-Some text p e = absurd cc
-
-pub only_pair-None : (text : List ℕ) → None ≡ only_pair text → length text ≢ 2
-only_pair-None (c ∷ d ∷ []) e = absurd cc
-only_pair-None text e = λ n. omega arith
+pub only_two : (text : List ℕ) (c d : ℕ) → 2 ≤ length text → length text < 3 → c ≡ get_or text 0 c → d ≡ get_or text 1 d → text ≡ c ∷ d ∷ []
+only_two [] c d some few is is' = absurd (omega arith)
+only_two (x ∷ []) c d some few is is' = absurd (omega arith)
+only_two (x ∷ y ∷ []) c d some few is is' = let first : c ≡ x = is in let second : d ≡ y = is' in cc
+only_two (x ∷ y ∷ z ∷ text) c d some few is is' = absurd (omega arith)

@@ -63,11 +63,8 @@ impl<V: Drop> CharMap<V> {
         if code >= DIRECT {
             return self.find(character);
         }
-        let place = self.places[code];
-        if place == 0 {
-            return None;
-        }
-        let (_, value) = self.entries.get_index(place - 1).unwrap();
+        let index = self.places[code].checked_sub(1)?;
+        let (_, value) = self.entries.get_index(index).unwrap();
         Some(value)
     }
 
@@ -77,9 +74,7 @@ impl<V: Drop> CharMap<V> {
         ensures ok { OnOk result (self.new ≡ self.old ++ (character, value) ∷ []) }
         ensures err { OnErr result (self.new ≡ self.old) }
     {
-        let Ok(_) = self.entries.insert(character, value) else {
-            return Err(AllocError);
-        };
+        self.entries.insert(character, value)?;
         let code = character as usize;
         if code < DIRECT {
             self.places[code] = self.entries.len();

@@ -1,7 +1,7 @@
 //! Characters as they are written in an operand, with escapes.
 ghost use Rattle.louis_table.specs.Characters.{escape_character, escape_digits};
 ghost use Rattle.louis_table.specs.Steps.Characters.{character_at, characters_in, hex_value};
-ghost use Rattle.louis_table.specs.Steps.Characters.{number_at, only_character, only_pair};
+ghost use Rattle.louis_table.specs.Steps.Characters.{number_at};
 ghost use Rattle.std.specs.Prelude.{◌≡◌, ◌≤◌, ◌<◌, ◌+◌, IfOk, IfSome, length, option_map};
 
 use std::alloc::{AllocError, Global};
@@ -96,26 +96,4 @@ pub(crate) fn read_characters(
         rest = after;
     }
     Ok(Some(characters))
-}
-
-/// The character of a text that has exactly one.
-pub(crate) fn only_character(text: &[char]) -> Option<char>
-    ensures { result ≡ only_character text.now }
-{
-    match text {
-        [] => None,
-        [character] => Some(*character),
-        [_, _, ..] => None,
-    }
-}
-
-/// The characters of a text that has exactly two.
-pub(crate) fn only_pair(text: &[char]) -> Option<(char, char)>
-    ensures { result ≡ only_pair text.now }
-{
-    match text {
-        [] | [_] => None,
-        [first, second] => Some((*first, *second)),
-        [_, _, _, ..] => None,
-    }
 }

@@ -25,9 +25,7 @@ fn text_of(alloc: Global, characters: &[char]) -> Result<String, AllocError>
 pub(crate) fn read_cells(alloc: Global, dots: &[char]) -> Result<Option<Cells>, LineFault>
     ensures { ReadsDots are_many result (cells_in dots.now) }
 {
-    let Ok(text) = text_of(alloc, dots) else {
-        return Err(LineFault::NoMemory);
-    };
+    let text = text_of(alloc, dots).map_err(|_| LineFault::NoMemory)?;
     match read_dots(alloc, text.as_str()) {
         Ok(cells) => Ok(Some(Cells::from_vec(cells))),
         Err(DotsFault::Bad) => Err(LineFault::Bad(Cause::BadDots)),

@@ -5,7 +5,7 @@ ghost use Rattle.louis_table.specs.declared.opcode.Opcode.TheVariants as opcodes
 ghost use Rattle.std.specs.Prelude.{◌≡◌, IfErr, IfOk, Ok};
 
 use super::character_set::CharacterSet;
-use super::characters::{only_character, only_pair, read_characters};
+use super::characters::read_characters;
 use super::definition::{Class, Definition};
 use super::dots::{read_cells, read_pair_cells, read_rule_cells};
 use super::fault::{Cause, LineFault};
@@ -70,16 +70,14 @@ fn read_definition(
     ensures { IsVerdict result (judge_opcode table.now (opcodes.Define class) operands.now) }
 {
     let (characters, dots) = read_operands(alloc, operands)?;
-    let Some(character) = only_character(characters.as_slice()) else {
+    let [character] = *characters.as_slice() else {
         return Err(LineFault::Bad(Cause::BadCharacters));
     };
     let cells = read_cells(alloc, dots)?;
     if table.defines(character) {
         return Err(LineFault::Bad(Cause::DefinedBefore));
     }
-    let Some(cells) = cells else {
-        return Err(LineFault::Bad(Cause::BeyondLimit));
-    };
+    let cells = cells.ok_or(LineFault::Bad(Cause::BeyondLimit))?;
     Ok(LineEntry::Defines(character, Definition { class, cells }))
 }
 
@@ -95,16 +93,14 @@ fn read_pair(alloc: Global, table: &Table, operands: &[char]) -> Result<LineEntr
     ensures { IsVerdict result (judge_opcode table.now opcodes.UpLow operands.now) }
 {
     let (characters, dots) = read_operands(alloc, operands)?;
-    let Some((upper, lower)) = only_pair(characters.as_slice()) else {
+    let [upper, lower] = *characters.as_slice() else {
         return Err(LineFault::Bad(Cause::BadCharacters));
     };
     let cells = read_pair_cells(alloc, dots)?;
     if is_taken(table, upper, lower) {
         return Err(LineFault::Bad(Cause::DefinedBefore));
     }
-    let Some((upper_cells, lower_cells)) = cells else {
-        return Err(LineFault::Bad(Cause::BeyondLimit));
-    };
+    let (upper_cells, lower_cells) = cells.ok_or(LineFault::Bad(Cause::BeyondLimit))?;
     Ok(LineEntry::Pairs(upper, upper_cells, lower, lower_cells))
 }
 
@@ -117,9 +113,7 @@ fn read_rule(alloc: Global, kind: RuleKind, operands: &[char]) -> Result<LineEnt
     if characters.len() > MOST_RULE_CHARACTERS {
         return Err(LineFault::Bad(Cause::BeyondLimit));
     }
-    let Some(cells) = cells else {
-        return Err(LineFault::Bad(Cause::BeyondLimit));
-    };
+    let cells = cells.ok_or(LineFault::Bad(Cause::BeyondLimit))?;
     Ok(LineEntry::Replaces(kind, Characters::from_vec(characters), cells))
 }
 
@@ -140,9 +134,7 @@ fn read_sign(
     if !table.sign(sign).is_empty() {
         return Err(LineFault::Bad(Cause::GivenBefore));
     }
-    let Some(cells) = cells else {
-        return Err(LineFault::Bad(Cause::BeyondLimit));
-    };
+    let cells = cells.ok_or(LineFault::Bad(Cause::BeyondLimit))?;
     Ok(LineEntry::Announces(sign, cells))
 }
 
@@ -162,9 +154,7 @@ fn read_set(
     let Ok(read) = read_characters(alloc, characters) else {
         return Err(LineFault::NoMemory);
     };
-    let Some(characters) = read else {
-        return Err(LineFault::Bad(Cause::BadCharacters));
-    };
+    let characters = read.ok_or(LineFault::Bad(Cause::BadCharacters))?;
     if !table.set(set).is_empty() {
         return Err(LineFault::Bad(Cause::GivenBefore));
     }
@@ -182,10 +172,7 @@ pub(crate) fn read_line(alloc: Global, table: &Table, line: &[char]) -> Result<L
     if name.is_empty() || name[0] == COMMENT {
         return Ok(LineEntry::Nothing);
     }
-    let Some(opcode) = Opcode::from_name(name) else {
-        return Err(LineFault::Bad(Cause::UnknownOpcode));
-    };
-    match opcode {
+    match Opcode::from_name(name).ok_or(LineFault::Bad(Cause::UnknownOpcode))? {
         Opcode::Define(class) => read_definition(alloc, table, class, operands),
         Opcode::UpLow => read_pair(alloc, table, operands),
         Opcode::Replace(kind) => read_rule(alloc, kind, operands),

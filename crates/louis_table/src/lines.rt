@@ -1,7 +1,6 @@
 //! The lines of a text.
 ghost use Rattle.louis_table.specs.Lines.{lines_of};
 ghost use Rattle.louis_table.specs.Table.{without_byte_order_mark};
-ghost use Rattle.std.specs.Io.BufRead.{strip_last};
 ghost use Rattle.std.specs.List.{after_first, before_first};
 ghost use Rattle.std.specs.Prelude.{◌==◌, ◌≡◌, ◌≢◌, ◌<◌, ◌∷◌, [], length, OnOk, chars};
 

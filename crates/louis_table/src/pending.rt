@@ -7,7 +7,7 @@ ghost use Rattle.std.specs.Prelude.{◌≡◌, IfOk, None, map};
 use super::fault::{Cause, ReadFault, TableFault};
 use super::rule::{Characters, Rule, RuleKind};
 use super::table::Table;
-use cell_core::{Cell, Cells};
+use cell_core::Cells;
 use std::alloc::{AllocError, Global};
 
 /// A rule whose characters aren't folded yet.
@@ -61,8 +61,8 @@ fn are_defined(table: &Table, characters: &[char]) -> bool
 }
 
 /// The cells of the definitions of characters, joined in order.
-fn joined_cells(alloc: Global, table: &Table, characters: &[char]) -> Result<Vec<Cell>, AllocError>
-    ensures { IfOk result (λ cells. cells.items ≡ rule_cells table.now characters.now None) }
+fn joined_cells(alloc: Global, table: &Table, characters: &[char]) -> Result<Cells, AllocError>
+    ensures { IfOk result (λ cells. cells ≡ rule_cells table.now characters.now None) }
 {
     let mut cells = Vec::new(alloc);
     for character in characters {
@@ -70,7 +70,7 @@ fn joined_cells(alloc: Global, table: &Table, characters: &[char]) -> Result<Vec
             cells.extend_from_slice(definition.cells.as_slice())?;
         }
     }
-    Ok(cells)
+    Ok(Cells::from_vec(cells))
 }
 
 /// The rule with folded characters and all its cells, if the table defines each of its characters.
@@ -91,10 +91,7 @@ fn finish_rule(alloc: Global, table: &Table, written: PendingRule) -> Result<Rul
     }
     let cells = match cells {
         Some(cells) => cells,
-        None => match joined_cells(alloc, table, characters.as_slice()) {
-            Ok(cells) => Cells::from_vec(cells),
-            Err(_) => return Err(ReadFault::NoMemory),
-        },
+        None => joined_cells(alloc, table, &characters).map_err(|_| ReadFault::NoMemory)?,
     };
     Ok(Rule {
         line,

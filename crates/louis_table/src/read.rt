@@ -43,10 +43,9 @@ fn take_line(
     if line.len() > MOST_LINE_CHARACTERS || before >= MOST_LINES {
         return Err(LineFault::Bad(Cause::BeyondLimit));
     }
-    match draft.take(alloc, before + 1, given) {
-        Ok(()) => Ok(()),
-        Err(_) => Err(LineFault::NoMemory),
-    }
+    draft
+        .take(alloc, before + 1, given)
+        .map_err(|_| LineFault::NoMemory)
 }
 
 /// What the lines of a text give.
@@ -60,9 +59,7 @@ fn read_lines(alloc: Global, text: &str) -> Result<Draft, ReadFault>
     let mut rest = text;
     while !rest.is_empty() {
         let (line, after) = next_line(rest);
-        if replace_characters(&mut characters, line).is_err() {
-            return Err(ReadFault::NoMemory);
-        }
+        replace_characters(&mut characters, line).map_err(|_| ReadFault::NoMemory)?;
         match take_line(alloc, &mut draft, before, characters.as_slice()) {
             Ok(()) => {}
             Err(LineFault::Bad(cause)) => {

@@ -44,12 +44,12 @@ impl Model for Table {
 // those long to prove.
 impl Drop for Table {
     fn drop(self) {
-        let Table {
-            definitions: _,
-            partners: _,
-            rules: _,
-            signs: _,
-            sets: _,
+        let Self {
+            definitions,
+            partners,
+            rules,
+            signs,
+            sets,
         } = self;
     }
 }

@@ -58,16 +58,3 @@ characters_within (suc n) (c ∷ text) =
 -- the characters of an operand, unless it has a bad escape
 unfoldable pub characters_in : List ℕ → Option (List ℕ)
 characters_in text = characters_within (length text) text
-
--- the character of a text that has exactly one
-abbrev pub only_character : List ℕ → Option ℕ
-only_character [] = None
-only_character (c ∷ []) = Some c
-only_character (c ∷ d ∷ text) = None
-
--- the characters of a text that has exactly two
-abbrev pub only_pair : List ℕ → Option (ℕ × ℕ)
-only_pair [] = None
-only_pair (c ∷ []) = None
-only_pair (c ∷ d ∷ []) = Some (c, d)
-only_pair (c ∷ d ∷ e ∷ text) = None

@@ -1,7 +1,7 @@
 use Rattle.std.proofs.Common.{◌≡◌, ℕ, Err, rules, sym, ap, ◌∙◌, chars}
 use Rattle.louis_table.specs.Steps.Fault.{cause_number}
 use Rattle.louis_table.proofs.ReadingLaws.{ReadsOn-none, ReadsOn-all, ReadsOn-fault, ReadsOn-more, ReadsOn-HasDefinedPartners}
-use Rattle.louis_table.proofs.StepLaws.{nil_from_test, on_ok}
+use Rattle.louis_table.proofs.StepLaws.{nil_from_test}
 use Rattle.louis_table.proofs.read.read_lines.Goals as goal
 
 pub take_line-requires : goal.take_line-requires
@@ -9,7 +9,7 @@ take_line-requires c = ReadsOn-HasDefinedPartners c.args.text.now c.loop-rest.be
 
 pub returns-in-Err-Bad-clause-err : goal.returns-in-Err-Bad-clause-err
 returns-in-Err-Bad-clause-err c =
-    let characters : c.replace_characters.new.characters.items ≡ chars c.next_line.result.0.now = on_ok _ c.replace_characters.ensures (sym c.is_err.ensures.value ∙ c.if-is_err.false) in
+    let characters : c.replace_characters.new.characters.items ≡ chars c.next_line.result.0.now = search rules in
     ReadsOn-fault c.args.text.now c.loop-rest.before c.loop-rest.rest.now c.next_line.result.0.now c.next_line.result.1.now c.as_slice.result.now c.loop-rest.draft.table c.loop-rest.draft.written.items c.loop-rest.invariant.1
     c.next_line.ensures.line (c.as_slice.ensures.value ∙ characters) c.number.result
     ((rw c.in-Err-Bad.field-0-is at c.in-Err-Bad.ensures) ∙ ap (λ (n : ℕ). Err n) (sym (c.number.ensures ∙ ap cause_number c.in-Err-Bad.cause-is)))
@@ -19,7 +19,7 @@ loop-rest-init c = (search rules, ReadsOn-none c.args.text.now c.new-draft.resul
 
 pub loop-rest-preserved : goal.loop-rest-preserved
 loop-rest-preserved c =
-    let characters : c.replace_characters.new.characters.items ≡ chars c.next_line.result.0.now = on_ok _ c.replace_characters.ensures (sym c.is_err.ensures.value ∙ c.if-is_err.false) in (
+    let characters : c.replace_characters.new.characters.items ≡ chars c.next_line.result.0.now = search rules in (
       search rules,
       ReadsOn-more c.args.text.now c.loop-rest.before c.loop-rest.rest.now c.next_line.result.0.now c.next_line.result.1.now c.as_slice.result.now c.loop-rest.draft.table c.loop-rest.draft.written.items c.loop-rest.invariant.1
           c.next_line.ensures.line (c.as_slice.ensures.value ∙ characters) c.in-Ok.ensures.0 c.take_line.new.draft.table c.take_line.new.draft.written.items c.in-Ok.ensures.1 c.in-Ok.ensures.2.table c.in-Ok.ensures.2.written,

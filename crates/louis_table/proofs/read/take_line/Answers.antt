@@ -14,5 +14,5 @@ returns-then-line-gt-MOST_LINE_CHARACTERS c = search (rules, judge-beyond, then-
 pub take-requires : goal.take-requires
 take-requires c = judge_line-CanTake c.args.draft.now.table c.args.line.now (entry_in c.in_ok-given.given) c.requires c.in_ok-given.ensures
 
-pub returns-in-Ok : goal.returns-in-Ok
-returns-in-Ok c = search (rules, judge-within)
+pub returns : goal.returns
+returns c = search (rules, judge-within)
