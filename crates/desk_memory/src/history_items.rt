@@ -66,9 +66,7 @@ impl<'a> Iterator for History<'a> {
     ghost remaining = { item_count (λ s. s) };
 
     fn next(&mut self) -> Option<HistoryItem<'a>> {
-        let Some(entry) = self.entries.get(self.at) else {
-            return None;
-        };
+        let entry = self.entries.get(self.at)?;
         self.at += 1;
         Some(HistoryItem {
             number: self.at as u64,

@@ -27,7 +27,7 @@ impl<T> Model for Items<T> {
 
 impl<T: Drop> Drop for Items<T> {
     fn drop(self) {
-        let Items { items: _, room: _ } = self;
+        let Self { items, room } = self;
     }
 }
 

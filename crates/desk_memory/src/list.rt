@@ -46,9 +46,7 @@ impl<'a> Iterator for List<'a> {
     ghost remaining = { item_count (λ s. s) };
 
     fn next(&mut self) -> Option<ListItem<'a>> {
-        let Some((id, paragraph)) = self.paragraphs.at(self.at) else {
-            return None;
-        };
+        let (id, paragraph) = self.paragraphs.at(self.at)?;
         self.at += 1;
         Some(ListItem {
             id,

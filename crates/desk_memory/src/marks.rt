@@ -28,13 +28,13 @@ pub struct KeptMark {
 // Written out, as the drop of a paragraph is.
 impl Drop for KeptMark {
     fn drop(self) {
-        let KeptMark {
-            paragraph: _,
-            start: _,
-            end: _,
-            note: _,
-            touched: _,
-            resolved: _,
+        let Self {
+            paragraph,
+            start,
+            end,
+            note,
+            touched,
+            resolved,
         } = self;
     }
 }
@@ -102,10 +102,8 @@ impl Items<KeptMark> {
     pub fn get(&self, id: u64) -> Option<&KeptMark>
         ensures { option_copied result ≡ kept_mark id self.now }
     {
-        if id == 0 {
-            return None;
-        }
-        self.items.get((id - 1) as usize)
+        let index = id.checked_sub(1)?;
+        self.items.get(index as usize)
     }
 
     /// Resolves the mark with an id, if there is one.

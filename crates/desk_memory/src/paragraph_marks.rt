@@ -53,10 +53,7 @@ impl<'a> Iterator for ParagraphMarks<'a> {
     ghost remaining = { item_count (λ s. s) };
 
     fn next(&mut self) -> Option<MarkItem<'a>> {
-        let Some(index) = self.indexes.get(self.at) else {
-            return None;
-        };
-        let index = *index;
+        let index = *self.indexes.get(self.at)?;
         let mark = &self.marks[index];
         self.at += 1;
         Some(MarkItem {

@@ -14,7 +14,7 @@ ghost use Rattle.std.specs.Prelude.{MatchOption, OnOk, Some, ◌==◌, length, m
 
 use super::history::KeptEntry;
 use super::items::{Items, Room};
-use cell_core::Cells;
+use cell_core::{Cells, Sequence};
 use desk_model::{Anchor, Style, Text};
 use louis_table::Characters;
 use std::alloc::{AllocError, Global};
@@ -46,16 +46,16 @@ pub struct Paragraph {
 // makes those long to prove.
 impl Drop for Paragraph {
     fn drop(self) {
-        let Paragraph {
-            table: _,
-            original: _,
-            history: _,
-            style: _,
-            begins_volume: _,
-            struck: _,
-            print: _,
-            cells: _,
-            marks: _,
+        let Self {
+            table,
+            original,
+            history,
+            style,
+            begins_volume,
+            struck,
+            print,
+            cells,
+            marks,
         } = self;
     }
 }
@@ -101,27 +101,7 @@ pub struct PrintChange {
 }
 
 /// The ids of paragraphs in an order.
-#[derive(Drop)]
-pub struct Order {
-    ids: Vec<u64>,
-}
-
-impl Model for Order {
-    ghost use Rattle.std.specs.Prelude.{List, ℕ};
-
-    ghost Value = { List ℕ };
-
-    ghost view = { λ o. o.ids.items };
-}
-
-impl Order {
-    /// The ids in this order.
-    pub fn as_slice(&self) -> &[u64]
-        ensures { result.now ≡ self.now }
-    {
-        self.ids.as_slice()
-    }
-}
+pub type Order = Sequence<u64>;
 
 /// Paragraphs with the ids 1, 2, .. in the order of their typing, and the order in which they
 /// stand.
@@ -347,11 +327,11 @@ impl Paragraphs {
     {
         if stays_behind(id, after) {
             let ids = Vec::from_slice(alloc, self.order.as_slice())?;
-            return Ok(Order { ids });
+            return Ok(Order::from_vec(ids));
         }
         let others = without(alloc, self.order.as_slice(), id)?;
         let ids = with_new(alloc, &others, id, after)?;
-        Ok(Order { ids })
+        Ok(Order::from_vec(ids))
     }
 
     /// Adds a paragraph, which stands at a place of the order. It allocates nothing.
@@ -381,7 +361,7 @@ impl Paragraphs {
         requires { IsPermutation (range_with_len 1 (length self.old)) order }
         ensures { self.new ≡ in_order_of order self.old }
     {
-        put_over(&mut self.order, &order.ids);
+        put_over(&mut self.order, order.as_slice());
     }
 
     /// Gives the paragraph with an id, if there is one, a style and flags.

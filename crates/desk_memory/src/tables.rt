@@ -24,7 +24,7 @@ pub struct BookTable {
 // Written out, as the drop of a paragraph is.
 impl Drop for BookTable {
     fn drop(self) {
-        let BookTable { text: _, rules: _ } = self;
+        let Self { text, rules } = self;
     }
 }
 
@@ -34,10 +34,7 @@ fn read_rules(alloc: Global, text: &[u8]) -> Result<RuleIndex, ReadFault>
     ensures bad { IfErr result (IsReportedOf text.now) }
 {
     let table = Table::read(alloc, text)?;
-    match RuleIndex::new(alloc, table) {
-        Ok(rules) => Ok(rules),
-        Err(_) => Err(ReadFault::NoMemory),
-    }
+    RuleIndex::new(alloc, table).map_err(|_| ReadFault::NoMemory)
 }
 
 impl BookTable {
@@ -66,7 +63,7 @@ pub struct BoxedTable {
 // Written out, as the drop of a paragraph is.
 impl Drop for BoxedTable {
     fn drop(self) {
-        let BoxedTable { table: _ } = self;
+        let Self { table } = self;
     }
 }
 

@@ -7,22 +7,22 @@ use Rattle.desk_model.proofs.Lists.Items.{drop-there, Contains-there}
 use Rattle.desk_memory.proofs.WalkedLists.{walk-at, walk-past, walk-there}
 use Rattle.desk_memory.proofs.list.ListIterator.next.Goals as goal
 
-pub returns-in_default-clause-steps : goal.returns-in_default-clause-steps
-returns-in_default-clause-steps c =
-    let left : c.args.self.now ≡ [] = sym c.self.view_is ∙ ap (map paragraph_kept) (walk-past c.self.inside.paragraphs.now c.self.inside.at c.at.result c.at.ensures c.in_default.is) in
-    (left, left)
+pub returns-in_err-id-clause-steps : goal.returns-in_err-id-clause-steps
+returns-in_err-id-clause-steps c =
+    let left : c.args.self.now ≡ [] = sym c.self.view_is ∙ ap (map paragraph_kept) (walk-past c.self.inside.paragraphs.now c.self.inside.at c.at.result c.at.ensures c.in_err-id.was) in
+    rw c.from_residual.ensures (left, left)
 
 pub overflow_add-self : goal.overflow_add-self
 overflow_add-self c =
-    let within = (walk-there c.self.inside.paragraphs.now c.self.inside.at c.at.result c.at.ensures c.in-Some.id c.in-Some.paragraph c.in-Some.is).1 in
+    let within = (walk-there c.self.inside.paragraphs.now c.self.inside.at c.at.result c.at.ensures c.in_ok-id.id c.in_ok-id.paragraph c.in_ok-id.was).1 in
     let few = c.self.invariant.0 in
     omega arith
 
 pub returns-clause-steps : goal.returns-clause-steps
 returns-clause-steps c =
     let kept : KeptParagraphs = c.self.inside.paragraphs.now in
-    let entry : ℕ × KeptParagraph = (c.in-Some.id, c.in-Some.paragraph.now) in
-    let there = walk-at c.self.inside.paragraphs.now c.self.inside.at c.at.result c.at.ensures c.in-Some.id c.in-Some.paragraph c.in-Some.is in
+    let entry : ℕ × KeptParagraph = (c.in_ok-id.id, c.in_ok-id.paragraph.now) in
+    let there = walk-at c.self.inside.paragraphs.now c.self.inside.at c.at.result c.at.ensures c.in_ok-id.id c.in_ok-id.paragraph c.in_ok-id.was in
     let print : entry.1.print ≡ print_of (paragraph_kept entry) =
     All-contains (λ (e : ℕ × KeptParagraph). e.1.print ≡ print_of (paragraph_kept e)) kept entry c.self.invariant.1 (Contains-there kept c.self.inside.at entry there) in (
       paragraph_kept entry,
@@ -40,7 +40,7 @@ returns-clause-steps c =
 pub returns-clause-goes : goal.returns-clause-goes
 returns-clause-goes c =
     let kept : KeptParagraphs = c.self.inside.paragraphs.now in
-    let entry : ℕ × KeptParagraph = (c.in-Some.id, c.in-Some.paragraph.now) in
+    let entry : ℕ × KeptParagraph = (c.in_ok-id.id, c.in_ok-id.paragraph.now) in
     let left : c.args.self.now ≡ paragraph_kept entry ∷ paragraphs_from (c.self.inside.at + 1) kept =
-    sym c.self.view_is ∙ ap (map paragraph_kept) (walk-there c.self.inside.paragraphs.now c.self.inside.at c.at.result c.at.ensures c.in-Some.id c.in-Some.paragraph c.in-Some.is).0 in
+    sym c.self.view_is ∙ ap (map paragraph_kept) (walk-there c.self.inside.paragraphs.now c.self.inside.at c.at.result c.at.ensures c.in_ok-id.id c.in_ok-id.paragraph c.in_ok-id.was).0 in
     rw left (search rules)
