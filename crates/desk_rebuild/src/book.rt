@@ -5,7 +5,6 @@ ghost use Rattle.desk_rebuild.specs.Faults.{IsDamagedBraille, TellsDamageOf};
 ghost use Rattle.desk_rebuild.specs.Rows.{AreOf, AreTables, HasCells, HasHistory, IsWhole};
 ghost use Rattle.desk_rebuild.specs.Rows.{without_cells, without_history};
 ghost use Rattle.desk_memory.specs.Kept.{IsKept, book_kept, paragraph_with_id};
-ghost use Rattle.desk_model.specs.Limits.{most_version};
 ghost use Rattle.desk_model.specs.Rebuilding.{IsFaultOf};
 ghost use Rattle.desk_parts.specs.Parts.{entry_rows, rows_in};
 ghost use Rattle.desk_parts.specs.Rows.{Para, Tab};
@@ -13,7 +12,7 @@ ghost use Rattle.desk_model.specs.Shows.{Shows};
 ghost use Rattle.desk_parts.specs.declared.file_table.FileTable.{FileTable};
 ghost use Rattle.std.specs.List.{All, flat_map, range_with_len};
 ghost use Rattle.std.specs.List.Sorted.{IsPermutation};
-ghost use Rattle.desk_model.specs.Limits.{most_marks, most_paragraphs};
+ghost use Rattle.desk_model.specs.Limits.{most_marks, most_paragraphs, most_version};
 ghost use Rattle.std.specs.Prelude.{◌≡◌, ◌≤◌, List, IfErr, IfOk, MatchOption, OnOk, length, map, option_map, pos};
 
 use super::caches::{made_cells, read_caches};
@@ -33,11 +32,7 @@ pub fn version_of(version: i64) -> Option<u64>
         (λ number. IsWithin 0 most_version version × (pos number ≡ version)) }
 {
     let number = u64::try_from(version).ok()?;
-    if number <= MOST_VERSION {
-        Some(number)
-    } else {
-        None
-    }
+    (number <= MOST_VERSION).then_some(number)
 }
 
 /// The entries of format 1 as those of proofreaders without a name.

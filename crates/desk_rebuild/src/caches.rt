@@ -37,11 +37,7 @@ fn after<'a>(masks: &'a [u8], cells: &[Cell]) -> Option<&'a [u8]>
     ensures none { IfNone result ((rest : List _) → masks.now ≢ cells.now ++ rest) }
 {
     let (front, rest) = masks.split_at_checked(cells.len())?;
-    if are_masks(front, cells) {
-        Some(rest)
-    } else {
-        None
-    }
+    are_masks(front, cells).then_some(rest)
 }
 
 /// What stands after the masks of a piece, if those stand in front.

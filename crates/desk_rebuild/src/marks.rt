@@ -95,9 +95,7 @@ fn marks_of(
     let mut marks = Vec::new(alloc);
     for row in rows {
         let mark = judged(items, row, marks.len())?;
-        if marks.push(mark).is_err() {
-            return Err(RowsFault::NoMemory);
-        }
+        marks.push(mark).map_err(AllocError::from)?;
     }
     Ok(marks)
 }

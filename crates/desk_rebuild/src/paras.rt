@@ -99,11 +99,7 @@ fn free_index(order: &[u64], place: i64) -> Option<usize>
     ensures none { IfNone result ((index : ℕ) → ¬ IsFree order.now place index) }
 {
     let index = usize::try_from(place).ok()?.checked_sub(1)?;
-    if *order.get(index)? == 0 {
-        Some(index)
-    } else {
-        None
-    }
+    (*order.get(index)? == 0).then_some(index)
 }
 
 /// So many places, at which no ids stand yet.
@@ -141,9 +137,7 @@ fn paragraphs_of(
             return Err(RowsFault::Damaged(id));
         };
         order[index] = id as u64;
-        if items.push(paragraph).is_err() {
-            return Err(RowsFault::NoMemory);
-        }
+        items.push(paragraph).map_err(AllocError::from)?;
     }
     Ok(OrderedParas { items, order })
 }
