@@ -1,7 +1,6 @@
 //! Corrections of prints, and what takes them back.
 ghost use Rattle.desk_book.specs.Corrections.{HaltsEntry, HaltsPrint, IsEntered, IsUnfit, TakesEntry};
 ghost use Rattle.desk_memory.specs.Histories.{IsCorrection};
-ghost use Rattle.desk_model.specs.Limits.{most_entries};
 ghost use Rattle.desk_model.specs.Name.{IsProofreaderName};
 ghost use Rattle.desk_book.specs.Plans.{IsPlanned, IsTurnedDown};
 ghost use Rattle.desk_memory.specs.Display.{IsShown};
@@ -9,7 +8,7 @@ ghost use Rattle.std.specs.Prelude.{◌≡◌, ◌+◌, ◌<◌, ◌≤◌, fals
 
 use super::book::Book;
 use super::change::Effect;
-use super::plan::{check_length, check_print, check_text, copy, text_of_print};
+use super::plan::{check_length, check_limit, check_print, check_text, copy, text_of_print};
 use desk_memory::{
     Correction, KeptEntry, MOST_ENTRIES, MOST_PRINT, Paragraph, PrintChange, cells_of,
     is_proofreader_name, newest, normal_form, replace_span,
@@ -39,18 +38,6 @@ fn check_span(print: &[char], start: usize, count: usize) -> Result<(), Refusal>
     let length = print.len();
     if start > length || count > length - start {
         return Err(Refusal::BadSpan);
-    }
-    Ok(())
-}
-
-/// A history may have one entry more.
-fn check_entries(paragraph: &Paragraph) -> Result<(), Refusal>
-    ensures left { OnOk result (length paragraph.now.history < most_entries) }
-    ensures full { IfErr result (λ refusal.
-        (refusal ≡ Refusal.Full Limit.Entries) × (most_entries ≤ length paragraph.now.history)) }
-{
-    if paragraph.history.len() >= MOST_ENTRIES {
-        return Err(Refusal::Full(Limit::Entries));
     }
     Ok(())
 }
@@ -110,10 +97,8 @@ impl Book {
         ensures takes { OnOk result (TakesEntry self.now paragraph.now count) }
         ensures halted { IfErr result (HaltsEntry self.now paragraph.now count) }
     {
-        if count > MOST_PRINT {
-            return Err(Refusal::TooLong);
-        }
-        check_entries(paragraph)?;
+        check_length(count, MOST_PRINT)?;
+        check_limit(paragraph.history.len(), MOST_ENTRIES, Limit::Entries)?;
         self.check_version()
     }
 
@@ -172,7 +157,7 @@ impl Book {
         let old = paragraph.print.as_slice();
         check_span(old, start, count)?;
         let put = normal_form(alloc, text.as_str())?;
-        check_length(&put)?;
+        check_length(put.len(), MOST_PRINT)?;
         self.check_entry(paragraph, old.len() - count + put.len())?;
         let print = replace_span(alloc, old, start, count, &put)?;
         let new = NewEntry {

@@ -61,9 +61,7 @@ impl<'a> EntryPuts<'a> {
     fn next(&mut self) -> Option<Put<'a>>
         ensures { LendsFirst self.old result self.new }
     {
-        let Some((place, at, put)) = first_entry(self.paragraphs, self.place, self.at) else {
-            return None;
-        };
+        let (place, at, put) = first_entry(self.paragraphs, self.place, self.at)?;
         self.place = place;
         self.at = at;
         Some(put)
@@ -97,9 +95,7 @@ impl<'a> BraillePuts<'a> {
     fn next(&mut self) -> Option<Put<'a>>
         ensures { LendsFirst self.old result self.new }
     {
-        let Some((id, paragraph)) = self.paragraphs.at(self.at) else {
-            return None;
-        };
+        let (id, paragraph) = self.paragraphs.at(self.at)?;
         self.at += 1;
         Some(cache(id, &paragraph.cells))
     }

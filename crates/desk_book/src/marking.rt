@@ -1,5 +1,4 @@
 //! Marks that come and that are dealt with.
-ghost use Rattle.desk_model.specs.Limits.{most_marks, most_note};
 ghost use Rattle.desk_book.specs.Marking.{AreMarkedIn, AreNotMarkedIn, HasCells, IsKeptMarkFor};
 ghost use Rattle.desk_book.specs.Plans.{IsPlanned, IsTurnedDown};
 ghost use Rattle.desk_model.specs.Book.{mark_of};
@@ -8,22 +7,11 @@ ghost use Rattle.std.specs.Prelude.{◌≡◌, ◌+◌, ◌<◌, ◌≤◌, ◌�
 
 use super::book::Book;
 use super::change::Effect;
-use super::plan::{check_text, copy};
+use super::plan::{check_length, check_limit, check_text, copy};
 use desk_memory::{KeptMark, MOST_MARKS, MOST_NOTE, count_of};
 use desk_model::{Command, LentText, Limit, Refusal};
 use louis_translate::{RuleIndex, choice_of_cell};
 use std::alloc::Global;
-
-/// A note is within its limit.
-fn check_note(note: &LentText<'_>) -> Result<(), Refusal>
-    ensures short { OnOk result (length note.now ≤ most_note) }
-    ensures long { IfErr result (λ refusal. (refusal ≡ Refusal.TooLong) × (most_note < length note.now)) }
-{
-    if count_of(note.as_str()) > MOST_NOTE {
-        return Err(Refusal::TooLong);
-    }
-    Ok(())
-}
 
 /// Whether so many cells, from one on, are all there, and at least one.
 fn are_there(cells: usize, cell: usize, count: usize) -> bool
@@ -59,18 +47,6 @@ fn span_of_cells(
 }
 
 impl Book {
-    /// One more mark may come.
-    fn check_marks(&self) -> Result<(), Refusal>
-        ensures left { OnOk result (length self.now.marks < most_marks) }
-        ensures full { IfErr result (λ refusal.
-            (refusal ≡ Refusal.Full Limit.Marks) × (most_marks ≤ length self.now.marks)) }
-    {
-        if self.marks.len() >= MOST_MARKS {
-            return Err(Refusal::Full(Limit::Marks));
-        }
-        Ok(())
-    }
-
     pub(crate) fn plan_mark(
         &self,
         alloc: Global,
@@ -87,8 +63,8 @@ impl Book {
         let print = paragraph.print.as_slice();
         let cells = paragraph.cells.as_slice().len();
         let (start, end) = span_of_cells(rules, print, cells, cell, count)?;
-        check_note(note)?;
-        self.check_marks()?;
+        check_length(count_of(note.as_str()), MOST_NOTE)?;
+        check_limit(self.marks.len(), MOST_MARKS, Limit::Marks)?;
         self.check_version()?;
         let mark = KeptMark::new(id, start, end, copy(alloc, note.as_str())?);
         Ok(Effect::AddMark {

@@ -84,13 +84,24 @@ pub(crate) fn check_text(text: &LentText<'_>) -> Result<(), Refusal>
     }
 }
 
-/// A print is within its limit.
-pub(crate) fn check_length(print: &[char]) -> Result<(), Refusal>
-    ensures short { OnOk result (length print.now ≤ most_print) }
-    ensures long { IfErr result (λ refusal. (refusal ≡ Refusal.TooLong) × (most_print < length print.now)) }
+/// A text of so many characters is within its limit.
+pub(crate) fn check_length(count: usize, most: usize) -> Result<(), Refusal>
+    ensures short { OnOk result (count ≤ most) }
+    ensures long { IfErr result (λ refusal. (refusal ≡ Refusal.TooLong) × (most < count)) }
 {
-    if print.len() > MOST_PRINT {
+    if count > most {
         return Err(Refusal::TooLong);
+    }
+    Ok(())
+}
+
+/// One more may come beside so many, of at most so many.
+pub(crate) fn check_limit(count: usize, most: usize, limit: Limit) -> Result<(), Refusal>
+    ensures left { OnOk result (count < most) }
+    ensures full { IfErr result (λ refusal. (refusal ≡ Refusal.Full limit) × (most ≤ count)) }
+{
+    if count >= most {
+        return Err(Refusal::Full(limit));
     }
     Ok(())
 }
@@ -190,10 +201,8 @@ impl Book {
     pub(crate) fn next_entry(&self, id: u64) -> Option<u64>
         ensures { result ≡ option_map (λ paragraph. length paragraph.history + 1) (paragraph_of self.now id) }
     {
-        match self.paragraphs.get(id) {
-            Some(paragraph) => Some(paragraph.history.len() as u64 + 1),
-            None => None,
-        }
+        let paragraph = self.paragraphs.get(id)?;
+        Some(paragraph.history.len() as u64 + 1)
     }
 
     /// What a command does, whichever version is expected.
@@ -257,18 +266,6 @@ impl Book {
     {
         if self.version >= MOST_VERSION {
             return Err(Refusal::Full(Limit::Version));
-        }
-        Ok(())
-    }
-
-    /// One more paragraph may come.
-    fn check_room(&self) -> Result<(), Refusal>
-        ensures left { OnOk result (length self.now.paragraphs < most_paragraphs) }
-        ensures full { IfErr result (λ refusal.
-            (refusal ≡ Refusal.Full Limit.Paragraphs) × (most_paragraphs ≤ length self.now.paragraphs)) }
-    {
-        if self.paragraphs.len() >= MOST_PARAGRAPHS {
-            return Err(Refusal::Full(Limit::Paragraphs));
         }
         Ok(())
     }
@@ -380,8 +377,8 @@ impl Book {
         self.check_anchor(anchor)?;
         let kept = self.table_named(table)?;
         let print = normal_form(alloc, text.as_str())?;
-        check_length(&print)?;
-        self.check_room()?;
+        check_length(print.len(), MOST_PRINT)?;
+        check_limit(self.paragraphs.len(), MOST_PARAGRAPHS, Limit::Paragraphs)?;
         self.check_version()?;
         check_print(&kept.rules, &print)?;
         Ok(Effect::AddParagraph {
@@ -408,18 +405,6 @@ impl Book {
         }
     }
 
-    /// One more table may come.
-    fn check_tables(&self) -> Result<(), Refusal>
-        ensures left { OnOk result (length self.now.tables < most_tables) }
-        ensures full { IfErr result (λ refusal.
-            (refusal ≡ Refusal.Full Limit.Tables) × (most_tables ≤ length self.now.tables)) }
-    {
-        if self.tables.len() >= MOST_TABLES {
-            return Err(Refusal::Full(Limit::Tables));
-        }
-        Ok(())
-    }
-
     fn plan_addition(
         &self,
         alloc: Global,
@@ -431,7 +416,7 @@ impl Book {
         ensures planned { IfOk result (IsPlanned self.now (Command.Table name.now text.now)) }
         ensures refused { IfErr result (IsTurnedDown self.now (Command.Table name.now text.now)) }
     {
-        self.check_tables()?;
+        check_limit(self.tables.len(), MOST_TABLES, Limit::Tables)?;
         self.check_version()?;
         Ok(Effect::AddTable {
             table: read_table(alloc, text)?,

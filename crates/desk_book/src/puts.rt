@@ -110,9 +110,7 @@ impl<'a> CellPuts<'a> {
     fn next(&mut self) -> Option<Put<'a>>
         ensures { LendsFirst self.old result self.new }
     {
-        let Some((id, cells)) = first_cells(self.cells, self.at) else {
-            return None;
-        };
+        let (id, cells) = first_cells(self.cells, self.at)?;
         self.at = id;
         Some(Put::Cache(CachePut {
             para: number(id as u64),
@@ -149,12 +147,10 @@ impl<'a> FurtherPuts<'a> {
     fn next(&mut self) -> Option<Put<'a>>
         ensures { LendsFirst self.old result self.new }
     {
-        let Some(id) = self.order.get(self.at) else {
-            return None;
-        };
+        let id = *self.order.get(self.at)?;
         self.at += 1;
         Some(Put::Place {
-            id: number(*id),
+            id: number(id),
             place: number(self.at as u64 + 1),
         })
     }
@@ -213,9 +209,7 @@ impl<'a> ElsewherePuts<'a> {
     fn next(&mut self) -> Option<Put<'a>>
         ensures { LendsFirst self.old result self.new }
     {
-        let Some(place) = first_elsewhere(self.was, self.order, self.at) else {
-            return None;
-        };
+        let place = first_elsewhere(self.was, self.order, self.at)?;
         self.at = place;
         Some(Put::Place {
             id: number(self.order[place - 1]),
@@ -254,9 +248,7 @@ impl<'a> SpanPuts<'a> {
     fn next(&mut self) -> Option<Put<'a>>
         ensures { LendsFirst self.old result self.new }
     {
-        let Some(mark) = self.marks.next() else {
-            return None;
-        };
+        let mark = self.marks.next()?;
         let span = Span {
             start: mark.start,
             end: mark.end,

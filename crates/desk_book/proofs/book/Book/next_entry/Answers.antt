@@ -12,22 +12,22 @@ use Rattle.desk_book.proofs.book.Book.next_entry.Goals as goal
 pub overflow_add-result : goal.overflow_add-result
 overflow_add-result c =
     let book = c.args.self.now in
-    let kept = c.in-Some.paragraph.now in
-    let there : paragraph_of book c.args.id ≡ Some (paragraph_kept (c.args.id, kept)) = paragraph_of-kept _ _ _ _ book c.self.view_is c.args.id ∙ ap (option_map (λ p. paragraph_kept (c.args.id, p))) (sym c.get.ensures ∙ ap option_copied c.in-Some.is) in
+    let kept = c.in_ok-paragraph.paragraph.now in
+    let there : paragraph_of book c.args.id ≡ Some (paragraph_kept (c.args.id, kept)) = paragraph_of-kept _ _ _ _ book c.self.view_is c.args.id ∙ ap (option_map (λ p. paragraph_kept (c.args.id, p))) (sym c.get.ensures ∙ ap option_copied c.in_ok-paragraph.was) in
     let few = (IsSoundParagraph-found book (sound _ _ _ _ book c.self.view_is c.self.invariant) c.args.id _ there).history.few in
     let count = length-map kept.history entry_kept in
     let many = c.len.ensures in
     omega arith
 
-pub returns-in-Some : goal.returns-in-Some
-returns-in-Some c =
+pub returns : goal.returns
+returns c =
     let book = c.args.self.now in
-    let kept = c.in-Some.paragraph.now in
-    let there : paragraph_of book c.args.id ≡ Some (paragraph_kept (c.args.id, kept)) = paragraph_of-kept _ _ _ _ book c.self.view_is c.args.id ∙ ap (option_map (λ p. paragraph_kept (c.args.id, p))) (sym c.get.ensures ∙ ap option_copied c.in-Some.is) in
+    let kept = c.in_ok-paragraph.paragraph.now in
+    let there : paragraph_of book c.args.id ≡ Some (paragraph_kept (c.args.id, kept)) = paragraph_of-kept _ _ _ _ book c.self.view_is c.args.id ∙ ap (option_map (λ p. paragraph_kept (c.args.id, p))) (sym c.get.ensures ∙ ap option_copied c.in_ok-paragraph.was) in
     let count = length-map kept.history entry_kept in
     ap (λ n. Some (n + 1)) (c.len.ensures ∙ sym count) ∙ sym (ap (option_map (λ (p : Paragraph). length p.history + 1)) there)
 
-pub returns-in-None : goal.returns-in-None
-returns-in-None c =
+pub returns-in_err-paragraph : goal.returns-in_err-paragraph
+returns-in_err-paragraph c =
     let book = c.args.self.now in
-    sym (ap (option_map (λ (p : Paragraph). length p.history + 1)) (paragraph_of-kept _ _ _ _ book c.self.view_is c.args.id ∙ ap (option_map (λ p. paragraph_kept (c.args.id, p))) (sym c.get.ensures ∙ ap option_copied c.in-None.is)))
+    rw c.from_residual.ensures (sym (ap (option_map (λ (p : Paragraph). length p.history + 1)) (paragraph_of-kept _ _ _ _ book c.self.view_is c.args.id ∙ ap (option_map (λ p. paragraph_kept (c.args.id, p))) (sym c.get.ensures ∙ ap option_copied c.in_err-paragraph.was))))

@@ -1,4 +1,4 @@
-use Rattle.std.proofs.Common.{◌≡◌, ℕ, ◌<◌, ◌≤◌, List, None, Result, IfErr, IsErrAnd, length, refl, sym, ap, subst, ◌∙◌}
+use Rattle.std.proofs.Common.{◌≡◌, ℕ, ◌<◌, ◌≤◌, List, None, Result, IfErr, IsErrAnd, length, refl, sym, ap, subst, ◌∙◌, arith}
 use Rattle.std.specs.List.{insert}
 use Rattle.std.proofs.lemmas.Result.{err_from_is_err_and}
 use Rattle.louis_translate.specs.Position.{AreDefined}
@@ -67,12 +67,13 @@ returns-clause-planned c =
     let rules = c.in_ok-kept.kept.now.rules in
     let kept = c.in_ok-new_paragraph.field-0 in
     let printed : c.in_ok-print.print.items ≡ normal_form c.args.text.now = c.in_ok-print.ensures ∙ ap normal_form c.as_str.ensures in
-    let short = subst (λ (t : List ℕ). length t ≤ most_print) (c.deref.ensures.value ∙ printed) c.in_ok-check_length.ensures.short in
-    let passes = left (goal.at.returns-clause-planned c).In_ok-kept short c.in_ok-check_room.ensures.left c.in_ok-check_version.ensures.left in
-    let defined = subst (AreDefined rules) (c.deref-2.ensures.value ∙ printed) c.in_ok-check_print.ensures.defined in
+    let short = subst (λ (n : ℕ). n ≤ most_print) (c.len.ensures ∙ (c.in_ok-print.print.ok.0 ∙ ap length printed)) c.in_ok-check_length.ensures.short in
+    let count = count-paragraphs _ _ _ _ book c.self.view_is in
+    let room : length book.paragraphs < most_paragraphs = let left = c.in_ok-check_limit.ensures.left in omega arith in
+    let passes = left (goal.at.returns-clause-planned c).In_ok-kept short room c.in_ok-check_version.ensures.left in
+    let defined = subst (AreDefined rules) (c.deref.ensures.value ∙ printed) c.in_ok-check_print.ensures.defined in
     let judged = past_print book (TypeIn c.args.anchor c.args.table.now c.args.text.now) c.args.table.now (normal_form c.args.text.now) _ refl c.in_ok-kept.ensures.found passes defined in
     let new = subst (λ (t : List ℕ). IsNewParagraph c.args.table.now t rules kept) printed c.in_ok-new_paragraph.ensures in
-    let count = count-paragraphs _ _ _ _ book c.self.view_is in
     let order : insert (ids_of book.paragraphs) c.place_for.result (next_id book) ≡ ids_of (with_paragraph c.args.anchor (new_paragraph (next_id book) c.args.table.now c.args.text.now) book.paragraphs) =
     ap (λ (list : List ℕ). insert list c.place_for.result (next_id book)) (ids_of-book _ _ _ _ book c.self.view_is)
     ∙ (c.place_for.ensures.place (next_id book)
@@ -87,7 +88,7 @@ returns-clause-planned c =
           text = c.args.text.now;
           command_is = ap (λ (t : List ℕ). TypeIn c.args.anchor t c.args.text.now) (sym new.table_is);
           typed_is = IsKeptTyped-new book c.args.table.now c.args.text.now _ kept c.in_ok-kept.ensures.found new;
-          few = c.in_ok-check_room.ensures.left;
+          few = room;
           room_is = subst (λ (n : ℕ). Suffices n c.in_ok-room.field-0) (sym count) c.in_ok-room.ensures;
           order_room_is = subst (λ (n : ℕ). Suffices n c.in_ok-order_room.field-0) (sym count) c.in_ok-order_room.ensures;
           within = subst (λ (n : ℕ). c.place_for.result ≤ n) (sym count) c.place_for.ensures.within;
