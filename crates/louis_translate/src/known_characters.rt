@@ -45,9 +45,6 @@ impl KnownCharacters {
     pub(crate) fn has(&self, character: char) -> bool
         ensures { result ≡ is_known self.now character }
     {
-        match self.known.get(character as usize) {
-            Some(says) => *says,
-            None => false,
-        }
+        self.known.get(character as usize).is_some_and(|says| *says)
     }
 }

@@ -45,11 +45,11 @@ impl Model for RuleIndex {
 // Written out, as the drop of a table is.
 impl Drop for RuleIndex {
     fn drop(self) {
-        let RuleIndex {
-            index: _,
-            starts: _,
-            known: _,
-            lone_cells: _,
+        let Self {
+            index,
+            starts,
+            known,
+            lone_cells,
         } = self;
     }
 }

@@ -1,6 +1,6 @@
 //! The signs before numbers, capitals and what follows a number.
 ghost use Rattle.louis_table.specs.Meaning.{sign_cells};
-ghost use Rattle.louis_table.specs.declared.sign.Sign.TheVariants.{Capital, Number};
+ghost use Rattle.louis_table.specs.declared.sign.Sign.TheVariants.{Capital};
 ghost use Rattle.louis_translate.specs.Position.{class_at as class_at_lem};
 ghost use Rattle.louis_translate.specs.Sign.{capital_sign as capital_sign_lem};
 ghost use Rattle.louis_translate.specs.Sign.{ends_number as ends_number_lem};
@@ -12,7 +12,7 @@ ghost use Rattle.louis_translate.specs.Sign.{is_nocontract_char as is_nocontract
 ghost use Rattle.louis_translate.specs.Sign.{run_end, run_start, sign_at};
 ghost use Rattle.std.specs.Bool.{OnTrue};
 ghost use Rattle.std.specs.Prelude.{◌≡◌, ◌+◌, ◌≤◌, ◌<◌, ◌↔◌, ◌&&◌, [], false, true};
-ghost use Rattle.std.specs.Prelude.{if◌then◌else◌, not, ℕ, length, IsTrue};
+ghost use Rattle.std.specs.Prelude.{not, ℕ, length, IsTrue};
 
 use super::position::{class_at, is_digit, is_letter};
 use cell_core::Cell;
@@ -46,10 +46,9 @@ fn follows_capital(table: &Table, print: &[char], place: usize) -> bool
 fn is_capital_at(table: &Table, print: &[char], place: usize) -> bool
     ensures { result ≡ is_capital_at_lem table.now print.now place }
 {
-    match print.get(place) {
-        Some(character) => table.capital(*character),
-        None => false,
-    }
+    print
+        .get(place)
+        .is_some_and(|character| table.capital(*character))
 }
 
 /// Whether a capital at a place has no other beside it, and so the sign of one capital.
@@ -58,10 +57,7 @@ fn stands_alone(table: &Table, print: &[char], place: usize) -> bool
     requires { place < length print.now }
     ensures { OnTrue result (capital_sign_lem table.now print.now place ≡ sign_cells table.now Capital) }
 {
-    if follows_capital(table, print, place) {
-        return false;
-    }
-    !is_capital_at(table, print, place + 1)
+    !follows_capital(table, print, place) && !is_capital_at(table, print, place + 1)
 }
 
 /// The sign before a capital, of a run that ends at `end`.
@@ -149,10 +145,7 @@ fn ends_number(table: &Table, print: &[char], place: usize, follows: bool) -> bo
     requires follows { follows ≡ follows_number_lem table.now print.now place }
     ensures { result ≡ ends_number_lem table.now print.now place }
 {
-    if !follows {
-        return false;
-    }
-    takes_sign_after_number(table, print[place])
+    follows && takes_sign_after_number(table, print[place])
 }
 
 /// The sign before a place that has neither a digit nor a capital, and which follows a number or

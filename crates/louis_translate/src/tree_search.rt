@@ -43,6 +43,7 @@ pub(crate) fn walk(
     let mut found = None;
     for end in first_end..print.len() + 1 {
         let rules = index.tree.rules_at(node);
+        // a rule found later has more characters, and so goes before those found so far
         found = first_of(&index.table, print, at, end, rules).or(found);
         let Some(child) = index.next(print, end, node) else {
             return found;

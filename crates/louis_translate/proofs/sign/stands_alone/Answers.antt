@@ -6,8 +6,8 @@ use Rattle.louis_translate.specs.Sign.{capital_sign}
 use Rattle.louis_translate.proofs.Runs.{capital_sign-alone}
 use Rattle.louis_translate.proofs.sign.stands_alone.Goals as goal
 
-pub returns : goal.returns
-returns c =
+pub returns-then-not-follows_capital : goal.returns-then-not-follows_capital
+returns-then-not-follows_capital c =
     OnTrue_from (not c.is_capital_at.result) (capital_sign c.args.table.now c.args.print.now c.args.place ≡ sign_cells c.args.table.now Capital)
-    (λ alone. capital_sign-alone c.args.table.now c.args.print.now c.args.place (λ before. both_ways _ c.if-follows_capital.false (c.follows_capital.ensures.1 before))
+    (λ alone. capital_sign-alone c.args.table.now c.args.print.now c.args.place (λ before. both_ways _ c.if-not-follows_capital.true (c.follows_capital.ensures.1 before))
     (sym c.is_capital_at.ensures ∙ not-true _ alone))
