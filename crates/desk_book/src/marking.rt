@@ -3,7 +3,7 @@ ghost use Rattle.desk_book.specs.Marking.{AreMarkedIn, AreNotMarkedIn, HasCells,
 ghost use Rattle.desk_book.specs.Plans.{IsPlanned, IsTurnedDown};
 ghost use Rattle.desk_model.specs.Book.{mark_of};
 ghost use Rattle.louis_translate.specs.Position.{AreDefined};
-ghost use Rattle.std.specs.Prelude.{◌≡◌, ◌+◌, ◌<◌, ◌≤◌, ◌↔◌, IfErr, IfOk, IsTrue, None, OnOk, length};
+ghost use Rattle.std.specs.Prelude.{◌≡◌, ◌+◌, ◌<◌, ◌≤◌, ◌↔◌, IfErr, IfOk, IsTrue, None};
 
 use super::book::Book;
 use super::change::Effect;

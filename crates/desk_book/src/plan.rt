@@ -3,7 +3,7 @@ ghost use Rattle.desk_model.specs.Book.{paragraph_of, text_of};
 ghost use Rattle.desk_book.specs.Changes.{AreRenewed, Carries};
 ghost use Rattle.desk_memory.specs.Braille.{AreCellsOf};
 ghost use Rattle.desk_model.specs.Judging.{MayLackMemory};
-ghost use Rattle.desk_model.specs.Limits.{most_paragraphs, most_print, most_tables, most_version};
+ghost use Rattle.desk_model.specs.Limits.{most_version};
 ghost use Rattle.desk_model.specs.Name.{IsTableName};
 ghost use Rattle.desk_book.specs.Plans.{AreNotAllThere, AreThere, IsNewParagraph, IsPlanned, IsTableFor, IsTurnedDown};
 ghost use Rattle.desk_model.specs.Named.{number_of, paragraph_before};
