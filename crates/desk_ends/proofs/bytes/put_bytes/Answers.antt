@@ -1,4 +1,4 @@
-use Rattle.std.proofs.Common.{[], ◌∷◌, get_or, true, is_ok, ap, arith, drop_of_length-le}
+use Rattle.std.proofs.Common.{[], ◌∷◌, get_or, is_ok, ap, arith, drop_of_length-le}
 use Rattle.std.proofs.lemmas.List.{drop_more}
 use Rattle.std.proofs.lemmas.Grind.{common_steps}
 use Rattle.desk_ends.proofs.Sending.{Sending-done, Sending-fails, Sending-more, fails-at}

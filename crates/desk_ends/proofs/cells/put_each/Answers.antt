@@ -1,4 +1,4 @@
-use Rattle.std.proofs.Common.{ℕ, ◌+◌, ◌∷◌, drop, true, is_ok, sym, ap, ◌∙◌, arith, encode_utf8, drop_of_length-le}
+use Rattle.std.proofs.Common.{ℕ, ◌+◌, ◌∷◌, drop, is_ok, sym, ap, ◌∙◌, arith, encode_utf8, drop_of_length-le}
 use Rattle.std.proofs.lemmas.List.{drop_more}
 use Rattle.std.proofs.lemmas.Result.{err_from_is_err_and}
 use Rattle.std.proofs.lemmas.Grind.{common_steps}

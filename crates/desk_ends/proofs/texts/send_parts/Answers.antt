@@ -1,4 +1,4 @@
-use Rattle.std.proofs.Common.{true, is_ok, ap, [], arith, flat_map, drop_of_length-le}
+use Rattle.std.proofs.Common.{is_ok, ap, [], arith, flat_map, drop_of_length-le}
 use Rattle.std.proofs.lemmas.List.{drop_more}
 use Rattle.std.proofs.lemmas.Result.{err_from_is_err_and}
 use Rattle.std.proofs.lemmas.Grind.{common_steps}
