@@ -64,24 +64,11 @@ impl Print {
     {
         let bytes = text.as_bytes();
         if bytes.is_ascii() {
-            return self.read_ascii(book, bytes);
+            self.copy_ascii(bytes)?;
+            return Ok(first_undefined_byte(book, bytes));
         }
         self.copy(text)?;
         Ok(first_undefined(book, self.as_slice()))
-    }
-
-    /// The same for a text whose bytes are characters each.
-    fn read_ascii<B: RuleBook>(
-        &mut self,
-        book: &B,
-        bytes: &[u8],
-    ) -> Result<Option<usize>, TooManyCharacters>
-        requires { IsAscii bytes.now }
-        ensures taken { TakesCharacters result (chars bytes.now) self.new }
-        ensures undefined { IfOk result (FindsUndefined (B.meaning book.now) (chars bytes.now)) }
-    {
-        self.copy_ascii(bytes)?;
-        Ok(first_undefined_byte(book, bytes))
     }
 
     /// Takes the characters of a text in place of its own, if they are not too many.
