@@ -48,10 +48,9 @@ impl Layout {
         ensures layout { IfOk result (λ layout. layout ≡ record { width = width; lines = lines }) }
         ensures limits { IsOk result ↔ IsLayout width lines }
     {
-        if width < LEAST_WIDTH || width > MOST_WIDTH {
-            return Err(BadLayout);
-        }
-        if lines < LEAST_LINES || lines > MOST_LINES {
+        if !(LEAST_WIDTH..=MOST_WIDTH).contains(&width)
+            || !(LEAST_LINES..=MOST_LINES).contains(&lines)
+        {
             return Err(BadLayout);
         }
         Ok(Layout {

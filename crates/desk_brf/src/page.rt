@@ -39,7 +39,8 @@ fn lay_number(line: &mut PageLine, width: usize, number: u64)
 /// Sends a line with its ending, and takes its bytes out.
 fn end_line<K: Sink>(sink: &mut K, line: &mut PageLine) -> Sent
     requires { length line.old ≤ most_width }
-    ensures sent { Transmits K.can_fail (K.contents sink.old) (K.contents sink.new) (with_ending line.old) [] (is_ok result) }
+    ensures sent { Transmits K.can_fail (K.contents sink.old) (K.contents sink.new)
+        (with_ending line.old) [] (is_ok result) }
     ensures empty { OnOk result (line.new ≡ []) }
 {
     line.push(b'\r');

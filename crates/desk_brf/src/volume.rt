@@ -159,8 +159,5 @@ pub fn export<K: Sink>(
     ensures { IsExported K.Sink sink.old sink.new book.now layout.now volume result }
 {
     check_volume(book, volume)?;
-    match put_volume(sink, book, layout, volume) {
-        Ok(pages) => Ok(pages),
-        Err(Failure) => Err(ExportFault::Write),
-    }
+    put_volume(sink, book, layout, volume).map_err(|_| ExportFault::Write)
 }

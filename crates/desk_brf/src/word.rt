@@ -28,10 +28,8 @@ pub(crate) fn word_len(cells: &[Cell]) -> usize
     requires some { 0 < length cells.now }
     ensures { BeginsWithWord result cells.now }
 {
-    for (i, cell) in cells.iter().enumerate() {
-        if *cell == Cell::BLANK {
-            return i;
-        }
-    }
-    cells.len()
+    cells
+        .iter()
+        .position(|cell| *cell == Cell::BLANK)
+        .unwrap_or(cells.len())
 }
