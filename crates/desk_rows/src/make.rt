@@ -5,9 +5,8 @@ ghost use Rattle.sqlite.specs.Held.{state};
 ghost use Rattle.sqlite.specs.State.{HasCleanDisk, KeepsCommit, Survives};
 ghost use Rattle.sql_tables.specs.States.{seen};
 ghost use Rattle.desk_rows.specs.Commits.{Commits, making_file};
-ghost use Rattle.desk_rows.specs.Descriptions.{description_of};
 ghost use Rattle.desk_rows.specs.Failing.{StopsMaking, after_tables, of_first_row};
-ghost use Rattle.desk_rows.specs.Making.{AreMade, IsCreated, new_tables};
+ghost use Rattle.desk_rows.specs.Making.{AreMade, new_tables};
 ghost use Rattle.desk_rows.specs.Tables.{AreWritten};
 
 use crate::put_statements::{put_book, run};
@@ -26,19 +25,8 @@ const NEW_TABLES: [FileTable; 6] = [
     FileTable::NamedCorr,
 ];
 
-/// Makes a table, and with it the counter of rowids if a table counts them and it is missing. The
-/// error is the database's.
-fn create<S: Alter>(tx: &mut Transaction<'_, S>, table: FileTable) -> Result<(), Error>
-    requires { (description_of table).is_written ≡ true }
-    ensures same_reference { tx.new.conn.ghost_name ≡ tx.old.conn.ghost_name }
-    ensures makes { HasCleanDisk (seen S.Store tx.new)
-        → IsCreated result table (seen S.Store tx.old) (seen S.Store tx.new) }
-    ensures survives { Survives (seen S.Store tx.old) (seen S.Store tx.new) (λ _. ⊥) }
-{
-    run(tx, create_text(table), &[])
-}
-
-/// Makes these tables in turn. The error is the database's.
+/// Makes these tables in turn, and the counter of rowids with the first that counts them, if it is
+/// missing. The error is the database's.
 pub(crate) fn create_all<S: Alter>(
     tx: &mut Transaction<'_, S>,
     tables: &[FileTable],
@@ -58,33 +46,13 @@ pub(crate) fn create_all<S: Alter>(
     ensures survives { Survives (seen S.Store tx.old) (seen S.Store tx.new) (λ _. ⊥) }
 {
     for table in tables {
-        create(tx, *table)?;
+        run(tx, create_text(*table), &[])?;
     }
     Ok(())
 }
 
-/// Puts the row of a new book, in format 2 and at version 0.
-fn put_first_row<S: Alter>(tx: &mut Transaction<'_, S>) -> Result<(), Error>
-    ensures same_reference { tx.new.conn.ghost_name ≡ tx.old.conn.ghost_name }
-    ensures put { HasCleanDisk (seen S.Store tx.new)
-        → OnOk result ((of_first_row S.Store).puts tx.old.conn.now tx.new.conn.now) }
-    ensures inside { HasCleanDisk (seen S.Store tx.new)
-        → OnOk result ((seen S.Store tx.new).in_transaction ≡ true) }
-    ensures told { HasCleanDisk (seen S.Store tx.new) → (seen S.Store tx.old).in_transaction ≡ true
-        → IfErr result ((of_first_row S.Store).stops tx.old.conn.now (seen S.Store tx.new)) }
-    ensures kept { HasCleanDisk (seen S.Store tx.new)
-        → KeepsCommit (seen S.Store tx.old) (seen S.Store tx.new) }
-    ensures survives { Survives (seen S.Store tx.old) (seen S.Store tx.new) (λ _. ⊥) }
-{
-    let row = BookRow {
-        id: 1,
-        format: 2,
-        version: 0,
-    };
-    put_book(tx, &row)
-}
-
-/// Makes the tables of a new file and puts its row. The error is the database's.
+/// Makes the tables of a new file and puts the row of a new book, in format 2 and at version 0. The
+/// error is the database's.
 fn make_all<S: Alter>(tx: &mut Transaction<'_, S>) -> Result<(), Error>
     ensures same_reference { tx.new.conn.ghost_name ≡ tx.old.conn.ghost_name }
     ensures put { HasCleanDisk (seen S.Store tx.new)
@@ -101,7 +69,12 @@ fn make_all<S: Alter>(tx: &mut Transaction<'_, S>) -> Result<(), Error>
     ensures survives { Survives (seen S.Store tx.old) (seen S.Store tx.new) (λ _. ⊥) }
 {
     create_all(tx, &NEW_TABLES)?;
-    put_first_row(tx)
+    let row = BookRow {
+        id: 1,
+        format: 2,
+        version: 0,
+    };
+    put_book(tx, &row)
 }
 
 /// Makes the six tables with the row of a new book, in format 2 and at version 0, as one. If a

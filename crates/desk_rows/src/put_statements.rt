@@ -11,7 +11,7 @@ ghost use Rattle.std.specs.Iterator.{IsFinite};
 ghost use Rattle.sqlite.specs.State.{HasCleanDisk, KeepsCommit, Survives};
 ghost use Rattle.sqlite.specs.Values.{bound};
 ghost use Rattle.sql_tables.specs.States.{seen};
-ghost use Rattle.desk_parts.specs.Puts.{PutRow, lent_para, put_of};
+ghost use Rattle.desk_parts.specs.Puts.{PutRow, put_of};
 ghost use Rattle.desk_parts.specs.declared.file_table.FileTable.{FileTable};
 ghost use Rattle.desk_rows.specs.Failing.{of_items};
 ghost use Rattle.desk_rows.specs.Puts.{IsPut, RunsTo, statement};
@@ -24,7 +24,7 @@ use crate::texts::{
     SET_PRINT, SET_RESOLVED, SET_SPAN, SET_TABLE, SET_VERSION,
 };
 use cell_core::Cell;
-use desk_parts::{BookRow, ParaPut, Put};
+use desk_parts::{BookRow, Put};
 use sqlite::types::{ToSql, ValueRef};
 use sqlite::{Alter, Error, Transaction};
 use std::alloc::{AllocError, Global};
@@ -104,22 +104,6 @@ pub(crate) fn put_book<S: Alter>(tx: &mut Transaction<'_, S>, row: &BookRow) -> 
     run_put(tx, &Put::Book(*row), &book_columns(row))
 }
 
-/// Puts the row of a paragraph by its key, with its print as a text.
-fn put_para<S: Alter>(
-    alloc: Global,
-    tx: &mut Transaction<'_, S>,
-    row: &ParaPut<'_>,
-) -> Result<(), Error>
-    ensures same_reference { tx.new.conn.ghost_name ≡ tx.old.conn.ghost_name }
-    ensures put { HasCleanDisk (seen S.Store tx.new)
-        → IsPut result (PutRow FileTable.Para (lent_para row.now))
-        (seen S.Store tx.old) (seen S.Store tx.new) }
-    ensures survives { Survives (seen S.Store tx.old) (seen S.Store tx.new) (λ _. ⊥) }
-{
-    let print = encoded(alloc, row.print)?;
-    run_put(tx, &Put::Para(*row), &para_columns(row, print.as_str()))
-}
-
 /// Puts a row by its key, or sets columns of the row with a key, if it is there. If a history has
 /// an entry of that number, the database refuses it.
 fn put<S: Alter>(alloc: Global, tx: &mut Transaction<'_, S>, put: Put<'_>) -> Result<(), Error>
@@ -131,7 +115,10 @@ fn put<S: Alter>(alloc: Global, tx: &mut Transaction<'_, S>, put: Put<'_>) -> Re
     match put {
         Put::Book(row) => put_book(tx, &row),
         Put::Tab(row) => run_put(tx, &put, &tab_columns(&row)),
-        Put::Para(row) => put_para(alloc, tx, &row),
+        Put::Para(row) => {
+            let print = encoded(alloc, row.print)?;
+            run_put(tx, &put, &para_columns(&row, print.as_str()))
+        }
         Put::Mark(row) => run_put(tx, &put, &mark_columns(&row)),
         Put::Cache(row) => {
             let cells = masks(alloc, row.cells)?;

@@ -41,10 +41,7 @@ fn ask<S: Alter>(conn: &mut Connection<S>, sql: &str) -> Result<Vec<Row>, Databa
     ensures survives { Survives (state S.Store conn.old) (state S.Store conn.new)
         (CommitsShowing sql.now [] (state S.Store conn.old)) }
 {
-    match conn.query_all(sql, &[]) {
-        Ok(rows) => Ok(rows),
-        Err(error) => Err(DatabaseFault::of(error)),
-    }
+    conn.query_all(sql, &[]).map_err(DatabaseFault::of)
 }
 
 /// Each of the rows, in turn.
@@ -62,10 +59,8 @@ fn all_of<T: TableRow>(alloc: Global, rows: &[Row]) -> Result<Vec<T>, DatabaseFa
 {
     let mut all = Vec::new(alloc);
     for row in rows {
-        let one = T::from_row(alloc, row)?;
-        if all.push(one).is_err() {
-            return Err(DatabaseFault::NoMemory);
-        }
+        all.push(T::from_row(alloc, row)?)
+            .map_err(|_| DatabaseFault::NoMemory)?;
     }
     Ok(all)
 }
@@ -103,22 +98,6 @@ fn have_own_rowids(alloc: Global, tabs: &[StoredTab]) -> Result<bool, AllocError
     Ok(true)
 }
 
-/// The braille tables, of which it was asked whether no two have the same rowid.
-fn told_apart(
-    tabs: Vec<StoredTab>,
-    apart: Result<bool, AllocError>,
-) -> Result<Vec<StoredTab>, DatabaseFault>
-    ensures apart { apart ≡ Ok true → result ≡ Ok tabs }
-    ensures together { apart ≡ Ok false → result ≡ Err DatabaseFault.Refused }
-    ensures no_memory { OnErr apart (result ≡ Err DatabaseFault.NoMemory) }
-{
-    match apart {
-        Ok(true) => Ok(tabs),
-        Ok(false) => Err(DatabaseFault::Refused),
-        Err(_) => Err(DatabaseFault::NoMemory),
-    }
-}
-
 /// The braille tables, in order of the bytes of their names, which is that of the names' code
 /// points. If two have one rowid, as only a view shows them, they are refused.
 pub fn read_tabs<S: Alter>(
@@ -132,6 +111,9 @@ pub fn read_tabs<S: Alter>(
     ensures survives { Survives (state S.Store conn.old) (state S.Store conn.new) (λ _. ⊥) }
 {
     let tabs = read_rows(alloc, conn)?;
-    let apart = have_own_rowids(alloc, &tabs);
-    told_apart(tabs, apart)
+    match have_own_rowids(alloc, &tabs) {
+        Ok(true) => Ok(tabs),
+        Ok(false) => Err(DatabaseFault::Refused),
+        Err(_) => Err(DatabaseFault::NoMemory),
+    }
 }

@@ -1,6 +1,6 @@
 //! The types of the rows: how each is read, and with which columns it is put.
 
-ghost use Rattle.std.specs.Prelude.{◌≡◌, ◌≢◌, true, IfErr, IfOk, IsUtf8, string_bytes};
+ghost use Rattle.std.specs.Prelude.{◌≡◌, ◌≢◌, IfErr, IfOk, IsUtf8, string_bytes};
 ghost use Rattle.sqlite_value.specs.Order.{column};
 ghost use Rattle.sqlite_value.specs.declared.value.Value.TheVariants.{Blob, Int, Text};
 ghost use Rattle.sqlite_schema.specs.declared.schema.Kind.{Kind};
@@ -47,9 +47,7 @@ fn text(alloc: Global, row: &Row, at: usize) -> Result<String, DatabaseFault>
     let Ok(ValueRef::Text(bytes)) = row.get_ref(at) else {
         return Err(DatabaseFault::Refused);
     };
-    let Ok(text) = str::from_utf8(bytes) else {
-        return Err(DatabaseFault::Refused);
-    };
+    let text = str::from_utf8(bytes).map_err(|_| DatabaseFault::Refused)?;
     Ok(String::from_str(alloc, text)?)
 }
 

@@ -1,5 +1,5 @@
 -- What a read of a table answers, from what its query showed.
-use Rattle.std.proofs.Common.{◌≡◌, ◌≢◌, Bool, true, false, MatchBool, OnErr, ap, ap₂, ℕ, List, [], ◌∷◌, map, drop, None, Ok, Err, Result, IfOk, IfErr, refl, sym, subst, ◌∙◌, subst₂, is_lt, IsPermutation, inl, inr}
+use Rattle.std.proofs.Common.{◌≡◌, ◌≢◌, true, ap, ap₂, ℕ, List, [], ◌∷◌, map, drop, None, Ok, Err, Result, IfOk, IfErr, refl, sym, subst, ◌∙◌, subst₂, is_lt, IsPermutation, inl, inr}
 use Rattle.std.specs.List.{AllByRecursion}
 use Rattle.std.specs.List.Sorted.{IsSortedBy}
 use Rattle.sqlite_value.proofs.OrderLemmas.{value_cmp-Int, value_cmp-Text, then-Equal}
@@ -11,7 +11,6 @@ use Rattle.desk_parts.specs.declared.file_table.FileTable.{FileTable}
 use Rattle.desk_parts.specs.declared.file_table.FileTable.TheVariants as tables
 use Rattle.desk_parts.specs.Rows.{StoredTab}
 use Rattle.desk_parts.specs.FileRows.{HasUtf8Texts}
-use Rattle.std.specs.declared.alloc.AllocError.{AllocError}
 use Rattle.sqlite_schema.specs.declared.schema.Schema.{Schema}
 use Rattle.sqlite_catalog.specs.Listing.{IsSound}
 use Rattle.sqlite.specs.declared.error.Error.{Error}
@@ -172,7 +171,7 @@ module _ {V X : Type 0} (items : V → List X) (t : FileTable) (view : X → Sho
   still_fails fault (together xs gives not is) = absurd (not tt)
   still_fails fault (no_memory row rows seen begins is) = no_memory row rows seen begins is
 
-  are_apart : (xs : V) → AnswersRows (Ok xs) items t view AnyRows old new → Apart (items xs) → AnswersRows (Ok xs) items t view Apart old new
+  pub are_apart : (xs : V) → AnswersRows (Ok xs) items t view AnyRows old new → Apart (items xs) → AnswersRows (Ok xs) items t view Apart old new
   are_apart xs a is = record {
     gives = a.gives;
     apart = is;
@@ -190,23 +189,14 @@ module _ {V X : Type 0} (items : V → List X) (t : FileTable) (view : X → Sho
   still_not_read fault a =
       not_read items t view Apart old new fault (still_fails fault a.told) a.refused (λ can unlimited readable apart. a.answered can unlimited readable (λ xs all. tt))
 
-  are_together : (xs : V) → AnswersRows (Ok xs) items t view AnyRows old new → ¬ Apart (items xs) → AnswersRows (Err Refused) items t view Apart old new
+  pub are_together : (xs : V) → AnswersRows (Ok xs) items t view AnyRows old new → ¬ Apart (items xs) → AnswersRows (Err Refused) items t view Apart old new
   are_together xs a not =
       not_read items t view Apart old new Refused (together (items xs) a.gives not refl) (λ is. a.unchanged)
       (λ can unlimited readable apart. absurd (not (apart (items xs) a.gives)))
 
-  not_judged : (xs : V) (a : AnswersRows (Ok xs) items t view AnyRows old new) → BeginWith (query_of t).kinds a.gives.0 → AnswersRows (Err NoMemory) items t view Apart old new
+  pub not_judged : (xs : V) (a : AnswersRows (Ok xs) items t view AnyRows old new) → BeginWith (query_of t).kinds a.gives.0 → AnswersRows (Err NoMemory) items t view Apart old new
   not_judged xs a begins =
       not_read items t view Apart old new NoMemory (lacks_memory (query_of t) (λ x. shown_columns t (view x)) Apart old new a.gives.0 a.gives.1 begins) (λ is. a.unchanged) (λ can unlimited readable apart is. absurd (cc))
-
-  -- by whether they were found to be apart, where memory for that is asked only once the first row begins with values of its kinds
-  pub judged : (xs : V) (apart : Result Bool AllocError) (r : Result V DatabaseFault) (a : AnswersRows (Ok xs) items t view AnyRows old new)
-      → IfOk apart (λ b. MatchBool b (Apart (items xs)) (¬ Apart (items xs))) → OnErr apart (BeginWith (query_of t).kinds a.gives.0)
-      → (apart ≡ Ok true → r ≡ Ok xs) → (apart ≡ Ok false → r ≡ Err Refused) → OnErr apart (r ≡ Err NoMemory)
-      → AnswersRows r items t view Apart old new
-  judged xs (Ok true) r a is begins ok not none = subst (λ (s : Result V DatabaseFault). AnswersRows s items t view Apart old new) (sym (ok refl)) (are_apart xs a is)
-  judged xs (Ok false) r a is begins ok not none = subst (λ (s : Result V DatabaseFault). AnswersRows s items t view Apart old new) (sym (not refl)) (are_together xs a is)
-  judged xs (Err e) r a is begins ok not none = subst (λ (s : Result V DatabaseFault). AnswersRows s items t view Apart old new) (sym none) (not_judged xs a begins)
 
 -- ---- braille tables, for the first of which something is allocated
 
