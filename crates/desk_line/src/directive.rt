@@ -5,7 +5,7 @@ ghost use Rattle.desk_line.specs.Reading.{directive_by, read};
 ghost use Rattle.louis_table.specs.declared.en.TheConstants.{EN};
 ghost use Rattle.std.specs.Prelude.{◌≡◌, []};
 
-use super::fields::{Field, Fields};
+use super::fields::Fields;
 use desk_model::{Command, LentBytes, LentText};
 use louis_table::EN;
 
@@ -24,25 +24,25 @@ pub(crate) enum Directive<'a> {
 }
 
 /// The command that a word and the fields after it give.
-pub(crate) fn read_directive<'a>(word: &Field<'_>, fields: Fields<'a>) -> Option<Directive<'a>>
+pub(crate) fn read_directive<'a>(word: &str, fields: Fields<'a>) -> Option<Directive<'a>>
     ensures { result ≡ directive_by word.now fields.entry }
 {
-    if word.is("table") {
+    if word == "table" {
         let (name, fields) = fields.name()?;
         let (count, fields) = fields.lines()?;
         fields.end(Directive::Table { name, count })
-    } else if word.is("supply") {
+    } else if word == "supply" {
         let (name, fields) = fields.name()?;
         let text = LentBytes::new(EN.as_bytes());
         whole(Command::Table { name, text }, fields)
-    } else if word.is("type") {
+    } else if word == "type" {
         read_type(fields)
-    } else if word.is("correct") {
+    } else if word == "correct" {
         read_correct(nobody(), fields)
-    } else if word.is("correct-by") {
+    } else if word == "correct-by" {
         let (who, fields) = fields.name()?;
         read_correct(who, fields)
-    } else if word.is("mark") {
+    } else if word == "mark" {
         read_mark(fields)
     } else {
         read_textless(word, fields)
@@ -50,34 +50,34 @@ pub(crate) fn read_directive<'a>(word: &Field<'_>, fields: Fields<'a>) -> Option
 }
 
 /// The command that has no text, if the word is that of one.
-fn read_textless<'a>(word: &Field<'_>, fields: Fields<'a>) -> Option<Directive<'a>>
+fn read_textless<'a>(word: &str, fields: Fields<'a>) -> Option<Directive<'a>>
     ensures { result ≡ read (textless word.now) fields.entry }
 {
-    if word.is("undo") {
+    if word == "undo" {
         let (paragraph, fields) = fields.number()?;
         whole(Command::Undo { paragraph }, fields)
-    } else if word.is("resolve") {
+    } else if word == "resolve" {
         let (mark, fields) = fields.number()?;
         whole(Command::Resolve { mark }, fields)
-    } else if word.is("strike") {
+    } else if word == "strike" {
         let (paragraph, fields) = fields.number()?;
         whole(Command::Strike { paragraph }, fields)
-    } else if word.is("restore") {
+    } else if word == "restore" {
         let (paragraph, fields) = fields.number()?;
         whole(Command::Restore { paragraph }, fields)
-    } else if word.is("style") {
+    } else if word == "style" {
         let (paragraph, fields) = fields.number()?;
         let (style, fields) = fields.look()?;
         whole(Command::Style { paragraph, style }, fields)
-    } else if word.is("volume") {
+    } else if word == "volume" {
         let (paragraph, fields) = fields.number()?;
         let (begins, fields) = fields.flag()?;
         whole(Command::Volume { paragraph, begins }, fields)
-    } else if word.is("retable") {
+    } else if word == "retable" {
         let (paragraph, fields) = fields.number()?;
         let (table, fields) = fields.name()?;
         whole(Command::Retable { paragraph, table }, fields)
-    } else if word.is("move") {
+    } else if word == "move" {
         let (paragraph, fields) = fields.number()?;
         let (after, fields) = fields.place()?;
         whole(Command::Move { paragraph, after }, fields)

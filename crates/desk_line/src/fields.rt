@@ -1,55 +1,11 @@
 //! The fields of a head line.
 ghost use Rattle.desk_line.specs.Fields.{fields_in_rest, fields_of, line_of_fields};
 ghost use Rattle.desk_line.specs.Reading.{first_and_others, is_end};
-ghost use Rattle.std.specs.Prelude.{None, Some, if◌then◌else◌, ◌≡◌, ◌∷◌};
-ghost use Rattle.std.specs.Str.{bytes_eq, chars};
+ghost use Rattle.std.specs.Prelude.{None, Some, if◌then◌else◌, option_map, ◌≡◌, ◌∷◌};
+ghost use Rattle.std.specs.Str.{chars};
 
 use desk_model::LentText;
 use std::marker::Model;
-
-/// A part of a head line. Contracts see its bytes.
-#[derive(Drop)]
-pub(crate) struct Field<'a> {
-    text: &'a str,
-}
-
-impl<'a> Model for Field<'a> {
-    ghost use Rattle.std.specs.Prelude.{List, ℕ};
-
-    ghost Value = { List ℕ };
-
-    ghost view = { λ f. f.text.now };
-}
-
-impl<'a> Field<'a> {
-    /// The text of the field.
-    pub(crate) fn as_str(&self) -> &'a str
-        ensures { result.now ≡ self.now }
-    {
-        self.text
-    }
-
-    /// The bytes of the field.
-    pub(crate) fn as_bytes(&self) -> &'a [u8]
-        ensures { result.now ≡ self.now }
-    {
-        self.text.as_bytes()
-    }
-
-    /// The text of the field, as commands have it.
-    pub(crate) fn as_text(&self) -> LentText<'a>
-        ensures { result ≡ chars self.now }
-    {
-        LentText::new(self.text)
-    }
-
-    /// Whether the field is this word.
-    pub(crate) fn is(&self, word: &str) -> bool
-        ensures { result ≡ bytes_eq self.now word.now }
-    {
-        self.text == word
-    }
-}
 
 /// The fields of a line that are still to be read: what stands between its blanks. Contracts see
 /// their list.
@@ -76,12 +32,11 @@ impl<'a> Fields<'a> {
     }
 
     /// The first field and the others, if there is one.
-    pub(crate) fn split(self) -> Option<(Field<'a>, Fields<'a>)>
-        ensures { result ≡ first_and_others self.entry }
+    pub(crate) fn split(self) -> Option<(&'a str, Fields<'a>)>
+        ensures { option_map (λ it. (it.0.now, it.1)) result ≡ first_and_others self.entry }
     {
-        let line = self.rest?;
-        let (text, rest) = split_line(line);
-        Some((Field { text }, Fields { rest }))
+        let (field, rest) = split_line(self.rest?);
+        Some((field, Fields { rest }))
     }
 
     /// Whether no field is left.

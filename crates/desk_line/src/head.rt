@@ -67,10 +67,10 @@ fn read_command(fields: Fields<'_>) -> Option<Head<'_>>
     ensures { result ≡ command_in fields.entry }
 {
     let (word, others) = fields.split()?;
-    match word.as_str().strip_prefix('@') {
+    match word.strip_prefix('@') {
         Some(version) => read_expecting(version.as_bytes(), others),
         None => {
-            let directive = read_directive(&word, others)?;
+            let directive = read_directive(word, others)?;
             Some(Head::Do {
                 directive,
                 expect: None,
@@ -86,7 +86,7 @@ fn read_expecting<'a>(version: &[u8], fields: Fields<'a>) -> Option<Head<'a>>
 {
     let version = read_number(version)?;
     let (word, others) = fields.split()?;
-    let directive = read_directive(&word, others)?;
+    let directive = read_directive(word, others)?;
     Some(Head::Do {
         directive,
         expect: Some(version),

@@ -20,10 +20,7 @@ pub(crate) fn read_number(digits: &[u8]) -> Option<u64>
         return None;
     }
     let value = value_of(digits);
-    if value > MOST_NUMBER {
-        return None;
-    }
-    Some(value)
+    (value <= MOST_NUMBER).then_some(value)
 }
 
 /// Whether each byte is a decimal digit.
@@ -64,10 +61,7 @@ impl<'a> Fields<'a> {
     {
         let (field, others) = self.split()?;
         let count = read_number(field.as_bytes())?;
-        if count > MOST_LINES as u64 {
-            return None;
-        }
-        Some((count, others))
+        (count <= MOST_LINES as u64).then_some((count, others))
     }
 
     /// The first field as a name, which has one character or more, and the fields after it.
@@ -76,10 +70,7 @@ impl<'a> Fields<'a> {
         ensures { result ≡ first_of Name self.entry }
     {
         let (field, others) = self.split()?;
-        if field.as_bytes().is_empty() {
-            return None;
-        }
-        Some((field.as_text(), others))
+        (!field.is_empty()).then_some((LentText::new(field), others))
     }
 
     /// The first field as where a paragraph is put, `front`, `end` or the number of the paragraph
@@ -89,13 +80,10 @@ impl<'a> Fields<'a> {
         ensures { result ≡ first_of Place self.entry }
     {
         let (field, others) = self.split()?;
-        if field.is("front") {
-            Some((Anchor::Front, others))
-        } else if field.is("end") {
-            Some((Anchor::End, others))
-        } else {
-            let paragraph = read_number(field.as_bytes())?;
-            Some((Anchor::Para(paragraph), others))
+        match field {
+            "front" => Some((Anchor::Front, others)),
+            "end" => Some((Anchor::End, others)),
+            _ => Some((Anchor::Para(read_number(field.as_bytes())?), others)),
         }
     }
 
@@ -105,12 +93,10 @@ impl<'a> Fields<'a> {
         ensures { result ≡ first_of Look self.entry }
     {
         let (field, others) = self.split()?;
-        if field.is("body") {
-            Some((Style::Body, others))
-        } else if field.is("heading") {
-            Some((Style::Heading, others))
-        } else {
-            None
+        match field {
+            "body" => Some((Style::Body, others)),
+            "heading" => Some((Style::Heading, others)),
+            _ => None,
         }
     }
 
@@ -120,12 +106,10 @@ impl<'a> Fields<'a> {
         ensures { result ≡ first_of Flag self.entry }
     {
         let (field, others) = self.split()?;
-        if field.is("on") {
-            Some((true, others))
-        } else if field.is("off") {
-            Some((false, others))
-        } else {
-            None
+        match field {
+            "on" => Some((true, others)),
+            "off" => Some((false, others)),
+            _ => None,
         }
     }
 }

@@ -72,10 +72,7 @@ pub fn read_request(bytes: &[u8]) -> Option<Request<'_>>
     ensures { MatchOption result (IsNoRequest bytes.now) (Reads bytes.now) }
 {
     let (line, text) = split_line(bytes);
-    match begin_request(line) {
-        Some(head) => head.finish(text),
-        None => None,
-    }
+    begin_request(line)?.finish(text)
 }
 
 /// The request that a head line makes with the bytes of the lines after it, if these are as many as

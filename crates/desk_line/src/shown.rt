@@ -7,7 +7,7 @@ ghost use Rattle.desk_ends.specs.Cells.{text_of};
 ghost use Rattle.desk_ends.specs.Sending.{Puts};
 ghost use Rattle.desk_line.specs.Reply.{entry_line, list_line, mark_line, shown_line, shown_text};
 ghost use Rattle.std.specs.List.{flat_map};
-ghost use Rattle.std.specs.Prelude.{decimal, is_ok, map, ◌++◌, ◌≡◌};
+ghost use Rattle.std.specs.Prelude.{decimal, is_ok, map, ◌++◌};
 
 use super::text_output::{put_characters, put_fields};
 use cell_core::Cell;

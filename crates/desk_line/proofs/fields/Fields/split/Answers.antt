@@ -4,4 +4,4 @@ use Rattle.desk_line.specs.Reading.{first_and_others}
 use Rattle.desk_line.proofs.fields.Fields.split.Goals as goal
 
 pub returns : goal.returns
-returns c = sym (ap first_and_others (sym c.self.view_is ∙ (ap fields_in_rest c.in_ok-line.was ∙ c.split_line.ensures)))
+returns c = sym (ap first_and_others (sym c.self.view_is ∙ (ap fields_in_rest c.in_ok-self.was ∙ c.split_line.ensures)))
