@@ -3,7 +3,7 @@
 //! Of a file that is declared as a new one the rows are given as they stand, in any order.
 
 ghost use Rattle.std.specs.Prelude.{◌≡◌, ◌⊎◌, false, IfErr, IfOk, MatchBool, None, option_map};
-ghost use Rattle.std.specs.List.{list_all, list_any};
+ghost use Rattle.std.specs.List.{list_any};
 ghost use Rattle.sqlite.specs.Held.{state};
 ghost use Rattle.desk_model.specs.Damage.{IsSoundBookRow};
 ghost use Rattle.sqlite.specs.State.{HasCleanDisk, Survives};
@@ -29,14 +29,7 @@ use std::alloc::Global;
 /// The newest format that is read.
 const NEWEST_FORMAT: i64 = 2;
 
-/// Whether each of these tables is there, as [`has_table`] says.
-pub(crate) fn has_all<S: Alter>(conn: &Connection<S>, tables: &[FileTable]) -> bool
-    ensures { result ≡ list_all (is_there (state S.Store conn.now).now.schema) tables.now }
-{
-    tables.iter().all(|table| has_table(conn, *table))
-}
-
-/// Whether one of these tables is there.
+/// Whether one of these tables is there, as [`has_table`] says.
 pub(crate) fn has_any<S: Alter>(conn: &Connection<S>, tables: &[FileTable]) -> bool
     ensures { result ≡ list_any (is_there (state S.Store conn.now).now.schema) tables.now }
 {
@@ -117,14 +110,8 @@ fn read_entries<S: Alter>(
     ensures survives { Survives (state S.Store conn.old) (state S.Store conn.new) (λ _. ⊥) }
 {
     match format {
-        FileFormat::Unnamed => {
-            let entries = read_rows(alloc, conn)?;
-            Ok(EntryRows::Unnamed(entries))
-        }
-        FileFormat::Named => {
-            let entries = read_rows(alloc, conn)?;
-            Ok(EntryRows::Named(entries))
-        }
+        FileFormat::Unnamed => Ok(EntryRows::Unnamed(read_rows(alloc, conn)?)),
+        FileFormat::Named => Ok(EntryRows::Named(read_rows(alloc, conn)?)),
     }
 }
 
@@ -145,8 +132,7 @@ fn read_cells<S: Alter>(
     if !has_table(conn, FileTable::Cache) {
         return Ok(None);
     }
-    let cells = read_rows(alloc, conn)?;
-    Ok(Some(cells))
+    Ok(Some(read_rows(alloc, conn)?))
 }
 
 /// What a file of this format and at this version holds.
@@ -165,18 +151,13 @@ fn read_rest<S: Alter>(
     ensures mode { conn.old.in_transaction ≡ false → conn.new.in_transaction ≡ false }
     ensures survives { Survives (state S.Store conn.old) (state S.Store conn.new) (λ _. ⊥) }
 {
-    let tabs = read_tabs(alloc, conn)?;
-    let paras = read_rows(alloc, conn)?;
-    let entries = read_entries(alloc, conn, format)?;
-    let marks = read_rows(alloc, conn)?;
-    let cache = read_cells(alloc, conn, format)?;
     Ok(Parts {
         version,
-        tabs,
-        paras,
-        entries,
-        marks,
-        cache,
+        tabs: read_tabs(alloc, conn)?,
+        paras: read_rows(alloc, conn)?,
+        entries: read_entries(alloc, conn, format)?,
+        marks: read_rows(alloc, conn)?,
+        cache: read_cells(alloc, conn, format)?,
     })
 }
 
@@ -219,6 +200,5 @@ pub(crate) fn read_parts<S: Alter>(
     if !has_tables(conn, format) {
         return Err(OpenFault::NotABook);
     }
-    let parts = read_rest(alloc, conn, format, book.version)?;
-    Ok(parts)
+    Ok(read_rest(alloc, conn, format, book.version)?)
 }

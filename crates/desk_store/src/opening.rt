@@ -10,7 +10,7 @@ ghost use Rattle.desk_store.specs.Filling.{FillsFile, HoldsEitherWith, which_lac
 ghost use Rattle.desk_store.specs.Opened.{HoldsEither, HoldsEmpty, HoldsNone, OpensFile, Stands};
 ghost use Rattle.sql_tables.specs.States.{Leaves};
 ghost use Rattle.sqlite.specs.Held.{Held, state};
-ghost use Rattle.sqlite.specs.State.{HasCleanDisk, Survives};
+ghost use Rattle.sqlite.specs.State.{HasCleanDisk};
 
 use crate::book_file::{has_any, read_parts};
 use crate::fault::OpenFault;
@@ -134,7 +134,7 @@ impl<S: Alter + Drop> Store<S> {
     /// Those of [`Store::open_on`]; the connection is then dropped.
     pub fn adopt(
         alloc: Global,
-        connection: Connection<S>,
+        mut connection: Connection<S>,
         make: bool,
     ) -> Result<(Self, Book), OpenFault>
         requires idle { connection.in_transaction ≡ false }
@@ -146,7 +146,6 @@ impl<S: Alter + Drop> Store<S> {
         ensures told { IfErr result (λ fault. (last : Held S)
             × OpensFile S.Store make connection (state S.Store last) (Err fault)) }
     {
-        let mut connection = connection;
         let book = Store::open_on(alloc, &mut connection, make)?;
         Ok((Store::over(connection), book))
     }

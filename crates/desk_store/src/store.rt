@@ -110,10 +110,6 @@ impl<S: Alter> Store<S> {
         ensures same { result ≡ self.connection }
         ensures idle { result.in_transaction ≡ false }
     {
-        let Store {
-            connection,
-            lost: _,
-        } = self;
-        connection
+        self.connection
     }
 }

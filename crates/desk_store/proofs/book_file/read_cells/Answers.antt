@@ -9,16 +9,16 @@ pub returns-then-not-has_table-clause-read : goal.returns-then-not-has_table-cla
 returns-then-not-has_table-clause-read g c clean =
     reads_none (format_read c.args.format) _ (sym c.has_table.ensures ∙ c.if-not-has_table.true)
 
-pub returns-in_err-cells-clause-fails : goal.returns-in_err-cells-clause-fails
-returns-in_err-cells-clause-fails g c clean =
+pub returns-in_err-read_rows-clause-fails : goal.returns-in_err-read_rows-clause-fails
+returns-in_err-read_rows-clause-fails g c clean =
     let f = format_read c.args.format in
     let there = sym c.has_table.ensures ∙ c.if-not-has_table.false in
     rw (told_is _ c.from_residual.ensures.1)
-    (table_fails g.S.Store f tables.Cache c.args.conn.now (read_in_both f tables.Cache _ refl there) (c.in_err-cells.ensures.answers clean))
+    (table_fails g.S.Store f tables.Cache c.args.conn.now (read_in_both f tables.Cache _ refl there) (c.in_err-read_rows.ensures.answers clean))
 
 pub returns-clause-read : goal.returns-clause-read
 returns-clause-read g c clean =
     let f = format_read c.args.format in
     let there = sym c.has_table.ensures ∙ c.if-not-has_table.false in
-    reads_cells f c.in_ok-cells.cells.items there
-    (reads_table f tables.Cache (read_in_both f tables.Cache _ refl there) (c.in_ok-cells.ensures.answers clean))
+    reads_cells f c.in_ok-read_rows.field-0.items there
+    (reads_table f tables.Cache (read_in_both f tables.Cache _ refl there) (c.in_ok-read_rows.ensures.answers clean))

@@ -4,24 +4,24 @@ use Rattle.desk_store.proofs.TablesRead.{reads_named, reads_table, reads_unnamed
 use Rattle.desk_store.proofs.Exits.{told_is}
 use Rattle.desk_store.proofs.book_file.read_entries.Goals as goal
 
-pub returns-in_err-entries-in-Unnamed-clause-fails : goal.returns-in_err-entries-in-Unnamed-clause-fails
-returns-in_err-entries-in-Unnamed-clause-fails g c clean =
+pub returns-in_err-read_rows-in-Unnamed-clause-fails : goal.returns-in_err-read_rows-in-Unnamed-clause-fails
+returns-in_err-read_rows-in-Unnamed-clause-fails g c clean =
     rw (told_is _ c.from_residual.ensures.1, c.in-Unnamed.is)
-    (table_fails g.S.Store unnamed tables.Corr c.args.conn.now tt (c.in_err-entries-in-Unnamed.ensures.answers clean))
+    (table_fails g.S.Store unnamed tables.Corr c.args.conn.now tt (c.in_err-read_rows-in-Unnamed.ensures.answers clean))
 
-pub returns-in_err-entries-in-Named-clause-fails : goal.returns-in_err-entries-in-Named-clause-fails
-returns-in_err-entries-in-Named-clause-fails g c clean =
-    rw (told_is _ c.from_residual-in_err-entries-in-Named.ensures.1, c.in-Named.is)
-    (table_fails g.S.Store named tables.NamedCorr c.args.conn.now tt (c.in_err-entries-in-Named.ensures.answers clean))
+pub returns-in_err-read_rows-in-Named-clause-fails : goal.returns-in_err-read_rows-in-Named-clause-fails
+returns-in_err-read_rows-in-Named-clause-fails g c clean =
+    rw (told_is _ c.from_residual-in_err-read_rows-in-Named.ensures.1, c.in-Named.is)
+    (table_fails g.S.Store named tables.NamedCorr c.args.conn.now tt (c.in_err-read_rows-in-Named.ensures.answers clean))
 
-pub returns-in_ok-entries-in-Unnamed-clause-read : goal.returns-in_ok-entries-in-Unnamed-clause-read
-returns-in_ok-entries-in-Unnamed-clause-read g c clean =
-    let read = c.in_ok-entries-in-Unnamed in
+pub returns-in_ok-read_rows-in-Unnamed-clause-read : goal.returns-in_ok-read_rows-in-Unnamed-clause-read
+returns-in_ok-read_rows-in-Unnamed-clause-read g c clean =
+    let read = c.in_ok-read_rows-in-Unnamed in
     rw c.in-Unnamed.is
-    (reads_unnamed read.entries.items (reads_table unnamed tables.Corr tt (read.ensures.answers clean)))
+    (reads_unnamed read.field-0.items (reads_table unnamed tables.Corr tt (read.ensures.answers clean)))
 
-pub returns-in_ok-entries-in-Named-clause-read : goal.returns-in_ok-entries-in-Named-clause-read
-returns-in_ok-entries-in-Named-clause-read g c clean =
-    let read = c.in_ok-entries-in-Named in
+pub returns-in_ok-read_rows-in-Named-clause-read : goal.returns-in_ok-read_rows-in-Named-clause-read
+returns-in_ok-read_rows-in-Named-clause-read g c clean =
+    let read = c.in_ok-read_rows-in-Named in
     rw c.in-Named.is
-    (reads_named read.entries.items (reads_table named tables.NamedCorr tt (read.ensures.answers clean)))
+    (reads_named read.field-0.items (reads_table named tables.NamedCorr tt (read.ensures.answers clean)))

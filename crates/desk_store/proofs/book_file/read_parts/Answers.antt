@@ -64,38 +64,38 @@ returns-then-not-has_tables-clause-told g c clean l file those was =
 
 -- ---- another table isn't read
 
-pub returns-in_err-parts-clause-unrefused : goal.returns-in_err-parts-clause-unrefused
-returns-in_err-parts-clause-unrefused g c clean book shows =
+pub returns-in_err-read_rest-clause-unrefused : goal.returns-in_err-read_rest-clause-unrefused
+returns-in_err-read_rest-clause-unrefused g c clean book shows =
     let answers = c.in_ok-books.ensures.answers (omega (arith, clean, c.read_rest.ensures.survives.clean)) in
     let it = judged c.has_table.ensures c.if-not-has_table.false answers c.deref.ensures.value c.in_ok-book.ensures.book in
     let kept = kept_by_row _ book shows _ it.are _ it.is ∙ sym c.format_of-format.ensures in
     let all = subst (λ (f : Format). CanAllAnswer f (state g.S.Store c.args.conn.now)) kept shows.answer in
-    rw (told_is _ c.from_residual-in_err-parts.ensures.1)
-    (λ refusal. (c.in_err-parts.ensures.fails clean).answered (refusal_is _ refusal)
+    rw (told_is _ c.from_residual-in_err-read_rest.ensures.1)
+    (λ refusal. (c.in_err-read_rest.ensures.fails clean).answered (refusal_is _ refusal)
     (c.read_rows.ensures.survives.limit ∙ c.requires.unlimited) (can_all_still _ _ it.so_far _ all))
 
-pub returns-in_err-parts-clause-told : goal.returns-in_err-parts-clause-told
-returns-in_err-parts-clause-told g c clean l file those was =
+pub returns-in_err-read_rest-clause-told : goal.returns-in_err-read_rest-clause-told
+returns-in_err-read_rest-clause-told g c clean l file those was =
     let answers = c.in_ok-books.ensures.answers (omega (arith, clean, c.read_rest.ensures.survives.clean)) in
     let it = judged c.has_table.ensures c.if-not-has_table.false answers c.deref.ensures.value c.in_ok-book.ensures.book in
-    rw (told_is _ c.from_residual-in_err-parts.ensures.1)
-    (read_told l file c.in_err-parts.field-0.0 (λ refused.
+    rw (told_is _ c.from_residual-in_err-read_rest.ensures.1)
+    (read_told l file c.in_err-read_rest.field-0.0 (λ refused.
     lacks_readable it l file those was c.requires.unlimited (λ can.
     let asked = subst (λ (f : Format). ShowsReadable f (state g.S.Store c.args.conn.now)) (sym c.format_of-format.ensures) can in
-    ((c.in_err-parts.ensures.fails clean).refused refused).1 (readable_still _ _ it.so_far _ c.read_rows.ensures.survives.limit asked))))
+    ((c.in_err-read_rest.ensures.fails clean).refused refused).1 (readable_still _ _ it.so_far _ c.read_rows.ensures.survives.limit asked))))
 
-pub returns-in_err-parts-clause-refused : goal.returns-in_err-parts-clause-refused
-returns-in_err-parts-clause-refused g c clean =
+pub returns-in_err-read_rest-clause-refused : goal.returns-in_err-read_rest-clause-refused
+returns-in_err-read_rest-clause-refused g c clean =
     let answers = c.in_ok-books.ensures.answers (omega (arith, clean, c.read_rest.ensures.survives.clean)) in
-    rw (told_is _ c.from_residual-in_err-parts.ensures.1)
-    (λ refusal. stays_then _ _ _ (as_it_was _ _ answers.unchanged) ((c.in_err-parts.ensures.fails clean).refused (refusal_is _ refusal)).0)
+    rw (told_is _ c.from_residual-in_err-read_rest.ensures.1)
+    (λ refusal. stays_then _ _ _ (as_it_was _ _ answers.unchanged) ((c.in_err-read_rest.ensures.fails clean).refused (refusal_is _ refusal)).0)
 
-pub returns-in_err-parts-clause-stops : goal.returns-in_err-parts-clause-stops
-returns-in_err-parts-clause-stops g c clean =
+pub returns-in_err-read_rest-clause-stops : goal.returns-in_err-read_rest-clause-stops
+returns-in_err-read_rest-clause-stops g c clean =
     let answers = c.in_ok-books.ensures.answers (omega (arith, clean, c.read_rest.ensures.survives.clean)) in
     let it = judged c.has_table.ensures c.if-not-has_table.false answers c.deref.ensures.value c.in_ok-book.ensures.book in
-    let stops = rest_stops g.S.Store c.args.conn.now c.read_rows.new.conn _ _ it.so_far it.are it.is c.format_of-format.ensures (c.in_err-parts.ensures.fails clean) in
-    rw (told_is _ c.from_residual-in_err-parts.ensures.1) (λ none. reading _ stops refl)
+    let stops = rest_stops g.S.Store c.args.conn.now c.read_rows.new.conn _ _ it.so_far it.are it.is c.format_of-format.ensures (c.in_err-read_rest.ensures.fails clean) in
+    rw (told_is _ c.from_residual-in_err-read_rest.ensures.1) (λ none. reading _ stops refl)
 
 -- ---- all of it is read
 
@@ -104,12 +104,12 @@ returns-clause-read g c clean =
     let answers = c.in_ok-books.ensures.answers (omega (arith, clean, c.read_rest.ensures.survives.clean)) in
     let it = judged c.has_table.ensures c.if-not-has_table.false answers c.deref.ensures.value c.in_ok-book.ensures.book in
     let all = tables_there it c.has_tables.ensures c.format_of-format.ensures c.if-not-has_tables.false in
-    let kept = c.in_ok-parts.ensures.kept in
+    let kept = c.in_ok-read_rest.ensures.kept in
     let fits : SFits w64 c.in_ok-book.book.version = search rules in
     let version = kept.0 ∙ to_z-of_z w64 c.in_ok-book.book.version fits in
-    let rest = c.in_ok-parts.ensures.read clean in
+    let rest = c.in_ok-read_rest.ensures.read clean in
     record {
-      found = file_rows it c.in_ok-parts.parts version (kept.1 ∙ c.format_of-format.ensures) all rest.given;
+      found = file_rows it c.in_ok-read_rest.field-0 version (kept.1 ∙ c.format_of-format.ensures) all rest.given;
       stays = stays_then _ _ _ it.so_far rest.stays;
       is_open = rest.stays.is_open ∙ answers.unchanged.0.is_open;
       read = λ format l file of was.
@@ -117,7 +117,7 @@ returns-clause-read g c clean =
           let asked = subst (λ (f : Format). IsOfFormat f l) (sym c.format_of-format.ensures) its in
           let read = rest.of l file asked (shows_still _ _ it.so_far l file was) in
           let can = subst (λ (f : Format). CanAllBeRead f l file) c.format_of-format.ensures read.1 in
-          read_whole it c.in_ok-parts.parts version (kept.1 ∙ c.format_of-format.ensures) l file was its can read.0;
+          read_whole it c.in_ok-read_rest.field-0 version (kept.1 ∙ c.format_of-format.ensures) l file was its can read.0;
     }
 
 pub returns-clause-survives : goal.returns-clause-survives
