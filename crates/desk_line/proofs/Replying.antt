@@ -83,6 +83,25 @@ pub no-paragraph-asked : (book : Book) (query : Query) (id : ℕ) (refusal : Ref
     → (refusal ≡ refusals.NoParagraph) × (paragraph_of book id ≡ None) → Refuses book query refusal
 no-paragraph-asked book query id refusal asks h = no_paragraph id asks h.1 h.0
 
+-- a refusal with nothing but its code
+pub no-details : (refusal : Refusal)
+    → (refusal ≡ refusals.BadName) ⊎ ((refusal ≡ refusals.BadReader) ⊎ ((refusal ≡ refusals.NoParagraph) ⊎ ((refusal ≡ refusals.NoTable)
+    ⊎ ((refusal ≡ refusals.NoMark) ⊎ ((refusal ≡ refusals.Struck) ⊎ ((refusal ≡ refusals.NotStruck) ⊎ ((refusal ≡ refusals.Resolved)
+    ⊎ ((refusal ≡ refusals.BadSpan) ⊎ ((refusal ≡ refusals.NothingToUndo) ⊎ ((refusal ≡ refusals.TooLong) ⊎ (refusal ≡ refusals.NoMemory)))))))))))
+    → [] ≡ details refusal
+no-details refusal (inl e) = sym (ap details e)
+no-details refusal (inr (inl e)) = sym (ap details e)
+no-details refusal (inr (inr (inl e))) = sym (ap details e)
+no-details refusal (inr (inr (inr (inl e)))) = sym (ap details e)
+no-details refusal (inr (inr (inr (inr (inl e))))) = sym (ap details e)
+no-details refusal (inr (inr (inr (inr (inr (inl e)))))) = sym (ap details e)
+no-details refusal (inr (inr (inr (inr (inr (inr (inl e))))))) = sym (ap details e)
+no-details refusal (inr (inr (inr (inr (inr (inr (inr (inl e)))))))) = sym (ap details e)
+no-details refusal (inr (inr (inr (inr (inr (inr (inr (inr (inl e))))))))) = sym (ap details e)
+no-details refusal (inr (inr (inr (inr (inr (inr (inr (inr (inr (inl e)))))))))) = sym (ap details e)
+no-details refusal (inr (inr (inr (inr (inr (inr (inr (inr (inr (inr (inl e))))))))))) = sym (ap details e)
+no-details refusal (inr (inr (inr (inr (inr (inr (inr (inr (inr (inr (inr e))))))))))) = sym (ap details e)
+
 -- the refusals of a place, and of a cell
 pub place-refused : (book : Book) (id place : ℕ) (query : Query) (refusal : Refusal) → query ≡ queries.WhereIs id place
     → ((refusal ≡ refusals.NoParagraph) × (paragraph_of book id ≡ None)) ⊎ ((refusal ≡ refusals.BadSpan) × LacksPlace book id place) → Refuses book query refusal

@@ -81,7 +81,18 @@ fn put_refusal<K: Sink>(sink: &mut K, block: &mut Block, refusal: Refusal) -> Se
             put_line(sink, block, b"no", &[code, paragraph, place as u64])
         }
         Refusal::Full(limit) => { put_line(sink, block, b"no", &[code, u64::from(limit.number())]) }
-        _ => put_line(sink, block, b"no", &[code]),
+        Refusal::BadName
+        | Refusal::BadReader
+        | Refusal::NoParagraph
+        | Refusal::NoTable
+        | Refusal::NoMark
+        | Refusal::Struck
+        | Refusal::NotStruck
+        | Refusal::Resolved
+        | Refusal::BadSpan
+        | Refusal::NothingToUndo
+        | Refusal::TooLong
+        | Refusal::NoMemory => put_line(sink, block, b"no", &[code]),
     }
 }
 

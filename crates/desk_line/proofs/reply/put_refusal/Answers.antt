@@ -1,7 +1,7 @@
 use Rattle.std.proofs.Common.{ℕ, [], ◌∷◌, ap, sym, ◌∙◌}
 use Rattle.desk_ends.proofs.Sending.{Transmits-same}
 use Rattle.desk_line.specs.Reply.{details}
-use Rattle.desk_line.proofs.Replying.{refusal-text}
+use Rattle.desk_line.proofs.Replying.{no-details, refusal-text}
 use Rattle.desk_line.proofs.reply.put_refusal.Goals as goal
 
 pub returns-in-Moved : goal.returns-in-Moved
@@ -33,3 +33,8 @@ pub returns-in-Full : goal.returns-in-Full
 returns-in-Full g c =
     Transmits-same c.args.block.now
     (refusal-text c.args.refusal c.from-code.result (c.from.result ∷ []) (c.from-code.ensures ∙ c.code.ensures) (ap (λ (n : ℕ). n ∷ []) (c.from.ensures ∙ c.number.ensures) ∙ sym (ap details c.in-Full.is))) c.put_line-in-Full.ensures
+
+pub returns-in-BadName : goal.returns-in-BadName
+returns-in-BadName g c =
+    Transmits-same c.args.block.now
+    (refusal-text c.args.refusal c.from-code.result [] (c.from-code.ensures ∙ c.code.ensures) (no-details c.args.refusal c.in-BadName.is)) c.put_line-in-BadName.ensures
