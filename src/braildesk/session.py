@@ -716,7 +716,8 @@ class Session:
         expect: int | None = None,
     ) -> Done:
         """Gives a paragraph a style."""
-        return self.ask(requests.Style(paragraph, Style(style), expect=expect))
+        known = Style(style) if isinstance(style, str) else style
+        return self.ask(requests.Style(paragraph, known, expect=expect))
 
     def set_begins_volume(
         self, paragraph: int, begins: bool, *, expect: int | None = None

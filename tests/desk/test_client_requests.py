@@ -3,6 +3,7 @@
 import builtins
 import inspect
 import re
+from collections.abc import Callable
 from dataclasses import fields, replace
 from pathlib import Path
 from typing import Any, cast
@@ -322,3 +323,72 @@ def test_texts_come_back_as_they_are_kept(session: Session) -> None:
         Entry(1, Kind.CORRECT, 0, 4, "\t\x0b", "a\u0085b\tc", None),
     )
     assert session.marks_of(1)[0].note == text + " "
+
+
+#: What is asked with a value of another type, and the sentence of the exception.
+WRONG: list[tuple[Callable[[Any], Any], str]] = [
+    (
+        lambda session: session.add_paragraph("end", "en", 3),
+        "In a request type, text has to be a string, and is 3.",
+    ),
+    (
+        lambda session: session.add_paragraph("end", "en", b"The moon"),
+        "In a request type, text has to be a string, and is b'The moon'.",
+    ),
+    (
+        lambda session: session.add_paragraph("end", None, "The moon"),
+        "In a request type, table has to be a string, and is None.",
+    ),
+    (
+        lambda session: session.add_paragraph(1.0, "en", "The moon"),
+        'In a request type, after has to be a whole number, "front" or "end", and is 1.0.',
+    ),
+    (
+        lambda session: session.correct(1, 0.0, 3, "a"),
+        "In a request correct, start has to be a whole number, and is 0.0.",
+    ),
+    (
+        lambda session: session.correct(1, 0, 3, "a", by=3),
+        "In a request correct-by, who has to be a string, and is 3.",
+    ),
+    (
+        lambda session: session.undo(1, expect="2"),
+        "In a request undo, expect has to be a whole number, and is '2'.",
+    ),
+    (
+        lambda session: session.print_of("1"),
+        "In a request print, paragraph has to be a whole number, and is '1'.",
+    ),
+    (
+        lambda session: session.put_table("own", "space \\s 0"),
+        "In a request table, text has to be bytes, and is 'space \\\\s 0'.",
+    ),
+    (
+        lambda session: session.set_style(1, 3),
+        "In a request style, style has to be a string, and is 3.",
+    ),
+    (
+        lambda session: session.set_begins_volume(1, "on"),
+        "In a request volume, begins has to be True or False, and is 'on'.",
+    ),
+    (
+        lambda session: list(session.each([requests.Where(1, None)])),  # type: ignore[arg-type]
+        "In a request where, place has to be a whole number, and is None.",
+    ),
+]
+
+
+@pytest.mark.parametrize(("asked", "sentence"), WRONG)
+def test_a_value_of_another_type_is_an_error_before_anything_is_sent(
+    session: Session, asked: Callable[[Any], Any], sentence: str
+) -> None:
+    version = session.last_version
+    with pytest.raises(TypeError) as found:
+        asked(session)
+    assert str(found.value) == f"{sentence} Nothing was sent."
+    assert session.version() == version
+
+
+def test_a_word_that_is_no_style_is_an_error(session: Session) -> None:
+    with pytest.raises(ValueError, match="'title' is not a valid Style"):
+        session.set_style(1, cast(Style, "title"))

@@ -47,6 +47,9 @@ class Field(ABC):
     code: Code = Code.NO_REQUEST
     #: Whether it is the rest of a line, with all its blanks.
     is_rest: ClassVar[bool] = False
+    #: The types of its values, and what these are called.
+    types: ClassVar[type | tuple[type, ...]] = str
+    called: ClassVar[str] = "a string"
 
     @property
     def words(self) -> tuple[str, ...]:
@@ -70,6 +73,9 @@ class Field(ABC):
 class Number(Field):
     """A number from 0 on, in decimal digits."""
 
+    types = int
+    called = "a whole number"
+
     _: KW_ONLY
     most: int = limits.NUMBER
 
@@ -89,6 +95,8 @@ class Anchor(Number):
     """Where a paragraph is put: the front or the end, or after the one of a number."""
 
     words = ("front", "end")
+    types = (int, str)
+    called = 'a whole number, "front" or "end"'
 
     def write(self, value: int | str) -> str:
         if isinstance(value, int):
@@ -170,8 +178,19 @@ class Text(Field):
         return shortened(value)
 
 
+class OnOff(Choice):
+    """Whether something is so."""
+
+    # numbers too, as Python takes them for these
+    types = int
+    called = "True or False"
+
+
 class Lines(Field):
     """How many lines the text of a table has, which follow the line of the request."""
+
+    types = bytes
+    called = "bytes"
 
     def write(self, value: bytes) -> str:
         lines = lines_of(value)

@@ -23,6 +23,7 @@ from braildesk.protocol.fields import (
     Lines,
     Name,
     Number,
+    OnOff,
     Text,
     Unwritable,
     lines_of,
@@ -52,7 +53,7 @@ StyleWord = Annotated[
     values.Style, Choice("STYLE", choices=tuple((s, s, s) for s in values.Style))
 ]
 Switch = Annotated[
-    bool, Choice("SWITCH", choices=(("on", True, "a"), ("off", False, "no")))
+    bool, OnOff("SWITCH", choices=(("on", True, "a"), ("off", False, "no")))
 ]
 
 
@@ -97,7 +98,19 @@ class Request(ABC, Generic[Answer]):
     def head(self) -> list[str]:
         """The words of its line."""
         kinds = fields_of(type(self)).items()
-        return [self.name, *(kind.write(getattr(self, key)) for key, kind in kinds)]
+        return [self.name, *(self._written(key, kind) for key, kind in kinds)]
+
+    def _written(self, key: str, kind: Field) -> str:
+        """A field of its line; `TypeError` if its value is of another type."""
+        value = getattr(self, key)
+        if isinstance(value, kind.types):
+            return kind.write(value)
+        import reprlib  # which few requests need
+
+        raise TypeError(
+            f"In a request {self.name}, {key} has to be {kind.called}, and is"
+            f" {reprlib.repr(value)}. Nothing was sent."
+        )
 
     def in_words(self) -> str:
         """What it asks for, as a sentence names it."""
@@ -127,9 +140,9 @@ class Command(Request[Answer]):
 
     def head(self) -> list[str]:
         head = super().head()
-        return (
-            head if self.expect is None else ["@" + EXPECTED.write(self.expect), *head]
-        )
+        if self.expect is None:
+            return head
+        return ["@" + self._written("expect", EXPECTED), *head]
 
     def in_words(self) -> str:
         kinds = fields_of(type(self)).items()
