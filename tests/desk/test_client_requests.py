@@ -212,7 +212,7 @@ UNWRITABLE: list[tuple[Request[Any], int, int | None]] = [
     (requests.CorrectBy(1, 0, 0, "a", who="x" * 65_536), 18, None),
     (requests.Print(-1), 1, None),
     (requests.Print(2**53 + 1), 1, None),
-    (requests.Type("end\nundo 1", "en", "a"), 1, None),  # type: ignore[arg-type]
+    (requests.Type("end\nundo 1", "en", "a"), 1, None),
     (requests.Undo(1, expect=-1), 1, None),
 ]
 
@@ -372,7 +372,7 @@ WRONG: list[tuple[Callable[[Any], Any], str]] = [
         "In a request volume, begins has to be True or False, and is 'on'.",
     ),
     (
-        lambda session: list(session.each([requests.Where(1, None)])),  # type: ignore[arg-type]
+        lambda session: list(session.each([requests.Where(1, None)])),
         "In a request where, place has to be a whole number, and is None.",
     ),
 ]

@@ -121,6 +121,50 @@ def test_legal_numbers_are_in_digits_and_nothing_may_part_them(tmp_path: Path) -
     assert texts(tmp_path, body, lists(legal)) == ["I a", "1.1:b"]
 
 
+def test_a_number_may_be_one_word_with_what_it_stands_before(tmp_path: Path) -> None:
+    joined = level(0, "decimal", "%1", '<w:suff w:val="nothing"/>')
+    body = item("apple tart", 1) + item("pear tart", 1)
+    assert texts(tmp_path, body, lists(joined)) == ["1apple tart", "2pear tart"]
+
+
+LATER = (
+    '<mc:AlternateContent><mc:Choice Requires="w14"><w:numFmt w:val="custom" w:format="{}"/>'
+    '</mc:Choice><mc:Fallback><w:numFmt w:val="decimal"/></mc:Fallback></mc:AlternateContent>'
+)
+
+
+@pytest.mark.parametrize(
+    ("form", "shown", "noted"),
+    [
+        ("001, 002, 003, ...", "§ 007 a", []),
+        ("0001, 0002, 0003, ...", "§ 0007 a", []),
+        ("α, β, γ, ...", "§ 7 a", ["§ 7"]),
+    ],
+)
+def test_numbers_have_the_form_that_word_gives_them_in_its_later_versions(
+    tmp_path: Path, form: str, shown: str, noted: list[str]
+) -> None:
+    padded = level(0, "decimal", "§ %1", start=7).replace(
+        '<w:numFmt w:val="decimal"/>', LATER.format(form)
+    )
+    path = docx(tmp_path / "a.docx", item("a", 1), numbering=lists(padded))
+    found = read_manuscript(path)
+    assert found.texts == [shown]
+    assert [loss.words for loss in found.losses] == noted
+
+
+def test_an_attribute_may_have_the_sign_with_which_a_tag_ends(tmp_path: Path) -> None:
+    numbering = lists(level(0, "decimal", "%1."))
+    odd = paragraph(run("a > b"), properties=in_list(1))
+    odd = odd.replace("<w:p>", '<w:p w:rsidR=\'a>"b\' w:rsidP="/>">')
+    empty = paragraph(properties=in_list(1)).replace("<w:p>", '<w:p w:rsidR="/>">')
+    assert texts(tmp_path, odd + empty + item("c", 1), numbering) == [
+        "1. a > b",
+        "2.",
+        "3. c",
+    ]
+
+
 def test_bullets_are_those_of_the_book_and_a_blank_one_is_none(tmp_path: Path) -> None:
     numbering = lists(level(0, "bullet", "\uf0b7") + level(1, "bullet", " "))
     path = docx(

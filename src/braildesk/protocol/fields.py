@@ -73,7 +73,7 @@ class Field(ABC):
 class Number(Field):
     """A number from 0 on, in decimal digits."""
 
-    types = int
+    types: ClassVar[type | tuple[type, ...]] = int
     called = "a whole number"
 
     _: KW_ONLY

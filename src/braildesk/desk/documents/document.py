@@ -55,9 +55,9 @@ def read_document(
 ) -> Manuscript:
     """The manuscript that the bytes of a document are; raises `UnreadableText`."""
     if kind in (ManuscriptKind.RTF, ManuscriptKind.DOC):
-        data = pandoc.as_docx(data, kind)
-        own = contents.contents_of(data, ManuscriptKind.DOCX)
-        return replace(_read(data, ManuscriptKind.DOCX, own, reading), kind=kind)
+        return replace(_read_docx(pandoc.as_docx(data, kind), reading), kind=kind)
+    if kind is ManuscriptKind.DOCX:
+        return _read_docx(data, reading)
     if kind in (ManuscriptKind.MARKDOWN, ManuscriptKind.HTML):
         data = pages.with_line_feeds(_characters(data, kind).encode())
     own = contents.contents_of(data, kind)
@@ -67,15 +67,23 @@ def read_document(
     return found
 
 
+def _read_docx(
+    data: bytes, reading: ReadingOptions, own: Contents | None = None
+) -> Manuscript:
+    """A document in DOCX; what the file has is that of another one, if that was made into it."""
+    numbered, losses = with_numbers(data, reading.bullet)
+    # its numbers are print of its paragraphs, since one may be one word with what it stands before
+    found = own or contents.contents_of(numbered, ManuscriptKind.DOCX)
+    return _read(numbered, ManuscriptKind.DOCX, replace(found, numbers=losses), reading)
+
+
 def _by_docx(
     data: bytes, own: Contents, reading: ReadingOptions, otherwise: Manuscript
 ) -> Manuscript:
     """A document in ODT as it is read from the DOCX that LibreOffice makes of it."""
     try:
         made = pandoc.as_docx(data, ManuscriptKind.ODT)
-        return replace(
-            _read(made, ManuscriptKind.DOCX, own, reading), kind=ManuscriptKind.ODT
-        )
+        return replace(_read_docx(made, reading, own), kind=ManuscriptKind.ODT)
     except UnreadableText:
         return otherwise
 
@@ -91,9 +99,6 @@ def _read(
     data: bytes, kind: ManuscriptKind, own: Contents, reading: ReadingOptions
 ) -> Manuscript:
     """What pandoc reads, compared with what the file has."""
-    numbers = own.numbers
-    if kind is ManuscriptKind.DOCX:
-        data, numbers = with_numbers(data, reading.bullet)
     tree, left_out = pandoc.tree(_readable(data, kind), kind)
     try:
         noted = with_notes(tree)
@@ -107,7 +112,7 @@ def _read(
         passages += contents.addresses_of(text)
     missing = contents.missing(passages, [part.text for part in found.parts])
     parts = tuple(each for part in found.parts for each in short_enough(part))
-    losses = (*found.losses, *numbers, *_too_long(found.parts), *own.losses)
+    losses = (*found.losses, *own.numbers, *_too_long(found.parts), *own.losses)
     return Manuscript(kind, parts, losses, tuple(missing))
 
 

@@ -16,16 +16,18 @@ from zipfile import ZipFile
 from braildesk.desk.documents.kinds import is_media, part_of, unpacked
 from braildesk.desk.documents.reading import Loss, LossKind, plain, whole
 from braildesk.desk.documents.tree import roman
+from braildesk.desk.documents.xml_writing import rewritten
 
 _W = "{http://schemas.openxmlformats.org/wordprocessingml/2006/main}"
-_FALLBACK = "{http://schemas.openxmlformats.org/markup-compatibility/2006}Fallback"
+_MC = "{http://schemas.openxmlformats.org/markup-compatibility/2006}"
+_FALLBACK = f"{_MC}Fallback"
 _NUMBERING, _STYLES = "word/numbering.xml", "word/styles.xml"
 _TEXTS = re.compile(r"word/(document|footnotes|endnotes)\d*\.xml")
-#: The tag with which a paragraph begins, and its stroke if the paragraph has nothing.
-_PARAGRAPH = re.compile(rb"<w:p(?:\s[^<>]*?)?(/?)>")
 #: Where the form of a level has the number of a level, from 1 on.
 _PLACE = re.compile("%([1-9])")
 _BULLET = "bullet"
+#: The first number of a form that Word's later versions have: digits with so many zeros before them.
+_PADDED = re.compile("(0*)1(?:,.*)?")
 #: The greatest number of a list in Word, and the longest form of a number.
 _MOST, _FORM = 32_767, 255
 #: What a paragraph has whose end is deleted or moved away.
@@ -56,7 +58,7 @@ def with_numbers(data: bytes, bullet: str) -> tuple[bytes, list[Loss]]:
     """A document without lists, whose paragraphs begin with their numbers; and those not as in print.
 
     It has no pictures any more, which aren't looked at. One whose lists can't be read, or whose tags
-    aren't those that Word writes, is left as it is. Raises `NoDocument`.
+    aren't Word's, is left as it is. Raises `NoDocument`.
     """
     losses: list[Loss] = []
     made = BytesIO()
@@ -73,10 +75,10 @@ def with_numbers(data: bytes, bullet: str) -> tuple[bytes, list[Loss]]:
             return data, losses
         for name, part in parts.items():
             if _TEXTS.fullmatch(name):
-                labels = lists.labels(ElementTree.fromstring(part))
-                if len(labels) != len(_PARAGRAPH.findall(part)):
+                root = ElementTree.fromstring(part)
+                if not root.tag.startswith(_W):
                     return data, losses
-                part = _numbered(part, iter(labels))
+                part = _numbered(part, iter(lists.labels(root)))
             other.writestr(name, part)
     return made.getvalue(), lists.losses
 
@@ -84,15 +86,12 @@ def with_numbers(data: bytes, bullet: str) -> tuple[bytes, list[Loss]]:
 def _numbered(part: bytes, labels: Iterator[str]) -> bytes:
     """A part of a document with what stands at the front of each of its paragraphs."""
 
-    def begun(tag: re.Match[bytes]) -> bytes:
-        if not (label := next(labels)):
-            return tag[0]
-        run = f'<w:r><w:t xml:space="preserve">{escape(label)}</w:t></w:r>'.encode()
-        if tag[1]:
-            return tag[0].removesuffix(b"/>") + b">" + run + b"</w:p>"
-        return tag[0] + run
+    def front_of(name: str) -> str:
+        label = next(labels) if name == f"{_W}p" else ""
+        run = f'<w:r><w:t xml:space="preserve">{escape(label)}</w:t></w:r>'
+        return run if label else ""
 
-    return _PARAGRAPH.sub(begun, part)
+    return rewritten(part, front_of, {_W[1:-1]: ("w", _W[1:-1])})
 
 
 @dataclass(frozen=True, slots=True)
@@ -220,7 +219,10 @@ class _Lists:
             if there not in numbers or there not in found.levels:
                 return ""
             kind = found.levels[there].kind
-            unknown |= kind not in _FORMS
+            padded = _PADDED.fullmatch(kind)
+            unknown |= kind not in _FORMS and not padded
+            if padded and not own.is_legal:
+                return f"{numbers[there]:0{len(padded[1]) + 1}}"
             return _FORMS.get("" if own.is_legal else kind, str)(numbers[there])
 
         label = _PLACE.sub(shown, own.text)
@@ -308,10 +310,19 @@ def _levels(element: Element) -> Iterator[tuple[int, _Level]]:
         restart, legal = _value(level, "lvlRestart"), level.find(f"{_W}isLgl")
         yield _at(level), _Level(
             _first(_value(level, "start") or "0"),
-            _value(level, "numFmt") or "decimal",
+            _form(level),
             _value(level, "lvlText")[:_FORM],
             whole(restart, _MOST) if restart else None,
             legal is not None and legal.get(f"{_W}val") not in _OFF,
             "" if _value(level, "suff") == "nothing" else " ",
             _value(level, "pStyle"),
         )
+
+
+def _form(level: Element) -> str:
+    """The form of a level's numbers: its name, or as it is given for later versions of Word."""
+    later = level.find(f"{_MC}AlternateContent/{_MC}Choice/{_W}numFmt")
+    found = level.find(f"{_W}numFmt") if later is None else later
+    if found is None:
+        return "decimal"
+    return found.get(f"{_W}format", "") or found.get(f"{_W}val", "")
