@@ -727,6 +727,77 @@ def test_a_page_of_two_names_is_typed_once_and_no_link_leads_to_a_namesake(
     assert lost(found, LossKind.ASIDE) == ["Of another", "Very far."]
 
 
+def book_of(path: Path, order: str, pages: dict[str, bytes]) -> Path:
+    """A book in EPUB of some pages, each with its name, and an order of reading."""
+    items = "".join(
+        f'<item id="{name}" href="{name}.xhtml" media-type="application/xhtml+xml"/>'
+        for name in pages
+    )
+    references = "".join(f'<itemref idref="{name}"/>' for name in order.split())
+    package = (
+        '<package xmlns="http://www.idpf.org/2007/opf" version="3.0"><metadata/>'
+        f"<manifest>{items}</manifest><spine>{references}</spine></package>"
+    )
+    with zipfile.ZipFile(path, "w") as container:
+        container.writestr("mimetype", EPUB)
+        container.writestr("META-INF/container.xml", ROOT)
+        container.writestr("in/book.opf", package)
+        for name, page in pages.items():
+            container.writestr(f"in/{name}.xhtml", page)
+    return path
+
+
+def test_pages_of_a_book_are_read_in_what_they_are_encoded(tmp_path: Path) -> None:
+    said = "<?xml version='1.0' encoding='{}'?>" + PAGE.format("<p>Größe {}</p>")
+    pages = {
+        "a": said.format("utf-8", "a").encode(),
+        "b": said.format("iso-8859-1", "b").encode("latin1"),
+        "c": said.format("utf-16", "c").encode("utf-16"),
+        "d": PAGE.format("<p>Größe d</p>").encode("cp1252"),
+        "e": b"<html><p>\x81\x8d\xff</p></html>",
+    }
+    found = read_manuscript(book_of(tmp_path / "moon.epub", "a b", pages))
+    assert found.texts == ["Größe a", "Größe b", "Größe c", "Größe d"]
+    assert found.missing == ()
+    assert lost(found, LossKind.ASIDE) == ["Größe c", "Größe d"]
+    assert lost(found, LossKind.UNREAD) == ["in/e.xhtml"]
+
+
+def test_a_page_that_the_order_of_reading_has_twice_is_typed_once(
+    tmp_path: Path,
+) -> None:
+    pages = {
+        name: PAGE.format(f"<p>The {name}</p>").encode()
+        for name in ("moon", "sea", "tide")
+    }
+    path = book_of(tmp_path / "moon.epub", "moon sea gone moon tide", pages)
+    found = read_manuscript(path)
+    assert (found.texts, found.missing) == (["The moon", "The sea", "The tide"], ())
+    assert lost(found, LossKind.REPEATED) == ["The moon"]
+
+
+def test_attributes_of_a_page_may_have_the_signs_of_tags(tmp_path: Path) -> None:
+    page = (
+        '<p id="x" title="a>b">One</p><p title="<p id=\'y\'>">Two</p>'
+        '<aside title="</aside>c>d"><p>Three</p></aside><!-- <p id="z"> --><p>Four</p>'
+        '<p>Far<a title=">" epub:type="noteref" href="../x/b.xhtml#n">1</a></p>'
+    )
+    pages = {
+        "a": PAGE.format(page).encode(),
+        "b": PAGE.format('<p title=">" id="n">1. Very.</p>').encode(),
+    }
+    found = read_manuscript(book_of(tmp_path / "moon.epub", "a b", pages))
+    assert found.texts == ["One", "Two", "Three", "Four", "Far[1]", "[1: Very.]"]
+    assert found.missing == ()
+
+
+def test_tags_with_their_signs_in_attributes_are_no_print(tmp_path: Path) -> None:
+    path = tmp_path / "tags.md"
+    path.write_text('<img alt="" title="a>b">\n\nThe moon\n')
+    found = read_manuscript(path)
+    assert (found.texts, lost(found, LossKind.RAW)) == (["The moon"], [])
+
+
 def test_a_text_in_odt_that_is_hidden_or_deleted_or_at_the_edge_is_noted(
     tmp_path: Path,
 ) -> None:

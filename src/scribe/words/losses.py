@@ -29,6 +29,10 @@ _SAID = {
         "1 embedded document is left out",
         "{} embedded documents are left out",
     ),
+    LossKind.UNREAD: (
+        "1 page of the file can't be read in any encoding, and is left out",
+        "{} pages of the file can't be read in any encoding, and are left out",
+    ),
     LossKind.PICTURE: (
         "1 picture without a description is left out",
         "{} pictures without a description are left out",
@@ -57,6 +61,10 @@ _SAID = {
     LossKind.ASIDE: (
         "1 page outside of the order of reading is typed too",
         "{} pages outside of the order of reading are typed too",
+    ),
+    LossKind.REPEATED: (
+        "1 page that the order of reading has more than once is typed once",
+        "{} pages that the order of reading has more than once are typed once",
     ),
     LossKind.MATHEMATICS: (
         "1 formula is typed as it is written in TeX",

@@ -9,15 +9,16 @@ import zipfile
 from collections import Counter
 from collections.abc import Collection, Iterable, Iterator, Sequence
 from dataclasses import dataclass, field
-from html.parser import HTMLParser
 from pathlib import PurePosixPath
 from xml.etree import ElementTree
 from xml.etree.ElementTree import Element
 
 from braildesk.desk.documents.kinds import ManuscriptKind, part_of, unpacked
+from braildesk.desk.documents.markup import Tags, characters_of_page
 from braildesk.desk.documents.notes import BACK
 from braildesk.desk.documents.package import Package
 from braildesk.desk.documents.reading import Loss, LossKind, Missing, plain, whole
+from braildesk.desk.manuscript import UnreadableText
 
 #: How many characters are shown of a table of contents, of a page, or of an item of a list.
 _SHOWN = 60
@@ -93,7 +94,7 @@ def contents_of(data: bytes, kind: ManuscriptKind) -> Contents:
     """What the file of a document has; nothing for the kinds that are text."""
     found = Contents()
     if kind is ManuscriptKind.HTML:
-        page = _page_of(data)
+        page = _page_of(characters_of_page(data))
         found.passages += page.passages
         found.note_numbers(page.numbers)
     if kind in _READERS:
@@ -405,8 +406,15 @@ def _odt_runs(element: Element, inner: list[Element]) -> Iterator[str]:
 
 def _of_epub(container: zipfile.ZipFile, found: Contents) -> None:
     """The pages of a book, those at the end to which no order of reading leads."""
-    for page in Package(container).pages():
-        read = _page_of(part_of(container, page.part))
+    package = Package(container)
+    for page in package.pages():
+        try:
+            read = _page_of(characters_of_page(part_of(container, page.part)))
+        except UnreadableText:
+            found.lose(LossKind.UNREAD, page.part)
+            continue
+        if page.part in package.repeated:
+            found.lose(LossKind.REPEATED, _first(read.passages) or page.part)
         found.passages += read.passages
         found.note_numbers(read.numbers)
         if page.is_list and not page.is_in_order:
@@ -448,7 +456,7 @@ class _Numbers:
             shown += -1 if self.is_reversed else 1
 
 
-class _Html(HTMLParser):
+class _Html(Tags):
     """The text of a page, parted where a block begins or ends."""
 
     _INLINE = frozenset(
@@ -514,12 +522,6 @@ class _Html(HTMLParser):
             texts = self.lists if self._in_list else self.texts
             texts[-1] += data
 
-    def parse_marked_section(self, i: int, report: int = 1) -> int:
-        # the reader of the library fails at those that it doesn't know
-        if self.rawdata.startswith("<![CDATA[", i):
-            return super().parse_marked_section(i, bool(report))
-        return self.parse_bogus_comment(i)
-
     def _count(self, tag: str, attributes: dict[str, str | None]) -> None:
         """Notes a list, or an item of the list that is open."""
         if tag == "ol":
@@ -549,8 +551,8 @@ def _is_back(attributes: dict[str, str | None]) -> bool:
     return not BACK.isdisjoint(" ".join(said).split())
 
 
-def _page_of(data: bytes) -> _Html:
+def _page_of(text: str) -> _Html:
     page = _Html()
-    page.feed(data.decode(errors="replace"))
+    page.feed(text)
     page.close()
     return page

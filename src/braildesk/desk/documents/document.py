@@ -9,14 +9,12 @@ doesn't read the other. ODT is where pandoc loses words of it, as the heads of t
 fewer are lost so: the text boxes that LibreOffice makes of frames are lost in their turn.
 """
 
-import re
-from collections.abc import Iterable
-from contextlib import suppress
 from dataclasses import replace
 
 from braildesk.desk.documents import contents, pages, pandoc
 from braildesk.desk.documents.contents import Contents
 from braildesk.desk.documents.kinds import ManuscriptKind, NotRead
+from braildesk.desk.documents.markup import characters_of_page, characters_of_text
 from braildesk.desk.documents.notes import with_notes
 from braildesk.desk.documents.numbers import with_numbers
 from braildesk.desk.documents.reading import (
@@ -28,24 +26,9 @@ from braildesk.desk.documents.reading import (
     short_enough,
 )
 from braildesk.desk.documents.tree import FAULTS, document
-from braildesk.desk.manuscript import UnreadableText, decoded
+from braildesk.desk.manuscript import UnreadableText
 from braildesk.text import limits
 
-#: Where a page of HTML says in what it is encoded; else its front does, or it is of an older system.
-_CHARSET = re.compile(rb"(?:charset|encoding)\s*=\s*[\"']?([A-Za-z0-9_.-]+)")
-_FRONT = 1024
-#: Encodings with more characters than those by whose names pages call them.
-_WIDER = {
-    "gb2312": "gb18030",
-    "gbk": "gb18030",
-    "shift_jis": "cp932",
-    "euc-kr": "cp949",
-}
-#: Encodings in which no page can say what it is encoded in, and some that are Python's own.
-_OF_NO_PAGE = re.compile(
-    r"utf[-_]?(7|16|32).*|undefined|idna|punycode|(raw[-_])?unicode[-_]escape"
-)
-_MARKS = ((b"\xff\xfe", "utf-16"), (b"\xfe\xff", "utf-16"), (b"", "utf-8-sig"))
 #: The kinds whose title, and what else is said about the whole, is a part of the print.
 _WITH_FRONT = (ManuscriptKind.DOCX, ManuscriptKind.ODT, ManuscriptKind.MARKDOWN)
 
@@ -59,7 +42,9 @@ def read_document(
     if kind is ManuscriptKind.DOCX:
         return _read_docx(data, reading)
     if kind in (ManuscriptKind.MARKDOWN, ManuscriptKind.HTML):
-        data = pages.with_line_feeds(_characters(data, kind).encode())
+        is_page = kind is ManuscriptKind.HTML
+        text = characters_of_page(data) if is_page else characters_of_text(data)
+        data = pages.with_line_feeds(text).encode()
     own = contents.contents_of(data, kind)
     found = _read(data, kind, own, reading)
     if kind is ManuscriptKind.ODT and any(_lost(found)) and pandoc.office():
@@ -120,45 +105,9 @@ def _readable(data: bytes, kind: ManuscriptKind) -> bytes:
     """A document as pandoc reads all of it."""
     if kind is ManuscriptKind.EPUB:
         return pages.readable_book(data)
-    return pages.readable_page(data) if kind is ManuscriptKind.HTML else data
-
-
-def _characters(data: bytes, kind: ManuscriptKind) -> str:
-    """The characters of a document without a container: in UTF-8, or as a page says or is read.
-
-    pandoc takes what isn't UTF-8 for Latin 1, with a warning.
-    """
-    names = [next(name for mark, name in _MARKS if data.startswith(mark))]
-    if kind is not ManuscriptKind.HTML:
-        return _strictly(data, names) or decoded(data)
-    if said := _CHARSET.search(data[:_FRONT]):
-        named = said[1].decode().lower()
-        if not _OF_NO_PAGE.fullmatch(named):
-            names.insert(0, _WIDER.get(named, named))
-    found = _strictly(data, names) or _mostly(data, names)
-    return found or _strictly(data, ["cp1252"]) or decoded(data)
-
-
-def _strictly(data: bytes, names: Iterable[str]) -> str | None:
-    """The characters by the first of some encodings in which all of them are."""
-    for name in names:
-        with suppress(UnicodeDecodeError, LookupError):
-            return data.decode(name)
-    return None
-
-
-def _mostly(data: bytes, names: Iterable[str]) -> str | None:
-    """The characters by the first of some encodings in which most are that aren't ASCII.
-
-    What stands for the others has no cells, so that their places are said.
-    """
-    for name in names:
-        with suppress(LookupError):
-            found = data.decode(name, errors="replace")
-            bad = found.count("\N{REPLACEMENT CHARACTER}")
-            if sum(character > "\x7f" for character in found) > 2 * bad:
-                return found
-    return None
+    if kind is ManuscriptKind.HTML:
+        return pages.readable_page(data.decode()).encode()
+    return data
 
 
 def _too_long(parts: tuple[Part, ...]) -> list[Loss]:

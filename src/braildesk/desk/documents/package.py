@@ -38,7 +38,18 @@ class Package:
         self._items = {
             item.get("id"): item for item in self._root.iterfind(".//{*}item")
         }
-        self._order = list(self._root.iterfind(".//{*}itemref"))
+        named = [
+            each
+            for each in self._root.iterfind(".//{*}itemref")
+            if each.get("idref") in self._items
+        ]
+        parts = [self._part_of(self._items[each.get("idref")]) for each in named]
+        #: The references to pages, each page at its first place.
+        self._order = [
+            each for n, each in enumerate(named) if parts[n] not in parts[:n]
+        ]
+        #: The parts that the order of reading has more than once.
+        self.repeated = frozenset(each for each in parts if parts.count(each) > 1)
 
     def pages(self) -> Iterator[Page]:
         """All pages, those at the end to which no order of reading leads."""
@@ -49,12 +60,13 @@ class Package:
             yield self._page(item, False)
 
     def whole(self) -> bytes:
-        """It itself, with all pages in the order of reading but the list for programs."""
+        """It itself, with each page once in the order of reading but the list for programs."""
         for reference in self._order:
             if not _is_list(self._items[reference.get("idref")]):
                 reference.attrib.pop("linear", None)
         spine = self._root.find(".//{*}spine")
         if spine is not None:
+            spine[:] = self._order
             name = spine.tag.removesuffix("spine") + "itemref"
             for item in self._outside():
                 SubElement(spine, name, idref=item.get("id", ""))

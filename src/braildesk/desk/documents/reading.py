@@ -45,6 +45,8 @@ class LossKind(Enum):
     COMMENT = auto()
     CONTENTS = auto()
     ASIDE = auto()
+    REPEATED = auto()
+    UNREAD = auto()
     EMBEDDED = auto()
 
 

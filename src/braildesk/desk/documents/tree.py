@@ -10,6 +10,7 @@ from dataclasses import dataclass, field, replace
 from typing import Any
 
 from braildesk.desk.documents.kinds import NotRead
+from braildesk.desk.documents.markup import Tags
 from braildesk.desk.documents.reading import Loss, LossKind, Part, ReadingOptions, plain
 from braildesk.text.sequences import composed
 
@@ -23,8 +24,6 @@ UNKNOWN_NOTE = "UnknownNote"
 _AROUND = 30
 #: Where a line ends.
 _LINE_END = re.compile("[\n\x85\u2028\u2029]")
-#: What of HTML is no print.
-_TAGS = re.compile("<!--.*?-->|<[^>]*>")
 #: What pandoc takes out of the text of a document as something said about it.
 _FRONT = ("title", "subtitle", "author", "date", "abstract")
 
@@ -90,6 +89,19 @@ class _Line:
         text = self.text
         for what, start, stop in self.spans:
             yield Loss(what, plain(text[start:stop]), _around(text, start, stop))
+
+
+class _Print(Tags):
+    """Whether a piece of HTML is more than tags."""
+
+    def __init__(self, text: str) -> None:
+        super().__init__()
+        self.is_there = False
+        self.feed(text)
+        self.close()
+
+    def handle_data(self, data: str) -> None:
+        self.is_there |= bool(data.strip())
 
 
 class _Reader:
@@ -261,7 +273,7 @@ class _Reader:
     def _raw(self, content: Sequence[str]) -> None:
         """Notes text in the language of another program; a page break, as in DOCX, is nothing."""
         words = plain(content[1].replace("\n", " "))
-        is_print = content[0] != "html" or _TAGS.sub("", words).strip()
+        is_print = content[0] != "html" or _Print(words).is_there
         if content[0] != "openxml" and words and is_print:
             self.losses.append(Loss(LossKind.RAW, words, words))
 

@@ -1,0 +1,79 @@
+"""The tags of a page of HTML, and the characters of the bytes that it is."""
+
+import re
+from collections.abc import Iterable
+from contextlib import suppress
+from html.parser import HTMLParser
+
+from braildesk.desk.manuscript import decoded
+
+#: Where a page says in what it is encoded; else its front does, or it is of an older system.
+_CHARSET = re.compile(rb"(?:charset|encoding)\s*=\s*[\"']?([A-Za-z0-9_.-]+)")
+_FRONT = 1024
+#: Encodings with more characters than those by whose names pages call them.
+_WIDER = {
+    "gb2312": "gb18030",
+    "gbk": "gb18030",
+    "shift_jis": "cp932",
+    "euc-kr": "cp949",
+}
+#: Encodings in which no page can say what it is encoded in, and some that are Python's own.
+_OF_NO_PAGE = re.compile(
+    r"utf[-_]?(7|16|32).*|undefined|idna|punycode|(raw[-_])?unicode[-_]escape"
+)
+_MARKS = ((b"\xff\xfe", "utf-16"), (b"\xfe\xff", "utf-16"), (b"", "utf-8-sig"))
+
+
+class Tags(HTMLParser):
+    """What finds the tags of a page, whatever their attributes have."""
+
+    def parse_marked_section(self, i: int, report: int = 1) -> int:
+        # the reader of the library fails at those that it doesn't know
+        if self.rawdata.startswith("<![CDATA[", i):
+            return super().parse_marked_section(i, bool(report))
+        return self.parse_bogus_comment(i)
+
+
+def characters_of_page(data: bytes) -> str:
+    """The characters of a page, as it says or is read; raises `UnreadableText`.
+
+    pandoc takes what isn't UTF-8 for Latin 1, with a warning.
+    """
+    names = [_own_name(data)]
+    if said := _CHARSET.search(data[:_FRONT]):
+        named = said[1].decode().lower()
+        if not _OF_NO_PAGE.fullmatch(named):
+            names.insert(0, _WIDER.get(named, named))
+    found = _strictly(data, names) or _mostly(data, names)
+    return found or _strictly(data, ["cp1252"]) or decoded(data)
+
+
+def characters_of_text(data: bytes) -> str:
+    """The characters of a text by the mark at its front, else in UTF-8; raises `UnreadableText`."""
+    return _strictly(data, [_own_name(data)]) or decoded(data)
+
+
+def _own_name(data: bytes) -> str:
+    return next(name for mark, name in _MARKS if data.startswith(mark))
+
+
+def _strictly(data: bytes, names: Iterable[str]) -> str | None:
+    """The characters by the first of some encodings in which all of them are."""
+    for name in names:
+        with suppress(UnicodeDecodeError, LookupError):
+            return data.decode(name)
+    return None
+
+
+def _mostly(data: bytes, names: Iterable[str]) -> str | None:
+    """The characters by the first of some encodings in which most are that aren't ASCII.
+
+    What stands for the others has no cells, so that their places are said.
+    """
+    for name in names:
+        with suppress(LookupError):
+            found = data.decode(name, errors="replace")
+            bad = found.count("\N{REPLACEMENT CHARACTER}")
+            if sum(character > "\x7f" for character in found) > 2 * bad:
+                return found
+    return None
