@@ -165,3 +165,45 @@ def docx(
             text = f"<w:{tag} {_NAMES}>{inner}</w:{tag}>"
             container.writestr(f"word/{name}.xml", text)
     return path
+
+
+ODT = "application/vnd.oasis.opendocument.text"
+_ODT_NAMES = " ".join(
+    f'xmlns:{name}="urn:oasis:names:tc:opendocument:xmlns:{uri}:1.0"'
+    for name, uri in (
+        ("office", "office"),
+        ("style", "style"),
+        ("text", "text"),
+        ("table", "table"),
+        ("draw", "drawing"),
+        ("svg", "svg-compatible"),
+    )
+)
+_LOEXT = (
+    'xmlns:loext="urn:org:documentfoundation:names:experimental:office:xmlns:loext:1.0"'
+)
+
+
+def odt(path: Path, text: str, automatic: str = "", styles: str = "") -> Path:
+    """A text in ODT with a body, the styles that it has itself, and the others."""
+    manifest = (
+        '<manifest:manifest xmlns:manifest="urn:oasis:names:tc:opendocument:xmlns:manifest:1.0"'
+        f' manifest:version="1.2"><manifest:file-entry manifest:full-path="/" manifest:media-type="{ODT}"/>'
+        '<manifest:file-entry manifest:full-path="content.xml" manifest:media-type="text/xml"/>'
+        '<manifest:file-entry manifest:full-path="styles.xml" manifest:media-type="text/xml"/>'
+        "</manifest:manifest>"
+    )
+    names = f'{_ODT_NAMES} {_LOEXT} office:version="1.2"'
+    parts = {
+        "mimetype": ODT,
+        "content.xml": f"<office:document-content {names}><office:automatic-styles>{automatic}"
+        f"</office:automatic-styles><office:body><office:text>{text}</office:text></office:body>"
+        "</office:document-content>",
+        "styles.xml": f"<office:document-styles {names}><office:styles>{styles}</office:styles>"
+        "</office:document-styles>",
+        "META-INF/manifest.xml": manifest,
+    }
+    with zipfile.ZipFile(path, "w") as container:
+        for name, part in parts.items():
+            container.writestr(name, part)
+    return path

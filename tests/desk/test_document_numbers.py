@@ -5,12 +5,10 @@ from pathlib import Path
 
 import pytest
 
-from braildesk.desk.documents.contents import contents_of
-from braildesk.desk.documents.kinds import ManuscriptKind
 from braildesk.desk.documents.reading import LossKind, ReadingOptions
 from braildesk.desk.manuscripts import read_manuscript
 
-from handmade import docx, in_list, level, lists, paragraph, run
+from handmade import docx, in_list, level, lists, odt, paragraph, run
 
 LEGAL = level(0, "decimal", "\u00a7 %1") + level(1, "lowerLetter", "(%2)")
 PARTS = level(0, "upperRoman", "Part %1:") + level(1, "decimal", "%1.%2")
@@ -194,47 +192,207 @@ def test_a_number_that_is_otherwise_in_print_is_noted(tmp_path: Path) -> None:
     )
 
 
-def test_numbers_of_odt_that_are_otherwise_in_print_are_noted(tmp_path: Path) -> None:
-    names = " ".join(
-        f'xmlns:{name}="urn:oasis:names:tc:opendocument:xmlns:{name}:1.0"'
-        for name in ("office", "style", "text")
+NUMBER = '<text:list-level-style-number text:level="{}" style:num-format="{}" {}/>'
+ALIGNED = (
+    '<text:list-level-style-number text:level="1" style:num-format="1">'
+    "<style:list-level-properties><style:list-level-label-alignment"
+    ' text:label-followed-by="nothing"/></style:list-level-properties>'
+    "</text:list-level-style-number>"
+)
+#: Styles of lists, by their names.
+FORMS = {
+    "L": NUMBER.format(1, "1", 'style:num-suffix="."')
+    + NUMBER.format(2, "a", 'style:num-suffix=")"')
+    + NUMBER.format(3, "i", 'style:num-suffix="." text:display-levels="3"'),
+    "M": NUMBER.format(
+        1,
+        "A",
+        'style:num-prefix="Art. " style:num-suffix=":" text:start-value="26"',
+    ),
+    "N": ALIGNED + '<text:list-level-style-bullet text:level="2" text:bullet-char="-"/>'
+    # its third level says nothing, and its fourth has no number
+    + NUMBER.format(4, "", ""),
+    "P": NUMBER.format(1, "1", 'loext:num-list-format="(%1%)"')
+    + NUMBER.format(2, "1", 'loext:num-list-format="\u00a7 %1%/%2%:"'),
+    "U": NUMBER.format(1, "\u4e00, \u4e8c, \u4e09, ...", ""),
+    "S": NUMBER.format(1, "A", 'style:num-letter-sync="true" text:start-value="27"'),
+}
+OWN = (
+    '<style:style style:name="Own" style:family="paragraph" style:list-style-name=""/>'
+)
+STYLES_OF_LISTS = (
+    OWN
+    + "".join(
+        f'<text:list-style style:name="{name}">{levels}</text:list-style>'
+        for name, levels in FORMS.items()
     )
-    form = '<text:{0}-level-style{1} text:level="{2}" style:num-format="{3}" {4}/>'
-    lists_of = (
-        '<text:list-style style:name="L">'
-        + form.format("list", "-number", 1, "1", 'style:num-prefix="\u00a7 "')
-        + form.format("list", "-number", 2, "a", 'style:num-suffix=")"')
-        + form.format(
-            "list", "-number", 3, "1", 'style:num-suffix="." text:display-levels="2"'
+    + (
+        '<text:list-style style:name="C" text:consecutive-numbering="true">'
+        f"{NUMBER.format(1, '1', '')}{NUMBER.format(2, '1', '')}</text:list-style>"
+    )
+)
+OUTLINE = (
+    '<text:outline-style style:name="Outline">{}{}{}</text:outline-style>'
+    '<style:style style:name="Usual" style:family="paragraph" style:list-style-name=""/>'
+).format(
+    '<text:outline-level-style text:level="1" style:num-format="I" style:num-suffix="."/>',
+    '<text:outline-level-style text:level="2" style:num-format="1" text:display-levels="2"/>',
+    '<text:outline-level-style text:level="3" style:num-format=""/>',
+)
+
+
+def items(*texts: str, **said: str) -> str:
+    """A list of items, of which those that are lists stand in the item before them."""
+    attributes = "".join(
+        f' {name.replace("__", ":").replace("_", "-")}="{value}"'
+        for name, value in said.items()
+    )
+    inner = "".join(
+        each
+        if each.startswith("<text:list-")
+        else f"<text:list-item>{each}</text:list-item>"
+        for each in (
+            text if text.startswith("<") else f"<text:p>{text}</text:p>"
+            for text in texts
         )
-        + "</text:list-style>"
     )
-    outline = (
-        '<text:outline-style style:name="Outline">'
-        + form.format("outline", "", 1, "I", 'style:num-suffix="."')
-        + form.format("outline", "", 2, "", "")
-        + "</text:outline-style>"
+    return f"<text:list{attributes}>{inner}</text:list>"
+
+
+def listed(style: str, *texts: str, **said: str) -> str:
+    return items(*texts, text__style_name=style, **said)
+
+
+def from_start(number: int, text: str, more: str = "") -> str:
+    return (
+        f'<text:list-item text:start-value="{number}" {more}><text:p>{text}</text:p>'
+        "</text:list-item>"
     )
-    item = (
-        "<text:list><text:list-item><text:p>{}</text:p>{}</text:list-item></text:list>"
-    )
-    listed = item.format("Tides", item.format("Sea", item.format("Deep", "")))
-    text = (
-        '<text:h text:outline-level="1">Water</text:h><text:h text:outline-level="2">Rain</text:h>'
-        + listed.replace("<text:list>", '<text:list text:style-name="L">', 1)
-    )
-    parts = {
-        "content.xml": f"<office:document-content {names}><office:automatic-styles>{lists_of}"
-        f"</office:automatic-styles><office:body><office:text>{text}</office:text></office:body>"
-        "</office:document-content>",
-        "styles.xml": f"<office:document-styles {names}>{outline}</office:document-styles>",
-    }
-    path = tmp_path / "lists.odt"
-    with zipfile.ZipFile(path, "w") as container:
-        for name, part in parts.items():
-            container.writestr(name, part)
-    found = contents_of(path.read_bytes(), ManuscriptKind.ODT)
-    assert [each.words for each in found.numbers] == ["Water", "Tides", "Deep"]
+
+
+def headed(level: int, text: str, more: str = "") -> str:
+    return f'<text:h text:outline-level="{level}" {more}>{text}</text:h>'
+
+
+BETWEEN = "<text:p>x</text:p>"
+GOING_ON = {"text__continue_numbering": "true"}
+
+
+# as LibreOffice 7.4 writes each of these as plain text, but for its bullets and a blank after each number
+@pytest.mark.parametrize(
+    ("text", "shown"),
+    [
+        (
+            listed("L", "a", "b")
+            + BETWEEN
+            + listed("L", "c", **GOING_ON)
+            + listed("L", "d"),
+            ["1. a", "2. b", "x", "3. c", "1. d"],
+        ),
+        (
+            listed("L", "a", xml__id="l")
+            + listed("M", "q", xml__id="m")
+            + listed("L", "b", text__continue_list="l")
+            + listed("M", "r", text__continue_list="m"),
+            ["1. a", "Art. Z: q", "2. b", "Art. AA: r"],
+        ),
+        (
+            listed("L", "a") + listed("M", "q") + listed("L", "b", **GOING_ON),
+            ["1. a", "Art. Z: q", "1. b"],
+        ),
+        (
+            listed("L", "a", from_start(7, "b"), "c") + listed("L", "d", **GOING_ON),
+            ["1. a", "7. b", "8. c", "9. d"],
+        ),
+        (
+            listed("L", "<text:p>a</text:p>" + items("b", "c") + items("d"), "e"),
+            ["1. a", "a) b", "b) c", "a) d", "2. e"],
+        ),
+        (
+            listed(
+                "L",
+                "<text:p>a</text:p>" + items("b") + items("c", **GOING_ON),
+                items("d"),
+            ),
+            ["1. a", "a) b", "b) c", "c) d"],
+        ),
+        (
+            listed("L", items("a", items("b", "c")) + "<text:p>d</text:p>", "e"),
+            ["a) a", "1.a.i. b", "1.a.ii. c", "d", "2. e"],
+        ),
+        (
+            listed(
+                "L",
+                "<text:list-header><text:p>a</text:p></text:list-header>",
+                "<text:p>b</text:p><text:p>c</text:p>",
+                "<text:p/>",
+                "d",
+            ),
+            ["a", "1. b", "c", "2.", "3. d"],
+        ),
+        (
+            listed("N", "a apple", items("b", items("c", items("d")))),
+            ["1a apple", "\u2022 b", "1. c", "d"],
+        ),
+        (
+            listed("P", "a", items("b", "c")),
+            ["(1) a", "\u00a7 1/1: b", "\u00a7 1/2: c"],
+        ),
+        (items("a") + listed("none", "b"), ["\u2022 a", "\u2022 b"]),
+        (
+            listed("L", "a", from_start(2, "b", 'text:style-override="S"'), "c"),
+            ["1. a", "B b", "3. c"],
+        ),
+        (listed("S", "a", "b"), ["AA a", "BB b"]),
+        (listed("C", "a", items("b", "c"), "d"), ["1 a", "2 b", "3 c", "4 d"]),
+        (
+            headed(1, "a")
+            + headed(2, "b")
+            + headed(2, "c")
+            + headed(3, "d")
+            + headed(1, "e", 'text:is-list-header="true"')
+            + headed(1, "f", 'text:style-name="Own"')
+            + headed(1, "g", 'text:style-name="Usual"')
+            + headed(2, "h"),
+            ["I. a", "I.1 b", "I.2 c", "d", "e", "f", "II. g", "II.1 h"],
+        ),
+        (
+            headed(1, "a")
+            + headed(1, "b", 'text:restart-numbering="true" text:start-value="9"')
+            + listed("L", headed(1, "c"))
+            + headed(1, "d"),
+            ["I. a", "IX. b", "1. c", "X. d"],
+        ),
+        (
+            '<text:section text:name="s">'
+            + listed("L", "a")
+            + "</text:section>"
+            + listed("L", "b", **GOING_ON),
+            ["1. a", "2. b"],
+        ),
+        (
+            '<text:numbered-paragraph text:list-id="q" text:style-name="L"><text:p>a</text:p>'
+            '</text:numbered-paragraph><text:numbered-paragraph text:list-id="q" text:level="2"'
+            ' text:style-name="L"><text:p>b</text:p></text:numbered-paragraph>',
+            ["1. a", "a) b"],
+        ),
+    ],
+)
+def test_numbers_of_odt_are_those_that_libreoffice_shows(
+    tmp_path: Path, text: str, shown: list[str]
+) -> None:
+    found = read_manuscript(odt(tmp_path / "lists.odt", text, STYLES_OF_LISTS, OUTLINE))
+    assert (found.texts, found.missing) == (shown, ())
+    assert not [loss for loss in found.losses if loss.what is LossKind.NUMBER]
+
+
+def test_numbers_of_odt_that_are_otherwise_in_print_are_noted(tmp_path: Path) -> None:
+    path = odt(tmp_path / "lists.odt", listed("U", "Tides"), STYLES_OF_LISTS)
+    found = read_manuscript(path)
+    assert found.texts == ["1 Tides"]
+    assert [(loss.what, loss.words, loss.around) for loss in found.losses] == [
+        (LossKind.NUMBER, "1", "1 Tides")
+    ]
 
 
 def test_numbers_that_a_page_gives_its_items_itself_are_noted(tmp_path: Path) -> None:

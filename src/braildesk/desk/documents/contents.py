@@ -49,7 +49,6 @@ _EMBEDDED = re.compile(
     r"word/(embeddings|afchunk)[^/]*(/.+|\..+)|word/.*\.(mht|altchunk)"
 )
 _DELETED = (f"{_W}del", f"{_W}moveFrom")
-_ODT_BULLET = f"{_TEXT}list-level-style-bullet"
 _ODT_DELETED = f"{_TEXT}deletion"
 _ANNOTATION = f"{_OFFICE}annotation"
 _NUMBER = re.compile(r"[\W\d_]*")
@@ -326,51 +325,6 @@ def _of_odt(container: zipfile.ZipFile, found: Contents) -> None:
     for edges in styles.iter(f"{_OFFICE}master-styles"):
         for passage in _odt_paragraphs(edges):
             found.add_edge(passage)
-    forms = {**_odt_forms(styles), **_odt_forms(root)}
-    for item, name, depth in _odt_numbered(root, "", 0):
-        form = forms.get((name, depth))
-        if form is not None and not (name and _is_typed(form)):
-            words = next(_odt_paragraphs(item), "")[:_SHOWN]
-            found.numbers.append(Loss(LossKind.NUMBER, words, words))
-
-
-def _odt_forms(root: Element) -> dict[tuple[str, int], Element]:
-    """The forms of numbers by the style of the list, none for headings, and the level."""
-    found = {}
-    for style in root.iter():
-        if style.tag in (f"{_TEXT}list-style", f"{_TEXT}outline-style"):
-            is_list = style.tag == f"{_TEXT}list-style"
-            name = style.get(f"{_STYLE}name", "") if is_list else ""
-            for level in style:
-                if level.get(f"{_STYLE}num-format") and level.tag != _ODT_BULLET:
-                    found[name, whole(level.get(f"{_TEXT}level"), 0)] = level
-    return found
-
-
-def _odt_numbered(
-    element: Element, name: str, depth: int
-) -> Iterator[tuple[Element, str, int]]:
-    """The items of lists and the headings below an element, with the style and the level of each."""
-    for child in element:
-        if child.tag == f"{_TEXT}list":
-            own = child.get(f"{_TEXT}style-name", name)
-            yield from _odt_numbered(child, own, depth + 1)
-            continue
-        if child.tag == f"{_TEXT}list-item":
-            yield child, name, depth
-        elif child.tag == f"{_TEXT}h" and not name:
-            yield child, "", whole(child.get(f"{_TEXT}outline-level"), 1)
-        yield from _odt_numbered(child, name, depth)
-
-
-def _is_typed(form: Element) -> bool:
-    """Whether pandoc has such numbers: of one level, and with nothing but usual marks around them."""
-    around = form.get(f"{_STYLE}num-prefix", ""), form.get(f"{_STYLE}num-suffix", "")
-    return (
-        form.get(f"{_STYLE}num-format") in ("1", "i", "I", "a", "A")
-        and around in (("", "."), ("", ")"), ("(", ")"))
-        and form.get(f"{_TEXT}display-levels", "1") == "1"
-    )
 
 
 def _odt_paragraphs(element: Element, is_whole: bool = False) -> Iterator[str]:

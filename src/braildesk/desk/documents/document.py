@@ -1,6 +1,6 @@
 """Manuscripts as publishers send them, read as the paragraphs of a book.
 
-Documents are read by pandoc (`pages`, `package`, `numbers`, `pandoc`, `tree`, `notes`). What it leaves out
+Documents are read by pandoc (`pages`, `package`, `numbers`, `numbers_of_odt`, `pandoc`, `tree`, `notes`). What it leaves out
 without a sign is found by comparing the words of its paragraphs with those that the file itself has
 (`contents`).
 
@@ -17,6 +17,7 @@ from braildesk.desk.documents.kinds import ManuscriptKind, NotRead
 from braildesk.desk.documents.markup import characters_of_page, characters_of_text
 from braildesk.desk.documents.notes import with_notes
 from braildesk.desk.documents.numbers import with_numbers
+from braildesk.desk.documents.numbers_of_odt import with_odt_numbers
 from braildesk.desk.documents.reading import (
     Loss,
     LossKind,
@@ -45,9 +46,19 @@ def read_document(
         is_page = kind is ManuscriptKind.HTML
         text = characters_of_page(data) if is_page else characters_of_text(data)
         data = pages.with_line_feeds(text).encode()
-    own = contents.contents_of(data, kind)
-    found = _read(data, kind, own, reading)
-    if kind is ManuscriptKind.ODT and any(_lost(found)) and pandoc.office():
+    if kind is ManuscriptKind.ODT:
+        return _read_odt(data, reading)
+    return _read(data, kind, contents.contents_of(data, kind), reading)
+
+
+def _read_odt(data: bytes, reading: ReadingOptions) -> Manuscript:
+    """A text in ODT, by DOCX if fewer words are lost so."""
+    numbered, losses = with_odt_numbers(data, reading.bullet)
+    own = replace(contents.contents_of(numbered, ManuscriptKind.ODT), numbers=losses)
+    found = _read(numbered, ManuscriptKind.ODT, own, reading)
+    if any(_lost(found)) and pandoc.office():
+        # its numbers are those that LibreOffice gives it
+        own = contents.contents_of(data, ManuscriptKind.ODT)
         return min(found, _by_docx(data, own, reading, found), key=_lost)
     return found
 

@@ -391,7 +391,7 @@ def _numbered(number: int, attributes: Sequence[Any]) -> str:
     _, style, delimiter = attributes
     match style["t"]:
         case "LowerAlpha" | "UpperAlpha":
-            shown = _letters(number)
+            shown = letters(number)
         case "LowerRoman" | "UpperRoman":
             shown = roman(number)
         case _:
@@ -406,7 +406,8 @@ def _numbered(number: int, attributes: Sequence[Any]) -> str:
     return f"{shown}. "
 
 
-def _letters(number: int) -> str:
+def letters(number: int) -> str:
+    """A number by letters, of which AA and AB come after Z."""
     shown = ""
     while number > 0:
         number, place = divmod(number - 1, 26)

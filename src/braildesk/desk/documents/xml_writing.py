@@ -1,6 +1,6 @@
 """Parts of a document in XML, written anew as a parser reads them, with print put into some elements."""
 
-from collections.abc import Callable, Mapping
+from collections.abc import Callable, Collection, Mapping
 from xml.parsers import expat
 from xml.sax.saxutils import escape, quoteattr
 
@@ -12,13 +12,15 @@ def rewritten(
     part: bytes,
     front_of: Callable[[str], str] = lambda name: "",
     usual: Mapping[str, tuple[str, str]] = {},
+    without: Collection[str] = (),
 ) -> bytes:
     """A part that can be read, with what is put at the front of its elements.
 
     ``front_of`` is asked once for each element, in their order, with its address and name as
-    ElementTree has them. ``usual`` has the prefix and the address that stand in place of an address.
+    ElementTree has them. ``usual`` has the prefix and the address that stand in place of an address. Of
+    the elements ``without`` what they have is left alone.
     """
-    writer = _Writer(front_of, usual)
+    writer = _Writer(front_of, usual, without)
     parser = expat.ParserCreate(namespace_separator=_PARTS)
     parser.namespace_prefixes = True
     parser.ordered_attributes = True
@@ -38,10 +40,12 @@ class _Writer:
         self,
         front_of: Callable[[str], str],
         usual: Mapping[str, tuple[str, str]],
+        without: Collection[str],
     ) -> None:
         self.pieces: list[str] = []
         self._front_of = front_of
         self._usual = usual
+        self._without = without
         self._declared: dict[str, str] = {}
 
     def declare(self, prefix: str | None, address: str | None) -> None:
@@ -52,20 +56,19 @@ class _Writer:
 
     def begin(self, name: str, attributes: list[str]) -> None:
         """Writes the tag with which an element begins, and what is put at its front."""
+        if (found := _found(name)) in self._without:
+            return
         pairs = [*self._declared.items()]
         named = map(self._name, attributes[::2])
         pairs += zip(named, attributes[1::2])
         self._declared = {}
         written = "".join(f" {key}={quoteattr(value)}" for key, value in pairs)
-        found = name
-        if _PARTS in name:
-            address, local, *_ = name.split(_PARTS)
-            found = f"{{{address}}}{local}"
         self.pieces += (f"<{self._name(name)}{written}>", self._front_of(found))
 
     def end(self, name: str) -> None:
         """Writes the tag with which an element ends."""
-        self.pieces.append(f"</{self._name(name)}>")
+        if _found(name) not in self._without:
+            self.pieces.append(f"</{self._name(name)}>")
 
     def text(self, text: str) -> None:
         """Writes the text between tags."""
@@ -82,3 +85,11 @@ class _Writer:
             case [*_, local]:
                 return local
         return name
+
+
+def _found(name: str) -> str:
+    """A name as ElementTree has it."""
+    if _PARTS not in name:
+        return name
+    address, local, *_ = name.split(_PARTS)
+    return f"{{{address}}}{local}"
