@@ -212,7 +212,7 @@ UNWRITABLE: list[tuple[Request[Any], int, int | None]] = [
     (requests.CorrectBy(1, 0, 0, "a", who="x" * 65_536), 18, None),
     (requests.Print(-1), 1, None),
     (requests.Print(2**53 + 1), 1, None),
-    (requests.Type("end\nundo 1", "en", "a"), 1, None),
+    (requests.Type("end\nundo 1", "en", "a"), 1, None),  # type: ignore[arg-type]
     (requests.Undo(1, expect=-1), 1, None),
 ]
 

@@ -467,3 +467,46 @@ def test_numbers_of_a_list_that_a_page_counts_downwards_are_noted(
     )
     noted = [each.words for each in read_manuscript(path).losses]
     assert noted == ["4", "3", "8", "7", "5"]
+
+
+@pytest.mark.parametrize(
+    ("style", "page", "noted"),
+    [
+        ("", "<ol><li>a</ol><ul><li>b</ul>", []),
+        ("ol { list-style: none }", "<ol><li>a<li>b</ol><ul><li>c</ul>", ["a"]),
+        ("", "<ol style='list-style-type:none'><li><p>a</p></li></ol>", ["a"]),
+        ("", "<ol style='list-style-type: lower-alpha'><li>a</ol>", []),
+        ("ol { list-style: lower-alpha inside }", "<ol><li>a</ol>", ["a"]),
+        ("ol { list-style: lower-alpha }", "<ol type=a><li>a</ol>", []),
+        ("ol { list-style: inherit; color: red }", "<ol><li>a</ol>", []),
+        ("li { display: inline }", "<ul><li>a</ul><ol><li>b</ol>", ["a", "b"]),
+        ("li.x { list-style: none }", "<ol><li>a<li class='y x'>b</ol>", ["b"]),
+        ("ul { list-style: square }", "<ul><li>a</ul>", []),
+        ("ul { list-style: decimal }", "<ul><li>a</ul>", ["a"]),
+        (
+            "nav ol, .x > ol, #q.z ol { list-style: none }",
+            "<nav><div><ol><li>a</ol></div></nav><div class=x><ol><li>b<ol><li>c</ol></ol></div>"
+            "<div class=z><ol><li>d</ol></div><div id=q class=z><ol><li>e</ol></div>",
+            ["a", "b", "e"],
+        ),
+        (
+            "ol { list-style: none } .x { list-style: decimal } ol { color: red }",
+            "<ol class=x><li>a</ol><ol><li>b</ol>",
+            ["b"],
+        ),
+        (
+            "@charset 'x'; @media screen { ol { list-style: none } } /* ol { */"
+            "@media print { ul { list-style: none } } ol:first-child { list-style: none }",
+            "<ol><li>a</ol><ul><li>b</ul>",
+            ["b"],
+        ),
+    ],
+)
+def test_lists_of_a_page_whose_style_hides_or_changes_their_numbers_are_noted(
+    tmp_path: Path, style: str, page: str, noted: list[str]
+) -> None:
+    path = tmp_path / "items.html"
+    head = f"<html><head><style>{style}</style></head>" if style else "<html>"
+    path.write_text(f"{head}<body>{page}</body></html>")
+    losses = read_manuscript(path).losses
+    assert [loss.words for loss in losses if loss.what is LossKind.LIST] == noted

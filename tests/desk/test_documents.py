@@ -727,8 +727,8 @@ def test_a_page_of_two_names_is_typed_once_and_no_link_leads_to_a_namesake(
     assert lost(found, LossKind.ASIDE) == ["Of another", "Very far."]
 
 
-def book_of(path: Path, order: str, pages: dict[str, bytes]) -> Path:
-    """A book in EPUB of some pages, each with its name, and an order of reading."""
+def book_of(path: Path, order: str, pages: dict[str, bytes], sheet: str = "") -> Path:
+    """A book in EPUB of some pages, each with its name, an order of reading, and a style sheet."""
     items = "".join(
         f'<item id="{name}" href="{name}.xhtml" media-type="application/xhtml+xml"/>'
         for name in pages
@@ -744,7 +744,26 @@ def book_of(path: Path, order: str, pages: dict[str, bytes]) -> Path:
         container.writestr("in/book.opf", package)
         for name, page in pages.items():
             container.writestr(f"in/{name}.xhtml", page)
+        container.writestr("styles/a sheet.css", sheet)
     return path
+
+
+def test_lists_of_a_book_whose_sheet_hides_their_numbers_are_noted(
+    tmp_path: Path,
+) -> None:
+    link = '<link rel="stylesheet" href="../styles/a%20sheet.css"/>'
+    page = PAGE.format("<ol><li>One</li></ol>")
+    pages = {
+        "a": page.replace("<body>", f"<head>{link}</head><body>").encode(),
+        "b": page.replace("One", "Two").encode(),
+        "c": page.replace("<body>", '<head><link rel="stylesheet" href="x"/></head>')
+        .replace("One", "Three")
+        .encode(),
+    }
+    sheet = "ol { list-style: none }"
+    found = read_manuscript(book_of(tmp_path / "moon.epub", "a b c", pages, sheet))
+    assert found.texts == ["1. One", "1. Two", "1. Three"]
+    assert lost(found, LossKind.LIST) == ["One"]
 
 
 def test_pages_of_a_book_are_read_in_what_they_are_encoded(tmp_path: Path) -> None:

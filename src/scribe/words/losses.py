@@ -94,6 +94,10 @@ _SAID = {
         "1 number of a list or of a heading isn't typed as it is in print",
         "{} numbers of lists or headings aren't typed as they are in print",
     ),
+    LossKind.LIST: (
+        "1 list is typed with numbers or bullets that its style hides or changes",
+        "{} lists are typed with numbers or bullets that their styles hide or change",
+    ),
     LossKind.LEVEL: (
         "1 heading is below the first level, and a book has only one",
         "{} headings are below the first level, and a book has only one",

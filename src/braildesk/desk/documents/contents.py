@@ -7,9 +7,12 @@ import re
 import unicodedata
 import zipfile
 from collections import Counter
-from collections.abc import Collection, Iterable, Iterator, Sequence
+from collections.abc import Callable, Collection, Iterable, Iterator, Sequence
 from dataclasses import dataclass, field
+from functools import partial
 from pathlib import PurePosixPath
+from posixpath import normpath
+from urllib.parse import unquote
 from xml.etree import ElementTree
 from xml.etree.ElementTree import Element
 
@@ -18,12 +21,22 @@ from braildesk.desk.documents.markup import Tags, characters_of_page
 from braildesk.desk.documents.notes import BACK
 from braildesk.desk.documents.package import Package
 from braildesk.desk.documents.reading import Loss, LossKind, Missing, plain, whole
+from braildesk.desk.documents.sheets import PageElement, Sheet
 from braildesk.desk.manuscript import UnreadableText
 
 #: How many characters are shown of a table of contents, of a page, or of an item of a list.
 _SHOWN = 60
 _WORD = re.compile(r"\w+(?:[’'\u2010\u2011-]\w+)*")
 _NUMBERED = re.compile(r"(.*[^\W\d_])(\d{1,4})")
+#: The numbers of lists that pandoc knows, by what a list says of its type; and those of style sheets.
+_TYPES = {
+    "1": "decimal",
+    "a": "lower-alpha",
+    "A": "upper-alpha",
+    "i": "lower-roman",
+    "I": "upper-roman",
+}
+_IS_NUMBER = re.compile("decimal.*|.*-(alpha|latin|roman|greek)")
 #: How many words before and after missing ones are shown.
 _NEIGHBOURS = 4
 
@@ -79,6 +92,12 @@ class Contents:
         if shown := plain(words.replace("\n", " ")):
             self.losses.append(Loss(what, shown, shown))
 
+    def note_page(self, page: "_Html") -> None:
+        """Notes the numbers of a page that is typed which aren't so in print."""
+        self.note_numbers(page.numbers)
+        for words in page.restyled:
+            self.numbers.append(Loss(LossKind.LIST, words, words))
+
     def note_numbers(self, numbers: Iterable[str]) -> None:
         """Notes numbers that aren't typed as they are in print."""
         self.numbers += [Loss(LossKind.NUMBER, each, each) for each in numbers]
@@ -95,7 +114,7 @@ def contents_of(data: bytes, kind: ManuscriptKind) -> Contents:
     if kind is ManuscriptKind.HTML:
         page = _page_of(characters_of_page(data))
         found.passages += page.passages
-        found.note_numbers(page.numbers)
+        found.note_page(page)
     if kind in _READERS:
         with unpacked(data) as container:
             _READERS[kind](container, found)
@@ -361,20 +380,28 @@ def _odt_runs(element: Element, inner: list[Element]) -> Iterator[str]:
 def _of_epub(container: zipfile.ZipFile, found: Contents) -> None:
     """The pages of a book, those at the end to which no order of reading leads."""
     package = Package(container)
+
+    def linked(part: str, address: str) -> str:
+        sheet = normpath(str(PurePosixPath(part).parent / unquote(address)))
+        if sheet not in container.namelist():
+            return ""
+        return part_of(container, sheet).decode(errors="replace")
+
     for page in package.pages():
         try:
-            read = _page_of(characters_of_page(part_of(container, page.part)))
+            text = characters_of_page(part_of(container, page.part))
+            read = _page_of(text, partial(linked, page.part))
         except UnreadableText:
             found.lose(LossKind.UNREAD, page.part)
             continue
         if page.part in package.repeated:
             found.lose(LossKind.REPEATED, _first(read.passages) or page.part)
         found.passages += read.passages
-        found.note_numbers(read.numbers)
         if page.is_list and not page.is_in_order:
             found.lose(LossKind.CONTENTS, _first(read.lists))
             continue
         found.passages += read.lists
+        found.note_page(read)
         if not page.is_in_order:
             found.lose(LossKind.ASIDE, _first(read.passages))
 
@@ -391,12 +418,28 @@ _READERS = {
 
 
 @dataclass
-class _Numbers:
-    """A list with numbers on a page: where it begins, if that is said, and the numbers of items."""
+class _List:
+    """A list on a page: where it begins, if it has numbers and that is said, and its items."""
 
+    is_numbered: bool
     start: int | None
     is_reversed: bool
+    #: What pandoc has before each item, and what is so in print unless an item says otherwise.
+    typed: str
+    shown: str
     own: list[int | None] = field(default_factory=list)
+    #: The number of the text with which the first item begins that has another mark in print.
+    restyled: int | None = None
+
+    def note(self, shown: str, text: int) -> None:
+        """Notes the mark of an item, with the number of the text with which it begins."""
+        if not self.is_numbered:
+            # the shape of a bullet is that of the book
+            is_same = not _IS_NUMBER.fullmatch(shown) and shown != "none"
+        else:
+            is_same = shown == self.typed
+        if not is_same and self.restyled is None:
+            self.restyled = text
 
     def otherwise(self) -> Iterator[str]:
         """The numbers that pandoc counts otherwise, which knows only where a list begins."""
@@ -420,15 +463,23 @@ class _Html(Tags):
     # a formula is typed in another language, which is said of each
     _SILENT = frozenset({"script", "style", "title", "template", "math"})
     _LISTS = frozenset({"toc", "landmarks", "page-list"})
+    _VOID = frozenset(
+        "area base br col embed hr img input link meta param source track wbr".split()
+    )
 
-    def __init__(self) -> None:
+    def __init__(self, linked: Callable[[str], str]) -> None:
         super().__init__()
+        self._linked = linked
+        self._sheets: list[str] = []
+        self._sheet = Sheet(())
+        #: The elements that are open.
+        self._path: list[PageElement] = []
         self.texts: list[str] = [""]
         #: The texts of the lists by which a program finds the pages.
         self.lists: list[str] = [""]
-        self._numbered: list[_Numbers] = []
-        # the lists that are open, of which some have no numbers
-        self._counts: list[_Numbers | None] = []
+        self._found: list[_List] = []
+        #: The lists that are open.
+        self._open_lists: list[_List] = []
         self._silent = 0
         self._in_list = False
         #: The element that leads back from a note, and how many of its name are open in it.
@@ -442,13 +493,23 @@ class _Html(Tags):
     @property
     def numbers(self) -> list[str]:
         """The numbers of items that aren't typed as a page shows them."""
-        return [number for each in self._numbered for number in each.otherwise()]
+        numbered = (each for each in self._found if each.is_numbered)
+        return [number for each in numbered for number in each.otherwise()]
+
+    @property
+    def restyled(self) -> Iterator[str]:
+        """The first words of each list that has other marks in print than those that are typed."""
+        for each in self._found:
+            if (text := each.restyled) is not None:
+                words = map(plain, (*self.texts[text:], *self.lists[text:]))
+                yield next(filter(None, words), "")[:_SHOWN]
 
     def handle_starttag(self, tag: str, attrs: list[tuple[str, str | None]]) -> None:
         self._silent += tag in self._SILENT
         types = (dict(attrs).get("epub:type") or "").split()
         if tag == "nav" and not self._LISTS.isdisjoint(types):
             self._in_list = True
+        self._enter(tag, dict(attrs))
         self._count(tag, dict(attrs))
         self._open += tag == self._back
         if not self._back and tag in ("a", "span") and _is_back(dict(attrs)):
@@ -458,34 +519,78 @@ class _Html(Tags):
 
     def handle_startendtag(self, tag: str, attrs: list[tuple[str, str | None]]) -> None:
         # an element that ends at once has nothing to be silent about
+        self._link(tag, dict(attrs))
         self._describe(tag, attrs)
         self._part(tag)
 
     def handle_endtag(self, tag: str) -> None:
         self._silent = max(self._silent - (tag in self._SILENT), 0)
         self._in_list = self._in_list and tag != "nav"
-        if tag in ("ol", "ul") and self._counts:
-            self._counts.pop()
+        if tag in ("ol", "ul") and self._open_lists:
+            self._open_lists.pop()
+        self._leave(tag)
         self._open -= tag == self._back
         if not self._open:
             self._back = ""
         self._part(tag)
 
     def handle_data(self, data: str) -> None:
+        if self._path and self._path[-1].tag == "style":
+            self._take_sheet(data)
         if not self._silent and not self._back:
             texts = self.lists if self._in_list else self.texts
             texts[-1] += data
 
+    def _enter(self, tag: str, attributes: dict[str, str | None]) -> None:
+        """Notes an element that is open from here on, or that links to a sheet."""
+        self._link(tag, attributes)
+        if tag == "li":
+            tags = [each.tag for each in self._path]
+            # an item ends where the next one of its list begins
+            inner = tags[::-1].index("li") if "li" in tags else len(tags)
+            if not {"ol", "ul"} & set(tags[len(tags) - inner :]):
+                self._leave("li")
+        if tag not in self._VOID:
+            classes = frozenset((attributes.get("class") or "").split())
+            self._path.append(PageElement(tag, attributes.get("id") or "", classes))
+
+    def _leave(self, tag: str) -> None:
+        for place in range(len(self._path) - 1, -1, -1):
+            if self._path[place].tag == tag:
+                del self._path[place:]
+                return
+
+    def _link(self, tag: str, attributes: dict[str, str | None]) -> None:
+        if tag == "link" and "stylesheet" in (attributes.get("rel") or "").lower():
+            self._take_sheet(self._linked(attributes.get("href") or ""))
+
+    def _take_sheet(self, text: str) -> None:
+        self._sheets.append(text)
+        self._sheet = Sheet(self._sheets)
+
     def _count(self, tag: str, attributes: dict[str, str | None]) -> None:
         """Notes a list, or an item of the list that is open."""
-        if tag == "ol":
-            start = whole(attributes.get("start"), None)
-            self._numbered.append(_Numbers(start, "reversed" in attributes))
-            self._counts.append(self._numbered[-1])
-        elif tag == "ul":
-            self._counts.append(None)
-        elif tag == "li" and self._counts and (its := self._counts[-1]):
-            its.own.append(whole(attributes.get("value"), None))
+        if tag not in ("ol", "ul", "li"):
+            return
+        said = self._sheet.mark_of(self._path, attributes.get("style") or "")
+        if tag == "li":
+            if self._open_lists:
+                its = self._open_lists[-1]
+                its.own.append(whole(attributes.get("value"), None))
+                its.note(said or its.shown, len(self.texts))
+            return
+        is_numbered = tag == "ol"
+        own = _TYPES.get(attributes.get("type") or "", "decimal")
+        start = whole(attributes.get("start"), None)
+        found = _List(
+            is_numbered,
+            start,
+            "reversed" in attributes,
+            _typed(attributes) or own,
+            said or (own if is_numbered else "disc"),
+        )
+        self._found.append(found)
+        self._open_lists.append(found)
 
     def _describe(self, tag: str, attrs: list[tuple[str, str | None]]) -> None:
         """Takes the description of a picture for print."""
@@ -505,8 +610,18 @@ def _is_back(attributes: dict[str, str | None]) -> bool:
     return not BACK.isdisjoint(" ".join(said).split())
 
 
-def _page_of(text: str) -> _Html:
-    page = _Html()
+def _typed(attributes: dict[str, str | None]) -> str:
+    """The numbers that pandoc takes from an attribute of a list, if it does."""
+    if _TYPES.get(attributes.get("type") or ""):
+        return ""
+    # it takes a class of that name too
+    said = (attributes.get(name) or "" for name in ("class", "style"))
+    words = re.split(r"[\s:;]+", " ".join(said))
+    return next((word for word in words if word in _TYPES.values()), "")
+
+
+def _page_of(text: str, linked: Callable[[str], str] = lambda address: "") -> _Html:
+    page = _Html(linked)
     page.feed(text)
     page.close()
     return page

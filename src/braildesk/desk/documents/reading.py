@@ -36,6 +36,7 @@ class LossKind(Enum):
     TABLE = auto()
     PICTURE = auto()
     NUMBER = auto()
+    LIST = auto()
     LEVEL = auto()
     LENGTH = auto()
     RAW = auto()
