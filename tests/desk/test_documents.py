@@ -795,6 +795,26 @@ def test_a_page_that_the_order_of_reading_has_twice_is_typed_once(
     assert lost(found, LossKind.REPEATED) == ["The moon"]
 
 
+def test_a_book_may_name_places_of_its_pages_in_their_order(tmp_path: Path) -> None:
+    pages = {
+        name: PAGE.format(f"<p>The {name}</p>").encode() for name in ("moon", "sea")
+    }
+    path = book_of(tmp_path / "moon.epub", "moon moon2 sea", pages)
+    with zipfile.ZipFile(path) as container:
+        parts = {name: container.read(name) for name in container.namelist()}
+    package = parts["in/book.opf"].decode()
+    item = '<item id="moon2" href="moon.xhtml#b" media-type="application/xhtml+xml"/>'
+    package = package.replace("<manifest>", f"<manifest>{item}")
+    package = package.replace("moon.xhtml", "moon.xhtml#a", 2).replace("#a#b", "#b")
+    parts["in/book.opf"] = package.encode()
+    with zipfile.ZipFile(path, "w") as container:
+        for name, part in parts.items():
+            container.writestr(name, part)
+    found = read_manuscript(path)
+    assert (found.texts, found.missing) == (["The moon", "The sea"], ())
+    assert lost(found, LossKind.REPEATED) == ["The moon"]
+
+
 def test_attributes_of_a_page_may_have_the_signs_of_tags(tmp_path: Path) -> None:
     page = (
         '<p id="x" title="a>b">One</p><p title="<p id=\'y\'>">Two</p>'

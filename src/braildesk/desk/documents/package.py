@@ -3,6 +3,7 @@
 Notes and answers are often there, and links lead to them; pandoc leaves them out.
 """
 
+from collections import Counter
 from collections.abc import Iterator
 from dataclasses import dataclass
 from pathlib import PurePosixPath
@@ -44,12 +45,14 @@ class Package:
             if each.get("idref") in self._items
         ]
         parts = [self._part_of(self._items[each.get("idref")]) for each in named]
+        firsts: dict[str, Element] = {}
+        for part, each in zip(parts, named):
+            firsts.setdefault(part, each)
         #: The references to pages, each page at its first place.
-        self._order = [
-            each for n, each in enumerate(named) if parts[n] not in parts[:n]
-        ]
+        self._order = list(firsts.values())
+        counts = Counter(parts)
         #: The parts that the order of reading has more than once.
-        self.repeated = frozenset(each for each in parts if parts.count(each) > 1)
+        self.repeated = frozenset(each for each in counts if counts[each] > 1)
 
     def pages(self) -> Iterator[Page]:
         """All pages, those at the end to which no order of reading leads."""
@@ -64,6 +67,8 @@ class Package:
         for reference in self._order:
             if not _is_list(self._items[reference.get("idref")]):
                 reference.attrib.pop("linear", None)
+        for item in self._items.values():
+            item.set("href", item.get("href", "").partition("#")[0])
         spine = self._root.find(".//{*}spine")
         if spine is not None:
             spine[:] = self._order
@@ -93,7 +98,9 @@ class Package:
 
     def _part_of(self, item: Element) -> str:
         folder = PurePosixPath(self.part).parent
-        return normpath(str(folder / unquote(item.get("href", ""))))
+        # some programs name a place of a page here
+        page = item.get("href", "").partition("#")[0]
+        return normpath(str(folder / unquote(page)))
 
 
 def _is_list(item: Element) -> bool:
