@@ -41,7 +41,10 @@ from handmade import (
     deleted,
     docx,
     inserted,
+    level,
+    lists,
     note,
+    odt,
     paragraph,
     run,
     symbol,
@@ -221,6 +224,144 @@ def test_a_document_made_by_hand(tmp_path: Path) -> None:
     assert lost(found, LossKind.HIDDEN) == ["hidden"]
     assert lost(found, LossKind.DELETED) == ["deleted"]
     assert len(lost(found, LossKind.TABLE)) == 2
+
+
+def field(how: str, shown: str) -> str:
+    """What Word computes."""
+    return f'<w:fldSimple w:instr=" {how} "><w:r><w:t>{shown}</w:t></w:r></w:fldSimple>'
+
+
+MATH = 'xmlns:m="http://schemas.openxmlformats.org/officeDocument/2006/math"'
+FRACTION = (
+    f"<m:oMathPara {MATH}><m:oMath><m:f><m:num><m:r><m:t>x</m:t></m:r></m:num><m:den><m:r>"
+    "<m:t>y</m:t></m:r></m:den></m:f></m:oMath><m:oMath><m:r><m:t>z</m:t></m:r></m:oMath>"
+    "</m:oMathPara>"
+)
+
+
+@pytest.mark.parametrize(
+    ("body", "texts"),
+    [
+        (paragraph(run("On "), field("DATE", "20 July"), run(".")), ["On 20 July."]),
+        (
+            '<w:customXml w:element="x">'
+            + paragraph(
+                run("a "), f'<w:customXml w:element="y">{run("b")}</w:customXml>'
+            )
+            + "</w:customXml>",
+            ["a b"],
+        ),
+        (f'<w:ins w:id="1">{paragraph(run("a"))}</w:ins>', ["a"]),
+        (
+            paragraph(
+                *(
+                    f"<w:{name} w:val='rtl'>{run(name)}</w:{name}>"
+                    for name in ("bdo", "dir")
+                )
+            ),
+            ["bdodir"],
+        ),
+        (
+            paragraph(
+                "<w:r><w:t>a</w:t><w:ptab/><w:t>b</w:t><w:cr/><w:t>c</w:t></w:r>"
+            ),
+            ["a b", "c"],
+        ),
+        (
+            '<mc:AlternateContent><mc:Choice Requires="w14">'
+            + paragraph(run("newer"))
+            + f'</mc:Choice><mc:Fallback>{paragraph(run("older"))}</mc:Fallback>'
+            "</mc:AlternateContent>",
+            ["newer"],
+        ),
+        (paragraph(run("a "), FRACTION, run(" b")), ["a \\frac{x}{y}z b"]),
+        (
+            table((paragraph(run("a")), paragraph(run("b")), paragraph(run("c"))))
+            .replace(
+                "</w:tc><w:tc>",
+                "</w:tc><w:sdt><w:sdtContent><w:tc>",
+                1,
+            )
+            .replace(
+                "b</w:t></w:r></w:p></w:tc>",
+                "b</w:t></w:r></w:p></w:tc></w:sdtContent></w:sdt>",
+            ),
+            ["a; b; c"],
+        ),
+    ],
+)
+def test_print_within_what_pandoc_does_not_know_is_typed(
+    tmp_path: Path, body: str, texts: list[str]
+) -> None:
+    found = read_manuscript(docx(tmp_path / "a.docx", body))
+    assert (found.texts, found.missing) == (texts, ())
+
+
+def test_readings_of_characters_and_choices_of_forms_are_words_that_are_missing(
+    tmp_path: Path,
+) -> None:
+    ruby = (
+        f"<w:r><w:ruby><w:rt>{run('kan')}</w:rt><w:rubyBase>{run('漢')}</w:rubyBase>"
+        "</w:ruby></w:r>"
+    )
+    choices = (
+        '<w:ffData><w:ddList><w:result w:val="1"/><w:listEntry w:val="Apple"/>'
+        '<w:listEntry w:val="Pear"/></w:ddList></w:ffData>'
+    )
+    form = (
+        f'<w:r><w:fldChar w:fldCharType="begin">{choices}</w:fldChar></w:r>'
+        '<w:r><w:fldChar w:fldCharType="end"/></w:r>'
+    )
+    body = paragraph(run("One "), ruby) + paragraph(run("Two "), form)
+    found = read_manuscript(docx(tmp_path / "a.docx", body))
+    assert [each.words for each in found.missing] == ["kan 漢", "Pear"]
+
+
+def captioned(number: int, style: str = "Caption") -> str:
+    """The title of a table, as Word writes it."""
+    its = field("SEQ Table", str(number))
+    return paragraph(run("Table "), its, run(" of tides"), style=style)
+
+
+@pytest.mark.parametrize(
+    "numbering", ["", lists(level(0, "decimal", "%1."))], ids=["none", "lists"]
+)
+def test_titles_of_tables_stand_where_the_document_has_them(
+    tmp_path: Path, numbering: str
+) -> None:
+    body = (
+        table((paragraph(run("a")), paragraph(run("b"))))
+        + paragraph(run("Between"))
+        + table((paragraph(run("c")), paragraph(run("d"))))
+        + captioned(1)
+        + captioned(2)
+        + table((paragraph(run("e")), paragraph(run("f"))))
+    )
+    found = read_manuscript(docx(tmp_path / "a.docx", body, numbering=numbering))
+    assert found.texts == [
+        "a; b",
+        "Between",
+        "c; d",
+        "Table 1 of tides",
+        "Table 2 of tides",
+        "e; f",
+    ]
+    assert found.missing == ()
+
+
+def test_titles_of_tables_stand_where_a_text_in_odt_has_them(tmp_path: Path) -> None:
+    cell = "<table:table-cell><text:p>{}</text:p></table:table-cell>"
+    rows = f"<table:table-row>{cell.format('a')}{cell.format('b')}</table:table-row>"
+    its = (
+        '<table:table><table:table-column table:number-columns-repeated="2"/>'
+        f"{rows}</table:table>"
+    )
+    title = '<text:p text:style-name="Table">Table {}</text:p>'
+    text = its + title.format(1) + title.format(2) + its
+    style = '<style:style style:name="Table" style:family="paragraph"/>'
+    found = read_manuscript(odt(tmp_path / "a.odt", text, styles=style))
+    assert found.texts == ["a; b", "Table 1", "Table 2", "a; b"]
+    assert found.missing == ()
 
 
 def test_words_of_drawings_are_missing_unless_they_are_typed(tmp_path: Path) -> None:

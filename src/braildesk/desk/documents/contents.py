@@ -304,8 +304,10 @@ def _runs(element: Element, inner: list[Element]) -> Iterator[str]:
             continue
         if tag == "t":
             yield child.text or ""
-        elif tag in ("tab", "br", "cr"):
+        elif tag in ("tab", "ptab", "br", "cr"):
             yield " "
+        elif tag == "ddList":
+            yield _chosen(child)
         elif tag == "noBreakHyphen":
             yield "\u2011"
         elif tag == "sym":
@@ -314,10 +316,20 @@ def _runs(element: Element, inner: list[Element]) -> Iterator[str]:
             yield " " if font == "Symbol" else f" {font.replace(' ', '')}_{number} "
         elif tag == "txbxContent":
             inner.append(child)
+        elif tag in ("rt", "rubyBase"):
+            yield f" {''.join(_runs(child, inner))} "
         elif tag != "pPr":
             if described := child.get(_DESCRIPTIONS.get(tag, "")):
                 yield f" {described} "
             yield from _runs(child, inner)
+
+
+def _chosen(choices: Element) -> str:
+    """What is chosen of a list in a form."""
+    its = [each.get(f"{_W}val", "") for each in choices.iter(f"{_W}listEntry")]
+    chosen = choices.find(f"{_W}result")
+    number = 0 if chosen is None else whole(chosen.get(f"{_W}val"), 0)
+    return f" {its[number]} " if 0 <= number < len(its) else ""
 
 
 def _of_odt(container: zipfile.ZipFile, found: Contents) -> None:

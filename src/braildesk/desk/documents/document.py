@@ -100,7 +100,13 @@ def _read(
         noted = with_notes(tree)
     except FAULTS as fault:
         raise NotRead from fault
-    found = document(noted, reading, with_front=kind in _WITH_FRONT)
+    found = document(
+        noted,
+        reading,
+        with_front=kind in _WITH_FRONT,
+        # of ODT, pandoc takes those alone for titles
+        has_titles_below=kind is ManuscriptKind.ODT,
+    )
     passages = own.passages
     if kind is ManuscriptKind.MARKDOWN:
         text = data.decode()

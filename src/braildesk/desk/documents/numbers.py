@@ -5,7 +5,7 @@ has a form, such as “§ %1 (%2)”. pandoc knows few of these forms, and drops
 """
 
 import re
-from collections.abc import Callable, Iterator, Mapping
+from collections.abc import Callable, Iterator, Mapping, Sequence
 from dataclasses import dataclass, field
 from io import BytesIO
 from xml.etree import ElementTree
@@ -16,11 +16,20 @@ from zipfile import ZipFile
 from braildesk.desk.documents.kinds import is_media, part_of, unpacked
 from braildesk.desk.documents.reading import Loss, LossKind, plain, whole
 from braildesk.desk.documents.tree import roman
-from braildesk.desk.documents.xml_writing import rewritten
+from braildesk.desk.documents.xml_writing import Rewriting, rewritten
 
 _W = "{http://schemas.openxmlformats.org/wordprocessingml/2006/main}"
 _MC = "{http://schemas.openxmlformats.org/markup-compatibility/2006}"
 _FALLBACK = f"{_MC}Fallback"
+_MATH = "{http://schemas.openxmlformats.org/officeDocument/2006/math}"
+#: What stands around print, and where pandoc leaves that out.
+_AROUND = frozenset(
+    {f"{_W}{name}" for name in ("fldSimple", "customXml", "smartTag", "ins", "moveTo")}
+    | {f"{_W}{name}" for name in ("bdo", "dir", "sdt", "sdtContent")}
+    | {f"{_MC}AlternateContent", f"{_MC}Choice", f"{_MATH}oMathPara"}
+)
+#: What pandoc passes over, as if it parted no words.
+_RENAMED = {f"{_W}cr": "w:br", f"{_W}ptab": "w:tab"}
 _NUMBERING, _STYLES = "word/numbering.xml", "word/styles.xml"
 _TEXTS = re.compile(r"word/(document|footnotes|endnotes)\d*\.xml")
 #: Where the form of a level has the number of a level, from 1 on.
@@ -57,27 +66,26 @@ _FORMS: Mapping[str, Callable[[int], str]] = {
 def with_numbers(data: bytes, bullet: str) -> tuple[bytes, list[Loss]]:
     """A document without lists, whose paragraphs begin with their numbers; and those not as in print.
 
-    It has no pictures any more, which aren't looked at. One whose lists can't be read, or whose tags
-    aren't Word's, is left as it is. Raises `NoDocument`.
+    Its texts have nothing around or in them of which pandoc knows nothing. It has no pictures any more,
+    which aren't looked at. One whose lists can't be read, or whose tags aren't Word's, is left as it is.
+    Raises `NoDocument`.
     """
-    losses: list[Loss] = []
     made = BytesIO()
     with unpacked(data) as container, ZipFile(made, "w") as other:
         parts = {
             name: b"" if is_media(name) else part_of(container, name)
             for name in container.namelist()
         }
-        if (numbering := parts.pop(_NUMBERING, None)) is None:
-            return data, losses
+        numbering = parts.pop(_NUMBERING, None)
         try:
-            lists = _Lists(numbering, parts.get(_STYLES), bullet)
+            lists = _Lists(numbering or b"<none/>", parts.get(_STYLES), bullet)
         except ParseError:
-            return data, losses
+            return data, []
         for name, part in parts.items():
             if _TEXTS.fullmatch(name):
                 root = ElementTree.fromstring(part)
                 if not root.tag.startswith(_W):
-                    return data, losses
+                    return data, []
                 part = _numbered(part, iter(lists.labels(root)))
             other.writestr(name, part)
     return made.getvalue(), lists.losses
@@ -91,7 +99,13 @@ def _numbered(part: bytes, labels: Iterator[str]) -> bytes:
         run = f'<w:r><w:t xml:space="preserve">{escape(label)}</w:t></w:r>'
         return run if label else ""
 
-    return rewritten(part, front_of, {_W[1:-1]: ("w", _W[1:-1])})
+    how = Rewriting(front_of, _AROUND, _is_left_out, _RENAMED, {_W[1:-1]: "w"})
+    return rewritten(part, how)
+
+
+def _is_left_out(name: str, attributes: Sequence[str]) -> bool:
+    """Whether an element is for older programs, or has pandoc put a paragraph before another table."""
+    return name == _FALLBACK or name == f"{_W}pStyle" and "Caption" in attributes
 
 
 @dataclass(frozen=True, slots=True)

@@ -16,7 +16,7 @@ from zipfile import ZipFile
 from braildesk.desk.documents.kinds import is_media, part_of, unpacked
 from braildesk.desk.documents.reading import Loss, LossKind, plain, whole
 from braildesk.desk.documents.tree import letters, roman
-from braildesk.desk.documents.xml_writing import rewritten
+from braildesk.desk.documents.xml_writing import Rewriting, rewritten
 
 _TEXT = "{urn:oasis:names:tc:opendocument:xmlns:text:1.0}"
 _STYLE = "{urn:oasis:names:tc:opendocument:xmlns:style:1.0}"
@@ -78,7 +78,7 @@ def with_odt_numbers(data: bytes, bullet: str) -> tuple[bytes, list[Loss]]:
 
         for name, part in parts.items():
             if name == _CONTENT:
-                part = rewritten(part, front_of, without=_AROUND)
+                part = rewritten(part, Rewriting(front_of, _AROUND))
             other.writestr(name, part)
     return made.getvalue(), numbering.losses
 

@@ -48,13 +48,17 @@ FAULTS = (
 
 
 def document(
-    tree: Node, reading: ReadingOptions = ReadingOptions(), *, with_front: bool = False
+    tree: Node,
+    reading: ReadingOptions = ReadingOptions(),
+    *,
+    with_front: bool = False,
+    has_titles_below: bool = False,
 ) -> Document:
     """The paragraphs of a tree; with its title and those who wrote it if these are print too.
 
-    Raises ``NotRead``.
+    The titles of its tables may stand below them. Raises ``NotRead``.
     """
-    reader = _Reader(reading)
+    reader = _Reader(reading, has_titles_below)
     try:
         if with_front:
             reader.front(tree["meta"])
@@ -107,8 +111,9 @@ class _Print(Tags):
 class _Reader:
     """What reads the blocks of a tree, one after another."""
 
-    def __init__(self, reading: ReadingOptions) -> None:
+    def __init__(self, reading: ReadingOptions, has_titles_below: bool) -> None:
         self._reading = reading
+        self._has_titles_below = has_titles_below
         self._count = 0
         self._waiting: list[tuple[str, list[Node]]] = []
         #: The numbers of notes to which more than one place may lead, by their names.
@@ -241,15 +246,18 @@ class _Reader:
             self.parts.append(Part(text, level))
 
     def _table(self, content: Sequence[Any], before: str) -> None:
-        """Puts a paragraph for each row, and its title before them."""
+        """Puts a paragraph for each row, and its title before or after them."""
         _, (_, title), _, (_, head), bodies, (_, foot) = content
-        self.blocks(title, before)
+        if not self._has_titles_below:
+            self.blocks(title, before)
         rows = [*head]
         for _, _, heads, body in bodies:
             rows += [*heads, *body]
         texts = [self._row(row) for row in (*rows, *foot)]
         for text in texts:
             self._put(text)
+        if self._has_titles_below:
+            self.blocks(title)
         if not self._reading.notes_at_end:
             self.put_notes()
         first = next((text for text in texts if text), "")
@@ -261,7 +269,9 @@ class _Reader:
 
     def _texts_of(self, nodes: Sequence[Node]) -> list[str]:
         """The paragraphs of some blocks, which aren't put; what they lose and their notes are kept."""
-        inner = _Reader(replace(self._reading, notes_at_end=True))
+        inner = _Reader(
+            replace(self._reading, notes_at_end=True), self._has_titles_below
+        )
         inner._count = self._count
         inner._numbers = self._numbers
         inner.blocks(nodes)

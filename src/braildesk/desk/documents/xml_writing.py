@@ -1,6 +1,7 @@
-"""Parts of a document in XML, written anew as a parser reads them, with print put into some elements."""
+"""Parts of a document in XML, written anew as a parser reads them, so that pandoc reads all of them."""
 
-from collections.abc import Callable, Collection, Mapping
+from collections.abc import Callable, Collection, Mapping, Sequence
+from dataclasses import dataclass, field
 from xml.parsers import expat
 from xml.sax.saxutils import escape, quoteattr
 
@@ -8,19 +9,33 @@ from xml.sax.saxutils import escape, quoteattr
 _PARTS = " "
 
 
-def rewritten(
-    part: bytes,
-    front_of: Callable[[str], str] = lambda name: "",
-    usual: Mapping[str, tuple[str, str]] = {},
-    without: Collection[str] = (),
-) -> bytes:
-    """A part that can be read, with what is put at the front of its elements.
+def _nothing_at(name: str) -> str:
+    return ""
 
-    ``front_of`` is asked once for each element, in their order, with its address and name as
-    ElementTree has them. ``usual`` has the prefix and the address that stand in place of an address. Of
-    the elements ``without`` what they have is left alone.
-    """
-    writer = _Writer(front_of, usual, without)
+
+def _is_kept(name: str, attributes: Sequence[str]) -> bool:
+    return False
+
+
+@dataclass(frozen=True)
+class Rewriting:
+    """How a part is written anew; names are the addresses and names that ElementTree has."""
+
+    #: What is put at the front of an element, asked once for each, in their order.
+    front_of: Callable[[str], str] = _nothing_at
+    #: The elements of which what they have is left alone.
+    unwrapped: Collection[str] = ()
+    #: Whether an element with names and values of attributes is left out, with all that it has.
+    is_left_out: Callable[[str, Sequence[str]], bool] = _is_kept
+    #: The names of elements that stand in place of others.
+    renamed: Mapping[str, str] = field(default_factory=dict)
+    #: The prefixes by which pandoc knows addresses.
+    prefixes: Mapping[str, str] = field(default_factory=dict)
+
+
+def rewritten(part: bytes, rewriting: Rewriting) -> bytes:
+    """A part that can be read, written anew."""
+    writer = _Writer(rewriting)
     parser = expat.ParserCreate(namespace_separator=_PARTS)
     parser.namespace_prefixes = True
     parser.ordered_attributes = True
@@ -36,55 +51,67 @@ def rewritten(
 class _Writer:
     """What writes the elements that a parser finds."""
 
-    def __init__(
-        self,
-        front_of: Callable[[str], str],
-        usual: Mapping[str, tuple[str, str]],
-        without: Collection[str],
-    ) -> None:
+    def __init__(self, rewriting: Rewriting) -> None:
         self.pieces: list[str] = []
-        self._front_of = front_of
-        self._usual = usual
-        self._without = without
+        self._how = rewriting
         self._declared: dict[str, str] = {}
+        #: The prefixes that hold within elements which aren't written.
+        self._outer: list[dict[str, str]] = []
+        #: What ends each of the elements that are open.
+        self._ends: list[str] = []
+        #: How many elements are open in one that is left out, with that one.
+        self._left_out = 0
 
     def declare(self, prefix: str | None, address: str | None) -> None:
         """Notes the prefix that the next element gives to an address."""
-        own = prefix or "", address or ""
-        name, uri = self._usual.get(own[1], own)
-        self._declared[f"xmlns:{name}" if name else "xmlns"] = uri
+        name = self._how.prefixes.get(address or "", prefix or "")
+        self._declared[f"xmlns:{name}" if name else "xmlns"] = address or ""
 
     def begin(self, name: str, attributes: list[str]) -> None:
         """Writes the tag with which an element begins, and what is put at its front."""
-        if (found := _found(name)) in self._without:
+        found = _found(name)
+        front = self._how.front_of(found)
+        if self._left_out or self._how.is_left_out(found, attributes):
+            self._left_out += 1
+            self._declared = {}
+            self._ends.append("")
             return
-        pairs = [*self._declared.items()]
-        named = map(self._name, attributes[::2])
-        pairs += zip(named, attributes[1::2])
+        if found in self._how.unwrapped:
+            self._outer.append(self._declared)
+            self._declared = {}
+            self._ends.append("")
+            return
+        declared: dict[str, str] = {}
+        for each in (*self._outer, self._declared):
+            declared |= each
         self._declared = {}
+        pairs = [*declared.items()]
+        pairs += zip(map(self._name, attributes[::2]), attributes[1::2])
         written = "".join(f" {key}={quoteattr(value)}" for key, value in pairs)
-        self.pieces += (f"<{self._name(name)}{written}>", self._front_of(found))
+        own = self._how.renamed.get(found) or self._name(name)
+        self.pieces += (f"<{own}{written}>", front)
+        self._ends.append(f"</{own}>")
 
     def end(self, name: str) -> None:
         """Writes the tag with which an element ends."""
-        if _found(name) not in self._without:
-            self.pieces.append(f"</{self._name(name)}>")
+        self.pieces.append(self._ends.pop())
+        if self._left_out:
+            self._left_out -= 1
+        elif _found(name) in self._how.unwrapped:
+            self._outer.pop()
 
     def text(self, text: str) -> None:
         """Writes the text between tags."""
-        self.pieces.append(escape(text))
+        if not self._left_out:
+            self.pieces.append(escape(text))
 
     def _name(self, name: str) -> str:
         """A name with its prefix, if it has one."""
-        match name.split(_PARTS):
-            case [address, local, prefix]:
-                prefix, _ = self._usual.get(address, (prefix, address))
-                return f"{prefix}:{local}"
-            case [address, local] if address in self._usual:
-                return f"{self._usual[address][0]}:{local}"
-            case [*_, local]:
-                return local
-        return name
+        address, *rest = name.split(_PARTS)
+        if not rest:
+            return name
+        prefix = self._how.prefixes.get(address, "".join(rest[1:]))
+        return f"{prefix}:{rest[0]}" if prefix else rest[0]
 
 
 def _found(name: str) -> str:
