@@ -732,6 +732,15 @@ def test_a_picture_with_a_caption_has_its_description_too() -> None:
     assert found.missing == ()
 
 
+def test_no_word_is_said_to_be_missing_since_it_is_parted_by_tags() -> None:
+    names = "acronym strike nobr label dialog my-own marquee meter slot rt".split()
+    inner = " ".join(f"<{name}>the</{name}>moon" for name in names)
+    page = f'<html><p>{inner} a<img src="a.png" alt="old">moon</p></html>'
+    found = read_document(page.encode(), ManuscriptKind.HTML)
+    assert found.texts == [" ".join(["themoon"] * len(names)) + " a[old]moon"]
+    assert found.missing == ()
+
+
 def test_a_description_that_no_paragraph_has_is_a_word_that_is_missing() -> None:
     page = b'<html><p>The <img src="a.png" alt="old"> moon</p><pre><img alt="crater"/></pre></html>'
     found = read_document(page, ManuscriptKind.HTML)

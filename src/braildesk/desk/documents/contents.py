@@ -468,9 +468,15 @@ class _List:
 class _Html(Tags):
     """The text of a page, parted where a block begins or ends."""
 
-    _INLINE = frozenset(
-        "a abbr b bdi bdo cite code data dfn em i kbd mark q ruby s samp small span strong sub sup"
-        " time u var wbr font tt big del ins".split()
+    #: The elements that part paragraphs, as pandoc has them: all others stand within a line.
+    _BLOCKS = frozenset(
+        "address applet area article aside audio blockquote body br button canvas caption case"
+        " caution center col colgroup dd default details dir div dl dt embed epigraph equation"
+        " example fieldset figcaption figure footer form formalpara frameset h1 h2 h3 h4 h5 h6 head"
+        " header hgroup hr html iframe important isindex li main map menu meta nav noframes noscript"
+        " note object ol output p para pre procedure progress screen script section sidebar simpara"
+        " source style summary svg switch synopsis table task tbody td textarea tfoot th"
+        " thead tip title tr ul video warning".split()
     )
     # a formula is typed in another language, which is said of each
     _SILENT = frozenset({"script", "style", "title", "template", "math"})
@@ -607,10 +613,10 @@ class _Html(Tags):
     def _describe(self, tag: str, attrs: list[tuple[str, str | None]]) -> None:
         """Takes the description of a picture for print."""
         if tag == "img":
-            self.handle_data(f" {dict(attrs).get('alt') or ''}")
+            self.handle_data(f" {dict(attrs).get('alt') or ''} ")
 
     def _part(self, tag: str) -> None:
-        if tag not in self._INLINE:
+        if tag in self._BLOCKS:
             self.texts.append("")
             self.lists.append("\n")
             self._back, self._open = "", 0
