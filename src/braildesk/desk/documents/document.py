@@ -1,8 +1,8 @@
 """Manuscripts as publishers send them, read as the paragraphs of a book.
 
-Documents are read by pandoc (`pages`, `package`, `numbers`, `numbers_of_odt`, `pandoc`, `tree`, `notes`). What it leaves out
-without a sign is found by comparing the words of its paragraphs with those that the file itself has
-(`contents`).
+Documents are read by pandoc (`pages`, `package`, `numbers`, `numbers_of_odt`, `pandoc`, `tree`,
+`notes`). What it leaves out without a sign is found by comparing the words of its paragraphs with those
+that the file itself has (`contents`).
 
 RTF and DOC are turned into DOCX by LibreOffice first: pandoc loses print of the one without a word, and
 doesn't read the other. ODT is where pandoc loses words of it, as the heads of tables, or numbers, if
