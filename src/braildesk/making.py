@@ -6,10 +6,9 @@ import sqlite3
 from collections.abc import Iterator, Sequence
 from contextlib import ExitStack, closing, contextmanager
 from dataclasses import dataclass, replace
-from os import fsencode, fspath
+from os import fspath
 from pathlib import Path
 from typing import Any, BinaryIO
-from urllib.parse import quote
 
 from braildesk import opening, program as programs
 from braildesk.held import copy_held, held
@@ -28,6 +27,8 @@ from braildesk.refusals import (
 )
 from braildesk.session import Session
 from braildesk.workshop import (
+    MayNotLast,
+    Place,
     Swapped,
     copy_bytes,
     create,
@@ -35,11 +36,15 @@ from braildesk.workshop import (
     made_beside,
     made_for_a_while,
     open_made,
+    place_of,
     put,
     put_over,
 )
 
 _ROOM = "Let TMPDIR name a folder with room."
+_FULL = (errno.ENOSPC, errno.EDQUOT)
+#: What may be of a file whose folder isn't on the disk yet.
+_GONE, _OLDER = "it may be gone", "the older file may be there"
 
 
 class NotMade(DeskError):
@@ -89,8 +94,7 @@ def _new_book(
     except FileExistsError:
         pass  # another program made one in this moment
     except OSError as error:
-        is_full = error.errno in (errno.ENOSPC, errno.EDQUOT)
-        why = Why.NO_ROOM if is_full else opening.why(asked)
+        why = Why.NO_ROOM if error.errno in _FULL else opening.why(asked)
         raise cannot_open(asked, why) from None
     programs.make_book(asked.path, program)
     _carry_out(asked.path, program, holding)
@@ -116,6 +120,7 @@ def _make(
     """
     target = real_path(asked.path)
     with made_beside(target) as made, ExitStack() as stack:
+        place = stack.enter_context(place_of(target))
         try:
             begun = stack.enter_context(_temporary())
             try:
@@ -132,8 +137,14 @@ def _make(
                 os.fsync(file.fileno())
                 written = os.fstat(file.fileno())
             open_made(made, written).close()
-            put(made, target)
-        except (Failed, Swapped) as failed:
+            put(made, place)
+        except MayNotLast as failed:
+            raise _may_not_last(f"new book “{asked.path}”", failed, _GONE) from failed
+        except FileExistsError:
+            raise
+        except (Failed, OSError) as failed:
+            if isinstance(failed, OSError) and failed.errno in _FULL:
+                raise
             raise Failed(
                 f"The new book “{asked.path}” could not be written, and there is none:"
                 f" {_sentence(failed)}"
@@ -152,8 +163,15 @@ def _temporary() -> Iterator[Path]:
         yield path
 
 
-def _sentence(failed: DeskError | Swapped) -> str:
-    return failed.sentence if isinstance(failed, DeskError) else f"{failed.strerror}."
+def _may_not_last(what: str, failed: MayNotLast, after: str) -> Failed:
+    return Failed(
+        f"The {what} is made and whole, but its folder could not be brought to the disk:"
+        f" {failed.strerror}. After a loss of power {after}."
+    )
+
+
+def _sentence(failed: Failed | OSError) -> str:
+    return failed.sentence if isinstance(failed, Failed) else f"{_why(failed)}."
 
 
 def _carry_out(
@@ -201,11 +219,13 @@ def _copied(
 
 @dataclass(frozen=True, slots=True)
 class _Target:
-    """Where a copy goes: the path as it was given, where that leads, and what it does there."""
+    """Where a copy goes: the path as it was given, where that leads, and its place by then."""
 
     named: str
     path: str
-    replaces: bool
+    place: Place
+    #: The file of the book that is replaced, if one is.
+    older: BinaryIO | None = None
 
 
 @contextmanager
@@ -214,20 +234,29 @@ def _claimed(source: BinaryIO, named: str, overwrite: bool) -> Iterator[_Target]
     if opening.word(named) is None:
         raise cannot_open(BookFile(named), Why.NO_PATH)
     path = real_path(named)
-    if not os.path.lexists(named):
-        _judge_log(named, NotCopied, "copy")
-        yield _Target(named, path, False)
-        return
-    if os.path.exists(path) and os.path.samestat(
-        os.stat(path), os.fstat(source.fileno())
-    ):
-        raise NotCopied(
-            f"“{named}” is the book itself. Take another path for the copy."
-        )
-    if not overwrite:
-        raise _taken(named)
-    with held(BookFile(named), os.O_RDWR):
-        yield _Target(named, path, True)
+    with ExitStack() as stack:
+        if not os.path.lexists(named):
+            _judge_log(named, NotCopied, "copy")
+            yield _Target(named, path, stack.enter_context(place_of(path)))
+            return
+        if os.path.exists(path) and os.path.samestat(
+            os.stat(path), os.fstat(source.fileno())
+        ):
+            raise NotCopied(
+                f"“{named}” is the book itself. Take another path for the copy."
+            )
+        if not overwrite:
+            raise _taken(named)
+        older = stack.enter_context(held(BookFile(named), os.O_RDWR))
+        place = stack.enter_context(place_of(path))
+        _judge_place(place, older)
+        yield _Target(named, path, place, older)
+
+
+def _judge_place(place: Place, older: BinaryIO) -> None:
+    """Whether the file that is held has its place still, by whatever is put there meanwhile."""
+    if not place.has(older):
+        raise Swapped
 
 
 def _taken(named: str) -> FileIsThere:
@@ -292,35 +321,68 @@ def _finish(source: BinaryIO, made: Path, copied: os.stat_result) -> None:
 
 def _put(made: Path, target: _Target) -> None:
     """Gives a whole copy its path, if nothing of an older book is left beside it."""
-    if target.replaces:
-        _empty_log(target)
-        put_over(made, target.path)
-        return
-    _judge_log(target.named, NotCopied, "copy")
     try:
-        put(made, target.path)
+        if target.older is not None:
+            _empty_log(target, target.older)
+            _judge_place(target.place, target.older)
+            put_over(made, target.place)
+        else:
+            _judge_log(target.named, NotCopied, "copy")
+            put(made, target.place)
     except FileExistsError:
         raise _taken(target.named) from None
+    except MayNotLast as failed:
+        after = _GONE if target.older is None else _OLDER
+        raise _may_not_last(f"copy “{target.named}”", failed, after) from failed
 
 
-def _empty_log(target: _Target) -> None:
+def _empty_log(target: _Target, older: BinaryIO) -> None:
     """Puts what stands in the log of a held book into its file.
 
-    Until the copy takes its place the book is whole in that file then, whenever this ends.
+    Until the copy takes its place the book is whole in that file then, whenever this ends. Both are
+    written by their descriptors: a link that is put in place of one leads SQLite nowhere.
     """
-    if not has_work(f"{target.path}-wal"):
+    place = target.place.beside("-wal")
+    if not opening.has_page(place.size()):
         return
-    # the lock is held here already, so that SQLite takes none, nor shares the log with anybody
-    address = f"file:{quote(fsencode(target.path))}?mode=rw&vfs=unix-none"
+    with place.opened(os.O_RDWR) as log, ExitStack() as stack:
+        try:
+            whole = _filled(stack, older, log)
+        except (OSError, Failed, sqlite3.OperationalError) as error:
+            raise _not_written(target.named, _why_not_filled(error)) from error
+        if whole is not None:
+            # until the log is empty it stands for each page that is half written
+            copy_bytes(whole.fileno(), older.fileno())
+            os.fsync(older.fileno())
+            os.ftruncate(log.fileno(), 0)
+            os.fsync(log.fileno())
+
+
+def _filled(stack: ExitStack, older: BinaryIO, log: BinaryIO) -> BinaryIO | None:
+    """A copy of a file with what stands in its log; none if a program would find no book there."""
+    made = stack.enter_context(_temporary())
+    whole = stack.enter_context(create(made))
+    copy_bytes(older.fileno(), whole.fileno())
+    with create(Path(f"{made}-wal")) as work:
+        copy_bytes(log.fileno(), work.fileno())
     try:
-        with closing(sqlite3.connect(address, uri=True)) as database:
+        with closing(sqlite3.connect(made)) as database:
             database.execute("PRAGMA trusted_schema = OFF")
             database.set_progress_handler(lambda: 1, opening.STEPS)
             database.execute("PRAGMA locking_mode = EXCLUSIVE")
             database.execute("PRAGMA wal_checkpoint(TRUNCATE)").fetchone()
-    except sqlite3.OperationalError as error:
-        why = f"what stands in the log of the older book can't be put into its file ({error})"
-        raise _not_written(target.named, why) from error
+    except sqlite3.OperationalError:
+        raise
     except sqlite3.DatabaseError:
-        # no program opens what is there, nor finds any work in its log
-        pass
+        return None
+    return whole
+
+
+def _why_not_filled(error: OSError | Failed | sqlite3.OperationalError) -> str:
+    if isinstance(error, Failed):
+        return error.sentence
+    why = _why(error) if isinstance(error, OSError) else str(error)
+    return (
+        "what stands in the log of the older book can't be put into its file, since the temporary"
+        f" folder takes no copy of it ({why}). {_ROOM}"
+    )

@@ -17,12 +17,14 @@ from braildesk.protocol.asked import real_path
 from braildesk.refusals import Failed, Unopened
 from braildesk.watch import Watch
 from braildesk.workshop import (
+    MayNotLast,
     copy_bytes,
     create,
     give_access,
     made_beside,
     made_for_a_while,
     open_made,
+    place_of,
     put,
 )
 
@@ -394,12 +396,16 @@ def _version(made: Path, program: StrPath | None) -> int:
 def _put_beside(made: Path, path: str, ending: str = "") -> str:
     """Puts a file beside a path, under a name that nothing has."""
     number = 1
-    while True:
-        saved = f"{path}-saved-{number}{ending}"
-        try:
-            if not os.path.lexists(f"{saved}-wal"):
-                put(made, saved)
-                return saved
-        except FileExistsError:
-            pass
-        number += 1
+    with place_of(path) as place:
+        while True:
+            saved = f"-saved-{number}{ending}"
+            try:
+                if not os.path.lexists(f"{path}{saved}-wal"):
+                    put(made, place.beside(saved))
+                    return path + saved
+            except MayNotLast:
+                # it is there, and nothing that is said of it speaks of a loss of power
+                return path + saved
+            except FileExistsError:
+                pass
+            number += 1

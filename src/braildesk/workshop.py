@@ -11,6 +11,7 @@ import os
 import stat
 from collections.abc import Iterator
 from contextlib import contextmanager, suppress
+from dataclasses import dataclass
 from pathlib import Path
 from typing import BinaryIO, Self
 
@@ -19,11 +20,13 @@ _PREFIX = ".braildesk-"
 #: stands in a log. Nothing else is cleared away.
 _MADE = "book"
 _NAMES = frozenset({_MADE, f"{_MADE}-wal", f"{_MADE}-shm"})
-#: The numbers of `renameat2`: paths are those of this process, and nothing is replaced.
-_HERE, _NO_REPLACE = -100, 1
-#: What a system says of that if it, or the file system, doesn't have it.
+#: The number by which `renameat2` replaces nothing.
+_NO_REPLACE = 1
+#: What a system says of that, and of bringing a folder to the disk, if it, or the file system, as one
+#: of a network may, doesn't have it.
 _NOT_KNOWN = (errno.EINVAL, errno.ENOSYS, errno.EOPNOTSUPP)
 _CHUNK = 1 << 20
+_FOLDER = os.O_PATH | os.O_DIRECTORY | os.O_NOFOLLOW | os.O_CLOEXEC
 
 
 class Swapped(OSError):
@@ -35,6 +38,53 @@ class Swapped(OSError):
 
     def __reduce__(self) -> tuple[type[Self], tuple[()]]:
         return type(self), ()
+
+
+class MayNotLast(OSError):
+    """A file has its new bytes, and whether its name outlasts a loss of power isn't known."""
+
+
+@dataclass(frozen=True, slots=True)
+class Place:
+    """A name in a folder that is held open: what is put in place of the folder leads nowhere else."""
+
+    folder: int
+    name: str
+
+    def beside(self, ending: str) -> "Place":
+        """The place of a file whose name ends so besides."""
+        return Place(self.folder, self.name + ending)
+
+    def size(self) -> int:
+        """The bytes of the file, none if it isn't there."""
+        try:
+            return os.stat(self.name, dir_fd=self.folder, follow_symlinks=False).st_size
+        except FileNotFoundError:
+            return 0
+
+    def has(self, file: BinaryIO) -> bool:
+        """Whether it is the place of this file, and not of a link to it."""
+        try:
+            found = os.stat(self.name, dir_fd=self.folder, follow_symlinks=False)
+        except FileNotFoundError:
+            return False
+        return os.path.samestat(found, os.fstat(file.fileno()))
+
+    def opened(self, flags: int) -> BinaryIO:
+        """The file, never through a link, nor waiting for a pipe that was put there."""
+        more = os.O_NOFOLLOW | os.O_NONBLOCK | os.O_CLOEXEC
+        descriptor = os.open(self.name, flags | more, dir_fd=self.folder)
+        return open(descriptor, "r+b" if flags & os.O_RDWR else "rb", buffering=0)
+
+
+@contextmanager
+def place_of(path: str) -> Iterator[Place]:
+    """The place of a path in which no link is."""
+    folder = os.open(os.path.dirname(path), _FOLDER)
+    try:
+        yield Place(folder, os.path.basename(path))
+    finally:
+        os.close(folder)
 
 
 @contextmanager
@@ -91,7 +141,7 @@ def open_made(made: Path, like: os.stat_result) -> BinaryIO:
     return file
 
 
-def put(made: Path, target: str) -> None:
+def put(made: Path, target: Place) -> None:
     """Gives a file its name, which nothing may have yet (``FileExistsError``)."""
     with _folder_of(made) as folder:
         try:
@@ -99,27 +149,29 @@ def put(made: Path, target: str) -> None:
         except OSError as error:
             if error.errno not in _NOT_KNOWN:
                 raise
-            os.link(made.name, target, src_dir_fd=folder)
+            names = made.name, target.name
+            os.link(*names, src_dir_fd=folder, dst_dir_fd=target.folder)
             os.unlink(made.name, dir_fd=folder)
     _sync_folder(target)
 
 
-def put_over(made: Path, target: str) -> None:
+def put_over(made: Path, target: Place) -> None:
     """Gives a file the name of another, which is no more then, nor is the log beside it."""
-    log, aside = f"{target}-wal", f"{made.name}-wal"
+    log, aside = target.beside("-wal").name, f"{made.name}-wal"
     is_aside = True
     with _folder_of(made) as folder:
         try:
             # it belongs to the older file, and would damage the new one
-            os.replace(log, aside, dst_dir_fd=folder)
+            os.replace(log, aside, src_dir_fd=target.folder, dst_dir_fd=folder)
         except FileNotFoundError:
             # what lies aside then is the new file's own, if anything does
             is_aside = False
         try:
-            os.replace(made.name, target, src_dir_fd=folder)
+            names = made.name, target.name
+            os.replace(*names, src_dir_fd=folder, dst_dir_fd=target.folder)
         except OSError:
             if is_aside:
-                os.replace(aside, log, src_dir_fd=folder)
+                os.replace(aside, log, src_dir_fd=folder, dst_dir_fd=target.folder)
             raise
     _sync_folder(target)
 
@@ -141,7 +193,10 @@ def give_access(file: int, like: os.stat_result) -> None:
 
 
 def copy_bytes(source: int, target: int) -> None:
-    """Copies a file to an empty one, with its holes. Who keeps it has to have it on the disk."""
+    """Copies a file to an empty one, with its holes, or over one that has no data where it has holes.
+
+    Who keeps it has to have it on the disk.
+    """
     size = os.fstat(source).st_size
     place = 0
     while place < size:
@@ -165,9 +220,8 @@ def _folder_of(made: Path) -> Iterator[int]:
 
     Through that what is made would come into any folder of who makes it.
     """
-    flags = os.O_PATH | os.O_DIRECTORY | os.O_NOFOLLOW | os.O_CLOEXEC
     try:
-        folder = os.open(made.parent, flags)
+        folder = os.open(made.parent, _FOLDER)
     except (FileNotFoundError, NotADirectoryError) as error:
         raise Swapped from error
     try:
@@ -236,7 +290,7 @@ def _remove(descriptor: int, folder: str) -> None:
             os.rmdir(folder)
 
 
-def _rename(folder: int, name: str, target: str) -> None:
+def _rename(folder: int, name: str, target: Place) -> None:
     """Renames a file of an open folder if nothing has the new name."""
     import ctypes  # which few sessions need
 
@@ -245,21 +299,30 @@ def _rename(folder: int, name: str, target: str) -> None:
         rename = library.renameat2
     except AttributeError:
         raise OSError(errno.ENOSYS, os.strerror(errno.ENOSYS)) from None
-    words = os.fsencode(name), os.fsencode(target)
-    if rename(folder, words[0], _HERE, words[1], _NO_REPLACE):
+    words = os.fsencode(name), os.fsencode(target.name)
+    if rename(folder, words[0], target.folder, words[1], _NO_REPLACE):
         number = ctypes.get_errno()
-        raise OSError(number, os.strerror(number), target)
+        raise OSError(number, os.strerror(number), target.name)
 
 
-def _sync_folder(path: str) -> None:
+def _sync_folder(place: Place) -> None:
     """Has the name of a file on the disk."""
     try:
-        folder = os.open(os.path.dirname(path), os.O_RDONLY | os.O_DIRECTORY)
+        folder = os.open(".", os.O_RDONLY | os.O_DIRECTORY, dir_fd=place.folder)
     except PermissionError:
         # a folder that may be written in and not be read
         os.sync()
         return
     try:
-        os.fsync(folder)
+        sync_names(folder)
     finally:
         os.close(folder)
+
+
+def sync_names(folder: int) -> None:
+    """Has the names of an open folder on the disk, if its file system has a way to do so."""
+    try:
+        os.fsync(folder)
+    except OSError as error:
+        if error.errno not in _NOT_KNOWN:
+            raise MayNotLast(error.errno, error.strerror) from error

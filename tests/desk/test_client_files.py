@@ -13,6 +13,7 @@ import time
 from collections.abc import Callable, Iterator
 from contextlib import closing, suppress
 from pathlib import Path
+from typing import Any
 
 import pytest
 
@@ -212,7 +213,7 @@ def test_a_book_that_can_not_be_replaced_keeps_its_work(
     replace = os.replace
 
     def refused(source: Path | str, target: Path | str, **folders: int) -> None:
-        if str(target) == str(old):
+        if target == old.name:
             raise PermissionError(errno.EPERM, "Operation not permitted")
         replace(source, target, **folders)
 
@@ -445,6 +446,104 @@ def test_a_link_in_place_of_a_copy_that_is_made_gives_no_file_another_mode(
     assert (to.exists(), to.is_symlink()) == (replaces, False)
 
 
+def lead_elsewhere(way: str, shared: Path, private: Path) -> None:
+    """Puts a link in place of a folder, or of the book in it, as those may who share what is above."""
+    if way == "of the folder":
+        shared.rename(shared.with_name("moved"))
+        shared.symlink_to(private)
+    else:
+        (shared / "old").rename(shared / "moved")
+        (shared / "old").symlink_to(private / "old")
+
+
+@pytest.mark.parametrize("way", ["of the folder", "of the book"])
+@pytest.mark.parametrize("moment", ["while it is checked", "while the log is emptied"])
+def test_a_link_put_in_place_of_a_replaced_book_or_its_folder_leads_to_no_other_book(
+    book: Path, tmp_path: Path, monkeypatch: pytest.MonkeyPatch, way: str, moment: str
+) -> None:
+    private, shared = tmp_path / "private", tmp_path / "shared"
+    for folder in (private, shared):
+        folder.mkdir()
+        shutil.copyfile(book, folder / "old")
+    killed_after(shared / "old", "of the replaced book")
+    with Session(private / "old") as session:
+        session.add_paragraph("end", "en", "of an open book")
+        before = contents_of(private)
+        deeds: list[Callable[[], object]] = [
+            lambda: lead_elsewhere(way, shared, private)
+        ]
+        if moment == "while it is checked":
+            meanwhile(monkeypatch, deeds.pop())
+        else:
+            connect = sqlite3.connect
+
+            def connected(*words: Any, **more: Any) -> sqlite3.Connection:
+                while deeds:
+                    deeds.pop()()
+                return connect(*words, **more)
+
+            monkeypatch.setattr(sqlite3, "connect", connected)
+        with pytest.raises(Failed, match="put something else in the place"):
+            braildesk.copy(book, shared / "old", overwrite=True)
+        assert contents_of(private) == before
+        session.add_paragraph("end", "en", "and goes on")
+    assert braildesk.check(private / "old") == 3
+
+
+def contents_of(folder: Path) -> dict[str, bytes]:
+    """What the files of a folder have."""
+    return {path.name: path.read_bytes() for path in folder.iterdir()}
+
+
+def refuse_to_sync(monkeypatch: pytest.MonkeyPatch, number: int) -> None:
+    """Has no folder be brought to the disk."""
+    sync = os.fsync
+
+    def refused(file: int) -> None:
+        if stat.S_ISDIR(os.fstat(file).st_mode):
+            raise OSError(number, os.strerror(number))
+        sync(file)
+
+    monkeypatch.setattr(os, "fsync", refused)
+
+
+@pytest.mark.parametrize("replaces", [False, True])
+def test_a_book_is_made_where_no_folder_can_be_brought_to_the_disk(
+    book: Path, tmp_path: Path, monkeypatch: pytest.MonkeyPatch, replaces: bool
+) -> None:
+    refuse_to_sync(monkeypatch, errno.EINVAL)
+    to, new = tmp_path / "copied", tmp_path / "new"
+    if replaces:
+        shutil.copyfile(book, to)
+    assert braildesk.copy(book, to, overwrite=replaces) == 1
+    braildesk.new_book(new)
+    assert (braildesk.check(to), braildesk.check(new)) == (1, 0)
+
+
+@pytest.mark.parametrize("replaces", [False, True])
+def test_a_book_whose_folder_fails_to_come_to_the_disk_is_said_to_be_there(
+    book: Path, tmp_path: Path, monkeypatch: pytest.MonkeyPatch, replaces: bool
+) -> None:
+    refuse_to_sync(monkeypatch, errno.EIO)
+    to, new = tmp_path / "copied", tmp_path / "new"
+    if replaces:
+        shutil.copyfile(book, to)
+    with pytest.raises(Failed) as caught:
+        braildesk.copy(book, to, overwrite=replaces)
+    older = "the older file may be there" if replaces else "it may be gone"
+    assert caught.value.sentence == (
+        f"The copy “{to}” is made and whole, but its folder could not be brought to the disk:"
+        f" Input/output error. After a loss of power {older}."
+    )
+    with pytest.raises(Failed) as caught:
+        braildesk.new_book(new)
+    assert caught.value.sentence == (
+        f"The new book “{new}” is made and whole, but its folder could not be brought to the disk:"
+        " Input/output error. After a loss of power it may be gone."
+    )
+    assert (braildesk.check(to), braildesk.check(new)) == (1, 0)
+
+
 @pytest.mark.parametrize("holding", [(), (requests.Supply("en"),)])
 def test_a_link_in_place_of_a_new_book_gets_no_name(
     tmp_path: Path,
@@ -524,6 +623,23 @@ def test_a_new_book_that_finds_no_room_says_so_though_there_is_some_by_then(
     with pytest.raises(CannotOpen) as caught:
         braildesk.new_book(tmp_path / "new")
     assert caught.value.why is Why.NO_ROOM
+    assert names(tmp_path) == set()
+
+
+@pytest.mark.parametrize("number", [errno.EIO, errno.ESTALE])
+def test_a_new_book_that_its_disk_fails_to_keep_says_so(
+    tmp_path: Path, monkeypatch: pytest.MonkeyPatch, number: int
+) -> None:
+    def fail(file: int) -> None:
+        raise OSError(number, os.strerror(number))
+
+    monkeypatch.setattr(os, "fsync", fail)
+    with pytest.raises(Failed) as caught:
+        braildesk.new_book(tmp_path / "new")
+    assert caught.value.sentence == (
+        f"The new book “{tmp_path}/new” could not be written, and there is none:"
+        f" {os.strerror(number)}."
+    )
     assert names(tmp_path) == set()
 
 

@@ -7,7 +7,8 @@ from pathlib import Path
 
 import pytest
 
-from braildesk.desk.whole_file import Access, MayNotLast, NoPlaceForAFile, write_whole
+from braildesk.desk.whole_file import Access, NoPlaceForAFile, write_whole
+from braildesk.workshop import MayNotLast
 
 from scribe.words.status import may_not_last
 from strangers import NEEDS_ROOT, STRANGER, as_stranger, lead_to

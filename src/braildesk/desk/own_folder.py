@@ -11,13 +11,8 @@ from collections.abc import Iterator
 from contextlib import contextmanager, suppress
 from pathlib import Path
 
-from braildesk.desk.whole_file import (
-    Access,
-    remove_from,
-    remove_left,
-    replace_in,
-    sync_names,
-)
+from braildesk.desk.whole_file import Access, remove_from, remove_left, replace_in
+from braildesk.workshop import sync_names
 
 #: The bytes of a file at most.
 MOST_BYTES = 4 * 2**20

@@ -10,6 +10,7 @@ from dataclasses import dataclass
 from pathlib import Path
 
 from braildesk.opening import MAGIC
+from braildesk.workshop import sync_names
 
 ANYONE = 0o666
 _OF_THE_SYSTEM = ("/dev/", "/proc/")
@@ -17,12 +18,6 @@ _OF_THE_SYSTEM = ("/dev/", "/proc/")
 _BESIDE = re.compile(r"\.scribe-[0-9a-f]{16}")
 # what a writer that was killed left is taken away after this time
 _LEFT_SECONDS = 3_600
-# what a file system says, as one of a network may, that has no way to sync a folder
-_NO_SYNC_OF_FOLDERS = (errno.EINVAL, errno.ENOTSUP, errno.ENOSYS)
-
-
-class MayNotLast(OSError):
-    """A file has its new bytes, and whether its name outlasts a loss of power isn't known."""
 
 
 class NoPlaceForAFile(OSError):
@@ -89,15 +84,6 @@ def remove_left(folder: int, name: str) -> None:
         is_own = stat.S_ISREG(found.st_mode) and found.st_uid == os.geteuid()
         if is_own and time.time() - found.st_mtime > _LEFT_SECONDS:
             os.unlink(name, dir_fd=folder)
-
-
-def sync_names(folder: int) -> None:
-    """Has the names of an open folder on the disk, if its file system has a way to do so."""
-    try:
-        os.fsync(folder)
-    except OSError as error:
-        if error.errno not in _NO_SYNC_OF_FOLDERS:
-            raise MayNotLast(error.errno, error.strerror) from error
 
 
 def remove_from(folder: int, name: str) -> None:

@@ -17,7 +17,7 @@ from braildesk.desk.export import (
     export_pages,
 )
 from braildesk.desk.ranges import NoPage, PageRange
-from braildesk.desk.whole_file import MayNotLast
+from braildesk.workshop import MayNotLast
 
 from scribe.words.console import Console
 from scribe.words.paragraph import counted

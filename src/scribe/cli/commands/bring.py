@@ -6,7 +6,7 @@ from pathlib import Path
 from braildesk.desk.contracted import means_for
 from braildesk.desk.manuscript import UnreadableText
 from braildesk.desk.manuscripts import read_manuscript
-from braildesk.desk.whole_file import MayNotLast, write_whole
+from braildesk.desk.whole_file import write_whole
 from braildesk.named_files import is_same_file
 from braildesk.tables.convert import manuscript_report, report
 from braildesk.tables.convert.addition import BadAddition
@@ -22,6 +22,7 @@ from braildesk.tables.convert.oracle import NoLiblouis
 from braildesk.tables.convert.shipped import Measured, measured_tables, shipped_tables
 from braildesk.tables.convert.source import NoTable
 from braildesk.tables.convert.tailoring import Manuscript, tailor
+from braildesk.workshop import MayNotLast
 
 from scribe.cli.book_command import as_kept
 from scribe.cli.parser import Subparsers, command_parser, readable

@@ -6,7 +6,8 @@ from collections.abc import Iterable, Iterator
 from pathlib import Path
 
 from braildesk.desk.proof import ProofPage, open_marks, proof_pages
-from braildesk.desk.whole_file import Access, MayNotLast, write_whole
+from braildesk.desk.whole_file import Access, write_whole
+from braildesk.workshop import MayNotLast
 
 from scribe.cli.book_command import looked_at
 from scribe.cli.page_size import add_page_size, page_size_of
