@@ -236,6 +236,27 @@ def test_a_book_is_not_replaced_by_what_is_written_about_it(moon: Path) -> None:
     assert moon.read_bytes() == before
 
 
+@NEEDS_ROOT
+def test_a_file_that_can_not_be_read_may_be_a_book_and_is_not_replaced(
+    tmp_path: Path,
+) -> None:
+    book = tmp_path / "book"
+    book.write_bytes(b"SQLite format 3\0 of another person")
+    book.chmod(0o600)
+    tmp_path.chmod(0o777)
+    lead_to(tmp_path)
+
+    def write() -> None:
+        with pytest.raises(NoPlaceForAFile) as caught:
+            write_whole(book, b"pages")
+        assert caught.value.strerror == (
+            "what is there can't be read (Permission denied), and may be a book"
+        )
+
+    assert as_stranger(write) == ""
+    assert book.read_bytes() == b"SQLite format 3\0 of another person"
+
+
 def test_what_a_killed_writer_left_beside_a_file_is_taken_away_once_it_is_old(
     tmp_path: Path,
 ) -> None:

@@ -16,6 +16,8 @@ ANYONE = 0o666
 _OF_THE_SYSTEM = ("/dev/", "/proc/")
 #: The name of a file that is written and has its own name only then.
 _BESIDE = re.compile(r"\.scribe-[0-9a-f]{16}")
+# what is said of a name that has nothing, or a link or a pipe, since it was looked at
+_ANOTHER = (errno.ENOENT, errno.ELOOP, errno.ENXIO)
 # what a writer that was killed left is taken away after this time
 _LEFT_SECONDS = 3_600
 
@@ -117,8 +119,11 @@ def _is_book(name: str, folder: int) -> bool:
     try:
         with open(os.open(name, flags, dir_fd=folder), "rb") as file:
             return file.read(len(MAGIC)) == MAGIC
-    except OSError:
-        return False
+    except OSError as error:
+        if error.errno in _ANOTHER:
+            return False
+        why = f"what is there can't be read ({error.strerror}), and may be a book"
+        raise NoPlaceForAFile(errno.EINVAL, why) from error
 
 
 def _is_device(name: str, folder: int, mode: int) -> bool:
