@@ -219,7 +219,7 @@ def test_a_disk_that_can_only_be_read_is_said(
         assert (found.status, found.shown) == (3, "")
         assert found.said == "moon.html could not be written: Read-only file system.\n"
     elif name == "export":
-        assert (found.status, found.shown) == (2, "")
+        assert (found.status, found.shown) == (3, "")
         assert found.said == (
             "The folder pages can't be made: Read-only file system. Nothing was exported.\n"
         )

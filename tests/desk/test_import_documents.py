@@ -151,9 +151,11 @@ def test_a_report_has_all_places_and_the_terminal_a_few(book: Path) -> None:
         2, "", "The report would take the place of moon.md. Nothing was typed.\n"
     )
     assert Path("moon.md").read_text().startswith("*one*")
-    assert put(book, "--report", "none/lost.txt", "--again").said == (
+    assert put(book, "--report", "none/lost.txt", "--again") == Ran(
+        3,
+        "",
         "The report can't be written to none/lost.txt: No such file or directory. Nothing was"
-        " typed.\n"
+        " typed.\n",
     )
 
 

@@ -58,12 +58,13 @@ from braildesk.named_files import is_same_file
 from braildesk.text import characters, limits
 from braildesk.text.characters import visible
 from braildesk.text.excerpt import excerpt
+from braildesk.workshop import MayNotLast
 
 from scribe.words.console import Console
 from scribe.words.drafts import not_kept
 from scribe.words.losses import FEW, kind_name, report_lines
 from scribe.words.paragraph import no_paragraph, quoted
-from scribe.words.status import Interrupted, Status, Stop, stopped_by
+from scribe.words.status import Interrupted, Status, Stop, may_not_last, stopped_by
 
 #: How long the words around a place of a document are.
 _AROUND = 50
@@ -162,9 +163,13 @@ def _write_report(job: Import, report: Path, lines: Sequence[str]) -> None:
         raise Stop(f"The report would take the place of {report}. Nothing was typed.")
     try:
         write_whole(report, "".join(f"{line}\n" for line in lines).encode())
+    except MayNotLast as cause:
+        said = f"{may_not_last(report, cause)} Nothing was typed."
+        raise Stop(said, Status.FAILED) from cause
     except OSError as cause:
         raise Stop(
-            f"The report can't be written to {report}: {cause.strerror}. Nothing was typed."
+            f"The report can't be written to {report}: {cause.strerror}. Nothing was typed.",
+            Status.FAILED,
         ) from cause
 
 

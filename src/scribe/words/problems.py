@@ -22,7 +22,7 @@ from scribe.words.changes import no_place
 from scribe.words.drafts import not_kept
 from scribe.words.import_text import not_imported
 from scribe.words.paragraph import no_mark, no_paragraph
-from scribe.words.status import Status, Stop
+from scribe.words.status import Status, Stop, is_of_disk
 from scribe.words.volumes import too_long
 
 
@@ -56,8 +56,9 @@ def as_stop(problem: Problem) -> Stop:
             )
         case BookChanges():
             return Stop(export.book_changes(problem), Status.FAILED)
-        case NoFolder():
-            return Stop(export.no_folder(problem))
+        case NoFolder(cause=cause):
+            status = Status.FAILED if is_of_disk(cause) else Status.REFUSED
+            return Stop(export.no_folder(problem), status)
         case NoPage():
             return Stop(export.no_page(problem))
         case WhichVolume():

@@ -1,6 +1,7 @@
 """How a command ends, and what is said of what wasn't done, or the system refused or failed to do."""
 
 import enum
+import errno
 import os
 import signal
 from collections.abc import Iterable, Iterator
@@ -8,6 +9,8 @@ from contextlib import contextmanager
 from pathlib import Path
 
 from braildesk.desk import Problem
+
+_OF_DISK = (errno.ENOSPC, errno.EDQUOT, errno.EROFS, errno.EIO, errno.ESTALE)
 
 
 class Status(enum.IntEnum):
@@ -100,6 +103,11 @@ def of_system(failure: OSError) -> str:
     why = failure.strerror or str(failure) or type(failure).__name__
     what = f"{named} could not be read or written" if named else "The system failed"
     return f"{what}: {why}. What was reported as kept is in the book."
+
+
+def is_of_disk(failure: Exception) -> bool:
+    """Whether a disk is why something wasn't done, and not what was asked."""
+    return isinstance(failure, OSError) and failure.errno in _OF_DISK
 
 
 def may_not_last(file: Path, failure: OSError) -> str:
