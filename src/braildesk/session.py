@@ -9,35 +9,23 @@ from dataclasses import replace
 from itertools import zip_longest
 from os import fspath
 from types import TracebackType
-from typing import Any, Literal, Self, TypeVar
+from typing import Any, Self, TypeVar
 
 from braildesk import opening, program as programs
+from braildesk.asking import Asking
 from braildesk.openfile import OpenFile
-from braildesk.opening import take_shared, waited
+from braildesk.opening import waited
 from braildesk.pipe import Ending, Pipe
 from braildesk.program import StrPath
 from braildesk.protocol import requests
 from braildesk.protocol.answers import Answer
-from braildesk.protocol.asked import BookFile, Refusal, log_path
+from braildesk.protocol.asked import BookFile, Refusal
 from braildesk.protocol.codes import Code
 from braildesk.protocol.fields import Unwritable
 from braildesk.protocol.replies import Reply, Unreadable
 from braildesk.protocol.requests import Command, Request
-from braildesk.protocol.sentences import Why
-from braildesk.protocol.values import (
-    After,
-    Corrected,
-    Done,
-    Entry,
-    Mark,
-    Marked,
-    Paragraph,
-    Style,
-    Table,
-    Typed,
-)
+from braildesk.protocol.values import Table
 from braildesk.refusals import (
-    CannotOpen,
     DeskError,
     Displaced,
     Failed,
@@ -47,7 +35,7 @@ from braildesk.refusals import (
     refused,
     refused_as,
 )
-from braildesk.text.characters import shortened
+from braildesk.rescue import NOT_ALL_THERE, Rescue, says_nothing
 
 #: How many requests are under way at most, and how many bytes of them wait to be written. More
 #: would be no faster, and if somebody stops in the middle, the more would be carried out.
@@ -56,13 +44,10 @@ _AHEAD_BYTES = 1 << 16
 #: How many are written at once if nothing has to be waited for.
 _GROUP = 128
 
-#: Why a copy of a book's files isn't opened, whatever is in them.
-_UNTOLD = frozenset({Why.DENIED, Why.READ_ONLY, Why.NO_ROOM, Why.IN_USE, Why.UNKNOWN})
-
 _Lost = TypeVar("_Lost", bound=Lost)
 
 
-class Session:
+class Session(Asking):
     """One session of braildesk with the book in a file, which is opened at once.
 
     There is a method for each request of docs/FORMATS.md. A command is kept in the file before its
@@ -88,6 +73,7 @@ class Session:
         self._program = program
         self._while_waiting = while_waiting
         self._pipe, self._file, self._seen = waited(self._open, timeout)
+        self._rescue = Rescue(self._book, self._file, program)
         #: The requests of ``each`` whose answers weren't taken yet, in order.
         self._sent: deque[Request[Any] | Refused] = deque()
         self._is_streaming = False
@@ -144,7 +130,9 @@ class Session:
         if is_foreign and self._is_at_stake or self._file.is_overwritten:
             raise self._overwritten()
         if is_gone or is_foreign:
-            self._strayed = self._gone() if is_gone else self._written_over()
+            self._strayed = (
+                self._rescue.gone() if is_gone else self._rescue.written_over()
+            )
         self._is_closed = True
         if is_foreign:
             # at its end the program would empty the log that others may have put there
@@ -372,36 +360,13 @@ class Session:
         room = opening.little_room(self._book.path)
         self._pipe.close()
         refusal = refused_as(Refusal(Code.NOT_KEPT, request, room=room))
-        if self._is_there_still():
+        if self._rescue.has(self._seen):
             return self._lose(Lost, refusal.sentence)
         self._is_closed = True
-        kept = (
-            "What was reported as kept isn't all in the book's file and its log: another program"
-            " wrote into them while the book was open. Copy what you typed last, and look at the book"
-            " before you go on."
-        )
         waiting = tuple(each for each in self._sent if isinstance(each, Command))
-        self._lost = self._lost_as(Displaced, refusal.sentence, kept, waiting)
+        self._lost = self._lost_as(Displaced, refusal.sentence, NOT_ALL_THERE, waiting)
         self._file.close()
         return self._lost
-
-    def _is_there_still(self) -> bool:
-        """Whether the file and its log have the last version, once the program has ended.
-
-        That is so as far as it can be told.
-        """
-        try:
-            with self._file.opened() as file:
-                if not take_shared(file):
-                    # another session has it by now, and may have written there
-                    return True
-                with self._file.copied() as copied:
-                    return programs.check(copied, self._program) >= self._seen
-        except Refused as refused:
-            return _says_nothing(refused)
-        except (OSError, DeskError, ValueError):
-            # nobody can tell, as if no copy can be made of it, or the program answers something else
-            return True
 
     def _judge_kept(self) -> None:
         """Whether the file is there and holds what was reported as kept.
@@ -448,7 +413,7 @@ class Session:
                 pairs = zip_longest(self._whole(), other._whole())
                 return all(own == found for own, found in pairs)
         except Refused as refused:
-            return _says_nothing(refused)
+            return says_nothing(refused)
         except (OSError, DeskError):
             if self._lost is not None:
                 raise
@@ -531,19 +496,8 @@ class Session:
         self._is_closed = True
         self._pipe.drop()
         self._pipe.close()
-        cause, saved = self._gone(), None
-        try:
-            saved = self._file.save(self._program, self._seen)
-            kept = (
-                "All of the book, with what was kept last, is in the new file"
-                f" {shortened(saved, len(saved))}. Go on with that one, or look first what is at the"
-                " old path by now."
-            )
-        except DeskError as failed:
-            kept = (
-                "What was kept last isn't at that path, and it could not be saved in a new file:"
-                f" {failed.sentence} Copy what you typed last."
-            )
+        cause = self._rescue.gone()
+        saved, kept = self._rescue.all_saved(self._seen)
         self._file.close()
         self._lost = lost = self._lost_as(Displaced, cause, kept)
         lost.saved = saved
@@ -555,24 +509,8 @@ class Session:
         The program answers from what it has in memory, whatever stands in the file.
         """
         self._is_saving, self._is_streaming = True, False
-        cause = self._written_over()
-        try:
-            saved = self._file.save_text(self._all_print())
-            kept = (
-                "The print of all paragraphs, with what was kept last, is in the new file"
-                f" {shortened(saved, len(saved))}. Go on with a copy of the book, and import from"
-                " that file what it lacks."
-            )
-        except DeskError as failed:
-            kept = (
-                "What was kept last isn't safe there, and its print could not be saved in a new"
-                f" file: {failed.sentence} Copy what you typed last."
-            )
-        # while nobody else can open what stands there, and put the log into it
-        log = "" if self._file.is_log_written_into else self._file.put_log_by()
-        if log:
-            shown = shortened(log, len(log))
-            kept += f" The log of what stood there before is now {shown}."
+        cause = self._rescue.written_over()
+        kept = self._rescue.print_saved(self._all_print)
         self._is_closed = True
         self._pipe.drop()
         self._pipe.kill()
@@ -586,38 +524,9 @@ class Session:
 
         All of the book is in its file once the program has ended.
         """
-        ending, shown = self._pipe.close(), self._shown_log()
-        cause = (
-            f"The log of the book, {shown}, was removed or replaced while it was open. So the session"
-            " was ended, by which what was in the log came into the book's file."
-        )
-        return self._lose(SessionEnded, _ended(ending) if ending.status else cause)
-
-    def _shown_log(self) -> str:
-        log = log_path(self._book.path)
-        return shortened(log, len(log))
-
-    def _gone(self) -> str:
-        """That the file isn't at its path any more."""
-        shown = shortened(self._book.path, len(self._book.path))
-        is_replaced = os.path.lexists(self._file.path)
-        what = "another one was put there" if is_replaced else "it was removed or moved"
-        return (
-            f"The file of the book is no longer at {shown}: {what} while it was open."
-        )
-
-    def _written_over(self) -> str:
-        """That others wrote into the file, or into the log."""
-        if self._file.is_log_written_into:
-            return (
-                f"Another program wrote into the log of the book, {self._shown_log()}, while it was"
-                " open: what was kept last may not be there any more."
-            )
-        shown = shortened(self._book.path, len(self._book.path))
-        return (
-            f"Another program wrote into the file of the book, {shown}, while it was open: it isn't"
-            " that book any more."
-        )
+        ending = self._pipe.close()
+        cause = _ended(ending) if ending.status else self._rescue.without_log()
+        return self._lose(SessionEnded, cause)
 
     def _all_print(self) -> str:
         """The print of all paragraphs, with an empty line between each and the next."""
@@ -643,129 +552,6 @@ class Session:
             f" version {self._seen}, nothing more is in it, and each command more makes that greater"
             " by 1."
         )
-
-    def put_table(self, table: str, text: bytes, *, expect: int | None = None) -> Done:
-        """Adds a table, or replaces its text."""
-        return self.ask(requests.Table(table, text, expect=expect))
-
-    def supply_table(self, table: str, *, expect: int | None = None) -> Done:
-        """Adds the supplied table, or replaces the text of a table by it."""
-        return self.ask(requests.Supply(table, expect=expect))
-
-    def add_paragraph(
-        self, after: After, table: str, text: str, *, expect: int | None = None
-    ) -> Typed:
-        """Types a new paragraph."""
-        return self.ask(requests.Type(after, table, text, expect=expect))
-
-    def correct(
-        self,
-        paragraph: int,
-        start: int,
-        count: int,
-        text: str,
-        *,
-        by: str | None = None,
-        expect: int | None = None,
-    ) -> Corrected:
-        """Puts a text in place of ``count`` characters from ``start`` on.
-
-        ``by`` is the name of the proofreader, which is kept with the correction.
-        """
-        if by is None:
-            return self.ask(
-                requests.Correct(paragraph, start, count, text, expect=expect)
-            )
-        return self.ask(
-            requests.CorrectBy(paragraph, start, count, text, who=by, expect=expect)
-        )
-
-    def undo(self, paragraph: int, *, expect: int | None = None) -> Corrected:
-        """Takes back the newest correction in force."""
-        return self.ask(requests.Undo(paragraph, expect=expect))
-
-    def add_mark(
-        self,
-        paragraph: int,
-        cell: int,
-        count: int,
-        note: str = "",
-        *,
-        expect: int | None = None,
-    ) -> Marked:
-        """Puts a mark on ``count`` cells from ``cell`` on."""
-        return self.ask(requests.Mark(paragraph, cell, count, note, expect=expect))
-
-    def resolve_mark(self, mark: int, *, expect: int | None = None) -> Done:
-        """Says that a mark is dealt with."""
-        return self.ask(requests.Resolve(mark, expect=expect))
-
-    def strike(self, paragraph: int, *, expect: int | None = None) -> Done:
-        """Takes a paragraph out of the volumes."""
-        return self.ask(requests.Strike(paragraph, expect=expect))
-
-    def restore(self, paragraph: int, *, expect: int | None = None) -> Done:
-        """Puts a struck paragraph back into the volumes."""
-        return self.ask(requests.Restore(paragraph, expect=expect))
-
-    def set_style(
-        self,
-        paragraph: int,
-        style: Style | Literal["body", "heading"],
-        *,
-        expect: int | None = None,
-    ) -> Done:
-        """Gives a paragraph a style."""
-        known = Style(style) if isinstance(style, str) else style
-        return self.ask(requests.Style(paragraph, known, expect=expect))
-
-    def set_begins_volume(
-        self, paragraph: int, begins: bool, *, expect: int | None = None
-    ) -> Done:
-        """Says whether a paragraph begins a volume."""
-        return self.ask(requests.Volume(paragraph, begins, expect=expect))
-
-    def set_table(
-        self, paragraph: int, table: str, *, expect: int | None = None
-    ) -> Done:
-        """Gives a paragraph another table."""
-        return self.ask(requests.Retable(paragraph, table, expect=expect))
-
-    def move(self, paragraph: int, after: After, *, expect: int | None = None) -> Done:
-        """Puts a paragraph elsewhere."""
-        return self.ask(requests.Move(paragraph, after, expect=expect))
-
-    def print_of(self, paragraph: int) -> str:
-        """The print of a paragraph."""
-        return self.ask(requests.Print(paragraph))
-
-    def braille_of(self, paragraph: int) -> str:
-        """The braille of a paragraph, as characters of Braille Patterns."""
-        return self.ask(requests.Braille(paragraph))
-
-    def history_of(self, paragraph: int) -> tuple[Entry, ...]:
-        """The entries of a paragraph's history, in order."""
-        return self.ask(requests.History(paragraph))
-
-    def marks_of(self, paragraph: int) -> tuple[Mark, ...]:
-        """The marks of a paragraph, in the order of their numbers."""
-        return self.ask(requests.Marks(paragraph))
-
-    def output_position(self, paragraph: int, place: int) -> int:
-        """The first cell that was made for a place of the print."""
-        return self.ask(requests.Where(paragraph, place))
-
-    def input_position(self, paragraph: int, cell: int) -> int:
-        """The first place of the print that a cell was made from."""
-        return self.ask(requests.Whence(paragraph, cell))
-
-    def paragraphs(self) -> tuple[Paragraph, ...]:
-        """The paragraphs in the order of the book."""
-        return self.ask(requests.List())
-
-    def version(self) -> int:
-        """The version of the book."""
-        return self.ask(requests.Version())
 
 
 def _here() -> tuple[int, int]:
@@ -821,11 +607,6 @@ def _encoded(request: Request[Any]) -> bytes:
 def _refused(request: Request[Any], reply: Reply) -> Refused:
     code, *numbers = reply.numbers
     return refused(code, request, numbers)
-
-
-def _says_nothing(refused: Refused) -> bool:
-    """Whether a copy was refused for something that isn't in it."""
-    return isinstance(refused, CannotOpen) and refused.why in _UNTOLD
 
 
 def _query_about(refusal: Refused) -> Request[str] | None:

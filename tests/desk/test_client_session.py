@@ -542,7 +542,7 @@ def test_ctrl_c_leaves_the_program_to_end_well(book: Path) -> None:
     assert prints == [f"line {n}." for n in range(len(prints))]
 
 
-STEPS_OF = ("session.py", "pipe.py", "replies.py")
+STEPS_OF = ("session.py", "asking.py", "rescue.py", "pipe.py", "replies.py")
 
 
 def interrupted_at(step: int, book: Path) -> bool:
