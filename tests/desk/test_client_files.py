@@ -226,7 +226,10 @@ def test_a_book_that_can_not_be_replaced_keeps_its_work(
 
 
 #: What Python does with names and files while a copy takes the place of a book.
-STEPS = {"os.mkdir", "os.remove", "os.rename", "os.rmdir", "sqlite3.connect"}
+STEPS = {
+    *("os.mkdir", "os.remove", "os.rename", "os.rmdir", "os.truncate"),
+    *("sqlite3.connect", "written"),
+}
 
 
 def killed_before(step: int, deed: Callable[[], object]) -> bool:
@@ -242,6 +245,11 @@ def killed_before(step: int, deed: Callable[[], object]) -> bool:
                 if done > step:
                     os.kill(os.getpid(), signal.SIGKILL)
 
+        def write(*words: Any) -> int:
+            sys.audit("written")
+            return pwrite(*words)
+
+        pwrite, os.pwrite = os.pwrite, write
         try:
             sys.addaudithook(watch)
             deed()
