@@ -21,7 +21,9 @@ from braildesk.refusals import (
     CannotOpen,
     DeskError,
     Failed,
+    Lost,
     Refused,
+    SessionEnded,
     cannot_open,
     refused_as,
 )
@@ -43,6 +45,8 @@ from braildesk.workshop import (
 
 _ROOM = "Let TMPDIR name a folder with room."
 _FULL = (errno.ENOSPC, errno.EDQUOT)
+#: Why a copy can't be opened where it is, whatever is so of the book.
+_OF_PLACE = (Why.NO_ROOM, Why.READ_ONLY, Why.DENIED)
 #: What may be of a file whose folder isn't on the disk yet.
 _GONE, _OLDER = "it may be gone", "the older file may be there"
 
@@ -123,14 +127,7 @@ def _make(
         place = stack.enter_context(place_of(target))
         try:
             begun = stack.enter_context(_temporary())
-            try:
-                programs.make_book(begun, program, named=asked.path)
-                _carry_out(begun, program, holding)
-            except CannotOpen as refusal:
-                why = f"{begun.parent.parent}, the temporary folder, takes no file"
-                raise Failed(f"{why}. {_ROOM}") from refusal
-            if has_work(f"{begun}-wal"):
-                raise Failed("See to the disk.")
+            _begin(begun, asked, program, holding)
             # by the program it would have a mode that no group may write by, whatever the umask says
             with open(begun, "rb") as whole, create(made, 0o666) as file:
                 copy_bytes(whole.fileno(), file.fileno())
@@ -149,6 +146,29 @@ def _make(
                 f"The new book “{asked.path}” could not be written, and there is none:"
                 f" {_sentence(failed)}"
             ) from failed
+
+
+def _begin(
+    begun: Path,
+    asked: NewBook,
+    program: StrPath | None,
+    holding: Sequence[Command[Any]],
+) -> None:
+    """Makes a book in the temporary folder; ``Failed`` says if that is why there is none."""
+    folder = f"{begun.parent.parent}, the temporary folder,"
+    full = Failed(f"{folder} could not keep all of it. {_ROOM}")
+    try:
+        programs.make_book(begun, program, named=asked.path)
+        _carry_out(begun, program, holding)
+    except CannotOpen as refusal:
+        raise Failed(f"{folder} takes no file. {_ROOM}") from refusal
+    except SessionEnded as ended:
+        # what may be in a book that is thrown away is of no use to anybody
+        raise Failed(ended.cause) from ended
+    except Lost as lost:
+        raise full from lost
+    if has_work(f"{begun}-wal"):
+        raise full
 
 
 @contextmanager
@@ -297,6 +317,8 @@ def _checked(
     except Refused as refusal:
         # unless it is another file by now
         open_made(made, copied).close()
+        if isinstance(refusal, CannotOpen) and refusal.why in _OF_PLACE:
+            raise cannot_open(BookFile(named), refusal.why) from None
         raise refused_as(replace(refusal.refusal, asked=book)) from None
     if has_work(f"{made}-wal"):
         raise _not_written(named, "the program could not write all of it")

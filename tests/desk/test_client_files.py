@@ -36,6 +36,7 @@ from braildesk import (
 )
 from braildesk.files import contents, read_version
 from braildesk.protocol.asked import BookFile
+from braildesk.refusals import cannot_open
 
 from strangers import NEEDS_ROOT, as_stranger
 
@@ -408,6 +409,21 @@ def test_a_file_that_appeared_while_a_book_was_copied_stays(
     )
     assert to.read_text() == "my notes"
     assert names(tmp_path) == {book.name, "copied"}
+
+
+@pytest.mark.parametrize("why", [Why.NO_ROOM, Why.READ_ONLY, Why.DENIED])
+def test_a_copy_that_can_not_be_opened_for_its_own_disk_is_said_of_the_copy(
+    book: Path, tmp_path: Path, monkeypatch: pytest.MonkeyPatch, why: Why
+) -> None:
+    def refused(made: Path, program: str | None = None) -> int:
+        raise cannot_open(BookFile(str(made)), why)
+
+    to = tmp_path / "copied"
+    monkeypatch.setattr(braildesk.program, "check", refused)
+    with pytest.raises(DeskError) as caught:
+        braildesk.copy(book, to)
+    assert caught.value.sentence == cannot_open(BookFile(str(to)), why).sentence
+    assert names(tmp_path) == {book.name}
 
 
 def test_of_two_copies_to_one_path_one_is_made(

@@ -237,13 +237,23 @@ def test_a_disk_that_can_only_be_read_is_said(
         )
 
 
-def test_a_new_book_says_that_the_temporary_folder_has_no_room(tmp_path: Path) -> None:
+@pytest.mark.parametrize(
+    "size, failed",
+    [
+        ("40k", "takes no file"),
+        ("320k", "could not keep all of it"),
+        ("368k", "could not keep all of it"),
+    ],
+)
+def test_a_new_book_says_that_the_temporary_folder_has_no_room(
+    tmp_path: Path, size: str, failed: str
+) -> None:
     small, book = tmp_path / "small", tmp_path / "new.braildesk"
     small.mkdir()
     if not may_mount(small):
         pytest.skip("only root can mount a disk, and not in each container")
     done = subprocess.run(
-        ["unshare", "-m", "sh", "-c", MOUNTED.replace("2m", "40k"), "sh", str(small)]
+        ["unshare", "-m", "sh", "-c", MOUNTED.replace("2m", size), "sh", str(small)]
         + [sys.executable, "-m", "scribe", "new", str(book)],
         env=environment(TMPDIR=str(small), COLUMNS="400"),
         stdin=subprocess.DEVNULL,
@@ -253,6 +263,6 @@ def test_a_new_book_says_that_the_temporary_folder_has_no_room(tmp_path: Path) -
     assert done.returncode == 3
     assert done.stderr == (
         f"The new book “{book}” could not be written, and there is none: {small}, the temporary"
-        " folder, takes no file. Let TMPDIR name a folder with room.\n"
+        f" folder, {failed}. Let TMPDIR name a folder with room.\n"
     )
     assert not book.exists()
