@@ -230,7 +230,16 @@ def test_the_list_shows_the_share_of_real_lines_first(tmp_path: Path) -> None:
     assert re.search(r" sv-g0\.utb +9[5-9](\.\d+)?% +9\d(\.\d+)?% +100%  Swedish", line)
     ran = scribe("bring", "--list", "Bulgarian", folder=tmp_path)
     (line,) = [one for one in ran.shown.splitlines() if " bg.utb " in one]
-    assert re.search(r" bg\.utb {20,}9\d(\.\d+)?% +\d", line)
+    assert re.search(r" bg\.utb {20,}- +9\d(\.\d+)?% +\d", line)
+
+
+def test_a_share_that_was_not_measured_has_its_place_in_a_narrow_row_too(
+    tmp_path: Path,
+) -> None:
+    ran = scribe("bring", "--list", "Bulgarian", folder=tmp_path, COLUMNS="40")
+    words = ran.shown.split()
+    place = words.index("bg.utb")
+    assert words[place + 1] == "-" and words[place + 2].endswith("%")
 
 
 def test_the_installed_tables_are_listed_by_language(tmp_path: Path) -> None:

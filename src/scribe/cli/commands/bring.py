@@ -212,8 +212,9 @@ def listed(language: str | None = None) -> list[str]:
 def _shares(row: Measured | None) -> tuple[str, str, str]:
     """The shares of a table in percent: of real lines, of made-up ones, and of the others of these."""
     if row is None:
-        return "", "not measured", ""
-    real = "" if row.real is None else report.percent(row.real)
+        return "-", "not measured", "-"
+    # in a narrow row nothing else says which of the shares is missing
+    real = "-" if row.real is None else report.percent(row.real)
     return real, report.percent(row.unseen), report.percent(row.others)
 
 
