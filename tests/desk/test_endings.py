@@ -253,6 +253,40 @@ def test_no_second_signal_cuts_short_what_the_first_one_began(
     assert re.fullmatch(f"Stopped( by SIG[A-Z]+)?. {IN_THE_BOOK}\n", said.decode())
 
 
+#: Has the signal come while Python tells of the end of an object, where it drops what is raised.
+DROPPED = """\
+import os, select, signal, sys, weakref
+from scribe.cli.endings import ended
+
+class Thing:
+    pass
+
+def run():
+    thing = Thing()
+    told = weakref.ref(thing, lambda _: os.kill(os.getpid(), signal.{name}))
+    del thing
+    select.select([], [], [], 20)
+    return 0
+
+sys.exit(ended(run, lambda: False))
+"""
+
+
+@pytest.mark.parametrize("number", STOPPING)
+def test_a_signal_that_comes_where_python_drops_exceptions_ends_scribe_too(
+    number: signal.Signals,
+) -> None:
+    done = subprocess.run(
+        [sys.executable, "-c", DROPPED.format(name=number.name)],
+        env=environment(),
+        capture_output=True,
+        text=True,
+    )
+    by = "" if number is signal.SIGINT else f" by {number.name}"
+    assert done.stderr == f"Stopped{by}. No book was changed.\n"
+    assert done.returncode == -number
+
+
 def test_a_loop_of_a_shell_stops_where_ctrl_c_stops_scribe(moon: Path) -> None:
     loop = f"for turn in 1 2 3; do '{sys.executable}' -m scribe run moon.braildesk; echo $turn; done"
     process = subprocess.Popen(

@@ -20,6 +20,8 @@ from scribe.words.status import Interrupted, Status, number_of, stopped_by
 
 _DETAILS = "fault.txt"
 _SIGNALS = (signal.SIGINT, signal.SIGTERM, signal.SIGHUP, signal.SIGXCPU)
+#: When a signal comes again that was dropped, in seconds.
+_SOON = 0.01
 _IN_THE_BOOK = "What was reported as kept is in the book, and what was asked after that may be there too."
 _NOTHING_CHANGED = "No book was changed."
 
@@ -161,10 +163,12 @@ def _take_signals() -> None:
     for number in _SIGNALS:
         if signal.getsignal(number) in (signal.SIG_DFL, signal.default_int_handler):
             signal.signal(number, _interrupted)
+    sys.unraisablehook = _dropped
 
 
 def _leave_signals() -> None:
     """Has signals end the process as the system does, once nothing is left to be said."""
+    signal.setitimer(signal.ITIMER_REAL, 0)
     for number in _SIGNALS:
         if signal.getsignal(number) is _interrupted:
             signal.signal(number, signal.SIG_DFL)
@@ -176,6 +180,22 @@ def _interrupted(number: int, frame: FrameType | None) -> None:
         if signal.getsignal(each) is _interrupted:
             signal.signal(each, _nothing)
     raise Interrupted(signal.Signals(number))
+
+
+def _dropped(dropped: "sys.UnraisableHookArgs") -> None:
+    """Has a signal come again that came where Python drops what is raised, as at the end of an object."""
+    cause = dropped.exc_value
+    if not isinstance(cause, Interrupted):
+        sys.__unraisablehook__(dropped)
+        return
+    number = cause.number
+
+    def come_again(*_: object) -> None:
+        raise Interrupted(number)
+
+    # not by itself, since it would be dropped here
+    signal.signal(signal.SIGALRM, come_again)
+    signal.setitimer(signal.ITIMER_REAL, _SOON)
 
 
 def _nothing(number: int, frame: FrameType | None) -> None:
