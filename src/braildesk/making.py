@@ -98,6 +98,11 @@ def _new_book(
     except FileExistsError:
         pass  # another program made one in this moment
     except OSError as error:
+        if error.errno == errno.ENAMETOOLONG:
+            raise NotMade(
+                f"“{asked.path}”, or the path of its log, which ends in -wal besides, is too long."
+                " Nothing was made. Take a shorter one."
+            ) from None
         why = Why.NO_ROOM if error.errno in _FULL else opening.why(asked)
         raise cannot_open(asked, why) from None
     programs.make_book(asked.path, program)

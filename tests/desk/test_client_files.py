@@ -1299,6 +1299,22 @@ def test_a_new_book_is_not_made_beside_the_work_of_another(book: Path) -> None:
     assert log.read_bytes() == work
 
 
+@pytest.mark.parametrize("length", [252, 256])
+def test_a_new_book_whose_name_is_too_long_for_that_of_its_log_says_so(
+    tmp_path: Path, length: int
+) -> None:
+    path = tmp_path / (length * "n")
+    with pytest.raises(NotMade) as caught:
+        braildesk.new_book(path)
+    assert caught.value.sentence == (
+        f"“{path}”, or the path of its log, which ends in -wal besides, is too long. Nothing was"
+        " made. Take a shorter one."
+    )
+    longest = tmp_path / (251 * "n")
+    braildesk.new_book(longest)
+    assert names(tmp_path) == {longest.name}
+
+
 def test_where_a_book_was_removed_a_new_one_may_be_made(book: Path) -> None:
     with Session(book) as session:
         session.add_paragraph("end", "en", "in the file")
