@@ -236,6 +236,17 @@ def test_an_import_done_anew_of_which_nothing_was_typed_leaves_the_earlier_one(
     assert prints(killed) == ["front", *LINES, "end"]
 
 
+def test_an_import_that_goes_on_and_is_cut_at_once_says_that_nothing_more_was_typed(
+    killed: Path, monkeypatch: pytest.MonkeyPatch
+) -> None:
+    with monkeypatch.context() as patched:
+        for name, value in standing_in(1, READ, KILL_PROGRAM).items():
+            patched.setenv(name, value)
+        said = again(killed, "--continue").said
+    assert "Nothing more of text.txt was typed." in said
+    assert prints(killed) == ["front", *LINES[:5], "end"]
+
+
 def test_the_rest_of_an_import_can_be_left_out(killed: Path) -> None:
     assert again(killed, "--leave") == Ran(
         0, "The rest of text.txt is left out. What is in the book stays there.\n", ""

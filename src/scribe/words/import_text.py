@@ -188,9 +188,9 @@ def _left(job: Import, intake: Intake, cut: CutShort, again: str) -> Iterator[st
             where = f"up to its paragraph {last.last_line}, which is paragraph {number}"
         yield f"{job.text} is in the book {least}{where} of the book."
     elif not cut.is_lacking:
-        yield f"Nothing of {job.text} was reported as kept." if cut.kept is None else (
-            f"Nothing of {job.text} was typed."
-        )
+        what = "Nothing more" if job.way is Way.GO_ON else "Nothing"
+        done = "reported as kept" if cut.kept is None else "typed"
+        yield f"{what} of {job.text} was {done}."
     is_all_typed = kept == len(intake.passages)
     if cut.is_lacking and is_all_typed and not cut.is_noted:
         yield (
