@@ -12,7 +12,7 @@ from braildesk.desk.drafts import Drafts
 
 from scribe.cli import run_words
 from scribe.words.console import Console
-from terminal import Open, Terminal, once_free
+from terminal import WAIT_SECONDS, Open, Terminal, once_free
 
 WAITING = "Waiting for braildesk to answer."
 
@@ -151,3 +151,121 @@ def test_what_is_typed_for_a_new_paragraph_while_the_screen_waits_is_set_aside(
         "Oh, The moon is far away." if first else ""
     )
     once_free(moon).close()
+
+
+def killed_while_waiting(moon: Path, at: Open, typed_on: str, *keys: str) -> None:
+    """Presses keys of which the last is not answered, types on, and kills scribe once that is kept."""
+    terminal = at(moon)
+    terminal.wait("? shows the keys.")
+    *first, last = keys
+    terminal.keys(*first)
+    terminal.settle()
+    program = terminal.program()
+    os.kill(program, signal.SIGSTOP)
+    try:
+        terminal.keys(last)
+        terminal.wait(WAITING)
+        terminal.send(typed_on)
+        drafts, end_at = Drafts(moon), time.monotonic() + WAIT_SECONDS
+        while (kept := drafts.unread()) is None or typed_on.strip() not in "\r".join(
+            kept.text_of_all.split("\n")
+        ):
+            assert time.monotonic() < end_at, kept
+            time.sleep(0.05)
+        terminal.send_signal(signal.SIGKILL)
+        terminal.left()
+    finally:
+        os.kill(program, signal.SIGKILL)
+
+
+def test_what_is_typed_on_while_the_screen_waits_outlives_a_kill_as_other_paragraphs(
+    moon: Path, at: Open
+) -> None:
+    keys = ("o", *"It rose.", "enter")
+    killed_while_waiting(moon, at, "It stood.\rIt set.", *keys)
+    once_free(moon).close()
+    again = at(moon)
+    asked = " ".join(" ".join(again.wait("l leaves it for later.")).split())
+    assert "“It rose. It stood. It set.”" in asked
+    again.answer("y")
+    again.wait("The pasted text has 3 lines.")
+    again.answer("y")
+    again.wait("last kept: paragraph 6")
+    again.keys("escape", "q")
+    assert again.ended() == 0
+    with once_free(moon) as session:
+        prints = [session.print_of(each.id) for each in session.paragraphs()]
+    assert prints[1:4] == ["It rose.", "It stood.", "It set."]
+    assert (Drafts(moon).waiting(), Drafts(moon).unread()) == (None, None)
+
+
+@pytest.mark.parametrize("keys", [["down"], ["enter", *"Oh, ", "enter"]])
+def test_what_is_typed_for_a_new_paragraph_while_the_screen_waits_outlives_a_kill(
+    moon: Path, at: Open, keys: list[str]
+) -> None:
+    killed_while_waiting(moon, at, "oThe sun rose.\r", *keys)
+    once_free(moon).close()
+    again = at(moon)
+    lines = " ".join(again.wait("set aside: "))
+    said = "What came while braildesk didn't answer is set aside: “oThe sun rose.”."
+    assert said in " ".join(lines.split())
+    assert [each.text for each in Drafts(moon).given_up()] == ["oThe sun rose."]
+    waits = Drafts(moon).waiting()
+    assert (waits.text if waits else "") == (
+        "Oh, The moon is far away." if keys[1:] else ""
+    )
+
+
+def test_what_came_while_the_screen_waited_is_kept_no_more_once_it_is_taken_in(
+    moon: Path, at: Open
+) -> None:
+    terminal = at(moon)
+    terminal.wait("? shows the keys.")
+    terminal.keys("o", *"It rose.")
+    terminal.settle()
+    program = terminal.program()
+    os.kill(program, signal.SIGSTOP)
+    terminal.keys("enter")
+    terminal.wait(WAITING)
+    for letter in "It set.":
+        terminal.send(letter)
+        time.sleep(0.06)
+    drafts = Drafts(moon)
+    while (kept := drafts.unread()) is None or kept.lines != "It set.":
+        time.sleep(0.05)
+    os.kill(program, signal.SIGCONT)
+    terminal.wait("It set.")
+    terminal.keys("enter")
+    terminal.wait("last kept: paragraph 5")
+    assert (drafts.unread(), drafts.waiting(), drafts.given_up()) == (None, None, ())
+
+
+@pytest.mark.parametrize(
+    "letters, said",
+    [
+        ("n", "The last key wasn't obeyed: “n”."),
+        ("nbv", "The last keys weren't obeyed: “nbv”."),
+        (
+            "jnbv",
+            "The last keys weren't obeyed: “jnbv”. They are kept as a text, which U brings back.",
+        ),
+    ],
+)
+def test_keys_that_came_while_the_screen_waited_are_said_not_to_be_obeyed(
+    moon: Path, at: Open, letters: str, said: str
+) -> None:
+    terminal = at(moon)
+    terminal.wait("? shows the keys.")
+    os.kill(terminal.program(), signal.SIGSTOP)
+    terminal.keys("s")
+    terminal.wait(WAITING)
+    terminal.send(letters)
+    terminal.await_read()
+    terminal.send_signal(signal.SIGTERM)
+    assert terminal.ended() == 3
+    assert said in " ".join(terminal.said.split())
+    assert "asted" not in terminal.said
+    kept = [each.text for each in Drafts(moon).given_up()]
+    assert kept == ([letters] if len(letters) > 3 else [])
+    with once_free(moon) as session:
+        assert [each.style.value for each in session.paragraphs()][1] == "body"

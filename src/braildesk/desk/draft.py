@@ -77,6 +77,32 @@ class Draft:
         }
 
 
+@dataclass(frozen=True)
+class Unread:
+    """Text that came while nothing could be done with it.
+
+    Some of it is lines after those of the text that waits, and the rest a text by itself. Both may
+    be nothing.
+    """
+
+    lines: str
+    rest: Draft
+
+    @property
+    def text_of_all(self) -> str:
+        """All of it."""
+        return "\n".join(filter(None, (self.lines, self.rest.text)))
+
+    def values(self) -> dict[str, object]:
+        """What is kept of it as JSON."""
+        return {**self.rest.values(), "lines": written(self.lines)}
+
+
+def unread_in(kept: Record) -> Unread:
+    """The text of which these values were kept; `NotSuch` if they are none."""
+    return Unread(kept.text("lines"), draft_in(kept))
+
+
 def draft_in(kept: Record) -> Draft:
     """The draft of which these values were kept; `NotSuch` if they are none."""
     aim = kept.text("purpose")

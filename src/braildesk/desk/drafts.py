@@ -15,7 +15,7 @@ from pathlib import Path
 from typing import TypeVar
 
 from braildesk.desk import Problem
-from braildesk.desk.draft import Draft, draft_in, written
+from braildesk.desk.draft import Draft, Unread, draft_in, unread_in, written
 from braildesk.desk.import_note import ImportNote, Pairs, note_in, pairs_in, values_of
 from braildesk.desk.own_folder import (
     MOST_BYTES,
@@ -44,6 +44,7 @@ class Begun(Enum):
     REPLACEMENTS = "replacements"
     LEFT_AT = "left-at"
     CUT = "cut"
+    UNREAD = "unread"
 
 
 @dataclass(frozen=True)
@@ -192,6 +193,17 @@ class Drafts:
             self._write(Begun.CUT, {"text": written(text)})
         else:
             self._remove(Begun.CUT)
+
+    def unread(self) -> Unread | None:
+        """What came while nothing could be done with it, none if nothing did."""
+        return self._read(Begun.UNREAD, unread_in)
+
+    def keep_unread(self, unread: Unread | None) -> None:
+        """Keeps what came while nothing can be done with it, or takes away what was kept."""
+        if unread is not None:
+            self._write(Begun.UNREAD, unread.values())
+        else:
+            self._remove(Begun.UNREAD)
 
     def begin_import(self, note: ImportNote) -> None:
         """Notes an import before its first paragraph is typed, in place of others of its text."""

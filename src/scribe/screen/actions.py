@@ -203,9 +203,10 @@ class BringBack:
 
 @dataclass(frozen=True)
 class PutBy:
-    """Keeps a text that was pasted where nothing is typed."""
+    """Keeps a text that was pasted where nothing is typed, or came last as keys."""
 
     text: str
+    is_last: bool = False
 
 
 @dataclass(frozen=True)

@@ -17,7 +17,7 @@ from braildesk import (
 )
 from braildesk.desk import aftermath
 from braildesk.desk.correction import place_kept
-from braildesk.desk.draft import Aim, Draft
+from braildesk.desk.draft import Aim, Draft, Unread
 from braildesk.desk.drafts import Drafts, LeftAt, NotKept
 from braildesk.desk.highlighting import cells_of_marks
 from braildesk.desk.tables import table_request
@@ -89,7 +89,7 @@ from scribe.words import deeds, pagelook
 from scribe.words.aftermath import found_again
 from scribe.words.changes import not_given
 from scribe.words.deeds import Deed, kept
-from scribe.words.drafts import Unsent, not_kept, where_typed
+from scribe.words.drafts import Unsent, came_last, not_kept, where_typed
 from scribe.words.paragraph import quoted
 from scribe.words.preview import Tables
 from scribe.words.status import Interrupted, Stop, in_sentences, of_system
@@ -206,9 +206,17 @@ class Desk:
                 step = Step(replace(step.state, question=question))
         return self._taken(step).after(state)
 
-    def set_aside(self, state: State, text: str) -> State:
+    def set_aside(self, state: State, text: str, is_last: bool) -> State:
         """The state after text that isn't of what is typed was kept, for U to bring back."""
-        return self._taken(Step(state, PutBy(text)))
+        return self._taken(Step(state, PutBy(text, is_last)))
+
+    def keep_unread(self, unread: Unread | None) -> str:
+        """Keeps what came while nothing can be done with it, and gives what is in the way of that."""
+        try:
+            self._unsent.keep_unread(unread)
+        except NotKept as fault:
+            return not_kept(fault)
+        return ""
 
     def resized(self, state: State, size: Size) -> State:
         """The state on a terminal of another size."""
@@ -353,6 +361,8 @@ class Desk:
             self._unsent.read()
         except NotKept as fault:
             notices.append(not_kept(fault))
+        if self._unsent.came_last:
+            notices.append(f"{came_last(self._unsent.came_last)} U brings it back.")
         return tuple(notices)
 
     def _greeting(self) -> str:

@@ -10,6 +10,7 @@ from collections import deque
 from collections.abc import Callable, Sequence
 from concurrent.futures import Future, ThreadPoolExecutor
 from contextlib import suppress
+from copy import copy, deepcopy
 from dataclasses import replace
 from types import FrameType
 from typing import Any
@@ -41,6 +42,8 @@ from scribe.screen.drawing import Drawing, draw
 from scribe.screen.keyboard import Keyboard, Pasted, Stroke
 from scribe.screen.lines import CHOSEN, HEAD, HIGHLIGHTED, MARKED, PLAIN
 from scribe.screen.state import Size, State
+from scribe.screen.unread import rest_of, unread_of
+from scribe.screen.waiting import not_obeyed
 from scribe.words.console import WAITING
 from scribe.words.encoding import in_encoding
 from scribe.words.status import Interrupted, of_system
@@ -149,6 +152,9 @@ class Screen:
         self._waiting: list[Stroke] = []
         #: What came while the program didn't answer, or as scribe was told to end.
         self._unread = ""
+        # what is being taken in, before it is cut into keys, and the keys that are carried out
+        self._taking = ""
+        self._under_way: deque[Stroke] = deque()
         # since when there was no time for keys, and when they were read last
         self._busy_from = self._read_at = clock()
         self._is_idle, self._works = True, 0
@@ -209,45 +215,30 @@ class Screen:
         What comes after Enter is another new paragraph, or else is set aside.
         """
         self.state = replace(self.state, is_over=True)
-        unread = self._keyboard.strokes(self._unread)
-        came = [*self._waiting, *self._arrivals.came(unread, self._clock())]
-        came += [*self._arrivals.rest(), *self._keyboard.rest()]
+        came = self._left()
         if self._ends_among_lines:
             text = "".join(map(text_of, came))
             came = [Pasted(f"\n{text}")] if text else []
-        is_of_line = self.state.typed is not None and self.state.question is None
-        is_ended = False
-        for stroke in came:
-            if isinstance(stroke, Pasted):
-                self._take_pasted(stroke, is_ended)
-            elif is_of_line and len(stroke) == 1:
-                self.state = self._desk.paste(self.state, stroke)
-            else:
-                # what comes after another key may be no text
-                is_enter = is_of_line and stroke == "enter"
-                is_of_line = is_enter and self._is_another_begun()
-                is_ended = is_ended or is_enter and not is_of_line
+        rest = rest_of(self.state, came)
+        self.state, said = rest.state, [*rest.said]
+        for each in rest.aside:
+            self.state = self._desk.set_aside(self.state, each.text, each.is_keys)
+            said += [] if self.state.is_lost else [self.state.message]
+        if rest.letters and self.ended_by is not None:
+            said.append(not_obeyed(rest.letters))
+        self.unseen = (*self.unseen, *said)
 
-    def _take_pasted(self, pasted: Pasted, is_aside: bool) -> None:
-        """Keeps a text at the end: it goes into what is typed, or is set aside, which is said."""
-        if is_aside:
-            self.state = self._desk.set_aside(self.state, pasted.text)
-        else:
-            self.state = self._desk.paste(self.state, pasted.text, pasted.is_keys)
-        if (is_aside or self.state.typed is None) and not self.state.is_lost:
-            self.unseen = (*self.unseen, self.state.message)
+    def _left(self) -> list[Stroke]:
+        """The keys that came and weren't carried out, as if no more came; none is taken in yet."""
+        keyboard, arrivals = copy(self._keyboard), deepcopy(self._arrivals)
+        unread = keyboard.strokes(self._taking + self._unread)
+        came = [*self._waiting, *(self._not_begun() if self._under_way else ())]
+        came += arrivals.came(unread, self._clock())
+        return [*came, *arrivals.rest(), *keyboard.rest()]
 
-    def _is_another_begun(self) -> bool:
-        """Whether Enter, which is kept with what is typed, has another new paragraph be typed."""
-        typed, asked = self.state.typed, self.state.question
-        if typed is None or not typed.purpose.is_new:
-            return False
-        if asked is not None:
-            self.state = self._desk.paste(self.state, "\n")
-            return bool(asked.lines[-1].strip())
-        typed = replace(typed, place=len(typed.text))
-        self.state = replace(self.state, typed=typed, ended=typed)
-        return bool(typed.text.strip())
+    def _keep_unread(self) -> str:
+        """Keeps text that came and can't be taken in yet, and gives what is in the way of that."""
+        return self._desk.keep_unread(unread_of(self.state, self._left()))
 
     def _keep_last(self) -> None:
         """Keeps what is typed at the end, and has it said if it can't be, or if it waits."""
@@ -261,6 +252,8 @@ class Screen:
             self.unseen = (*self.unseen, _WAITS)
         for text in self._desk.unkept:
             self.unseen = (*self.unseen, _UNKEPT, visible(text))
+        if kept is state and not self._desk.unkept:
+            self._desk.keep_unread(None)
         self.state = kept
 
     def _settle(self) -> None:
@@ -367,7 +360,7 @@ class Screen:
         if self._is_told_to_end:
             # no key is obeyed any more
             return
-        text, self._unread = self._unread, ""
+        self._taking, self._unread = self._unread, ""
         now, read_at = self._clock(), self._read_at
         self._read_at = now
         since = None if self._is_idle else max(self._busy_from, read_at)
@@ -375,6 +368,7 @@ class Screen:
         self._do(self._arrivals.let_go(pressed_at))
         self._question.came(self._asked, pressed_at, read_at)
         self._arrivals.is_unread = self._is_unread_offer
+        text, self._taking = self._taking, ""
         strokes = self._keyboard.strokes(text)
         self._lull.came(len(text), self._keyboard.is_pasting, now)
         self._do(self._arrivals.came(strokes, now, since))
@@ -383,6 +377,8 @@ class Screen:
         """Takes in what came while the program didn't answer."""
         if self._unread:
             self._came(self._input.rest())
+        if not self._is_told_to_end:
+            self._desk.keep_unread(None)
 
     def _paused(self) -> None:
         """Nothing comes after Escape, so it is that key."""
@@ -399,17 +395,24 @@ class Screen:
     def _do(self, strokes: Sequence[Stroke]) -> None:
         """Carries out keys, and sees to it that those that are held are let go."""
         self._begin_work()
-        rest = deque(strokes)
+        rest = self._under_way = deque(strokes)
         try:
             while rest:
                 self._carry_out(rest[0])
                 rest.popleft()
         except Interrupted:
             # text among what is left is kept at the end
-            self._waiting += rest
+            self._waiting += self._not_begun()
         finally:
+            self._under_way = deque()
             self._end_work()
             self._wait_for_held()
+
+    def _not_begun(self) -> list[Stroke]:
+        """The keys that wait, with the one that is carried out unless it is a command by a letter."""
+        first, *others = self._under_way
+        is_command = self.state.typed is None and isinstance(first, str)
+        return others if is_command and is_text(str(first)) else [first, *others]
 
     def _carry_out(self, stroke: Stroke) -> None:
         if self.state.away or self.state.is_over:
@@ -491,8 +494,13 @@ class Screen:
         elif self.state.away and self._app.loop is not None:
             # what is done beside the screen waits
             self._app.loop.call_soon_threadsafe(self._say, WAITING)
-        elif self.state.message != WAITING:
-            self.state = self.state.saying(WAITING)
+        else:
+            self._say_at_once(f"{WAITING} {self._keep_unread()}".rstrip())
+
+    def _say_at_once(self, sentence: str) -> None:
+        """Shows a sentence while no key can act."""
+        if self.state.message != sentence:
+            self.state = self.state.saying(sentence)
             # what was drawn last isn't kept
             self._app.render_counter += 1
             self._app.renderer.render(self._app, self._app.layout)
@@ -513,6 +521,7 @@ class Screen:
         self._become(state)
         waiting, self._waiting = self._waiting, []
         self._do(waiting)
+        self._desk.keep_unread(None)
 
     def _say(self, line: str) -> None:
         if self.state.away:
@@ -549,8 +558,10 @@ class Screen:
         while True:
             await asyncio.sleep(_SAVE_SECONDS)
             state = self.state
-            # lines that are typed beside the screen are kept there
-            if state.typed and not state.away:
+            # lines that are typed beside the screen are kept there, and here what comes after them
+            if state.away:
+                self._keep_unread()
+            elif state.typed:
                 self._begin_work()
                 kept = self._desk.save_draft(state)
                 if kept.message != state.message:

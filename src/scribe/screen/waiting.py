@@ -26,6 +26,8 @@ _PASTED = (
     " paragraph."
 )
 
+_KEPT = "They are kept as a text, which U brings back."
+
 
 def with_text(
     session: Session,
@@ -40,7 +42,7 @@ def with_text(
         case BringBack():
             return _brought_back(session, unsent, state, action.place)
         case PutBy():
-            return _put_by(unsent, state, action.text)
+            return _put_by(unsent, state, action)
     unsent.put_off()
     said = "The text waits for the next opening. U asks about it before."
     return replace(state, question=None, anchor=None).saying(said)
@@ -79,10 +81,17 @@ def _brought_back(session: Session, unsent: Unsent, state: State, place: int) ->
     return replace(state, question=asked)
 
 
-def _put_by(unsent: Unsent, state: State, text: str) -> State:
+def _put_by(unsent: Unsent, state: State, action: PutBy) -> State:
     """Keeps a text that was pasted where nothing is typed, so that it can be typed."""
-    fault = unsent.put_by(draft_of_pasted(state, text))
-    return state.saying(f"{_PASTED} {fault}".rstrip())
+    draft = draft_of_pasted(state, action.text)
+    said = f"{not_obeyed(draft.joined)} {_KEPT}" if action.is_last else _PASTED
+    return state.saying(f"{said} {unsent.put_by(draft)}".rstrip())
+
+
+def not_obeyed(keys: str) -> str:
+    """That keys which came last weren't obeyed."""
+    what = "The last key wasn't" if len(keys) == 1 else "The last keys weren't"
+    return f"{what} obeyed: {quoted(keys)}."
 
 
 def asked_about(

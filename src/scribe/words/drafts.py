@@ -1,8 +1,9 @@
 """What a person began and the book doesn't have yet, in words, what becomes of it, and why it isn't kept."""
 
+from dataclasses import replace
 from pathlib import Path
 
-from braildesk.desk.draft import Aim, Draft
+from braildesk.desk.draft import Aim, Draft, Unread
 from braildesk.desk.drafts import (
     Begun,
     Drafts,
@@ -12,7 +13,7 @@ from braildesk.desk.drafts import (
     NotSaved,
     NotTaken,
 )
-from scribe.words.paragraph import counted
+from scribe.words.paragraph import counted, quoted
 
 _BEGUN = {
     Begun.WAITING: "What is typed",
@@ -21,6 +22,7 @@ _BEGUN = {
     Begun.REPLACEMENTS: "What stands in the place of other characters",
     Begun.LEFT_AT: "Where the book is left",
     Begun.CUT: "What is cut out of it",
+    Begun.UNREAD: "What is typed meanwhile",
 }
 
 
@@ -38,6 +40,12 @@ def changed_since(draft: Draft, now: str) -> str:
     if draft.aim.is_new or now == draft.before:
         return ""
     return " The print there has been changed since."
+
+
+def came_last(text: str) -> str:
+    """That a text which came while the program was waited for is among those given up."""
+    joined = text.replace("\n", " ")
+    return f"What came while braildesk didn't answer is set aside: {quoted(joined)}."
 
 
 def where_typed(book: Path | None) -> str:
@@ -87,6 +95,9 @@ class Unsent:
         self.typed_at: Path | None = None
         #: What was last cut out of a text that was typed, which is put in again by a key.
         self.cut = ""
+        #: What came before the last end while nothing could be done with it, and is given up now.
+        self.came_last = ""
+        self._unread: Unread | None = None
         # the text that was left for later, and waits again once no other one does
         self._later: Draft | None = None
         # what was given up and couldn't be kept, the newest first
@@ -99,6 +110,27 @@ class Unsent:
         self.cut = self._drafts.cut()
         self.waiting = self._drafts.waiting()
         self.typed_at = self._drafts.typed_at()
+        self._unread = self._drafts.unread()
+        if self._unread is not None:
+            self._read_unread(self._unread)
+
+    def _read_unread(self, unread: Unread) -> None:
+        """Has what came last go on after the text that waits, or else be among those given up."""
+        text, waiting = unread.text_of_all, self.waiting
+        if waiting is not None and waiting.aim is not Aim.NOTE and unread.lines:
+            whole = replace(waiting, text=f"{waiting.text}\n{unread.lines}")
+            self._drafts.save(whole)
+            self.waiting, text = whole, unread.rest.text
+        if text:
+            self._older = self._drafts.put_by(replace(unread.rest, text=text))
+        self.came_last = text
+        self.keep_unread(None)
+
+    def keep_unread(self, unread: Unread | None) -> None:
+        """Keeps what came while nothing can be done with it, or nothing; may raise `NotKept`."""
+        if unread != self._unread:
+            self._drafts.keep_unread(unread)
+            self._unread = unread
 
     def keep(self, typed: Draft | None) -> None:
         """Has what is typed wait, or what was left for later, or nothing; may raise `NotKept`."""
