@@ -9,6 +9,7 @@ import pytest
 
 from braildesk import Displaced, Session
 
+from scribe.screen.desk import Desk
 from sitting import Sat, Sit
 from stand_in import ANSWERED, HALF, KEPT, KILL_PROGRAM, READ, REPLY, SEND
 from terminal import Open, once_free, standing_in
@@ -511,3 +512,90 @@ def test_a_book_that_is_gone_is_not_said_to_be_at_a_version(
             " changed in it here."
         ).split()
     )
+
+
+def in_places(sat: Sat) -> None:
+    """Looks at the places of words that are to be changed."""
+    sat.press("c")
+    sat.write("a")
+    sat.press("enter")
+    sat.write("b")
+    sat.press("enter")
+    assert sat.state.pages and sat.state.pages.title.startswith("6 places of “a”")
+
+
+def test_a_list_of_places_is_there_again_after_its_session_ended(
+    moon: Path, sit: Sit
+) -> None:
+    sat = sit(moon)
+    in_places(sat)
+    sat.press("n")
+    before = sat.state.pages
+    killed(sat)
+    assert sat.state.message == (
+        "The session was ended by signal 9. The book was opened again: it is at version 7, as"
+        " before."
+    )
+    assert sat.state.pages == before
+    sat.press("y")
+    assert sat.state.message == "Paragraph 1 is changed. 4 more places."
+    assert prints(sat)[0] == "The moon is far bway."
+
+
+@pytest.mark.parametrize("far", [READ, ANSWERED])
+def test_a_list_of_places_of_which_one_was_being_changed_as_its_session_ended_is_anew(
+    moon: Path, sit: Sit, monkeypatch: pytest.MonkeyPatch, far: str
+) -> None:
+    sat = stopped_once(moon, sit, monkeypatch, 1, far)
+    in_places(sat)
+    sat.press("y")
+    is_done = far == ANSWERED
+    assert sat.state.message.startswith("The session was ended by signal 9.")
+    assert sat.state.pages
+    count = 5 if is_done else 6
+    assert sat.state.pages.title.startswith(f"{count} places of “a”")
+    sat.press("y")
+    assert sat.state.kept == "kept: a correction of paragraph 1"
+    assert sat.state.version == 8 + is_done
+
+
+def test_a_list_of_marks_is_there_again_after_its_session_ended(
+    moon: Path, sit: Sit
+) -> None:
+    sat = sit(moon)
+    sat.press("M")
+    before = sat.state.pages
+    assert before and before.title == "1 open mark."
+    killed(sat)
+    assert sat.state.pages == before
+    assert sat.state.message.endswith("as before.")
+
+
+@pytest.mark.parametrize("is_lost", [False, True])
+def test_an_import_is_reported_where_the_session_ends_that_comes_after_it(
+    moon: Path, sit: Sit, monkeypatch: pytest.MonkeyPatch, is_lost: bool
+) -> None:
+    text = moon.with_name("more.txt")
+    text.write_text("One paragraph.\n\nAnd another.\n")
+    sat = sit(moon)
+    sat.press("i")
+    sat.write(str(text))
+    sat.press("enter")
+    open_further = Desk._open_further
+
+    def opened_and_killed(desk: Desk) -> None:
+        monkeypatch.setattr(Desk, "_open_further", open_further)
+        open_further(desk)
+        os.kill(desk.pid, signal.SIGKILL)
+        if is_lost:
+            once_free(moon).close()
+            moon.rename(moon.with_name("away"))
+
+    monkeypatch.setattr(Desk, "_open_further", opened_and_killed)
+    sat.state = sat.desk.away(sat.state, lambda said: None)
+    assert sat.state.pages is not None and sat.state.is_lost is is_lost
+    lines = sat.state.pages.lines
+    assert "2 paragraphs typed, numbers 4 to 5, by the table en." in lines
+    said = " ".join((*lines, sat.state.message))
+    assert "The session was ended by signal 9." in said
+    assert is_lost or "it is at version 9" in said

@@ -67,7 +67,7 @@ from scribe.screen.actions import (
     TypeAll,
 )
 from scribe.screen.at_opening import SHOWS_KEYS, reminded, where_left, with_cut
-from scribe.screen.background import done_in_background
+from scribe.screen.background import ActionResult, done_in_background
 from scribe.screen.drawn import refreshed
 from scribe.screen.field import Field, Purpose
 from scribe.screen.in_hand import asked_for_note, left_here, with_mark_in_hand
@@ -296,20 +296,19 @@ class Desk:
         report: Callable[[str], None],
     ) -> State:
         """Exports or imports, for which others may have the book, and opens it again."""
-        done: tuple[str, ...] = ()
+        ending = ActionResult("", ())
         try:
             self._session.close()
             ending = done_in_background(self.path, action, report, self._check)
-            done = ending.lines
             self._open_further()
             before = state
             state = self._opened_again(state)
         except Lost as lost:
-            return self._after_loss(state, lost)
+            return _with_report(self._after_loss(state, lost), ending)
         except DeskError as failed:
-            return _closed(state, failed.reason, done)
+            return _closed(state, failed.reason, ending.lines)
         except OSError as failure:
-            return _closed(state, of_system(failure), done)
+            return _closed(state, of_system(failure), ending.lines)
         if ending.kept:
             state = replace(state, kept=f"kept: {ending.kept}")
         elif len(state.book) > len(before.book):
@@ -325,7 +324,7 @@ class Desk:
         lines = (*more, *ending.lines)
         if lines:
             state = replace(state, pages=Pages(ending.title, lines))
-        return refreshed(self._session, state)
+        return self._drawn(state)
 
     def keep_place(self, state: State) -> None:
         """Keeps where the book is left, so that it opens there again."""
@@ -550,7 +549,7 @@ class Desk:
             there = aftermath.found_again(self._session, lost)
             found_words = found_again(there, begun)
             said = f"{lost.cause} {found_words} {unsaved}".strip()
-            found = replace(state, pages=None).saying(said)
+            found = state.saying(said)
             is_same = state.version == self._session.last_version
             is_about_lines = state.question is None or bool(state.question.lines)
             if is_same and state.typed is not None and is_about_lines:
@@ -560,11 +559,20 @@ class Desk:
                 return refreshed(self._session, found)
             found = replace(found, typed=None, preview=None, question=None)
             found = self._opened_again(replace(found, version=lost.version))
+            found = found if is_same else self._looked_at_anew(found)
             return refreshed(self._session, self._offered(found, waits))
         except DeskError as failed:
             return self._ended(state, lost.sentence, failed.reason)
         except OSError as failure:
             return self._ended(state, lost.sentence, of_system(failure))
+
+    def _looked_at_anew(self, state: State) -> State:
+        """The state without the lines that were looked at, or with places as they are by now."""
+        offer = state.pages.offer if state.pages else None
+        state = replace(state, pages=None)
+        if not isinstance(offer, ChangePlaces):
+            return state
+        return whole_book.listed_anew(self._session, state, offer)
 
     def _ended(self, state: State, *sentences: str) -> State:
         """What the screen says if the session ended and the book could not be opened again."""
@@ -934,6 +942,17 @@ def _displaced_by(lost: Lost, state: State) -> State:
     """The state, which says if what was kept isn't in the file that stands at the path now."""
     is_displaced = state.is_displaced or isinstance(lost, Displaced)
     return replace(state, is_displaced=is_displaced)
+
+
+def _with_report(state: State, ending: ActionResult) -> State:
+    """The state after a loss, with what was done before it."""
+    if ending.question and not state.is_lost and state.question is None:
+        state = replace(state, question=ending.question)
+    if not ending.lines:
+        return state
+    after = state.pages.lines if state.is_lost and state.pages else ()
+    title = state.pages.title if state.is_lost and state.pages else ending.title
+    return replace(state, pages=Pages(title, (*ending.lines, *after)))
 
 
 def _closed(state: State, sentence: str, done: Sequence[str] = ()) -> State:

@@ -57,6 +57,8 @@ _OF_PAGES = (
     "Volumes begin at headings where they can, and none has more pages than this."
 )
 _NONE_LEFT = "There are no more places to change."
+_ANEW = "The places are listed as they are now."
+_CLOSED = "The list of places is closed. c lists them again."
 _STAY = "The other places stay as they are."
 _CHANGED = (
     "This place is changed already. Escape, then u, takes back the newest change."
@@ -177,6 +179,17 @@ def _found(session: Session, state: State, wanted: Replacement) -> State:
         return state.saying(nowhere(session, wanted, "."))
     offer = ChangePlaces(wanted, tuple(map(Place, found)))
     return _listed(state, offer, 0).saying(said)
+
+
+def listed_anew(session: Session, state: State, offer: ChangePlaces) -> State:
+    """The list of the places of words in a book that is another one now."""
+    if takes_long(state, FindPlaces(offer.wanted)):
+        return state.saying_too(_CLOSED)
+    found = proposals(session, offer.wanted)
+    if not found:
+        return state.saying_too(_NONE_LEFT)
+    listed = _listed(state, ChangePlaces(offer.wanted, tuple(map(Place, found))), 0)
+    return listed.saying_too(_ANEW)
 
 
 def _listed(state: State, offer: ChangePlaces, nth: int) -> State:
