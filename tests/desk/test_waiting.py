@@ -269,3 +269,17 @@ def test_keys_that_came_while_the_screen_waited_are_said_not_to_be_obeyed(
     assert kept == ([letters] if len(letters) > 3 else [])
     with once_free(moon) as session:
         assert [each.style.value for each in session.paragraphs()][1] == "body"
+
+
+def test_what_has_to_be_said_is_said_also_if_the_book_is_slow_to_be_closed(
+    moon: Path, at: Open
+) -> None:
+    terminal = at(moon)
+    terminal.wait("? shows the keys.")
+    os.kill(terminal.program(), signal.SIGSTOP)
+    # the end of the paste never comes
+    terminal.send("\x1b[200~It rose.")
+    terminal.await_read()
+    terminal.send_signal(signal.SIGTERM)
+    assert terminal.ended() == -signal.SIGTERM
+    assert "U brings it back" in terminal.said

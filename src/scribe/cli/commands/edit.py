@@ -98,6 +98,10 @@ def _end(desk: "Desk", screen: "Screen", name: str, console: Console) -> Status:
         if not screen.is_hung_up:
             console.say(lost.sentence, *screen.unseen)
         return Status.FAILED
+    except Interrupted:
+        # the program doesn't answer, and isn't waited for
+        console.say(*screen.unseen)
+        raise
     if screen.is_hung_up:
         return Status.FAILED
     if screen.state.is_lost:
