@@ -18,7 +18,7 @@ from braildesk.text.spans import Span
 
 from scribe.window import dialogs
 from scribe.window.actions import Actions
-from scribe.window.book import ChosenParagraph
+from scribe.window.book import ChosenParagraph, Done
 from scribe.window.desk import Desk
 
 from conftest import Open, prints
@@ -365,3 +365,50 @@ def test_of_many_that_are_taken_back_once_the_session_ended_meanwhile_none_is_tw
             "So, Twice a day the sea comes up.",
         ]
         assert before[1] == "The mon is fer ewey."
+
+
+def test_what_is_kept_of_lines_while_they_are_typed_grows_as_the_lines(
+    desk: Desk, asked: dict[str, int], monkeypatch: pytest.MonkeyPatch
+) -> None:
+    asked["Pasted lines"] = 0
+    lines = [f"This is line {number}." for number in range(2_000)]
+    kept: list[int] = []
+
+    def typed_all(
+        commands: Sequence[object], report: Callable[[int, int | None], None]
+    ) -> Done:
+        for number in range(len(commands)):
+            report(number, number + 4 if number else None)
+        return Done(desk.contents, "kept: paragraph 3", 3)
+
+    save = Drafts.save
+
+    def saved(drafts: Drafts, draft: Draft) -> None:
+        kept.append(len(draft.text))
+        save(drafts, draft)
+
+    monkeypatch.setattr(desk.book, "typed_all", typed_all)
+    monkeypatch.setattr(Drafts, "save", saved)
+    desk.act("new_after")
+    desk.window.print.pasted.emit(lines)
+    assert sum(kept) < 20 * len("\n".join(lines))
+    assert _waiting(desk) is None
+
+
+@pytest.mark.parametrize("far", ["read", "kept", "answered"])
+@pytest.mark.parametrize("number", [2, 13, 40])
+def test_of_many_lines_none_is_lost_with_the_session_and_none_typed_twice(
+    opened: Opened, asked: dict[str, int], far: str, number: int
+) -> None:
+    asked["Pasted lines"] = 0
+    lines = [f"Line {n % 3}." for n in range(40)]
+    with opened(f"{number} {far}") as desk:
+        desk.act("new_after")
+        desk.window.print.pasted.emit(lines)
+        book = desk.asked(desk.book.contents).paragraphs
+        session = desk.book.session
+        there = desk.asked(lambda: [session.print_of(p.id) for p in book if p.id > 3])
+        assert len(there) == number - (far == "read")
+        left = [line for text in _given_up(desk.path) for line in text.split("\n")]
+        assert [*there, *left] == lines
+        assert _waiting(desk) is None

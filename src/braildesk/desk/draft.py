@@ -57,7 +57,11 @@ class Draft:
 
         That one is the newest paragraph, unless the print of another one was typed.
         """
-        _, _, rest = self.text.partition("\n")
+        return self.after_lines(1, newest)
+
+    def after_lines(self, count: int, newest: int) -> "Draft | None":
+        """The lines after so many, which are in the book, the last of them as the newest paragraph."""
+        rest = "\n".join(self.text.split("\n")[count:])
         if not rest:
             return None
         number = self.paragraph if self.aim is Aim.EDIT else newest

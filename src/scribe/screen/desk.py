@@ -84,7 +84,7 @@ from scribe.screen.state import (
     so_far,
     with_imported,
 )
-from scribe.screen.waiting import asked_about, with_text, where_kept
+from scribe.screen.waiting import asked_about, unkept, where_kept, with_text
 from scribe.words import deeds, pagelook
 from scribe.words.aftermath import found_again
 from scribe.words.changes import not_given
@@ -416,8 +416,7 @@ class Desk:
             return state
         where = where_kept(self._session, state, saved)
         if where:
-            newest = max(each.id for each in state.book)
-            rest = saved.after_first_line(newest)
+            rest = unkept(self._session, state, saved)
             if rest is None:
                 said = f"What was typed last is in the book, {where}: {quoted(saved.text)}."
                 said = f"{state.message} {said}" if state.message else said

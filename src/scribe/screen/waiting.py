@@ -4,6 +4,7 @@ from dataclasses import replace
 
 from braildesk import Session
 from braildesk.desk.draft import Aim, Draft
+from braildesk.desk.kept_lines import lines_kept
 from braildesk.text.characters import visible
 from braildesk.text.sequences import composed
 from braildesk.text.spans import Span
@@ -132,11 +133,10 @@ def where_kept(session: Session, state: State, saved: Draft) -> str:
     numbers = [each.id for each in state.book]
     if saved.version is None or state.version <= saved.version or not numbers:
         return ""
-    text = composed(saved.first_line)
     if saved.aim.is_new:
-        newest = max(numbers)
-        is_there = composed(session.print_of(newest)) == text
-        return f"as paragraph {newest}" if is_there else ""
+        is_there = lines_kept(session, saved, state.version, numbers) > 0
+        return f"as paragraph {max(numbers)}" if is_there else ""
+    text = composed(saved.first_line)
     number = saved.paragraph
     if number is None or number not in numbers:
         return ""
@@ -146,6 +146,14 @@ def where_kept(session: Session, state: State, saved: Draft) -> str:
     marks = session.marks_of(number)
     is_there = bool(marks) and marks[-1].note == saved.text
     return f"as mark {marks[-1].id}" if is_there else ""
+
+
+def unkept(session: Session, state: State, saved: Draft) -> Draft | None:
+    """What of a text that waits isn't in the book, where its first line is."""
+    numbers, count = [each.id for each in state.book], 1
+    if saved.aim.is_new:
+        count = lines_kept(session, saved, state.version, numbers)
+    return saved.after_lines(count, max(numbers))
 
 
 def _on_cells(session: Session, state: State, saved: Draft) -> State:

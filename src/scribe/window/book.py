@@ -27,6 +27,7 @@ from braildesk.desk.highlighting import (
     highlighted_by_cell,
     highlighted_by_character,
 )
+from braildesk.desk.kept_lines import lines_kept
 from braildesk.desk.layout import PageSize
 from braildesk.desk.places import cells_of, words_of
 from braildesk.desk.readings import ParagraphReading, answers
@@ -567,7 +568,10 @@ class OpenBook:
         """What of a text that waits isn't in the book: all, the lines after the first, or nothing."""
         if not self.where_kept(contents, draft):
             return draft
-        return draft.after_first_line(max(each.id for each in contents.paragraphs))
+        numbers, count = [each.id for each in contents.paragraphs], 1
+        if draft.aim.is_new:
+            count = lines_kept(self._session, draft, contents.version, numbers)
+        return draft.after_lines(count, max(numbers))
 
     def where_kept(self, contents: Contents, draft: Draft) -> str:
         """Where a text that waits, or its first line, is in the book, in words; or nothing.
@@ -578,11 +582,9 @@ class OpenBook:
             return ""
         numbers = [each.id for each in contents.paragraphs]
         if draft.aim.is_new:
-            number = max(numbers, default=None)
-            how = "as paragraph"
-        else:
-            number = draft.paragraph if draft.paragraph in numbers else None
-            how = "in paragraph"
+            count = lines_kept(self._session, draft, contents.version, numbers)
+            return f"as paragraph {max(numbers)}" if count else ""
+        number = draft.paragraph if draft.paragraph in numbers else None
         if number is None:
             return ""
         if draft.aim is Aim.NOTE:
@@ -591,7 +593,7 @@ class OpenBook:
             return f"as mark {marks[-1].id}" if is_there else ""
         text = composed(draft.first_line)
         is_there = composed(self._session.print_of(number)) == text
-        return f"{how} {number}" if is_there else ""
+        return f"in paragraph {number}" if is_there else ""
 
     def _gather(self, before: tuple[Deed, ...], what: str) -> None:
         """Makes one deed, in words, of those since then."""
