@@ -173,3 +173,43 @@ def _session_of(window: Reader) -> int:
 
 def _words(process: int) -> list[str]:
     return Path(f"/proc/{process}/cmdline").read_text().split("\0")
+
+
+@pytest.mark.parametrize("typed", ["", "The Moon and"])
+def test_where_the_x_server_ends_what_is_typed_is_kept_and_that_is_said(
+    moon: Path, at: Open, typed: str
+) -> None:
+    reading, writing = os.pipe()
+    words = ["Xvfb", "-displayfd", str(writing), "-noreset"]
+    quiet = subprocess.DEVNULL
+    with subprocess.Popen(words, pass_fds=[writing], stderr=quiet) as server:
+        display = os.read(reading, 100).decode().strip()
+        window = at(moon, DISPLAY=f":{display}")
+        if typed:
+            window.insert("Print", typed)
+            window.reads("Print", typed)
+        server.kill()
+    os.close(reading)
+    os.close(writing)
+    shown, said = window.program.communicate(timeout=60)
+    assert (window.program.returncode, shown) == (3, b"")
+    sentence = (
+        "The screen is gone: its X server or its compositor ended. What was reported as kept is in"
+        " the book."
+    )
+    waits = " What was typed and isn't in the book is kept, and is offered when it is next opened."
+    assert (sentence + waits * bool(typed)) in " ".join(said.decode().split())
+    waiting = Drafts(moon).waiting()
+    assert (waiting.text if waiting else "") == typed
+    assert prints(moon)[0] == "The Moon"
+
+
+def test_a_screen_that_is_not_there_is_said(moon: Path) -> None:
+    words = [sys.executable, "-m", "scribe", "window", str(moon)]
+    its = {**os.environ, "DISPLAY": ":12345"}
+    ended = subprocess.run(words, env=its, capture_output=True, timeout=60)
+    assert ended.returncode == 3
+    assert " ".join(ended.stderr.decode().split()).endswith(
+        "The screen that DISPLAY or WAYLAND_DISPLAY names can't be reached. Nothing was changed."
+        " scribe edit shows a book in a terminal."
+    )

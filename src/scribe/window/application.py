@@ -1,12 +1,23 @@
 """The application of the window: it is started, ended in order, and says how it ended."""
 
+import os
+import re
 import signal
 import socket
 import sys
+from collections.abc import Callable
+from contextlib import suppress
 from pathlib import Path
 from types import TracebackType
 
-from PyQt6.QtCore import QSocketNotifier, QTimer
+from PyQt6.QtCore import (
+    QMessageLogContext,
+    QSocketNotifier,
+    QtMsgType,
+    QTimer,
+    qFormatLogMessage,
+    qInstallMessageHandler,
+)
 from PyQt6.QtWidgets import QApplication
 from PyQt6.sip import voidptr
 
@@ -20,6 +31,16 @@ from scribe.window.desk import Desk
 from scribe.window.dialogs import choice
 from scribe.words.status import Interrupted
 
+# what Qt says before it ends the process because the X server, or the compositor, is gone
+_GONE = re.compile("The (X11|Wayland) connection (broke|experienced a fatal error)")
+_NO_SCREEN = (
+    "The screen that DISPLAY or WAYLAND_DISPLAY names can't be reached. Nothing was changed. scribe"
+    " edit shows a book in a terminal."
+)
+_SCREEN_GONE = (
+    "The screen is gone: its X server or its compositor ended. What was reported as kept is in the"
+    " book."
+)
 _SIGNALS = (signal.SIGHUP, signal.SIGTERM, signal.SIGINT, signal.SIGXCPU)
 
 
@@ -27,8 +48,17 @@ class Application:
     """A book in a window, until the person closes it or a signal ends it."""
 
     def __init__(
-        self, path: Path, by: str | None, wait: float, page_size: PageSize
+        self,
+        path: Path,
+        by: str | None,
+        wait: float,
+        page_size: PageSize,
+        leave: Callable[[str], None],
     ) -> None:
+        # says a sentence and ends the process, where Qt would end it
+        self._leave = leave
+        self._is_begun = False
+        qInstallMessageHandler(self._heard)
         self._qt = QApplication(sys.argv[:1])
         self._qt.setApplicationName("braildesk")
         self._qt.setDesktopFileName("braildesk-desktop")
@@ -39,6 +69,7 @@ class Application:
         actions = Actions(self._desk)
         self._desk.acts = actions.by_name
         self._offer = actions.offer
+        self._is_begun = True
 
     @property
     def version(self) -> int:
@@ -54,6 +85,19 @@ class Application:
     def strayed(self) -> str:
         """What became of the file of a book in which nothing was kept, once it is closed."""
         return self._desk.book.session.strayed
+
+    def _heard(
+        self, kind: QtMsgType, where: QMessageLogContext, text: str | None
+    ) -> None:
+        """What Qt says goes on to standard error, unless it ends the process after it."""
+        if self._is_begun and _GONE.match(text or ""):
+            waits = self._desk.waits_at_once()
+            self._leave(f"{_SCREEN_GONE} {waits}".rstrip())
+        line = qFormatLogMessage(kind, where, text or "")
+        with suppress(OSError):
+            os.write(2, f"{line}\n".encode(errors="backslashreplace"))
+        if kind == QtMsgType.QtFatalMsg and not self._is_begun:
+            self._leave(_NO_SCREEN)
 
     def begin(self) -> None:
         """Opens the book; raises what the client raises."""

@@ -54,6 +54,8 @@ CLOSED = "The book is closed: Open the book again, in the menu Book, opens it."
 _ONLY_HERE = (
     "What is typed can't be kept elsewhere: it is lost if the window is closed."
 )
+_WAITS = "What was typed and isn't in the book is kept, and is offered when it is next opened."
+_UNKEPT = "This was typed, and could not be kept:"
 
 
 @dataclass(frozen=True)
@@ -625,6 +627,18 @@ class Desk:
         self.keep_draft(draft)
         self.wait_for_draft()
         return draft is None or self.unsent.waiting == draft
+
+    def waits_at_once(self) -> str:
+        """Keeps what is typed as what waits, once nothing can be shown, and says so if anything is."""
+        draft = self.draft()
+        self.keep_draft(draft)
+        # nothing more is done beside the window, which isn't drawn while that is waited for
+        self.aside.stop()
+        if draft is None:
+            return ""
+        if self.unsent.waiting == draft:
+            return _WAITS
+        return f"{_UNKEPT} {visible(draft.text)}"
 
     def wait_for_draft(self) -> None:
         """Waits until what is typed is kept as what waits."""

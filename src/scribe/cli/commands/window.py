@@ -3,6 +3,7 @@
 import os
 from argparse import ArgumentParser, Namespace
 
+from scribe.cli.endings import say_last
 from scribe.cli.page_size import add_page_size, page_size_of
 from scribe.cli.parser import Subparsers, add_file, command_parser, words
 from scribe.words.aftermath import tell_end
@@ -52,7 +53,8 @@ def run(arguments: Namespace, console: Console) -> Status:
     from braildesk import DeskError
 
     size = page_size_of(arguments)
-    application = Application(arguments.file, arguments.by, arguments.wait, size)
+    words = arguments.file, arguments.by, arguments.wait, size
+    application = Application(*words, _left)
     try:
         application.begin()
     except DeskError as failed:
@@ -67,3 +69,12 @@ def run(arguments: Namespace, console: Console) -> Status:
     name, version = arguments.file.name, application.version
     tell_end(console, name, version, application.strayed)
     return Status.DONE
+
+
+def _left(sentence: str) -> None:
+    """Says what is so where nothing can be shown any more, and ends the process.
+
+    That ends its session too, in which what was reported as kept is in the book.
+    """
+    say_last(sentence)
+    os._exit(Status.FAILED)
