@@ -4,6 +4,7 @@ import os
 from collections.abc import Callable, Iterator, Sequence
 from pathlib import Path
 from tempfile import TemporaryDirectory
+from typing import Any
 
 import pytest
 
@@ -21,6 +22,7 @@ from scribe.window.desk import Desk
 from reader import Reader
 
 Open = Callable[..., Reader]
+Answers = dict[str, Any]
 
 
 @pytest.fixture(autouse=True)
@@ -99,6 +101,33 @@ def asked(monkeypatch: pytest.MonkeyPatch) -> dict[str, int]:
 
     monkeypatch.setattr(dialogs, "choice", choice)
     monkeypatch.setattr(dialogs, "report", lambda over, title, lines: None)
+    return answers
+
+
+@pytest.fixture
+def given(monkeypatch: pytest.MonkeyPatch) -> Answers:
+    """What is answered to each kind of dialog, and under "said" what was asked and reported."""
+    answers: Answers = {"said": [], "choices": []}
+
+    def choice(over: object, title: str, said: str, names: Sequence[str]) -> int:
+        answers["said"].append(said)
+        return int(answers["choices"].pop(0))
+
+    def line_of(over: object, title: str, lines: Sequence[str], first: int) -> Any:
+        answers["said"] += [title, *lines]
+        return answers["line"]
+
+    def report(over: object, title: str, lines: Sequence[str]) -> None:
+        answers["said"] += lines
+
+    monkeypatch.setattr(dialogs, "choice", choice)
+    monkeypatch.setattr(dialogs, "line_of", line_of)
+    monkeypatch.setattr(dialogs, "report", report)
+    monkeypatch.setattr(dialogs, "text", lambda *_: answers["text"])
+    monkeypatch.setattr(dialogs, "one_of", lambda *_: answers["one_of"])
+    monkeypatch.setattr(dialogs, "font", lambda *_: answers["font"])
+    monkeypatch.setattr(dialogs, "file_to_read", lambda *_: answers["file"])
+    monkeypatch.setattr(dialogs, "fields", lambda *_: answers["fields"])
     return answers
 
 

@@ -175,6 +175,38 @@ def _words(process: int) -> list[str]:
     return Path(f"/proc/{process}/cmdline").read_text().split("\0")
 
 
+@pytest.mark.parametrize("number", [signal.SIGTERM, signal.SIGKILL])
+def test_words_that_come_in_place_of_others_are_there_again_after_the_end(
+    moon: Path, at: Open, number: signal.Signals
+) -> None:
+    window = at(moon)
+    window.press("Ctrl+h")
+    window.dialog("Change words")
+    window.type("sea")
+    window.press("Return")
+    asked = "What comes in place of “sea” in paragraph 3:"
+    window.until("the next", lambda: window.has_label("Change words", asked))
+    window.type("ocean")
+    drafts = Drafts(moon)
+    window.until("the words", lambda: drafts.words() == ("sea", "ocean"))
+    window.program.send_signal(number)
+    assert window.end() == -number
+    again = at(moon)
+    again.reads(
+        "Message",
+        "“sea” was to be changed to “ocean”, which wasn't done. Ctrl+H has the words still.",
+    )
+    again.press("Ctrl+h")
+    again.dialog("Change words")
+    again.press("Return")
+    again.until("the next", lambda: again.has_label("Change words", asked))
+    again.press("Return")
+    again.reads("Print", "Twice a day the ocean comes up.")
+    again.until("no words", lambda: drafts.words() is None)
+    again.press("Ctrl+q")
+    assert again.end() == 0
+
+
 @pytest.mark.parametrize("typed", ["", "The Moon and"])
 def test_where_the_x_server_ends_what_is_typed_is_kept_and_that_is_said(
     moon: Path, at: Open, typed: str

@@ -1,8 +1,6 @@
 """Words that are changed in the whole book, its volumes, and the ways to a place, without a window seen."""
 
-from collections.abc import Sequence
 from pathlib import Path
-from typing import Any
 
 import pytest
 from PyQt6.QtGui import QFont
@@ -14,34 +12,7 @@ from braildesk.text.spans import Span
 from scribe.window import dialogs
 from scribe.window.desk import Desk
 
-Answers = dict[str, Any]
-
-
-@pytest.fixture
-def given(monkeypatch: pytest.MonkeyPatch) -> Answers:
-    """What is answered to each kind of dialog, and under "said" what was asked and reported."""
-    answers: Answers = {"said": [], "choices": []}
-
-    def choice(over: object, title: str, said: str, names: Sequence[str]) -> int:
-        answers["said"].append(said)
-        return int(answers["choices"].pop(0))
-
-    def line_of(over: object, title: str, lines: Sequence[str], first: int) -> Any:
-        answers["said"] += [title, *lines]
-        return answers["line"]
-
-    def report(over: object, title: str, lines: Sequence[str]) -> None:
-        answers["said"] += lines
-
-    monkeypatch.setattr(dialogs, "choice", choice)
-    monkeypatch.setattr(dialogs, "line_of", line_of)
-    monkeypatch.setattr(dialogs, "report", report)
-    monkeypatch.setattr(dialogs, "text", lambda *_: answers["text"])
-    monkeypatch.setattr(dialogs, "one_of", lambda *_: answers["one_of"])
-    monkeypatch.setattr(dialogs, "font", lambda *_: answers["font"])
-    monkeypatch.setattr(dialogs, "file_to_read", lambda *_: answers["file"])
-    monkeypatch.setattr(dialogs, "fields", lambda *_: answers["fields"])
-    return answers
+from conftest import Answers
 
 
 def prints_of(desk: Desk) -> list[str]:

@@ -45,6 +45,7 @@ class Begun(Enum):
     LEFT_AT = "left-at"
     CUT = "cut"
     UNREAD = "unread"
+    WORDS = "words"
 
 
 @dataclass(frozen=True)
@@ -204,6 +205,24 @@ class Drafts:
             self._write(Begun.UNREAD, unread.values())
         else:
             self._remove(Begun.UNREAD)
+
+    def words(self) -> tuple[str, str] | None:
+        """Words that were to be changed, and those in their place; what can't be read is no fault."""
+        try:
+            data = self._folder.read(self._name(Begun.WORDS))
+            if data is None:
+                return None
+            kept = Record.of(data)
+            return kept.text("old"), kept.text("new")
+        except (NotSuch, OSError):
+            return None
+
+    def keep_words(self, old: str, new: str) -> None:
+        """Keeps words that are to be changed, and those in their place; nothing is kept of none."""
+        if old or new:
+            self._write(Begun.WORDS, {"old": written(old), "new": written(new)})
+        else:
+            self._remove(Begun.WORDS)
 
     def begin_import(self, note: ImportNote) -> None:
         """Notes an import before its first paragraph is typed, in place of others of its text."""

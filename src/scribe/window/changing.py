@@ -1,16 +1,19 @@
 """Words that come in the place of others, at the caret or wherever they stand."""
 
 from collections.abc import Sequence
+from concurrent.futures import Future
 from functools import partial
 
 from braildesk.desk.change_all import Proposal, Replacement, proposals
 from braildesk.desk.correction import replaced
+from braildesk.desk.drafts import NotKept
 
 from scribe.window import dialogs
 from scribe.window.book import Chosen
 from scribe.window.desk import Desk
 from scribe.window.dialogs import IsStopped, Say
 from scribe.window.finding import Finding
+from scribe.words.drafts import not_kept
 from scribe.words.change_all import how_many, nowhere, proposal_lines
 from scribe.words.paragraph import quoted
 from scribe.words.status import Stop
@@ -37,11 +40,17 @@ class Changing:
         desk, finding = self.desk, self._finding
         if not desk.settle():
             return
+        old, new = self._words()
         sought = dialogs.text(
-            desk.window, "Change words", "Words to change:", finding.sought
+            desk.window,
+            "Change words",
+            "Words to change:",
+            old or finding.sought,
+            lambda typed: self._keep(typed, new),
         )
         if not sought:
             return
+        self._keep(sought, new)
         finding.seek(sought)
         if finding.found_here() is None:
             finding.to_next(False)
@@ -52,22 +61,46 @@ class Changing:
         desk.window.print.select(place)
         words = quoted(text[place.start : place.stop])
         asked = f"What comes in place of {words} in paragraph {desk.number}:"
-        new = dialogs.text(desk.window, "Change words", asked)
-        if new is None:
+        keep = partial(self._keep, sought)
+        came = dialogs.text(desk.window, "Change words", asked, new, keep)
+        if came is None:
             desk.window.print.put_caret(place.start)
+            desk.say(f"{_NOTHING} Ctrl+H has the words again.")
             return
-        whole = replaced(text, place.start, place.stop, new)
+        whole = replaced(text, place.start, place.stop, came)
         done = desk.asked(partial(desk.book.corrected, reading, whole))
+        self._keep("", "")
         if done is None:
             raise Stop(f"The new words are the same as the old. {_NOTHING}")
         desk.show_done(done)
+
+    def _words(self) -> tuple[str, str]:
+        """The words that were typed to be changed and to come in their place, and weren't used."""
+        desk = self.desk
+        return desk.aside.result(desk.drafts.words, False) or ("", "")
+
+    def _keep(self, old: str, new: str) -> None:
+        """Has such words wait until they are used, or nothing."""
+        desk = self.desk
+
+        def look(found: "Future[None]") -> None:
+            try:
+                found.result()
+            except NotKept as fault:
+                desk.say(not_kept(fault))
+
+        desk.aside.latest("words", lambda: desk.drafts.keep_words(old, new), look)
 
     def change_all(self) -> None:
         """Puts other words in place of some wherever they stand, at once or place by place."""
         desk = self.desk
         desk.settled()
-        first = (self._finding.sought, "")
-        answer = dialogs.fields(desk.window, _TITLE, _ASKED, first, _CHECKS)
+        old, new = self._words()
+        first = (old or self._finding.sought, new)
+        answer = dialogs.fields(
+            *(desk.window, _TITLE, _ASKED, first, _CHECKS),
+            lambda typed: self._keep(*typed),
+        )
         if answer is None:
             return
         (old, new), (is_of_words, is_of_any_case) = answer
@@ -126,6 +159,7 @@ class Changing:
             return desk.book.changed_all(wanted, chosen, go_on, _WIDTH)
 
         sentences, lines = dialogs.long(desk.window, desk.work, _TITLE, act)
+        self._keep("", "")
         desk.window.model.all_unread()
         desk.show(desk.asked(desk.book.contents), None)
         desk.say(" ".join(sentences))

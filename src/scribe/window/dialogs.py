@@ -114,6 +114,7 @@ def fields(
     asked: Sequence[str],
     first: Sequence[str],
     checks: Sequence[str],
+    changed: Callable[[list[str]], None] = lambda typed: None,
 ) -> tuple[list[str], list[bool]] | None:
     """Asks for several lines, and whether some things hold; none where it is given up."""
     dialog = QDialog(over)
@@ -122,8 +123,13 @@ def fields(
     form = QFormLayout(dialog)
     form.setRowWrapPolicy(QFormLayout.RowWrapPolicy.WrapAllRows)
     lines = [QLineEdit(text) for text in first]
+
+    def typed() -> list[str]:
+        return [_in_a_line(line.text()) for line in lines]
+
     for words, line in zip(asked, lines):
         form.addRow(words, line)
+        line.textChanged.connect(lambda _: changed(typed()))
     boxes = [QCheckBox(words) for words in checks]
     for box in boxes:
         form.addRow(box)
@@ -137,9 +143,7 @@ def fields(
         is_given = dialog.exec()
     if not is_given:
         return None
-    return [_in_a_line(line.text()) for line in lines], [
-        box.isChecked() for box in boxes
-    ]
+    return typed(), [box.isChecked() for box in boxes]
 
 
 def report(over: QWidget, title: str, lines: Sequence[str]) -> None:

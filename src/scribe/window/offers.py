@@ -11,7 +11,14 @@ from scribe.window import dialogs
 from scribe.window.desk import Desk
 from scribe.window.files import Files
 from scribe.window.typed import Typed
-from scribe.words.drafts import changed_since, not_kept, what_for, where_typed
+from scribe.words.drafts import (
+    came_last,
+    changed_since,
+    not_kept,
+    what_for,
+    where_typed,
+    words_wait,
+)
 from scribe.words.import_text import came_to, not_seen
 from scribe.words.paragraph import quoted
 
@@ -32,6 +39,11 @@ class Offers:
             desk.aside.result(desk.unsent.read)
         except NotKept as fault:
             desk.say(not_kept(fault))
+        if desk.unsent.came_last:
+            desk.say(f"{came_last(desk.unsent.came_last)} Ctrl+B brings it back.")
+        words = desk.aside.result(desk.drafts.words)
+        if words is not None and all(words):
+            desk.say(f"{words_wait(words)} Ctrl+H has the words still.")
         waiting = desk.unsent.waiting
         if waiting is not None:
             self._offer_text(waiting)

@@ -23,6 +23,7 @@ _BEGUN = {
     Begun.LEFT_AT: "Where the book is left",
     Begun.CUT: "What is cut out of it",
     Begun.UNREAD: "What is typed meanwhile",
+    Begun.WORDS: "What is typed to change words",
 }
 
 
@@ -46,6 +47,12 @@ def came_last(text: str) -> str:
     """That a text which came while the program was waited for is among those given up."""
     joined = text.replace("\n", " ")
     return f"What came while braildesk didn't answer is set aside: {quoted(joined)}."
+
+
+def words_wait(words: tuple[str, str]) -> str:
+    """That words which were typed to take the place of others aren't in the book."""
+    old, new = words
+    return f"{quoted(old)} was to be changed to {quoted(new)}, which wasn't done."
 
 
 def where_typed(book: Path | None) -> str:

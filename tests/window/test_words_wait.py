@@ -1,0 +1,74 @@
+"""Words that were typed to take the place of others, and weren't used."""
+
+import pytest
+
+from braildesk.desk.drafts import Drafts
+
+from scribe.window.desk import Desk
+
+from conftest import Answers
+
+
+@pytest.mark.parametrize("new", ["ocean", ""])
+def test_words_that_were_typed_to_change_others_are_there_again_until_they_are_used(
+    desk: Desk, given: Answers, monkeypatch: pytest.MonkeyPatch, new: str
+) -> None:
+    entered: list[str | None] = []
+    firsts: list[str] = []
+
+    def text(
+        over: object, title: str, asked: str, first: str, changed: object
+    ) -> object:
+        assert callable(changed)
+        firsts.append(first)
+        typed = entered.pop(0)
+        if typed is not None:
+            changed(typed)
+        return None if typed is None or typed.startswith("-") else typed
+
+    monkeypatch.setattr("scribe.window.dialogs.text", text)
+    entered += ["sea", f"-{new}"]
+    desk.act("change")
+    said = "Nothing was changed. Ctrl+H has the words again."
+    assert desk.window.message.text == said
+    desk.wait_for_draft()
+    assert Drafts(desk.path).words() == ("sea", f"-{new}")
+    entered += ["sea", new]
+    desk.act("change")
+    assert firsts == ["", "", "sea", f"-{new}"]
+    assert desk.window.message.text == "Kept: correction 1 of paragraph 3."
+    desk.wait_for_draft()
+    assert Drafts(desk.path).words() is None
+    entered += [None]
+    desk.act("change")
+    assert firsts[4:] == ["sea"]
+
+
+def test_words_that_were_typed_to_change_all_are_there_again_until_they_are_used(
+    desk: Desk, given: Answers, monkeypatch: pytest.MonkeyPatch
+) -> None:
+    firsts: list[object] = []
+    answers: list[object] = [None, (["a", "one"], [True, False])]
+
+    def fields(
+        over: object,
+        title: str,
+        asked: object,
+        first: object,
+        checks: object,
+        changed: object,
+    ) -> object:
+        assert callable(changed)
+        firsts.append(first)
+        changed(["a", "one"])
+        return answers.pop(0)
+
+    monkeypatch.setattr("scribe.window.dialogs.fields", fields)
+    desk.act("change_all")
+    desk.wait_for_draft()
+    assert Drafts(desk.path).words() == ("a", "one")
+    given["choices"] = [0]
+    desk.act("change_all")
+    desk.wait_for_draft()
+    assert firsts == [("", ""), ("a", "one")]
+    assert Drafts(desk.path).words() is None
