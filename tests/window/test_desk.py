@@ -1,5 +1,7 @@
 """What comes into a window otherwise than by keys: lines that are pasted, and files that are dropped."""
 
+import os
+import signal
 import sys
 import time
 from collections.abc import Callable, Sequence
@@ -19,6 +21,7 @@ from braildesk.desk.layout import PageSize
 from braildesk.text.spans import Span
 
 from scribe.window import dialogs
+from scribe.window.book import Contents, OpenBook
 from scribe.window.desk import Desk
 from scribe.words.console import Console
 from scribe.words.import_text import import_in_words
@@ -309,3 +312,32 @@ def test_what_an_import_did_is_said_also_if_another_program_has_the_book_after_i
     others[0].close()
     desk.act("open_again")
     assert [each.id for each in desk.contents.paragraphs] == [1, 4, 5, 2, 3]
+
+
+@pytest.mark.parametrize("is_there", [True, False])
+def test_what_an_import_did_is_said_also_if_the_session_after_it_ends(
+    desk: Desk, monkeypatch: pytest.MonkeyPatch, tmp_path: Path, is_there: bool
+) -> None:
+    shown: list[str] = []
+    monkeypatch.setattr(dialogs, "report", lambda _, title, lines: shown.extend(lines))
+    imported = OpenBook.imported
+
+    def then_killed(book: OpenBook, before: Contents) -> Contents:
+        monkeypatch.setattr(OpenBook, "imported", imported)
+        imported(book, before)
+        os.kill(book.pid, signal.SIGKILL)
+        if not is_there:
+            desk.path.rename(tmp_path / "away")
+        book.session.version()
+        raise AssertionError
+
+    monkeypatch.setattr(OpenBook, "imported", then_killed)
+    text = tmp_path / "tides.txt"
+    text.write_text("One.\n\nTwo.\n")
+    desk.window.dropped.emit(text)
+    assert shown[0] == "2 paragraphs typed, numbers 4 to 5, by the table en."
+    assert "The session was ended by signal 9." in " ".join(shown)
+    assert desk.window.message.text.startswith("The session was ended by signal 9.")
+    assert desk.is_closed is not is_there
+    if is_there:
+        assert [each.id for each in desk.contents.paragraphs] == [1, 4, 5, 2, 3]

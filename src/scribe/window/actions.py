@@ -4,7 +4,7 @@ from collections.abc import Callable
 
 from scribe.window.changing import Changing
 from scribe.window.desk import Desk
-from scribe.window.files import Files
+from scribe.window.files import NO_TEXT, Files
 from scribe.window.finding import Finding
 from scribe.window.going import Going
 from scribe.window.marking import Marking
@@ -36,6 +36,9 @@ class Actions:
         desk.window.dropped.connect(
             lambda path: desk.acting(lambda: files.imported(path))
         )
-        desk.window.print.pasted.connect(
-            lambda lines: desk.acting(lambda: typed.pasted(lines))
+        field = desk.window.print
+        field.pasted.connect(lambda lines: desk.acting(lambda: typed.pasted(lines)))
+        field.files_pasted.connect(
+            lambda paths: desk.acting(lambda: files.pasted(paths))
         )
+        field.nothing_pasted.connect(lambda: desk.refuse(NO_TEXT))

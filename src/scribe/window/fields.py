@@ -5,6 +5,7 @@ Qt counts places in UTF-16, where a character beyond U+FFFF has two; all others 
 
 import re
 from collections.abc import Callable, Sequence
+from pathlib import Path
 
 from PyQt6.QtCore import QEvent, QMimeData, Qt, pyqtSignal
 from PyQt6.QtGui import (
@@ -16,6 +17,7 @@ from PyQt6.QtGui import (
     QPalette,
     QTextCharFormat,
     QTextCursor,
+    QTextDocumentFragment,
 )
 from PyQt6.QtWidgets import QFrame, QPlainTextEdit, QTextEdit
 
@@ -203,8 +205,10 @@ class Field(QPlainTextEdit):
 class Print(Field):
     """The print of a paragraph, which is typed."""
 
-    #: Several lines were pasted or dropped.
+    #: Several lines were pasted or dropped; or files; or what has no text.
     pasted = pyqtSignal(list)
+    files_pasted = pyqtSignal(list)
+    nothing_pasted = pyqtSignal()
 
     def __init__(self) -> None:
         super().__init__("Print", False)
@@ -235,9 +239,17 @@ class Print(Field):
 
     def insertFromMimeData(self, source: QMimeData | None) -> None:
         """One line goes in where the caret is; of several it is asked what they are."""
-        if source is None or not source.hasText():
+        if source is None:
             return
-        lines = lines_of(source.text())
+        files = files_of(source)
+        if files:
+            self.files_pasted.emit(files)
+            return
+        text = text_of(source)
+        if not text:
+            self.nothing_pasted.emit()
+            return
+        lines = lines_of(text)
         if len(lines) > 1:
             self.pasted.emit(lines)
         elif lines:
@@ -247,7 +259,8 @@ class Print(Field):
 
     def canInsertFromMimeData(self, source: QMimeData | None) -> bool:
         """Text goes in; a file that is dropped is for the window."""
-        return source is not None and source.hasText() and not source.hasUrls()
+        is_text = source is not None and (source.hasText() or source.hasHtml())
+        return source is not None and is_text and not source.hasUrls()
 
 
 class Cells(Field):
@@ -282,6 +295,21 @@ def _underlined(form: QTextCharFormat) -> QTextCharFormat:
 
 def _common(one: Span, other: Span) -> Span:
     return Span(max(one.start, other.start), min(one.stop, other.stop))
+
+
+def files_of(source: QMimeData) -> list[Path]:
+    """The files that were copied or dragged in a manager of files; none where it is anything else."""
+    urls = source.urls()
+    if not all(url.isLocalFile() for url in urls):
+        return []
+    return [Path(url.toLocalFile()) for url in urls]
+
+
+def text_of(source: QMimeData) -> str:
+    """The text that was copied, also of what some programs give in HTML alone."""
+    if source.hasText() or not source.hasHtml():
+        return source.text()
+    return QTextDocumentFragment.fromHtml(source.html()).toPlainText()
 
 
 def lines_of(text: str) -> list[str]:

@@ -35,6 +35,8 @@ _TEXTS = (
 _ASKED = "The &folder to which the volumes go, which is made if it isn't there:"
 _AGAIN = "Import it again to have the rest typed too."
 _PAGES = "pages"
+#: What is said where something was pasted that is neither text nor files.
+NO_TEXT = "What was copied has no text, so nothing was typed."
 
 
 @dataclass(frozen=True)
@@ -118,6 +120,21 @@ class Files:
 
         desk.say(" ".join(dialogs.long(desk.window, desk.work, "Proof", act)))
 
+    def pasted(self, paths: Sequence[Path]) -> None:
+        """Asks whether a file that was pasted is imported; its path is no text."""
+        desk = self.desk
+        if len(paths) > 1:
+            said = f"{len(paths)} files were pasted, and nothing was typed."
+            raise Stop(f"{said} Ctrl+I imports one at a time.")
+        (path,) = paths
+        number = desk.number
+        where = "" if number is None else f" after paragraph {number}"
+        asked = f"{path.name} was pasted. Shall its text be imported{where}?"
+        if dialogs.choice(desk.window, "Import", asked, ("&Yes", "&No")):
+            desk.say("Nothing was typed.")
+        else:
+            self.imported(path)
+
     def imported(self, path: Path, way: Way = Way.ASK) -> None:
         """Types the paragraphs of a text after the chosen one."""
         desk = self.desk
@@ -178,9 +195,11 @@ class Files:
 
         try:
             contents, lines = dialogs.long(desk.window, desk.work, title, whole)
-        except Lost:
+        except Lost as lost:
             desk.is_closed = True
-            raise
+            desk.after_loss(lost)
+            dialogs.report(desk.window, title, [*done, desk.window.message.text])
+            return
         except (DeskError, OSError) as failed:
             raise self._closed(title, done, failed) from failed
         desk.watch()
