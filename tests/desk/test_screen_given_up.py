@@ -12,6 +12,7 @@ from braildesk import Session
 from braildesk.desk.draft import Aim, Draft
 from braildesk.desk.drafts import Drafts
 from braildesk.desk.own_folder import OwnFolder
+from scribe.screen.drawing import draw
 from sitting import Sat, Sit
 from stand_in import KEPT, KILL_PROGRAM
 from terminal import Open, standing_in
@@ -485,3 +486,25 @@ def test_an_unbracketed_paste_at_the_terminal_changes_nothing_and_comes_back(
     assert terminal.ended() == 0
     with Session(moon) as session:
         assert session.last_version == 9
+
+
+def test_that_what_is_typed_is_kept_nowhere_stays_on_the_screen_while_one_types_on(
+    moon: Path, sit: Sit, monkeypatch: pytest.MonkeyPatch
+) -> None:
+    monkeypatch.setenv("XDG_STATE_HOME", "/proc/nowhere")
+    sat = sit(moon)
+    sat.press("o")
+    sat.write("Es war")
+    sat.state = sat.desk.save_draft(sat.state)
+    said = "What is typed can't be kept in /proc/nowhere/braildesk:"
+    for _ in range(2):
+        sat.write(" einmal")
+        assert said in " ".join(draw(sat.state).texts())
+        assert sat.state.message == ""
+        sat.state = sat.desk.save_draft(sat.state)
+    sat.press("f5")
+    assert said not in " ".join(draw(sat.state).texts())
+    monkeypatch.setattr(Drafts, "save", lambda drafts, draft: None)
+    sat.write(" ein Mann")
+    sat.state = sat.desk.save_draft(sat.state)
+    assert said not in " ".join(draw(sat.state).texts())

@@ -243,9 +243,12 @@ class Desk:
     def save_draft(self, state: State) -> State:
         """Keeps what is typed until the book has it, and takes it away once nothing waits.
 
-        What is in the way is said once, and again when it is another thing.
+        What is in the way is said once, and again when it is another thing; it stands where nothing
+        else is said.
         """
         fault = self._keep(state)
+        if fault != state.unkept:
+            state = replace(state, unkept=fault)
         if not fault or fault == self._fault:
             return state
         self._fault = fault

@@ -203,6 +203,8 @@ class State:
     table: str | None = None
     #: What keys did in this session and didn't take back, the newest last.
     deeds: tuple[Deed, ...] = ()
+    #: What is in the way of keeping what is typed.
+    unkept: str = ""
     #: What has to be said, how many keys in a row said it, and what was last kept.
     message: str = ""
     times: int = 1
@@ -319,12 +321,13 @@ class State:
     def heard(self) -> str:
         """What has to be said, otherwise than before, so that it is drawn and spoken once more.
 
-        Where nothing has to be, that is said of a line that is typed which its key said first.
+        Where nothing has to be, it is said of a text that is typed why it isn't kept, or else what its
+        key said first.
         """
         if not self.message:
             is_asked = self.question is not None or self.is_lost
             typed = self.typed if self.is_typing and not is_asked else None
-            return typed.said if typed else ""
+            return (self.unkept or typed.said) if typed else ""
         again = {1: "", 2: "Again: "}.get(self.times, f"{self.times} times now: ")
         return again + self.message
 

@@ -564,7 +564,7 @@ class Screen:
             elif state.typed:
                 self._begin_work()
                 kept = self._desk.save_draft(state)
-                if kept.message != state.message:
+                if kept is not state:
                     self._app.invalidate()
                 self.state = kept
                 self._end_work()
