@@ -599,3 +599,30 @@ def test_an_import_is_reported_where_the_session_ends_that_comes_after_it(
     said = " ".join((*lines, sat.state.message))
     assert "The session was ended by signal 9." in said
     assert is_lost or "it is at version 9" in said
+
+
+@pytest.mark.parametrize("is_seen", [True, False])
+def test_what_was_typed_is_offered_in_the_file_in_which_a_book_was_saved_that_is_gone(
+    moon: Path, sit: Sit, is_seen: bool
+) -> None:
+    sat = sit(moon)
+    sat.press("s", "o")
+    sat.write("Es war")
+    sat.state = sat.desk.save_draft(sat.state)
+    moon.unlink()
+    if is_seen:
+        sat.press("enter")
+        said = " ".join(sat.state.pages.lines if sat.state.pages else ())
+        assert "It is kept, and is offered when that new file is opened." in said
+    else:
+        with pytest.raises(Displaced):
+            sat.desk.close()
+    again = sit(moon.with_name("moon.braildesk-saved-1"))
+    asked = again.state.question
+    if is_seen:
+        # it was kept there before it was seen that the file was gone
+        assert again.state.message.startswith("What was typed last is in the book")
+    else:
+        assert asked and "isn't in the book: “Es war”." in asked.sentence
+        again.press("y", "enter")
+    assert prints(again)[1] == "Es war"

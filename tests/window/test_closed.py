@@ -107,3 +107,18 @@ def test_what_is_kept_is_not_taken_back_with_what_is_typed_after_it(
     # what was typed and taken back is typed again by the key for that
     document = field.document()
     assert document is not None and document.isRedoAvailable()
+
+
+def test_what_is_typed_is_offered_where_a_book_that_is_gone_was_saved(
+    desk: Desk, stays: list[str]
+) -> None:
+    desk.act("strike")
+    desk.act("new_after")
+    desk.window.print.insertPlainText("Es war")
+    desk.path.unlink()
+    desk.act("keep")
+    assert desk.is_closed
+    saved = desk.path.with_name(f"{desk.path.name}-saved-1")
+    waiting = Drafts(saved).waiting()
+    assert waiting is not None and waiting.text == "Es war"
+    desk.window.print.setPlainText("")

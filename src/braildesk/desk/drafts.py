@@ -286,6 +286,20 @@ class Drafts:
             # what can't be read is said where it is asked for
             pass
 
+    def copy_to(self, book: Path) -> None:
+        """Keeps for another book all that is kept for this one, which was saved there."""
+        other = Drafts(book)
+        try:
+            for what in Begun:
+                data = self._folder.read(self._name(what))
+                if data is not None:
+                    kept: dict[str, object] = json.loads(data)
+                    own = {k: v for k, v in kept.items() if k not in ("book", "file")}
+                    other._write(what, own)
+        except (OSError, ValueError, NotSaved):
+            # it is kept for this book still
+            pass
+
     def _is_of(self, name: str, identity: list[int] | None) -> bool:
         """Whether a file was kept for this book, at a path where another file is, or none."""
         try:

@@ -163,7 +163,11 @@ class Desk:
 
     def close(self) -> None:
         """Ends the session; what was kept is in the book."""
-        self._session.close()
+        try:
+            self._session.close()
+        except Displaced as lost:
+            self._follow(lost)
+            raise
 
     def first_state(self, size: Size, by: str | None, is_ascii: bool) -> State:
         """The screen as it is at the opening, with the text that waits from before."""
@@ -526,8 +530,10 @@ class Desk:
                 else f" now; the screen said {state.version:,} last."
             )
             return self._offered(found.saying(f"{said} {now}"), waits)
+        except Displaced as lost:
+            return self._displaced(state, lost)
         except Lost as lost:
-            return self._ended(_displaced_by(lost, state), lost.sentence)
+            return self._ended(state, lost.sentence)
         except DeskError as failed:
             return _closed(state, failed.reason)
         except OSError as failure:
@@ -543,7 +549,7 @@ class Desk:
             # what was done before would be taken back in the place of this
             state = replace(state, deeds=(), kept="")
         if isinstance(lost, Displaced):
-            return self._ended(_displaced_by(lost, state), lost.sentence)
+            return self._displaced(state, lost)
         waits = draft_of(state) or self._unsent.waiting
         unsaved = state.message if waits != self._unsent.waiting else ""
         try:
@@ -576,7 +582,18 @@ class Desk:
             return state
         return whole_book.listed_anew(self._session, state, offer)
 
-    def _ended(self, state: State, *sentences: str) -> State:
+    def _displaced(self, state: State, lost: Displaced) -> State:
+        """What the screen says if what was kept isn't in the file that stands at the path now."""
+        self._follow(lost)
+        state = replace(state, is_displaced=True)
+        return self._ended(state, lost.sentence, is_saved=lost.saved is not None)
+
+    def _follow(self, lost: Displaced) -> None:
+        """Has what isn't in the book be offered where all of the book was saved."""
+        if lost.saved is not None:
+            self.drafts.copy_to(Path(lost.saved))
+
+    def _ended(self, state: State, *sentences: str, is_saved: bool = False) -> State:
         """What the screen says if the session ended and the book could not be opened again."""
         lines = list(sentences)
         if state.typed is not None and state.typed.text:
@@ -586,9 +603,9 @@ class Desk:
             ]
         waiting = self._unsent.waiting
         if waiting is not None and waiting == draft_of(state):
+            when = "that new file is opened" if is_saved else "the book is opened again"
             lines.append(
-                "It is kept, and is offered when the book is opened again. Until then it is in"
-                f" {self.drafts.place}."
+                f"It is kept, and is offered when {when}. Until then it is in {self.drafts.place}."
             )
         elif state.message:
             lines.append(state.message)
@@ -938,12 +955,6 @@ def _is_gone_on_from(asked: Command[Any] | Action | None) -> bool:
     """Whether another new paragraph is typed after what a key asked for."""
     is_of_new = isinstance(asked, TypeAll) and asked.purpose.is_new
     return is_of_new or isinstance(asked, requests.Type)
-
-
-def _displaced_by(lost: Lost, state: State) -> State:
-    """The state, which says if what was kept isn't in the file that stands at the path now."""
-    is_displaced = state.is_displaced or isinstance(lost, Displaced)
-    return replace(state, is_displaced=is_displaced)
 
 
 def _with_report(state: State, ending: ActionResult) -> State:

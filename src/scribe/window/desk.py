@@ -13,7 +13,16 @@ from PyQt6.QtCore import QModelIndex, QSocketNotifier, QTimer
 from PyQt6.QtWidgets import QWidget
 from PyQt6.sip import voidptr
 
-from braildesk import After, DeskError, Lost, Mark, Paragraph, Refused, requests
+from braildesk import (
+    After,
+    DeskError,
+    Displaced,
+    Lost,
+    Mark,
+    Paragraph,
+    Refused,
+    requests,
+)
 from braildesk.desk.correction import place_kept, with_typed
 from braildesk.desk.draft import Aim, Draft
 from braildesk.desk.drafts import Drafts, LeftAt, NotKept
@@ -143,6 +152,9 @@ class Desk:
         try:
             if not self.is_closed:
                 self.work.result(self.book.close)
+        except Lost as lost:
+            self._follow(lost)
+            raise
         finally:
             self.work.stop()
             self.ahead.stop()
@@ -816,10 +828,16 @@ class Desk:
                 said.append(f"What is typed is kept in {self.drafts.place}.")
             elif self.draft() is not None:
                 said.append(_ONLY_HERE)
+            self._follow(lost)
             self.refuse(" ".join(said))
             return
         said.append(self.taken_again(found))
         self.refuse(" ".join(filter(None, said)))
+
+    def _follow(self, lost: Lost) -> None:
+        """Has what isn't in the book be offered where all of a book that is gone was saved."""
+        if isinstance(lost, Displaced) and lost.saved is not None:
+            self.drafts.copy_to(Path(lost.saved))
 
     def taken_again(self, contents: Contents) -> str:
         """Shows a book that was opened again; what is typed and isn't in it stays typed.
