@@ -283,3 +283,28 @@ def test_what_has_to_be_said_is_said_also_if_the_book_is_slow_to_be_closed(
     terminal.send_signal(signal.SIGTERM)
     assert terminal.ended() == -signal.SIGTERM
     assert "U brings it back" in terminal.said
+
+
+def test_what_is_said_after_the_waiting_is_not_taken_away_by_keys_that_came_before(
+    moon: Path, at: Open
+) -> None:
+    terminal = at(moon)
+    terminal.wait("? shows the keys.")
+    terminal.keys("o", *"It rose.")
+    terminal.settle()
+    program = terminal.program()
+    os.kill(program, signal.SIGSTOP)
+    terminal.keys("enter")
+    terminal.wait(WAITING)
+    for letter in "It set.":
+        terminal.send(letter)
+        time.sleep(0.06)
+    terminal.await_read()
+    os.kill(program, signal.SIGKILL)
+    terminal.wait("It rose.It set.")
+    terminal.settle()
+    terminal.wait("The session was ended by signal 9.")
+    # the next key takes it away
+    terminal.keys("left")
+    terminal.settle()
+    assert "was ended" not in " ".join(terminal.lines)

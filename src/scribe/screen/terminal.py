@@ -2,6 +2,7 @@
 
 import asyncio
 import errno
+import math
 import os
 import signal
 import sys
@@ -159,6 +160,8 @@ class Screen:
         self._busy_from = self._read_at = clock()
         self._is_idle, self._works = True, 0
         self._question = ToBeRead()
+        # what was said last, and since when it is on the screen, if it ever was
+        self._said, self._said_at = "", 0.0
         #: Whether the terminal was closed, so that nobody reads what is said.
         self.is_hung_up = False
         #: The signal that ended scribe, if one did.
@@ -342,6 +345,8 @@ class Screen:
             self._is_idle, self._busy_from = False, self._clock()
 
     def _end_drawing(self) -> None:
+        if self.state.message == self._said:
+            self._said_at = min(self._said_at, self._clock())
         self._question.drawn(self._asked, self._clock())
         self._end_work()
 
@@ -405,8 +410,15 @@ class Screen:
             self._waiting += self._not_begun()
         finally:
             self._under_way = deque()
+            self._leave_said()
             self._end_work()
             self._wait_for_held()
+
+    def _leave_said(self) -> None:
+        """Leaves on the screen what wasn't there yet as the keys came that would take it away."""
+        is_seen = self._said_at <= self._read_at
+        if not (is_seen or self.state.message or self.state.is_over):
+            self.state = self.state.saying(self._said)
 
     def _not_begun(self) -> list[Stroke]:
         """The keys that wait, with the one that is carried out unless it is a command by a letter."""
@@ -468,6 +480,8 @@ class Screen:
             self._timer = asyncio.get_running_loop().call_later(wait, self._let_go)
 
     def _become(self, state: State) -> None:
+        if state.message and state.message != self._said:
+            self._said, self._said_at = state.message, math.inf
         self.state = state
         if state.is_over:
             self._app.exit()
