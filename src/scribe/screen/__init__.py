@@ -11,7 +11,8 @@ for: a state, and a command or one of the `actions` that goes with it. While a t
 and volumes, and `background` has what is done with the session closed. `waiting` is about texts
 that aren't in the book, and `at_opening` about the first screen.
 
-`terminal` alone knows the terminal: `keyboard` reads keys from it, and `arrivals` which text no
-hands typed. Of what is drawn, `body` has the print and the braille of a paragraph, `pager` what is
-looked at in place of the book, and `lines` what all of them are made of.
+`terminal` alone knows the terminal: `keyboard` reads keys from it, `arrivals` says which text no
+hands typed, and `unread` what is kept of keys that aren't carried out. Of what is drawn, `body` has
+the print and the braille of a paragraph, `pager` what is looked at in place of the book, and
+`lines` what all of them are made of.
 """
