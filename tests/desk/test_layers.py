@@ -159,8 +159,8 @@ def test_no_method_has_the_name_of_a_function_that_python_has() -> None:
     assert found == []
 
 
-#: The named tuples, which are rows of books: many thousands of each are made at once.
-ROWS = {"MarkOfBook", "Reply", "Span"}
+#: The named tuples, which are rows of books and texts: many thousands of each are made at once.
+ROWS = {"MarkOfBook", "Position", "Reply", "Span", "TextLine"}
 
 
 def test_only_rows_of_which_many_are_made_are_named_tuples() -> None:

@@ -171,7 +171,7 @@ class Importer:
         if self.job.way is not Way.GO_ON:
             self.job = self._chosen(data)
         self.taken = _taken(self.job, data)
-        return _intake(self.job, self.taken.passages)
+        return _intake(self.job, self.taken)
 
     def type_text(
         self, intake: Intake, progress: Callable[[int, int], None]
@@ -313,9 +313,9 @@ def bytes_of(path: Path) -> bytes:
         raise CantRead(path, cause) from cause
 
 
-def _intake(job: Import, whole: Sequence[Passage]) -> Intake:
+def _intake(job: Import, whole: Taken) -> Intake:
     """What is to be typed of a text, all of it judged."""
-    before, rest = _parted(job, whole)
+    before, rest = _parted(job, whole.passages)
     with job.opened() as session:
         book = session.paragraphs()
         anchor = paragraph_before(book, job.after)
@@ -330,7 +330,7 @@ def _intake(job: Import, whole: Sequence[Passage]) -> Intake:
     found = read_tables(job.book, timeout=job.wait)
     table = table_for(found, anchor, job.table)
     made = made_from(table.text)
-    found_faults = faults(rest, table, job.check)
+    found_faults = faults(rest, table, job.check, whole.data)
     faulty = Faulty(job.text, found_faults, len(book), len(rest), made)
     if faulty.faults or faulty.over:
         raise faulty

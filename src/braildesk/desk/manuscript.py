@@ -10,6 +10,7 @@ from collections.abc import Iterable, Iterator, Sequence
 from dataclasses import dataclass
 from functools import cached_property
 from itertools import groupby, islice
+from typing import NamedTuple
 
 from braildesk import Style
 from braildesk.desk import Problem
@@ -47,16 +48,15 @@ class NotUtf8(UnreadableText):
         self.byte = byte
 
 
-@dataclass(frozen=True, order=True, slots=True)
-class Position:
+# as lines are, of which a text has many thousands, it is made in less time than a dataclass
+class Position(NamedTuple):
     """A line of a file and a column in it, both from 1."""
 
     line: int
     column: int
 
 
-@dataclass(frozen=True, slots=True)
-class TextLine:
+class TextLine(NamedTuple):
     """What a line of a file has between the blanks around it, and the position of its front."""
 
     text: str
@@ -135,7 +135,7 @@ class Passage:
         return Position(front.line, front.column + offset)
 
 
-@dataclass(frozen=True)
+# what adds nothing to a passage is no dataclass of its own, since making one takes long
 class DocumentPassage(Passage):
     """A paragraph of a document, whose line is its number among all of them."""
 
@@ -171,8 +171,8 @@ def text_lines(data: bytes) -> Iterator[str]:
 
 
 def _lines(data: bytes) -> Iterator[TextLine]:
-    for number, whole in enumerate(text_lines(data), start=1):
-        shown = whole.replace("\t", " ").replace("\f", " ")
+    blanks_alone = data.replace(b"\t", b" ").replace(b"\f", b" ")
+    for number, shown in enumerate(text_lines(blanks_alone), start=1):
         text = shown.lstrip(" ")
         front = len(shown) - len(text)
         yield TextLine(text.rstrip(" "), Position(number, front + 1))

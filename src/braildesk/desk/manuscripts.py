@@ -62,6 +62,8 @@ class Taken:
     replaced: tuple[Replaced, ...]
     #: The document that it is, if it is no text.
     document: Manuscript | None = None
+    #: The bytes of a text of which nothing was replaced, so that they have all its characters.
+    data: bytes = b""
 
 
 def taken(data: bytes, by_lines: bool, how: How) -> Taken:
@@ -73,7 +75,8 @@ def taken(data: bytes, by_lines: bool, how: How) -> Taken:
     replacer = Replacer(how.replacements)
     if not kind.is_document:
         found = replacer.passages(passages(data, by_lines))
-        return Taken(found, replacer.counts)
+        kept = b"" if how.replacements else data
+        return Taken(found, replacer.counts, data=kept)
     # imported here, since a text needs nothing of what reads documents
     from braildesk.desk.documents.document import read_document
 

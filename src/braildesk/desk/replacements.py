@@ -97,7 +97,7 @@ class Replacer:
         shown = text.strip(" ")
         if not shown:
             return None
-        return replace(line, text=shown, columns=tuple(columns[front:]))
+        return line._replace(text=shown, columns=tuple(columns[front:]))
 
     def _new(self, found: re.Match[str]) -> str:
         self._counts[found[0]] += 1

@@ -8,8 +8,11 @@ from dataclasses import dataclass
 from braildesk import Refused, Table, translate
 from braildesk.desk.manuscript import Passage, Position
 from braildesk.text import limits
-from braildesk.text.characters import characters_of
+from braildesk.text.characters import characters_in, characters_of
 from braildesk.text.sequences import is_plain
+
+#: What ends a line of a file, or is a blank there: no paragraph has it.
+_NONE_IN_PRINT = "\n\t\f"
 
 
 @dataclass(frozen=True)
@@ -50,12 +53,16 @@ def faults(
     passages: Sequence[Passage],
     table: Table,
     while_waiting: Callable[[], None] = lambda: None,
+    data: bytes = b"",
 ) -> list[TextFault]:
     """Each character that can't be typed with a table, and each paragraph that is too long.
 
     A table refuses nothing else of a print but characters that it doesn't define, and a character
-    is defined or isn't wherever it stands. So each is asked for once, by itself.
+    is defined or isn't wherever it stands. So each is asked for once, by itself. If all those of
+    the file are defined whose bytes are given, the paragraphs aren't gone through for them.
     """
+    if data and _is_defined(data, table, while_waiting):
+        return [_too_long(each) for each in passages if _is_too_long(each.joined)]
     texts = [passage.joined for passage in passages]
     there = characters_of("".join(texts))
     if not is_plain("".join(there)):
@@ -74,6 +81,15 @@ def faults(
         *(_too_long(each) for each, text in zip(passages, texts) if _is_too_long(text)),
     ]
     return sorted(found, key=lambda fault: fault.position)
+
+
+def _is_defined(data: bytes, table: Table, while_waiting: Callable[[], None]) -> bool:
+    """Whether a table has each character of a file, of which none is joined in normal form C."""
+    others = characters_in(data).difference(_NONE_IN_PRINT)
+    if not is_plain("".join(others)):
+        return False
+    asked = sorted(others)
+    return not _refused(asked, translate(table, asked, while_waiting=while_waiting))
 
 
 def _refused(asked: Sequence[str], answers: Sequence[str | Refused]) -> set[str]:

@@ -35,16 +35,20 @@ _UNSEEN = frozenset({"Cc", "Cf", "Cs", "Zl", "Zp"})
 # U+0000 to U+001F but the tab, and U+007F to U+009F, as UTF-8
 _CONTROL = re.compile(rb"[\x00-\x08\x0a-\x1f\x7f]|\xc2[\x80-\x9f]")
 
-#: So many characters at the front of a text have nearly all that stand in the rest of it.
+#: So many bytes at the front of a text have nearly all that stand in the rest of it.
 _FRONT = 4_096
 
 
 def characters_of(text: str) -> set[str]:
-    """The characters that a text has, of which only those are looked at that its front hasn't."""
-    known = {each for each in text[:_FRONT] if each.isascii()}
-    data = text.encode("utf-8", "surrogatepass")
-    rest = data.translate(None, "".join(known).encode())
-    return known.union(rest.decode("utf-8", "surrogatepass"))
+    """The characters that a text has."""
+    return characters_in(text.encode("utf-8", "surrogatepass"))
+
+
+def characters_in(data: bytes) -> set[str]:
+    """Those of a text in UTF-8, of which only those are looked at that its front hasn't."""
+    known = bytes(each for each in set(data[:_FRONT]) if each < 128)
+    rest = data.translate(None, known).decode("utf-8", "surrogatepass")
+    return {*known.decode(), *rest}
 
 
 def is_visible(character: str) -> bool:
