@@ -5,6 +5,7 @@ import threading
 import warnings
 from collections import deque
 from collections.abc import Callable, Generator, Iterable, Iterator, Sequence
+from contextlib import contextmanager, suppress
 from dataclasses import replace
 from itertools import zip_longest
 from os import fspath
@@ -235,12 +236,9 @@ class Session(Asking):
 
     def _open(self) -> tuple[Pipe, OpenFile, int]:
         """The pipes to the program, the file that it has open, and the version of the book."""
-        words = programs.session_words(self._book.path, self._program)
-        programs.judge(self._book, words[0])
         while True:
-            file = OpenFile(self._book.path)
+            pipe, file = self._begin()
             try:
-                pipe = _started(words, self._while_waiting)
                 version = _first_version(pipe, self._book)
             except BaseException:
                 file.close()
@@ -252,6 +250,10 @@ class Session(Asking):
             # another file was put there while the program opened it
             pipe.close()
             file.close()
+
+    def _begin(self) -> tuple[Pipe, OpenFile]:
+        """The pipes to the program, which begins to open the book, and the file."""
+        return _begun(self._book, self._program, self._while_waiting)
 
     def _judge_free(self) -> None:
         """Whether the session can take a request."""
@@ -559,12 +561,64 @@ def _here() -> tuple[int, int]:
     return os.getpid(), threading.get_ident()
 
 
-def _started(words: list[str], while_waiting: Callable[[], None]) -> Pipe:
-    """The pipes to the program that these words start."""
+class _Session(Session):
+    """A session whose program was begun before it."""
+
+    def __init__(
+        self,
+        path: StrPath,
+        begun: list[tuple[Pipe, OpenFile]],
+        timeout: float,
+        while_waiting: Callable[[], None],
+    ) -> None:
+        self._begun = begun
+        super().__init__(path, timeout=timeout, while_waiting=while_waiting)
+
+    def _begin(self) -> tuple[Pipe, OpenFile]:
+        return self._begun.pop() if self._begun else super()._begin()
+
+
+@contextmanager
+def session_beside(
+    path: StrPath,
+    *,
+    timeout: float = 0.0,
+    while_waiting: Callable[[], None] = lambda: None,
+) -> Iterator[Callable[[], Session]]:
+    """A session that is opened beside other work, and what waits for it, as ``Session`` does.
+
+    What keeps it from being opened is raised by that. If nothing waited for it, it is ended.
+    """
+    begun: list[tuple[Pipe, OpenFile]] = []
+    with suppress(DeskError):
+        begun.append(_begun(BookFile(fspath(path)), None, while_waiting))
     try:
-        return Pipe(words, while_waiting)
-    except OSError as error:
-        raise programs.cannot_run(words[0], error) from error
+        yield lambda: _Session(path, begun, timeout, while_waiting)
+    except KeyboardInterrupt:
+        # the file may be one at which the program looks for ever
+        for pipe, _ in begun:
+            pipe.kill()
+        raise
+    finally:
+        for pipe, file in begun:
+            pipe.close()
+            file.close()
+
+
+def _begun(
+    book: BookFile, program: StrPath | None, while_waiting: Callable[[], None]
+) -> tuple[Pipe, OpenFile]:
+    """The pipes to the program, which begins to open a book, and the file that is held beside it."""
+    words = programs.session_words(book.path, program)
+    programs.judge(book, words[0])
+    file = OpenFile(book.path)
+    try:
+        return Pipe(words, while_waiting), file
+    except BaseException as error:
+        file.close()
+        if isinstance(error, OSError):
+            raise programs.cannot_run(words[0], error) from error
+        raise
 
 
 def _first_version(pipe: Pipe, book: BookFile) -> int:

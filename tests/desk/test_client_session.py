@@ -34,6 +34,7 @@ from braildesk import openfile
 from braildesk.held import copy_held
 from braildesk.pipe import Ending, Pipe
 from braildesk.protocol.replies import Reader, Reply, Unreadable
+from braildesk.session import session_beside
 from stand_in import KEPT, KILL_PROGRAM, READ, REPLY, WAIT
 from terminal import standing_in
 
@@ -51,6 +52,29 @@ def script(tmp_path: Path) -> Callable[[str], Path]:
         return path
 
     return make
+
+
+def test_a_session_opens_beside_other_work_and_is_waited_for(book: Path) -> None:
+    with session_beside(book) as opened:
+        session = opened()
+    with session:
+        assert session.version() == 1
+        with session_beside(book) as opened:
+            with pytest.raises(CannotOpen) as refused:
+                opened()
+    assert refused.value.why is Why.IN_USE
+
+
+@pytest.mark.parametrize("end", [ValueError, KeyboardInterrupt])
+def test_a_session_that_nobody_waits_for_leaves_the_book_as_it_was_and_free(
+    book: Path, end: type[BaseException]
+) -> None:
+    before = book.read_bytes()
+    with pytest.raises(end):
+        with session_beside(book):
+            raise end
+    Session(book).close()
+    assert book.read_bytes() == before
 
 
 def test_replies_are_read_however_their_bytes_are_cut() -> None:

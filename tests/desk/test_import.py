@@ -411,5 +411,5 @@ def test_nothing_is_typed_into_a_book_that_was_changed_meanwhile(book: Path) -> 
         pytest.raises(Stop, match="Somebody else changed the book"),
         in_sentences(),
     ):
-        type_all(book, intake, lambda done: None)
+        type_all(braildesk.Session(book), intake, lambda done: None)
     assert version(book) == 1

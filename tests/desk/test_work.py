@@ -235,7 +235,7 @@ def test_the_number_of_pages_is_said_though_no_more_are_laid_out(long: Path) -> 
         assert run("pages", long, "--page", page)[0] == title
 
 
-def test_an_import_opens_the_book_twice_and_sends_each_paragraph_once(
+def test_an_import_opens_the_book_once_and_sends_each_paragraph_once(
     long: Path, work: Work
 ) -> None:
     count = 500
@@ -244,8 +244,9 @@ def test_an_import_opens_the_book_twice_and_sends_each_paragraph_once(
     run("import", long, text, "--lines")
     assert work.names.count("type") == count
     assert len(work.asked) <= count + 10
-    # two sessions, and the program once for the characters and the lines of the text
-    assert work.started == 3
+    # the session, and the program once for the characters of the text
+    assert work.started == 2
+    assert work.names.count("version") == 1
 
 
 def test_the_screen_opens_a_book_once(long: Path, sit: Sit, work: Work) -> None:

@@ -2,10 +2,13 @@
 
 import os
 from collections.abc import Callable, Sequence
+from contextlib import AbstractContextManager, ExitStack
 from dataclasses import dataclass, replace
 from pathlib import Path
+from types import TracebackType
+from typing import Self
 
-from braildesk import After, Refused, Session, read_tables, translate
+from braildesk import After, Refused, Session, translate
 from braildesk.desk.documents.kinds import ManuscriptKind, kind_of
 from braildesk.desk.documents.reading import BRACKETS, BULLET, ReadingOptions
 from braildesk.desk.drafts import Drafts, NotKept
@@ -36,6 +39,7 @@ from braildesk.desk.typist import CutShort, look_for, type_all
 from braildesk.desk.unfinished import digest_of, unfinished
 from braildesk.desk.validation import TextFault, faults
 from braildesk.named_files import is_handed_over
+from braildesk.session import session_beside
 from braildesk.text import limits
 
 
@@ -73,6 +77,12 @@ class Import:
     def opened(self) -> Session:
         """A session with the book."""
         return Session(self.book, timeout=self.wait, while_waiting=self.while_waiting)
+
+    def opened_beside(self) -> AbstractContextManager[Callable[[], Session]]:
+        """The same, which is opened while something else is done."""
+        return session_beside(
+            self.book, timeout=self.wait, while_waiting=self.while_waiting
+        )
 
 
 @dataclass(frozen=True)
@@ -147,6 +157,7 @@ class Faulty(NotImported):
 class Importer:
     """Imports a text step by step: `prepare` judges all of it, and then `type_text` types it.
 
+    From the judging on nobody else has the book, until the end of the `with` block or of the typing.
     It is noted until it is done. If that can't be, this is reported, and the import goes on.
     """
 
@@ -161,6 +172,18 @@ class Importer:
         self._earlier: ImportNote | None = None
         #: What was read of the manuscript, once it was.
         self.taken: Taken | None = None
+        self._open = ExitStack()
+
+    def __enter__(self) -> Self:
+        return self
+
+    def __exit__(
+        self,
+        kind: type[BaseException] | None,
+        error: BaseException | None,
+        trace: TracebackType | None,
+    ) -> None:
+        self._open.__exit__(kind, error, trace)
 
     def prepare(self) -> Intake:
         """What is to be typed, once nothing stands in its way; raises `NotImported`."""
@@ -170,8 +193,14 @@ class Importer:
         self.job = self._decided(self._earlier)
         if self.job.way is not Way.GO_ON:
             self.job = self._chosen(data)
-        self.taken = _taken(self.job, data)
-        return _intake(self.job, self.taken)
+        if self.job.kind.is_document:
+            # nobody is kept from the book for as long as another program reads it
+            self.taken = _taken(self.job, data)
+        with self.job.opened_beside() as opened:
+            whole = self.taken = self.taken or _taken(self.job, data)
+            parts = _parted(self.job, whole.passages)
+            self._session = self._open.enter_context(opened())
+        return _intake(self.job, self._session, *parts, whole.data)
 
     def type_text(
         self, intake: Intake, progress: Callable[[int, int], None]
@@ -183,12 +212,10 @@ class Importer:
         self._keep_replacements()
         try:
             type_all(
-                job.book,
+                self._session,
                 intake,
                 lambda done: progress(done, count),
                 lambda: self._begin(note),
-                wait=job.wait,
-                while_waiting=job.while_waiting,
             )
         except CutShort as cut:
             its = cut.saved if cut.is_displaced else job.book
@@ -313,24 +340,26 @@ def bytes_of(path: Path) -> bytes:
         raise CantRead(path, cause) from cause
 
 
-def _intake(job: Import, whole: Taken) -> Intake:
+def _intake(
+    job: Import,
+    session: Session,
+    before: tuple[Passage, ...],
+    rest: tuple[Passage, ...],
+    data: bytes,
+) -> Intake:
     """What is to be typed of a text, all of it judged."""
-    before, rest = _parted(job, whole.passages)
-    with job.opened() as session:
-        book = session.paragraphs()
-        anchor = paragraph_before(book, job.after)
-        stored = session.print_of(anchor.id) if anchor and before else None
-        version = session.last_version
-        if rest:
-            check_goes_on(stored, before, rest)
-        if rest and job.way is not Way.AGAIN:
-            if numbers := standing(session, book, job.after, rest):
-                raise StandsThere(job.text, numbers)
-    # only once the program has judged the file
-    found = read_tables(job.book, timeout=job.wait)
-    table = table_for(found, anchor, job.table)
+    book = session.paragraphs()
+    anchor = paragraph_before(book, job.after)
+    stored = session.print_of(anchor.id) if anchor and before else None
+    version = session.last_version
+    if rest:
+        check_goes_on(stored, before, rest)
+    if rest and job.way is not Way.AGAIN:
+        if numbers := standing(session, book, job.after, rest):
+            raise StandsThere(job.text, numbers)
+    table = table_for(session.tables(), anchor, job.table)
     made = made_from(table.text)
-    found_faults = faults(rest, table, job.check, whole.data)
+    found_faults = faults(rest, table, job.check, data)
     faulty = Faulty(job.text, found_faults, len(book), len(rest), made)
     if faulty.faults or faulty.over:
         raise faulty
@@ -355,7 +384,7 @@ def _signs_for(job: Import, reading: ReadingOptions) -> ReadingOptions:
     """The reading with signs that the table has: another bullet and brackets if it lacks the usual."""
     with job.opened() as session:
         anchor = paragraph_before(session.paragraphs(), job.after)
-    table = table_for(read_tables(job.book, timeout=job.wait), anchor, job.table)
+        table = table_for(session.tables(), anchor, job.table)
     bullet, *brackets = translate(table, [BULLET, *BRACKETS], while_waiting=job.check)
     if isinstance(bullet, Refused):
         reading = replace(reading, bullet="-")

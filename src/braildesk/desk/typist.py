@@ -44,22 +44,19 @@ class CutShort(Problem):
 
 
 def type_all(
-    path: Path,
+    session: Session,
     intake: Intake,
     report: Callable[[int], None],
     begin: Callable[[], None] = lambda: None,
-    *,
-    wait: float = 0.0,
-    while_waiting: Callable[[], None] = lambda: None,
 ) -> None:
     """Types all paragraphs, or raises `CutShort`; `ChangedMeanwhile` if the book isn't as it was.
 
-    What has to be done before the first one is typed is done once nobody else can type.
-    A book that another program has open is waited for so many seconds.
+    What has to be done before the first one is typed is done once nobody else can type. The session
+    is closed by that.
     """
     done = 0
     try:
-        with Session(path, timeout=wait, while_waiting=while_waiting) as session:
+        with session:
             if session.last_version != intake.version:
                 raise ChangedMeanwhile(session.last_version)
             begin()

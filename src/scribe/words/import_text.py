@@ -79,16 +79,16 @@ def import_in_words(
     named. If it was cut short, `again` says how to go on where that isn't by a command. Raises
     `NotImported`.
     """
-    importer = _importer(job, console)
-    intake = prepared(importer, console, console.say, report)
-    try:
-        typed = importer.type_text(intake, console.progress("paragraphs typed"))
-    except CutShort as cut:
-        sentence, status = _cut_short(cut)
-        console.say(sentence, *_left(importer.job, intake, cut, again))
-        if isinstance(cut.cause, KeyboardInterrupt):
-            raise Interrupted.after(cut.cause) from cut
-        return status, ""
+    with _importer(job, console) as importer:
+        intake = prepared(importer, console, console.say, report)
+        try:
+            typed = importer.type_text(intake, console.progress("paragraphs typed"))
+        except CutShort as cut:
+            sentence, status = _cut_short(cut)
+            console.say(sentence, *_left(importer.job, intake, cut, again))
+            if isinstance(cut.cause, KeyboardInterrupt):
+                raise Interrupted.after(cut.cause) from cut
+            return status, ""
     if not typed.count:
         console.show(f"All of {job.text} is in the book now.")
         return Status.DONE, f"the rest of {job.text.name}"
@@ -103,8 +103,8 @@ def import_in_words(
 
 def trial_in_words(job: Import, console: Console, report: Path | None = None) -> Status:
     """Judges a text and types nothing, and says how much would be typed."""
-    importer = _importer(job, console)
-    intake = prepared(importer, console, console.show, report)
+    with _importer(job, console) as importer:
+        intake = prepared(importer, console, console.show, report)
     count, table = _paragraphs(len(intake.passages)), intake.table.name
     console.show(f"{count} would be typed, by the table {table}.")
     return Status.DONE
