@@ -5,7 +5,8 @@ from pathlib import Path
 
 import pytest
 
-from braildesk.desk.documents.reading import LossKind, ReadingOptions
+from braildesk.desk.documents.options import ReadingOptions
+from braildesk.desk.documents.reading import LossKind
 from braildesk.desk.manuscripts import read_manuscript
 
 from handmade import docx, in_list, level, lists, odt, paragraph, run

@@ -24,13 +24,13 @@ from braildesk.desk.documents.kinds import (
     kind_of,
 )
 from braildesk.desk.documents.pandoc import office, tree
+from braildesk.desk.documents.options import ReadingOptions
 from braildesk.desk.documents.reading import (
     Loss,
     LossKind,
     Manuscript,
     Missing,
     Part,
-    ReadingOptions,
     short_enough,
 )
 from braildesk.desk.documents.tree import Node, document

@@ -9,7 +9,7 @@ import pytest
 
 from braildesk import Session, Style
 from braildesk.desk.documents.kinds import ManuscriptKind
-from braildesk.desk.documents.reading import ReadingOptions
+from braildesk.desk.documents.options import ReadingOptions
 from braildesk.desk.drafts import Drafts
 from braildesk.desk.import_note import How, ImportNote, note_in
 from braildesk.desk.manuscript import TextLine, Passage, Position

@@ -6,7 +6,7 @@ from pathlib import PurePath
 
 from braildesk import After
 from braildesk.desk.documents.kinds import ManuscriptKind
-from braildesk.desk.documents.reading import BRACKETS, ReadingOptions
+from braildesk.desk.documents.options import BRACKETS, ReadingOptions
 from braildesk.desk.record import NotSuch, Record
 from braildesk.text import limits
 

@@ -6,11 +6,11 @@ from contextlib import AbstractContextManager, ExitStack
 from dataclasses import dataclass, replace
 from pathlib import Path
 from types import TracebackType
-from typing import Self
+from typing import TYPE_CHECKING, Self
 
 from braildesk import After, Refused, Session, translate
 from braildesk.desk.documents.kinds import ManuscriptKind, kind_of
-from braildesk.desk.documents.reading import BRACKETS, BULLET, ReadingOptions
+from braildesk.desk.documents.options import BRACKETS, BULLET, ReadingOptions
 from braildesk.desk.drafts import Drafts, NotKept
 from braildesk.desk.earlier import (
     AllThere,
@@ -34,13 +34,16 @@ from braildesk.desk.manuscript import Passage, UnreadableText
 from braildesk.desk.manuscripts import Taken, read_bytes, taken
 from braildesk.desk.origin import standing
 from braildesk.desk.replacements import read_replacements
-from braildesk.desk.tables import Made, made_from
 from braildesk.desk.typist import CutShort, look_for, type_all
 from braildesk.desk.unfinished import digest_of, unfinished
 from braildesk.desk.validation import TextFault, faults
 from braildesk.named_files import is_handed_over
 from braildesk.session import session_beside
 from braildesk.text import limits
+
+
+if TYPE_CHECKING:
+    from braildesk.desk.tables import Made
 
 
 @dataclass(frozen=True)
@@ -138,7 +141,7 @@ class Faulty(NotImported):
         found: Sequence[TextFault],
         there: int,
         count: int,
-        made: Made | None,
+        made: "Made | None",
     ) -> None:
         super().__init__(path, found, there, count, made)
         self.path = path
@@ -166,12 +169,12 @@ class Importer:
         self._drafts = Drafts(job.book)
         self._report_it = report
         self._reported: set[str] = set()
-        self._digest = ""
         self._is_noted = False
         #: What was noted of the text before.
         self._earlier: ImportNote | None = None
         #: What was read of the manuscript, once it was.
         self.taken: Taken | None = None
+        self._digest = ""
         self._open = ExitStack()
 
     def __enter__(self) -> Self:
@@ -358,11 +361,13 @@ def _intake(
         if numbers := standing(session, book, job.after, rest):
             raise StandsThere(job.text, numbers)
     table = table_for(session.tables(), anchor, job.table)
-    made = made_from(table.text)
     found_faults = faults(rest, table, job.check, data)
-    faulty = Faulty(job.text, found_faults, len(book), len(rest), made)
-    if faulty.faults or faulty.over:
-        raise faulty
+    if found_faults or len(book) + len(rest) > limits.PARAGRAPHS:
+        # imported here, since few texts are at fault
+        from braildesk.desk.tables import made_from
+
+        made = made_from(table.text)
+        raise Faulty(job.text, found_faults, len(book), len(rest), made)
     lacking = settings(before[-1], anchor.id, anchor) if before and anchor else ()
     return Intake(version, len(book), rest, job.after, table, tuple(lacking))
 

@@ -4,10 +4,11 @@ from collections.abc import Iterator
 from dataclasses import dataclass, replace
 from itertools import takewhile
 from pathlib import Path
+from typing import TYPE_CHECKING
 
 from braildesk import CannotOpen, Session, Style, Why
 from braildesk.desk.documents.kinds import ManuscriptKind, is_container, kind_of
-from braildesk.desk.documents.reading import Manuscript, Part, ReadingOptions
+from braildesk.desk.documents.options import ReadingOptions
 from braildesk.desk.manuscript import (
     DocumentPassage,
     TextLine,
@@ -21,12 +22,15 @@ from braildesk.desk.replacements import Replaced, Replacer
 from braildesk.named_files import TooLarge, is_handed_over, open_file, read_file
 from braildesk.text import limits
 
+if TYPE_CHECKING:
+    from braildesk.desk.documents.reading import Manuscript
+
 _BOOK = b"SQLite format 3\0"
 
 
 def read_manuscript(
     path: Path, reading: ReadingOptions = ReadingOptions(), wait: float = 0.0
-) -> Manuscript:
+) -> "Manuscript":
     """The paragraphs of a document, of a text, or of a book, there those aside that are struck.
 
     `OSError` if the file can't be read, `UnreadableText` if it is no manuscript, and what a
@@ -43,10 +47,12 @@ def read_manuscript(
 
 def manuscript_of(
     data: bytes, kind: ManuscriptKind, reading: ReadingOptions
-) -> Manuscript:
+) -> "Manuscript":
     """The paragraphs of the bytes of a document or of a text; raises `UnreadableText`."""
+    # imported here, since a text that is typed needs nothing of what reads documents
+    from braildesk.desk.documents.reading import Manuscript, Part
+
     if kind.is_document:
-        # imported here, since a text needs nothing of what reads documents
         from braildesk.desk.documents.document import read_document
 
         return read_document(data, kind, reading)
@@ -61,7 +67,7 @@ class Taken:
     passages: tuple[Passage, ...]
     replaced: tuple[Replaced, ...]
     #: The document that it is, if it is no text.
-    document: Manuscript | None = None
+    document: "Manuscript | None" = None
     #: The bytes of a text of which nothing was replaced, so that they have all its characters.
     data: bytes = b""
 
@@ -86,7 +92,7 @@ def taken(data: bytes, by_lines: bool, how: How) -> Taken:
 
 
 def _passages_of(
-    manuscript: Manuscript, volumes: int | None
+    manuscript: "Manuscript", volumes: int | None
 ) -> tuple[DocumentPassage, ...]:
     """The paragraphs of a document as they are typed; volumes begin at headings of a level.
 
@@ -127,7 +133,7 @@ def _is_book(path: Path) -> bool:
     return _front(path) == _BOOK
 
 
-def _of_book(path: Path, wait: float) -> Manuscript:
+def _of_book(path: Path, wait: float) -> "Manuscript":
     """A book, or a copy of it where it can't be opened: what another program had kept a moment ago."""
     try:
         session = Session(path, timeout=wait)
@@ -145,7 +151,9 @@ def _of_book(path: Path, wait: float) -> Manuscript:
         return _of_session(session)
 
 
-def _of_session(session: Session) -> Manuscript:
+def _of_session(session: Session) -> "Manuscript":
+    from braildesk.desk.documents.reading import Manuscript, Part
+
     book = [each for each in session.paragraphs() if not each.struck]
     parts = tuple(
         Part(text, 1 if each.style is Style.HEADING else None)

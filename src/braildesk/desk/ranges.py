@@ -2,9 +2,12 @@
 
 from collections.abc import Sequence
 from dataclasses import dataclass
+from typing import TYPE_CHECKING
 
-from braildesk import Paragraph
 from braildesk.desk import Problem
+
+if TYPE_CHECKING:
+    from braildesk import Paragraph
 
 
 class NoParagraph(Problem):
@@ -32,7 +35,7 @@ class ParagraphRange:
     first: int | None = None
     last: int | None = None
 
-    def of(self, book: Sequence[Paragraph]) -> Sequence[Paragraph]:
+    def of(self, book: Sequence["Paragraph"]) -> Sequence["Paragraph"]:
         """The paragraphs of the range; raises `NoParagraph` and `BackwardRange`."""
         places = {paragraph.id: place for place, paragraph in enumerate(book)}
         for end in (self.first, self.last):
@@ -46,8 +49,8 @@ class ParagraphRange:
 
 
 def chosen(
-    book: Sequence[Paragraph], ranges: Sequence[ParagraphRange]
-) -> list[Paragraph]:
+    book: Sequence["Paragraph"], ranges: Sequence[ParagraphRange]
+) -> list["Paragraph"]:
     """The paragraphs of some ranges, in their order; raises what `ParagraphRange.of` does."""
     return [paragraph for each in ranges for paragraph in each.of(book)]
 

@@ -1,8 +1,7 @@
 """What a book says of many of its paragraphs, asked ahead of the replies."""
 
 from collections.abc import Callable, Iterable, Iterator, Sequence
-from dataclasses import dataclass
-from typing import Any, TypeVar
+from typing import Any, NamedTuple, TypeVar
 
 from braildesk import Mark, Paragraph, Refused, Session
 from braildesk.protocol.answers import read_paragraph
@@ -11,8 +10,8 @@ from braildesk.protocol.requests import Braille, List, Marks, Print, Request
 Answer = TypeVar("Answer")
 
 
-@dataclass(frozen=True, slots=True)
-class ParagraphReading:
+# made in less time than a dataclass, since all paragraphs of a book may be shown
+class ParagraphReading(NamedTuple):
     """A paragraph with its print, its braille and its marks."""
 
     paragraph: Paragraph

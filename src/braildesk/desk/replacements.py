@@ -8,14 +8,17 @@ import re
 from collections.abc import Iterable
 from dataclasses import dataclass, replace
 from pathlib import Path
+from typing import TYPE_CHECKING
 
-from braildesk.desk.documents.reading import Part, plain
 from braildesk.desk.import_note import Pairs, is_pair
 from braildesk.desk.intake import NotImported
 from braildesk.desk.manuscript import TextLine, Passage, UnreadableText, text_lines
 from braildesk.named_files import read_file
 from braildesk.text import limits
 from braildesk.text.sequences import composed
+
+if TYPE_CHECKING:
+    from braildesk.desk.documents.reading import Part
 
 #: How many pairs a file may have.
 MOST_PAIRS = 1_000
@@ -58,10 +61,13 @@ class Replacer:
         pairs = self._by.items()
         return tuple(Replaced(old, new, self._counts[old]) for old, new in pairs)
 
-    def parts(self, parts: Iterable[Part]) -> tuple[Part, ...]:
+    def parts(self, parts: Iterable["Part"]) -> "tuple[Part, ...]":
         """Parts with the new characters, without those of which nothing is left."""
         if not self._by:
             return tuple(parts)
+        # imported here, since a text needs none of it
+        from braildesk.desk.documents.reading import plain
+
         made = [
             replace(part, text=composed(plain(self._sought.sub(self._new, part.text))))
             for part in parts

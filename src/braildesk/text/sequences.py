@@ -20,10 +20,11 @@ _AT_ONCE = 1_000
 _SENTENCE = r"[.!?\u2026][\u201d\u2019\u00bb\"')\]]*\s+"
 # characters that never belong to the one before them: those of Latin, of punctuation and of braille
 _ALONE = "\0-\u02ff\u2010-\u2027\u2800-\u28ff"
-_ALL_ALONE = re.compile(f"[{_ALONE}]*")
+# these are compiled where they are looked for, since few short commands do so
+_ALL_ALONE = f"[{_ALONE}]*"
 #: Latin letters, the signs that stand among them, and braille, without what isn't seen.
 PLAIN = re.compile("[ -~\u00a0-\u00ac\u00ae-\u02ff\u2010-\u2027\u2800-\u28ff]*")
-_LATE = re.compile(f"[^{_ALONE}]")
+_LATE = f"[^{_ALONE}]"
 JOINING_JAMO = range(0x1160, 0x1200)
 _MORE_JOINING_JAMO = range(0xD7B0, 0xD800)
 
@@ -57,9 +58,9 @@ def is_plain(text: str) -> bool:
 def seams(text: str) -> Sequence[int]:
     """The places of a text where no sequence is cut, its front and its end among them."""
     places = range(len(text) + 1)
-    if text.isascii() or _ALL_ALONE.fullmatch(text):
+    if text.isascii() or re.fullmatch(_ALL_ALONE, text):
         return places
-    lates = (late.start() for late in _LATE.finditer(text, 1))
+    lates = (late.start() for late in re.compile(_LATE).finditer(text, 1))
     joined = {place for place in lates if belongs(text[place - 1], text[place])}
     return [place for place in places if place not in joined] if joined else places
 

@@ -4,10 +4,9 @@ import argparse
 from collections.abc import Callable, Sequence
 from dataclasses import dataclass, replace
 from pathlib import Path
-from typing import Any, NoReturn, TypeVar, cast
+from typing import TYPE_CHECKING, Any, NoReturn, TypeVar, cast
 
 from braildesk.desk import USUAL_WAIT
-from braildesk.desk.ranges import ParagraphRange
 from braildesk.text.cells import Notation
 from braildesk.text.wrapping import wrap
 from braildesk.version import version
@@ -20,6 +19,9 @@ from scribe.words.console import (
     Console,
     width_of_output,
 )
+
+if TYPE_CHECKING:
+    from braildesk.desk.ranges import ParagraphRange
 
 # The object on which a command calls add_parser.
 Subparsers = Any
@@ -188,6 +190,9 @@ def add_ranges(
     parser: argparse.ArgumentParser, word: str, does: str = "only these paragraphs"
 ) -> None:
     """Adds a word for ranges of paragraphs, such as 3-9, as `arguments.paragraphs`."""
+    # imported here, since few commands take them
+    from braildesk.desk.ranges import ParagraphRange
+
     parser.add_argument(
         word,
         dest="paragraphs",
@@ -210,7 +215,7 @@ def add_paragraphs(parser: argparse.ArgumentParser) -> None:
     add_ranges(parser, "--paragraphs", "the same")
 
 
-def asked_ranges(arguments: argparse.Namespace) -> tuple[ParagraphRange, ...]:
+def asked_ranges(arguments: argparse.Namespace) -> "tuple[ParagraphRange, ...]":
     """The ranges of the paragraphs that are shown."""
     ranges: tuple[ParagraphRange, ...] = arguments.range or arguments.paragraphs
     return ranges

@@ -1,6 +1,5 @@
 """An import in words: what keeps a text from being typed, and what became of one that was begun."""
 
-import shlex
 from collections.abc import Callable, Iterable, Iterator, Sequence
 from dataclasses import replace
 from pathlib import Path
@@ -62,7 +61,6 @@ from braildesk.workshop import MayNotLast
 
 from scribe.words.console import Console
 from scribe.words.drafts import not_kept
-from scribe.words.losses import FEW, kind_name, report_lines
 from scribe.words.paragraph import no_paragraph, quoted
 from scribe.words.status import Interrupted, Status, Stop, may_not_last, stopped_by
 
@@ -144,6 +142,11 @@ def _report(importer: Importer, show: Callable[..., None], report: Path | None) 
         # of what was kept for the book, what stands in this manuscript is of interest
         used = tuple(each for each in taken.replaced if each.count)
         taken = replace(taken, replaced=used)
+    if report is None and taken.document is None and not taken.replaced:
+        return
+    # imported here, since of a text nothing is lost
+    from scribe.words.losses import FEW, report_lines
+
     if report is not None:
         lines = report_lines(job.text, taken)
         _write_report(job, report, lines or [f"{job.text} is a text."])
@@ -178,6 +181,9 @@ def _left(job: Import, intake: Intake, cut: CutShort, again: str) -> Iterator[st
     if cut.is_displaced and cut.saved is None:
         # it was said where the print is
         return
+    # imported here, since few imports are cut short
+    import shlex
+
     job = replace(job, book=cut.saved or job.book)
     kept = cut.done if cut.kept is None else cut.kept
     least = "at least " if cut.kept is None else ""
@@ -332,6 +338,8 @@ def reminders(found: Unfinished | NotSeen | NotKept, book: Path) -> Iterator[str
     if isinstance(found, NotKept):
         yield not_kept(found)
         return
+    import shlex  # as above
+
     words = shlex.join(["scribe", "import", str(book), found.note.text])
     if isinstance(found, Unfinished):
         yield came_to(found)
@@ -359,6 +367,8 @@ def _why_not(problem: NotImported) -> str:
         case NoLine(line=line):
             return f"The text has no paragraph from line {line} on."
         case OfTexts(path=path, kind=kind):
+            from scribe.words.losses import kind_name  # as above
+
             return f"{path} is {kind_name(kind)}, which has paragraphs of its own: --lines is for texts."
         case OfDocuments(path=path):
             return (
@@ -434,6 +444,8 @@ def unreadable(fault: UnreadableText) -> str:
         case NoDocument(why=why):
             return _NO_DOCUMENT[why]
         case NoConverter(kind=kind, name=name, package=package):
+            from scribe.words.losses import kind_name  # as above
+
             return (
                 f"is {kind_name(kind)}, which {name} reads, and {name} is not installed. Debian has it"
                 f" as {package}"

@@ -3,10 +3,13 @@
 import re
 from collections.abc import Iterator
 from pathlib import Path
+from typing import TYPE_CHECKING
 
-from braildesk.desk.ranges import PageRange, ParagraphRange
-from braildesk.protocol.values import After
 from braildesk.text.characters import control_refused
+
+if TYPE_CHECKING:
+    from braildesk.desk.ranges import PageRange, ParagraphRange
+    from braildesk.protocol.values import After
 
 _LONE = range(0xDC80, 0xDD00)
 # between single marks, between double ones, or up to a blank
@@ -51,7 +54,7 @@ def words(word: str) -> str:
     return text(word)
 
 
-def after(word: str) -> After:
+def after(word: str) -> "After":
     """Where a paragraph is put: front, end, or the number of the one before it."""
     if word == "front":
         return "front"
@@ -72,13 +75,18 @@ def switch(word: str) -> bool:
     return word == "on"
 
 
-def paragraph_ranges(word: str) -> tuple[ParagraphRange, ...]:
+def paragraph_ranges(word: str) -> "tuple[ParagraphRange, ...]":
     """The ranges of paragraphs that a word names, as in `3-9,12`."""
+    # imported here, since few commands take them
+    from braildesk.desk.ranges import ParagraphRange
+
     return tuple(ParagraphRange(*ends) for ends in _ranges(word, "paragraph"))
 
 
-def page_ranges(word: str) -> tuple[PageRange, ...]:
+def page_ranges(word: str) -> "tuple[PageRange, ...]":
     """The ranges of pages that a word names, as in `3-9,12`."""
+    from braildesk.desk.ranges import PageRange  # as above
+
     return tuple(PageRange(*ends) for ends in _ranges(word, "page"))
 
 

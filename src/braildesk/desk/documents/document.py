@@ -18,12 +18,12 @@ from braildesk.desk.documents.markup import characters_of_page, characters_of_te
 from braildesk.desk.documents.notes import with_notes
 from braildesk.desk.documents.numbers import with_numbers
 from braildesk.desk.documents.numbers_of_odt import with_odt_numbers
+from braildesk.desk.documents.options import ReadingOptions
 from braildesk.desk.documents.reading import (
     Loss,
     LossKind,
     Manuscript,
     Part,
-    ReadingOptions,
     short_enough,
 )
 from braildesk.desk.documents.tree import FAULTS, document

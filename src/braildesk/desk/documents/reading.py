@@ -10,10 +10,6 @@ from braildesk.desk.documents.kinds import ManuscriptKind
 from braildesk.text import limits
 from braildesk.text.sequences import sequences
 
-#: What stands before an item of a list that has no number, and around notes and the descriptions of
-#: pictures, unless something else is said.
-BULLET, BRACKETS = "\u2022", "[]"
-
 #: Blanks of all widths, also those at which no line may end.
 _BLANKS = re.compile(
     r"[ \t\r\f\v\u00a0\u1680\u2000-\u200a\u202f\u205f\u3000]+", re.ASCII
@@ -83,20 +79,6 @@ class Part:
     def is_heading(self) -> bool:
         """Whether it is a heading."""
         return self.level is not None
-
-
-@dataclass(frozen=True, slots=True)
-class ReadingOptions:
-    """How a manuscript is read."""
-
-    #: Which kind it is; else that is found.
-    kind: ManuscriptKind | None = None
-    #: Whether notes stand at the end of their section, and not after their paragraph.
-    notes_at_end: bool = False
-    #: What stands before an item of a list that has no number.
-    bullet: str = BULLET
-    #: The two characters that stand around notes and the descriptions of pictures.
-    brackets: str = BRACKETS
 
 
 @dataclass(frozen=True, slots=True)

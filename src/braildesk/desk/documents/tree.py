@@ -11,7 +11,8 @@ from typing import Any
 
 from braildesk.desk.documents.kinds import NotRead
 from braildesk.desk.documents.markup import Tags
-from braildesk.desk.documents.reading import Loss, LossKind, Part, ReadingOptions, plain
+from braildesk.desk.documents.options import ReadingOptions
+from braildesk.desk.documents.reading import Loss, LossKind, Part, plain
 from braildesk.text.sequences import composed
 
 #: A node of pandoc's tree: a dictionary with its kind as ``t`` and its contents as ``c``.

@@ -4,7 +4,7 @@ from argparse import Namespace
 
 from braildesk import Session
 from braildesk.desk.compare import compare
-from braildesk.desk.documents.reading import ReadingOptions
+from braildesk.desk.documents.options import ReadingOptions
 from braildesk.desk.manuscript import UnreadableText
 from braildesk.desk.manuscripts import read_manuscript
 from braildesk.named_files import is_same_file

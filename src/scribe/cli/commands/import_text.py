@@ -5,7 +5,7 @@ from pathlib import Path
 
 from braildesk import CannotOpen, DeskError, Session, Why
 from braildesk.desk.documents.kinds import ManuscriptKind
-from braildesk.desk.documents.reading import ReadingOptions
+from braildesk.desk.documents.options import ReadingOptions
 from braildesk.desk.earlier import NoneCutShort, Way, leave
 from braildesk.desk.import_note import How
 from braildesk.desk.import_text import Import
