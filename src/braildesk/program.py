@@ -175,16 +175,27 @@ def translate(
     The table is the text in a file, a table of a book as ``tables`` gives it, or the supplied one
     where ``table`` is the string ``"@en"``.
     """
+    return translate_beside(table, lines, lambda: None, program, while_waiting)
+
+
+def translate_beside(
+    table: StrPath | Table,
+    lines: Iterable[str],
+    beside: Callable[[], object],
+    program: StrPath | None = None,
+    while_waiting: Callable[[], None] = lambda: None,
+) -> list[str | Refused]:
+    """The same, with something that is done while the program is at work."""
     asked = _table_asked(table)
     judged = [_judged(PrintLine(asked.path, line)) for line in lines]
     sent = b"".join(
         line.text.encode() + b"\r\n" for line in judged if isinstance(line, PrintLine)
     )
     if isinstance(table, Table):
-        output = _by_text(program, asked, sent, while_waiting)
+        output = _by_text(program, asked, sent, beside, while_waiting)
     else:
         words = ["translate", "--", _word(asked)]
-        output = _run(program, words, asked, sent, while_waiting=while_waiting)
+        output = _run(program, words, asked, sent, (), beside, while_waiting)
     answers = iter(output.decode().split("\n"))
     return [_answered(line, answers) for line in judged]
 
@@ -309,6 +320,7 @@ def _by_text(
     program: StrPath | None,
     asked: TableFile,
     sent: bytes,
+    beside: Callable[[], object],
     while_waiting: Callable[[], None],
 ) -> bytes:
     """The answers to lines by a table whose text is handed over in memory, and in no file."""
@@ -316,7 +328,8 @@ def _by_text(
         path = f"/dev/fd/{descriptor}"
         words = ["translate", "--", path]
         try:
-            return _run(program, words, asked, sent, (descriptor,), while_waiting)
+            shared = (descriptor,)
+            return _run(program, words, asked, sent, shared, beside, while_waiting)
         except CannotOpen as refused_by_program:
             raise Failed(
                 f"The text of the table {asked.path} could not be handed to braildesk, since it"
@@ -353,13 +366,15 @@ def _run(
     asked: AskedOfFile,
     sent: bytes = b"",
     shared: tuple[int, ...] = (),
+    beside: Callable[[], object] = lambda: None,
     while_waiting: Callable[[], None] = lambda: None,
 ) -> bytes:
-    """What the program answers."""
+    """What the program answers, beside which something else is done."""
     # from a pipe it might read so slowly that the writing had to be waited for
     given = _in_memory(sent, "print") if sent else nullcontext(DEVNULL)
     with given as source:
         with _begun(program, words, asked, shared, source) as process:
+            beside()
             return _answered_by(process, asked, while_waiting)
 
 

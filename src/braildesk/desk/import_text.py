@@ -4,6 +4,7 @@ import os
 from collections.abc import Callable, Sequence
 from contextlib import AbstractContextManager, ExitStack
 from dataclasses import dataclass, replace
+from functools import cached_property
 from pathlib import Path
 from types import TracebackType
 from typing import TYPE_CHECKING, Self
@@ -174,7 +175,7 @@ class Importer:
         self._earlier: ImportNote | None = None
         #: What was read of the manuscript, once it was.
         self.taken: Taken | None = None
-        self._digest = ""
+        self._data = b""
         self._open = ExitStack()
 
     def __enter__(self) -> Self:
@@ -190,8 +191,7 @@ class Importer:
 
     def prepare(self) -> Intake:
         """What is to be typed, once nothing stands in its way; raises `NotImported`."""
-        data = bytes_of(self.job.text)
-        self._digest = digest_of(data)
+        data = self._data = bytes_of(self.job.text)
         self._earlier = self._noted()
         self.job = self._decided(self._earlier)
         if self.job.way is not Way.GO_ON:
@@ -203,7 +203,14 @@ class Importer:
             whole = self.taken = self.taken or _taken(self.job, data)
             parts = _parted(self.job, whole.passages)
             self._session = self._open.enter_context(opened())
-        return _intake(self.job, self._session, *parts, whole.data)
+        # beside the program, which takes as long for the characters
+        beside: Callable[[], object] = lambda: self._digest
+        return _intake(self.job, self._session, *parts, whole.data, beside)
+
+    @cached_property
+    def _digest(self) -> str:
+        """By which the text is known again."""
+        return digest_of(self._data)
 
     def type_text(
         self, intake: Intake, progress: Callable[[int, int], None]
@@ -276,7 +283,7 @@ class Importer:
         except NotKept as fault:
             self._report(fault)
             return None
-        return note_of_text(notes, self.job.text, self._digest)
+        return note_of_text(notes, self.job.text, self._digest) if notes else None
 
     def _report(self, fault: NotKept) -> None:
         """Reports what is in the way, once."""
@@ -349,6 +356,7 @@ def _intake(
     before: tuple[Passage, ...],
     rest: tuple[Passage, ...],
     data: bytes,
+    beside: Callable[[], object],
 ) -> Intake:
     """What is to be typed of a text, all of it judged."""
     book = session.paragraphs()
@@ -361,7 +369,7 @@ def _intake(
         if numbers := standing(session, book, job.after, rest):
             raise StandsThere(job.text, numbers)
     table = table_for(session.tables(), anchor, job.table)
-    found_faults = faults(rest, table, job.check, data)
+    found_faults = faults(rest, table, job.check, data, beside)
     if found_faults or len(book) + len(rest) > limits.PARAGRAPHS:
         # imported here, since few texts are at fault
         from braildesk.desk.tables import made_from

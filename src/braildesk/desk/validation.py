@@ -7,6 +7,7 @@ from dataclasses import dataclass
 
 from braildesk import Refused, Table, translate
 from braildesk.desk.manuscript import Passage, Position
+from braildesk.program import translate_beside
 from braildesk.text import limits
 from braildesk.text.characters import characters_in, characters_of
 from braildesk.text.sequences import is_plain
@@ -54,14 +55,16 @@ def faults(
     table: Table,
     while_waiting: Callable[[], None] = lambda: None,
     data: bytes = b"",
+    beside: Callable[[], object] = lambda: None,
 ) -> list[TextFault]:
     """Each character that can't be typed with a table, and each paragraph that is too long.
 
     A table refuses nothing else of a print but characters that it doesn't define, and a character
     is defined or isn't wherever it stands. So each is asked for once, by itself. If all those of
     the file are defined whose bytes are given, the paragraphs aren't gone through for them.
+    Beside that something else may be done.
     """
-    if data and _is_defined(data, table, while_waiting):
+    if data and _is_defined(data, table, while_waiting, beside):
         return [_too_long(each) for each in passages if _is_too_long(each.joined)]
     texts = [passage.joined for passage in passages]
     there = characters_of("".join(texts))
@@ -83,13 +86,19 @@ def faults(
     return sorted(found, key=lambda fault: fault.position)
 
 
-def _is_defined(data: bytes, table: Table, while_waiting: Callable[[], None]) -> bool:
+def _is_defined(
+    data: bytes,
+    table: Table,
+    while_waiting: Callable[[], None],
+    beside: Callable[[], object],
+) -> bool:
     """Whether a table has each character of a file, of which none is joined in normal form C."""
     others = characters_in(data).difference(_NONE_IN_PRINT)
     if not is_plain("".join(others)):
         return False
     asked = sorted(others)
-    return not _refused(asked, translate(table, asked, while_waiting=while_waiting))
+    answers = translate_beside(table, asked, beside, while_waiting=while_waiting)
+    return not _refused(asked, answers)
 
 
 def _refused(asked: Sequence[str], answers: Sequence[str | Refused]) -> set[str]:
