@@ -15,7 +15,8 @@ where volumes should begin, and ``export`` and ``proof`` write them. A manuscrip
 ``manuscripts``: a text by ``manuscript``, a document by ``document`` of the package ``documents``
 (with ``kinds``, ``options``, ``markup``, ``pages``, ``package``, ``sheets``, ``numbers``,
 ``numbers_of_odt``, ``xml_writing``, ``pandoc``, ``tree``, ``notes``, ``contents`` and ``reading``),
-with ``replacements`` for characters that no table has. ``validation`` says what keeps it from being typed, ``intake`` and ``typist`` type it, ``import_text`` is the whole, and
+with ``replacements`` for characters that no table has. ``validation`` and ``text_faults`` say what
+keeps it from being typed, ``intake`` and ``typist`` type it, ``import_text`` is the whole, and
 ``import_note``, ``origin``, ``unfinished`` and ``earlier`` are about imports that were cut short or
 made before.
 ``compare`` finds the words in which a book differs from a manuscript, and ``contracted`` has what a

@@ -37,7 +37,7 @@ from braildesk.desk.origin import standing
 from braildesk.desk.replacements import read_replacements
 from braildesk.desk.typist import CutShort, look_for, type_all
 from braildesk.desk.unfinished import digest_of, unfinished
-from braildesk.desk.validation import TextFault, faults
+from braildesk.desk.validation import faults
 from braildesk.named_files import is_handed_over
 from braildesk.session import session_beside
 from braildesk.text import limits
@@ -45,6 +45,7 @@ from braildesk.text import limits
 
 if TYPE_CHECKING:
     from braildesk.desk.tables import Made
+    from braildesk.desk.text_faults import TextFault
 
 
 @dataclass(frozen=True)
@@ -139,7 +140,7 @@ class Faulty(NotImported):
     def __init__(
         self,
         path: Path,
-        found: Sequence[TextFault],
+        found: "Sequence[TextFault]",
         there: int,
         count: int,
         made: "Made | None",

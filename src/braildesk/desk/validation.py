@@ -1,53 +1,20 @@
 """What keeps the paragraphs of a text file from being typed, all of it before any is typed."""
 
-import unicodedata
-from collections import Counter
-from collections.abc import Callable, Collection, Iterator, Sequence
-from dataclasses import dataclass
+from collections.abc import Callable, Sequence
+from typing import TYPE_CHECKING
 
-from braildesk import Refused, Table, translate
-from braildesk.desk.manuscript import Passage, Position
+from braildesk import Refused, Table
+from braildesk.desk.manuscript import Passage
 from braildesk.program import translate_beside
 from braildesk.text import limits
-from braildesk.text.characters import characters_in, characters_of
+from braildesk.text.characters import characters_in
 from braildesk.text.sequences import is_plain
+
+if TYPE_CHECKING:
+    from braildesk.desk.text_faults import TextFault
 
 #: What ends a line of a file, or is a blank there: no paragraph has it.
 _NONE_IN_PRINT = "\n\t\f"
-
-
-@dataclass(frozen=True)
-class Barred:
-    """A control character, which no print has, and how often it stands in the text."""
-
-    character: str
-    count: int
-
-
-@dataclass(frozen=True)
-class Lacking:
-    """A character that has no cells by a table, and how often it stands in the text."""
-
-    character: str
-    count: int
-    table: str
-
-
-@dataclass(frozen=True)
-class TooLongPassage:
-    """A paragraph with more characters than a print has."""
-
-    passage: Passage
-
-
-@dataclass(frozen=True)
-class TextFault:
-    """What is at fault in a text, and where it is first."""
-
-    position: Position
-    what: Barred | Lacking | TooLongPassage
-    #: The paragraph that has it.
-    passage: Passage
 
 
 def faults(
@@ -56,34 +23,19 @@ def faults(
     while_waiting: Callable[[], None] = lambda: None,
     data: bytes = b"",
     beside: Callable[[], object] = lambda: None,
-) -> list[TextFault]:
+) -> "list[TextFault]":
     """Each character that can't be typed with a table, and each paragraph that is too long.
 
-    A table refuses nothing else of a print but characters that it doesn't define, and a character
-    is defined or isn't wherever it stands. So each is asked for once, by itself. If all those of
-    the file are defined whose bytes are given, the paragraphs aren't gone through for them.
-    Beside that something else may be done.
+    If all characters of the file are defined whose bytes are given, the paragraphs aren't gone
+    through for them. Beside that something else may be done.
     """
     if data and _is_defined(data, table, while_waiting, beside):
-        return [_too_long(each) for each in passages if _is_too_long(each.joined)]
-    texts = [passage.joined for passage in passages]
-    there = characters_of("".join(texts))
-    if not is_plain("".join(there)):
-        # others may be joined in normal form C, or stand for others there
-        texts = [passage.text for passage in passages]
-        there = characters_of("".join(texts))
-    barred = {each for each in there if unicodedata.category(each) == "Cc"}
-    others = sorted(there - barred)
-    lacking = _refused(others, translate(table, others, while_waiting=while_waiting))
-    counts = Counter("".join(texts) if barred or lacking else "")
-    found = [
-        *_of_characters(passages, barred, lambda each: Barred(each, counts[each])),
-        *_of_characters(
-            passages, lacking, lambda each: Lacking(each, counts[each], table.name)
-        ),
-        *(_too_long(each) for each, text in zip(passages, texts) if _is_too_long(text)),
-    ]
-    return sorted(found, key=lambda fault: fault.position)
+        if all(len(each.joined) <= limits.PRINT_CHARACTERS for each in passages):
+            return []
+    # imported here, since few texts are at fault
+    from braildesk.desk.text_faults import found_faults
+
+    return found_faults(passages, table, while_waiting)
 
 
 def _is_defined(
@@ -98,43 +50,4 @@ def _is_defined(
         return False
     asked = sorted(others)
     answers = translate_beside(table, asked, beside, while_waiting=while_waiting)
-    return not _refused(asked, answers)
-
-
-def _refused(asked: Sequence[str], answers: Sequence[str | Refused]) -> set[str]:
-    pairs = zip(asked, answers)
-    return {character for character, answer in pairs if isinstance(answer, Refused)}
-
-
-def _is_too_long(text: str) -> bool:
-    return len(text) > limits.PRINT_CHARACTERS
-
-
-def _of_characters(
-    passages: Sequence[Passage],
-    unfit: Collection[str],
-    what: Callable[[str], Barred | Lacking],
-) -> Iterator[TextFault]:
-    """A fault for each of some characters, where it stands first."""
-    left = set(unfit)
-    for passage in passages if left else ():
-        if left.isdisjoint(passage.text):
-            continue
-        places = _first_places(passage.text, left)
-        for character, position in zip(places, passage.positions(places.values())):
-            yield TextFault(position, what(character), passage)
-        left.difference_update(places)
-
-
-def _first_places(text: str, sought: Collection[str]) -> dict[str, int]:
-    """Where each of some characters that a text has stands first, from left to right."""
-    found: dict[str, int] = {}
-    for place, character in enumerate(text):
-        if character in sought:
-            found.setdefault(character, place)
-    return found
-
-
-def _too_long(passage: Passage) -> TextFault:
-    position = passage.position(limits.PRINT_CHARACTERS)
-    return TextFault(position, TooLongPassage(passage), passage)
+    return not any(isinstance(answer, Refused) for answer in answers)

@@ -3,6 +3,7 @@
 from collections.abc import Callable, Iterable, Iterator, Sequence
 from dataclasses import replace
 from pathlib import Path
+from typing import TYPE_CHECKING
 
 from braildesk import Displaced, Lost, Refused
 from braildesk.desk.documents.kinds import (
@@ -51,7 +52,6 @@ from braildesk.desk.manuscript import (
 from braildesk.desk.replacements import BadReplacements
 from braildesk.desk.typist import ChangedMeanwhile, CutShort
 from braildesk.desk.unfinished import NotSeen, Unfinished
-from braildesk.desk.validation import Barred, Lacking, TextFault, TooLongPassage
 from braildesk.desk.whole_file import write_whole
 from braildesk.named_files import is_same_file
 from braildesk.text import characters, limits
@@ -63,6 +63,9 @@ from scribe.words.console import Console
 from scribe.words.drafts import not_kept
 from scribe.words.paragraph import no_paragraph, quoted
 from scribe.words.status import Interrupted, Status, Stop, may_not_last, stopped_by
+
+if TYPE_CHECKING:
+    from braildesk.desk.text_faults import Barred, Lacking, TextFault, TooLongPassage
 
 #: How long the words around a place of a document are.
 _AROUND = 50
@@ -304,6 +307,9 @@ def _stands_there(problem: StandsThere) -> str:
 
 def _faulty(problem: Faulty) -> list[str]:
     """All that would be refused of a text."""
+    # imported here and below, since few texts are at fault
+    from braildesk.desk.text_faults import Lacking
+
     sentences = fault_lines(str(problem.path), problem.faults)
     if any(
         isinstance(each.passage, DocumentPassage) and isinstance(each.what, Lacking)
@@ -321,6 +327,8 @@ def _faulty(problem: Faulty) -> list[str]:
 
 def _made_anew(problem: Faulty) -> Iterator[str]:
     """How a table gets cells for the characters, if it was made from one of liblouis."""
+    from braildesk.desk.text_faults import Lacking
+
     made = problem.made
     lacking = [each.what for each in problem.faults if isinstance(each.what, Lacking)]
     if made is None or not lacking:
@@ -480,7 +488,7 @@ _NO_DOCUMENT = {
 }
 
 
-def fault_lines(name: str, faults: Iterable[TextFault]) -> list[str]:
+def fault_lines(name: str, faults: "Iterable[TextFault]") -> list[str]:
     """A line for each fault of a text, in the order of their places."""
     placed = sorted(
         (fault.position, _fault(fault.what), _place(fault)) for fault in faults
@@ -488,7 +496,7 @@ def fault_lines(name: str, faults: Iterable[TextFault]) -> list[str]:
     return [f"{name}, {place}: {sentence}" for _, sentence, place in placed]
 
 
-def _place(fault: TextFault) -> str:
+def _place(fault: "TextFault") -> str:
     """Where a fault is: by line and column, and in a document by the words around it."""
     line, column = fault.position.line, fault.position.column
     if isinstance(fault.passage, DocumentPassage):
@@ -497,7 +505,9 @@ def _place(fault: TextFault) -> str:
     return f"line {line}, column {column}"
 
 
-def _fault(what: Barred | Lacking | TooLongPassage) -> str:
+def _fault(what: "Barred | Lacking | TooLongPassage") -> str:
+    from braildesk.desk.text_faults import Barred, Lacking
+
     match what:
         case Barred(character=character, count=count):
             return f"{characters.code_and_name(character)} is a control character. {_often(count)}"
