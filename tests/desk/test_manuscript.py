@@ -48,6 +48,10 @@ def test_a_text_of_more_paragraphs_than_five_books_is_refused() -> None:
     assert unreadable(refused.value) == (
         "has over 100,000 paragraphs, and a book has at most 20,000"
     )
+    with pytest.raises(UnreadableText) as refused:
+        passages(b"a\n" * 100_001 + b"\xff", True)
+    wanted = "isn't UTF-8: line 100002, column 1 has the byte 0xff. "
+    assert unreadable(refused.value).startswith(wanted)
 
 
 @pytest.mark.parametrize("by_lines", [False, True])

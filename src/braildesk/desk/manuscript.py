@@ -148,6 +148,7 @@ def passages(data: bytes, by_lines: bool) -> tuple[Passage, ...]:
     lines = _lines(data)
     found = tuple(islice(_parted(lines, by_lines), _MOST + 1))
     if len(found) > _MOST:
+        decoded(data)  # what is no text at all is refused for that
         raise TooManyPassages(_MOST)
     return found
 
@@ -161,13 +162,17 @@ def _parted(lines: Iterator[TextLine], by_lines: bool) -> Iterator[Passage]:
 
 def text_lines(data: bytes) -> Iterator[str]:
     """The lines of a text, as they are between their ends; raises `UnreadableText`."""
-    text, front = decoded(data), 0
-    # lines are taken one by one, since a text may have millions that are blank
-    while (end := text.find("\n", front)) >= 0:
-        yield text[front:end].removesuffix("\r")
-        front = end + 1
-    if front < len(text):
-        yield text[front:].removesuffix("\r")
+    found, front = data.removeprefix(_MARK), 0
+    try:
+        # lines are taken one by one, since a text may have millions that are blank
+        while (end := found.find(b"\n", front)) >= 0:
+            yield found[front:end].decode().removesuffix("\r")
+            front = end + 1
+        if front < len(found):
+            yield found[front:].decode().removesuffix("\r")
+    except UnicodeDecodeError:
+        # says where in the text that is
+        decoded(data)
 
 
 def _lines(data: bytes) -> Iterator[TextLine]:
