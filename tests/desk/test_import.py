@@ -2,7 +2,9 @@
 
 import re
 import resource
+import sqlite3
 import sys
+from contextlib import closing
 from pathlib import Path
 
 import pytest
@@ -173,6 +175,45 @@ def test_a_file_that_is_no_text_is_refused(
     assert (ran.status, ran.shown) == (2, "")
     assert ran.said.startswith(sentence)
     assert version(book) == 1
+
+
+@pytest.fixture
+def first_format(book: Path) -> Path:
+    """A book of the first format, which is another file once it was opened."""
+    with closing(sqlite3.connect(book)) as database:
+        database.executescript(
+            "UPDATE book SET format = 1; CREATE TABLE corr (para INTEGER NOT NULL,"
+            " seq INTEGER NOT NULL, kind INTEGER NOT NULL, start INTEGER NOT NULL,"
+            " len INTEGER NOT NULL, body TEXT NOT NULL, PRIMARY KEY (para, seq)) STRICT;"
+            " DROP TABLE corr2;"
+        )
+    return book
+
+
+def files_of(folder: Path) -> dict[str, bytes]:
+    """What stands in a folder."""
+    return {each.name: each.read_bytes() for each in folder.iterdir()}
+
+
+@pytest.mark.parametrize(
+    "data, words",
+    [
+        (b"One.\n\nTw\xffo.\n", []),
+        (b"One.\n\nTw\xffo.\n", ["--dry-run"]),
+        ("One.\n".encode("utf-16"), []),
+        (b" \t\n\r\n\f\n", []),
+        (b"a\n\n" * 100_001, []),
+        (b"One.\n", ["--from", "9"]),
+    ],
+    ids=["bytes", "dry-run", "utf-16", "blank", "many", "from"],
+)
+def test_a_text_that_is_not_read_leaves_the_files_of_the_book_as_they_were(
+    first_format: Path, data: bytes, words: list[str]
+) -> None:
+    (first_format.parent / "text.txt").write_bytes(data)
+    before = files_of(first_format.parent)
+    assert put(first_format, data, *words).status == 2
+    assert files_of(first_format.parent) == before
 
 
 def test_a_file_that_is_not_there_is_refused(book: Path) -> None:

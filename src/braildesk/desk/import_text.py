@@ -31,7 +31,7 @@ from braildesk.desk.intake import (
     settings,
     table_for,
 )
-from braildesk.desk.manuscript import Passage, UnreadableText
+from braildesk.desk.manuscript import Passage, UnreadableText, is_surely_text
 from braildesk.desk.manuscripts import Taken, read_bytes, taken
 from braildesk.desk.origin import standing
 from braildesk.desk.replacements import read_replacements
@@ -197,11 +197,12 @@ class Importer:
         self.job = self._decided(self._earlier)
         if self.job.way is not Way.GO_ON:
             self.job = self._chosen(data)
-        if self.job.kind.is_document:
-            # nobody is kept from the book for as long as another program reads it
-            self.taken = _taken(self.job, data)
-        with self.job.opened_beside() as opened:
-            whole = self.taken = self.taken or _taken(self.job, data)
+        with ExitStack() as stack:
+            # a book may be changed by being opened, and nobody else has it then
+            opened = self.job.opened
+            if _is_surely_read(self.job, data):
+                opened = stack.enter_context(self.job.opened_beside())
+            whole = self.taken = _taken(self.job, data)
             parts = _parted(self.job, whole.passages)
             self._session = self._open.enter_context(opened())
         # beside the program, which takes as long for the characters
@@ -405,6 +406,13 @@ def _signs_for(job: Import, reading: ReadingOptions) -> ReadingOptions:
     if any(isinstance(each, Refused) for each in brackets):
         reading = replace(reading, brackets="()")
     return reading
+
+
+def _is_surely_read(job: Import, data: bytes) -> bool:
+    """Whether a manuscript has paragraphs to be typed, and no other program has to read it."""
+    if job.kind.is_document or job.line is not None or job.how.replacements:
+        return False
+    return is_surely_text(data)
 
 
 def _taken(job: Import, data: bytes) -> Taken:

@@ -153,6 +153,15 @@ def passages(data: bytes, by_lines: bool) -> tuple[Passage, ...]:
     return found
 
 
+def is_surely_text(data: bytes) -> bool:
+    """Whether `passages` surely finds some, which takes little time; of few texts that can't be told."""
+    try:
+        found = decoded(data)
+    except UnreadableText:
+        return False
+    return bool(found.strip(" \t\f\r\n")) and data.count(b"\n") < _MOST
+
+
 def _parted(lines: Iterator[TextLine], by_lines: bool) -> Iterator[Passage]:
     if by_lines:
         return (Passage((line,)) for line in lines if line.text)
