@@ -137,6 +137,18 @@ def test_columns_count_characters_of_the_file(empty_book: Path) -> None:
     ]
 
 
+@pytest.mark.parametrize("text", ["ab\tab", "ab\fab", "ab\nab", "ab\r\nab", "ab ab"])
+def test_a_table_without_a_blank_is_judged_by_the_blanks_of_the_paragraphs(
+    empty_book: Path, text: str
+) -> None:
+    with Session(empty_book) as session:
+        session.put_table("own", b"letter a 1\nletter b 12\n")
+    ran = put(empty_book, f"ab\n\n{text}\n", "--dry-run")
+    assert (ran.status, ran.shown) == (2, "")
+    assert ran.said.startswith("text.txt, line 3, column 3: U+0020 SPACE has")
+    assert put(empty_book, "ab\n\nba\n", "--dry-run").status == 0
+
+
 def test_a_print_has_4_000_characters_once_it_is_in_normal_form_c(
     empty_book: Path,
 ) -> None:

@@ -45,7 +45,8 @@ def _is_defined(
     beside: Callable[[], object],
 ) -> bool:
     """Whether a table has each character of a file, of which none is joined in normal form C."""
-    others = characters_in(data).difference(_NONE_IN_PRINT)
+    # lines are joined by a blank, and other blanks become one
+    others = characters_in(data).difference(_NONE_IN_PRINT).union(" ")
     if not is_plain("".join(others)):
         return False
     asked = sorted(others)
