@@ -265,19 +265,20 @@ def run():
     thing = Thing()
     told = weakref.ref(thing, lambda _: os.kill(os.getpid(), signal.{name}))
     del thing
-    select.select([], [], [], 20)
+    select.select([], [], [], {wait})
     return 0
 
 sys.exit(ended(run, lambda: False))
 """
 
 
+@pytest.mark.parametrize("wait", [0, 20])
 @pytest.mark.parametrize("number", STOPPING)
 def test_a_signal_that_comes_where_python_drops_exceptions_ends_scribe_too(
-    number: signal.Signals,
+    number: signal.Signals, wait: int
 ) -> None:
     done = subprocess.run(
-        [sys.executable, "-c", DROPPED.format(name=number.name)],
+        [sys.executable, "-c", DROPPED.format(name=number.name, wait=wait)],
         env=environment(),
         capture_output=True,
         text=True,

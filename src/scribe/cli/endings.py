@@ -9,6 +9,7 @@ import sys
 from argparse import Namespace
 from collections.abc import Callable
 from contextlib import suppress
+from dataclasses import dataclass
 from pathlib import Path
 from types import FrameType
 
@@ -168,7 +169,10 @@ def _take_signals() -> None:
 
 def _leave_signals() -> None:
     """Has signals end the process as the system does, once nothing is left to be said."""
-    signal.setitimer(signal.ITIMER_REAL, 0)
+    again = signal.getsignal(signal.SIGALRM)
+    if isinstance(again, _Again) and signal.setitimer(signal.ITIMER_REAL, 0)[0]:
+        # one that was dropped a moment ago
+        again()
     for number in _SIGNALS:
         if signal.getsignal(number) is _interrupted:
             signal.signal(number, signal.SIG_DFL)
@@ -182,19 +186,24 @@ def _interrupted(number: int, frame: FrameType | None) -> None:
     raise Interrupted(signal.Signals(number))
 
 
+@dataclass(frozen=True)
+class _Again:
+    """Has a signal come again."""
+
+    number: signal.Signals
+
+    def __call__(self, *_: object) -> None:
+        raise Interrupted(self.number)
+
+
 def _dropped(dropped: "sys.UnraisableHookArgs") -> None:
     """Has a signal come again that came where Python drops what is raised, as at the end of an object."""
     cause = dropped.exc_value
     if not isinstance(cause, Interrupted):
         sys.__unraisablehook__(dropped)
         return
-    number = cause.number
-
-    def come_again(*_: object) -> None:
-        raise Interrupted(number)
-
     # not by itself, since it would be dropped here
-    signal.signal(signal.SIGALRM, come_again)
+    signal.signal(signal.SIGALRM, _Again(cause.number))
     signal.setitimer(signal.ITIMER_REAL, _SOON)
 
 
