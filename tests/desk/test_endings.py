@@ -288,6 +288,48 @@ def test_a_signal_that_comes_where_python_drops_exceptions_ends_scribe_too(
     assert done.returncode == -number
 
 
+#: Has it come there while the lines of a terminal are waited for, or just before that.
+DROPPED_AT_LINES = """\
+import os, select, signal, sys, weakref
+from scribe.cli.endings import ended
+from scribe.prompt.typed_lines import TypedLines
+
+class Thing:
+    pass
+
+def drop():
+    thing = Thing()
+    told = weakref.ref(thing, lambda _: os.kill(os.getpid(), signal.SIGTERM))
+    del thing
+
+def run():
+    lines = object.__new__(TypedLines)
+    lines._readline = Thing()
+    lines._readline.get_line_buffer = lambda: "begun"
+    if {before}:
+        drop()
+    with lines._asking(lambda: False):
+        if not {before}:
+            drop()
+    select.select([], [], [], 20)
+    return 0
+
+sys.exit(ended(run, lambda: False))
+"""
+
+
+@pytest.mark.parametrize("before", [True, False])
+def test_a_dropped_signal_comes_again_where_lines_are_typed(before: bool) -> None:
+    done = subprocess.run(
+        [sys.executable, "-c", DROPPED_AT_LINES.format(before=before)],
+        env=environment(),
+        capture_output=True,
+        text=True,
+    )
+    assert done.stderr == "Stopped by SIGTERM. No book was changed.\n"
+    assert done.returncode == -signal.SIGTERM
+
+
 def test_a_loop_of_a_shell_stops_where_ctrl_c_stops_scribe(moon: Path) -> None:
     loop = f"for turn in 1 2 3; do '{sys.executable}' -m scribe run moon.braildesk; echo $turn; done"
     process = subprocess.Popen(

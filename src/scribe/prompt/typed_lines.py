@@ -202,7 +202,8 @@ class TypedLines(AbstractContextManager["TypedLines"]):
             if not self._readline.get_line_buffer() and is_due():
                 raise Due
 
-        if is_due is never:
+        # what the timer was set for before this, or is meanwhile, is to come
+        if is_due is never or signal.getitimer(signal.ITIMER_REAL)[0]:
             yield
             return
         before = signal.signal(signal.SIGALRM, ask)
@@ -210,8 +211,9 @@ class TypedLines(AbstractContextManager["TypedLines"]):
         try:
             yield
         finally:
-            signal.setitimer(signal.ITIMER_REAL, 0)
-            signal.signal(signal.SIGALRM, before)
+            if signal.getsignal(signal.SIGALRM) is ask:
+                signal.setitimer(signal.ITIMER_REAL, 0)
+                signal.signal(signal.SIGALRM, before)
 
     def _set(self, echoes: bool) -> None:
         # a terminal that was closed needs no care
