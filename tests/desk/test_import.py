@@ -228,6 +228,17 @@ def test_a_text_that_is_not_read_leaves_the_files_of_the_book_as_they_were(
     assert files_of(first_format.parent) == before
 
 
+@pytest.mark.parametrize("ending", ["", "-wal", "-journal"])
+def test_a_report_takes_the_place_of_no_file_of_the_book(
+    book: Path, ending: str
+) -> None:
+    report = f"{book}{ending}"
+    assert put(book, "Text.\n", "--report", report) == Ran(
+        2, "", f"The report would take the place of {report}. Nothing was typed.\n"
+    )
+    assert put(book, "Text.\n").status == 0
+
+
 def test_a_file_that_is_not_there_is_refused(book: Path) -> None:
     assert scribe("import", book, "none.txt", folder=book.parent) == Ran(
         2, "", "none.txt can't be read: No such file or directory. Nothing was typed.\n"

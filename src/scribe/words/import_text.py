@@ -54,6 +54,7 @@ from braildesk.desk.typist import ChangedMeanwhile, CutShort
 from braildesk.desk.unfinished import NotSeen, Unfinished
 from braildesk.desk.whole_file import write_whole
 from braildesk.named_files import is_same_file
+from braildesk.protocol.asked import journal_path, log_path, real_path
 from braildesk.text import characters, limits
 from braildesk.text.characters import visible
 from braildesk.text.excerpt import excerpt
@@ -165,7 +166,11 @@ def _report(importer: Importer, show: Callable[..., None], report: Path | None) 
 
 def _write_report(job: Import, report: Path, lines: Sequence[str]) -> None:
     own = (job.book, job.text, job.replacements)
-    if any(each is not None and is_same_file(report, each) for each in own):
+    # the log is in use by now, and no book is opened beside a journal
+    beside = log_path(str(job.book)), journal_path(str(job.book))
+    if real_path(str(report)) in beside or any(
+        each is not None and is_same_file(report, each) for each in own
+    ):
         raise Stop(f"The report would take the place of {report}. Nothing was typed.")
     try:
         write_whole(report, "".join(f"{line}\n" for line in lines).encode())
