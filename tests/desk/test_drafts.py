@@ -625,3 +625,22 @@ def test_any_bytes_are_read_as_a_draft_or_refused(data: bytes) -> None:
         draft_in(Record.of(data))
     except NotSuch:
         pass
+
+
+@pytest.mark.parametrize(
+    "data",
+    [b"[]", b"{", b"\xff", b"[" * 100_000],
+    ids=["list", "cut", "bytes", "deep"],
+)
+def test_what_is_kept_is_kept_for_another_book_but_for_what_can_not_be_read(
+    moon: Path, data: bytes
+) -> None:
+    own, other = Drafts(moon), Drafts(moon.with_name("other.braildesk"))
+    own.save(NOTE)
+    own.put_by(NOTE)
+    own.keep_cut("far away")
+    own.place.write_bytes(data)
+    own.copy_to(other.book)
+    assert other.waiting() is None
+    assert other.given_up() == (NOTE,)
+    assert other.cut() == "far away"

@@ -9,6 +9,7 @@ import hashlib
 import json
 import os
 from collections.abc import Callable
+from contextlib import suppress
 from dataclasses import asdict, dataclass
 from enum import Enum
 from pathlib import Path
@@ -289,16 +290,12 @@ class Drafts:
     def copy_to(self, book: Path) -> None:
         """Keeps for another book all that is kept for this one, which was saved there."""
         other = Drafts(book)
-        try:
-            for what in Begun:
+        for what in Begun:
+            # what can't be read or kept there is kept for this book still
+            with suppress(NotSuch, OSError, NotSaved):
                 data = self._folder.read(self._name(what))
                 if data is not None:
-                    kept: dict[str, object] = json.loads(data)
-                    own = {k: v for k, v in kept.items() if k not in ("book", "file")}
-                    other._write(what, own)
-        except (OSError, ValueError, NotSaved):
-            # it is kept for this book still
-            pass
+                    other._write(what, Record.of(data).without("book", "file"))
 
     def _is_of(self, name: str, identity: list[int] | None) -> bool:
         """Whether a file was kept for this book, at a path where another file is, or none."""

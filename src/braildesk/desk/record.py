@@ -28,6 +28,10 @@ class Record:
         except (ValueError, RecursionError) as cause:
             raise NotSuch("JSON") from cause
 
+    def without(self, *names: str) -> dict[str, object]:
+        """All values but those of some names, as they were read."""
+        return {key: self._values[key] for key in self._values if key not in names}
+
     def has(self, name: str) -> bool:
         """Whether there is a value of this name, and not null."""
         return self._values.get(name) is not None
