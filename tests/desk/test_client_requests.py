@@ -389,6 +389,12 @@ def test_a_value_of_another_type_is_an_error_before_anything_is_sent(
     assert session.version() == version
 
 
+def test_bytes_that_may_change_are_bytes_of_a_table(session: Session) -> None:
+    session.put_table("own", bytearray(b"space \\s 0\nletter a 1\n"))
+    session.add_paragraph("end", "own", "a a")
+    assert session.braille_of(1) == "\u2801\u2800\u2801"
+
+
 def test_a_word_that_is_no_style_is_an_error(session: Session) -> None:
     with pytest.raises(ValueError, match="'title' is not a valid Style"):
         session.set_style(1, cast(Style, "title"))

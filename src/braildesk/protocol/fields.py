@@ -189,7 +189,7 @@ class OnOff(Choice):
 class Lines(Field):
     """How many lines the text of a table has, which follow the line of the request."""
 
-    types = bytes
+    types = (bytes, bytearray)
     called = "bytes"
 
     def write(self, value: bytes) -> str:
