@@ -23,6 +23,7 @@ from braildesk import (
     Typed,
     requests,
 )
+from braildesk.asking import Asking
 from braildesk.protocol.answers import Answer
 from braildesk.protocol.fields import Choice, Unwritable
 from braildesk.protocol.requests import (
@@ -169,7 +170,7 @@ def test_a_session_has_a_method_for_each_request() -> None:
     session = Unsent()
     methods = {
         name: method
-        for name, method in vars(Session).items()
+        for name, method in {**vars(Asking), **vars(Session)}.items()
         if callable(method) and name[0] != "_" and name not in OTHER_METHODS
     }
     for name, method in methods.items():
