@@ -1,5 +1,6 @@
 """The numbers and bullets that Word shows before paragraphs, as they are in print."""
 
+import re
 import zipfile
 from pathlib import Path
 
@@ -9,7 +10,7 @@ from braildesk.desk.documents.options import ReadingOptions
 from braildesk.desk.documents.reading import LossKind
 from braildesk.desk.manuscripts import read_manuscript
 
-from handmade import docx, in_list, level, lists, odt, paragraph, run
+from handmade import deleted, docx, in_list, level, lists, note, odt, paragraph, run
 
 LEGAL = level(0, "decimal", "\u00a7 %1") + level(1, "lowerLetter", "(%2)")
 PARTS = level(0, "upperRoman", "Part %1:") + level(1, "decimal", "%1.%2")
@@ -456,6 +457,35 @@ def test_what_no_word_writes_is_read_as_it_is(
         for name, whole in parts.items():
             container.writestr(name, whole)
     assert read_manuscript(path).texts == ["1. a", "2. b"]
+
+
+@pytest.mark.parametrize("is_whole", [True, False])
+def test_a_document_in_the_strict_form_is_read_as_any_other(
+    tmp_path: Path, is_whole: bool
+) -> None:
+    address = "http://purl.oclc.org/ooxml/wordprocessingml/main"
+    body = item("a", 1) + paragraph(run(f'w="{address}"'), deleted("gone"))
+    body += paragraph(run("unseen", "<w:vanish/>"), run("."), note(1))
+    numbering = lists(level(0, "upperLetter", "%1)"))
+    path = docx(tmp_path / "a.docx", body, [(1, "A note.")], numbering=numbering)
+    with zipfile.ZipFile(path) as container:
+        parts = {name: container.read(name) for name in container.namelist()}
+    usual = rb"http://schemas\.openxmlformats\.org/(\w+)/2006/"
+    with zipfile.ZipFile(path, "w") as container:
+        for name, whole in parts.items():
+            if is_whole or not name.endswith(".rels"):
+                own = rb"http://purl.oclc.org/ooxml/\1/"
+                whole = re.sub(
+                    usual.replace(rb"\w+", rb"word\w+|office\w+"), own, whole
+                )
+            container.writestr(name, whole)
+    found = read_manuscript(path)
+    texts = ["A) a", f'w="{address}"', "unseen.[1]", "[1: A note.]"]
+    assert (found.texts, found.missing) == (texts, ())
+    assert {(each.what, each.words) for each in found.losses} == {
+        (LossKind.DELETED, "gone"),
+        (LossKind.HIDDEN, "unseen"),
+    }
 
 
 def test_numbers_of_a_list_that_a_page_counts_downwards_are_noted(

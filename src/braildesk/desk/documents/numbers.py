@@ -16,7 +16,7 @@ from zipfile import ZipFile
 from braildesk.desk.documents.kinds import is_media, part_of, unpacked
 from braildesk.desk.documents.reading import Loss, LossKind, plain, whole
 from braildesk.desk.documents.tree import roman
-from braildesk.desk.documents.xml_writing import Rewriting, rewritten
+from braildesk.desk.documents.xml_writing import Rewriting, rewritten, transitional
 
 _W = "{http://schemas.openxmlformats.org/wordprocessingml/2006/main}"
 _MC = "{http://schemas.openxmlformats.org/markup-compatibility/2006}"
@@ -73,7 +73,7 @@ def with_numbers(data: bytes, bullet: str) -> tuple[bytes, list[Loss]]:
     made = BytesIO()
     with unpacked(data) as container, ZipFile(made, "w") as other:
         parts = {
-            name: b"" if is_media(name) else part_of(container, name)
+            name: b"" if is_media(name) else transitional(part_of(container, name))
             for name in container.namelist()
         }
         numbering = parts.pop(_NUMBERING, None)

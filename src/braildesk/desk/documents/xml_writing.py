@@ -1,5 +1,6 @@
 """Parts of a document in XML, written anew as a parser reads them, so that pandoc reads all of them."""
 
+import re
 from collections.abc import Callable, Collection, Mapping, Sequence
 from dataclasses import dataclass, field
 from xml.parsers import expat
@@ -7,6 +8,10 @@ from xml.sax.saxutils import escape, quoteattr
 
 #: What parts the address of a name, the name and its prefix, as the parser gives them.
 _PARTS = " "
+#: A tag, and an address in it by the standard's strict form, which has addresses of its own.
+_TAG = re.compile(rb"<[^<>]*")
+_STRICT = re.compile(rb"(=\s*[\"'])http://purl\.oclc\.org/ooxml/(\w+)/")
+_USUAL = rb"\1http://schemas.openxmlformats.org/\2/2006/"
 
 
 def _nothing_at(name: str) -> str:
@@ -31,6 +36,13 @@ class Rewriting:
     renamed: Mapping[str, str] = field(default_factory=dict)
     #: The prefixes by which pandoc knows addresses.
     prefixes: Mapping[str, str] = field(default_factory=dict)
+
+
+def transitional(part: bytes) -> bytes:
+    """A part of a document in DOCX with the addresses that Word writes unless it is told otherwise."""
+    if b"//purl.oclc.org/ooxml/" not in part:
+        return part
+    return _TAG.sub(lambda tag: _STRICT.sub(_USUAL, tag[0]), part)
 
 
 def rewritten(part: bytes, rewriting: Rewriting) -> bytes:
