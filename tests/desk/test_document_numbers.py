@@ -459,6 +459,30 @@ def test_what_no_word_writes_is_read_as_it_is(
     assert read_manuscript(path).texts == ["1. a", "2. b"]
 
 
+CODE, RESULT, END = (
+    f'<w:r><w:fldChar w:fldCharType="{each}"/></w:r>'
+    for each in ("begin", "separate", "end")
+)
+
+
+@pytest.mark.parametrize(
+    "inner, shown",
+    [
+        (run("a ") + CODE + CODE + RESULT + run("9") + END + RESULT + run("b"), "a b"),
+        (CODE + f"<w:fldSimple>{run('9')}</w:fldSimple>" + RESULT + run("b"), "b"),
+        (CODE + RESULT + run("a") + CODE + RESULT + run(" 9") + END, "a 9"),
+        (CODE + CODE + RESULT + run("9") + END + END + run(" b"), "9 b"),
+        (CODE + CODE + RESULT + run("9") + END + run(" b"), "9 b"),
+        (run("a") + END + RESULT + run(" b"), "a b"),
+    ],
+)
+def test_what_a_field_has_within_its_code_is_no_print(
+    tmp_path: Path, inner: str, shown: str
+) -> None:
+    body = paragraph(inner, END, run(" c")) + paragraph(run("d"))
+    assert texts(tmp_path, body, "") == [f"{shown} c", "d"]
+
+
 @pytest.mark.parametrize("is_whole", [True, False])
 def test_a_document_in_the_strict_form_is_read_as_any_other(
     tmp_path: Path, is_whole: bool

@@ -5,7 +5,7 @@ has a form, such as “§ %1 (%2)”. pandoc knows few of these forms, and drops
 """
 
 import re
-from collections.abc import Callable, Iterator, Mapping, Sequence
+from collections.abc import Callable, Collection, Iterator, Mapping, Sequence
 from dataclasses import dataclass, field
 from io import BytesIO
 from xml.etree import ElementTree
@@ -27,6 +27,11 @@ _AROUND = frozenset(
     {f"{_W}{name}" for name in ("fldSimple", "customXml", "smartTag", "ins", "moveTo")}
     | {f"{_W}{name}" for name in ("bdo", "dir", "sdt", "sdtContent")}
     | {f"{_MC}AlternateContent", f"{_MC}Choice", f"{_MATH}oMathPara"}
+)
+#: What of a run is in print, unless it is within the code of a field.
+_PRINT = frozenset(
+    f"{_W}{name}"
+    for name in ("t", "tab", "ptab", "br", "cr", "sym", "noBreakHyphen", "softHyphen")
 )
 #: What pandoc passes over, as if it parted no words.
 _RENAMED = {f"{_W}cr": "w:br", f"{_W}ptab": "w:tab"}
@@ -86,21 +91,55 @@ def with_numbers(data: bytes, bullet: str) -> tuple[bytes, list[Loss]]:
                 root = ElementTree.fromstring(part)
                 if not root.tag.startswith(_W):
                     return data, []
-                part = _numbered(part, iter(lists.labels(root)))
+                part = _numbered(part, iter(lists.labels(root)), _in_codes(root))
             other.writestr(name, part)
     return made.getvalue(), lists.losses
 
 
-def _numbered(part: bytes, labels: Iterator[str]) -> bytes:
-    """A part of a document with what stands at the front of each of its paragraphs."""
+def _numbered(part: bytes, labels: Iterator[str], unseen: Collection[int]) -> bytes:
+    """A part with what stands at the front of each paragraph, and without the elements at some places."""
+    place = -1
 
     def front_of(name: str) -> str:
+        nonlocal place
+        place += 1
         label = next(labels) if name == f"{_W}p" else ""
         run = f'<w:r><w:t xml:space="preserve">{escape(label)}</w:t></w:r>'
         return run if label else ""
 
-    how = Rewriting(front_of, _AROUND, _is_left_out, _RENAMED, {_W[1:-1]: "w"})
+    def is_left_out(name: str, attributes: Sequence[str]) -> bool:
+        return place in unseen or _is_left_out(name, attributes)
+
+    how = Rewriting(front_of, _AROUND, is_left_out, _RENAMED, {_W[1:-1]: "w"})
     return rewritten(part, how)
+
+
+def _in_codes(root: Element) -> frozenset[int]:
+    """The places of elements with print that are within the codes of fields, of which only the results
+    are in print: another field has its own result there.
+
+    A code that doesn't end in its paragraph, or has no result after it, is left alone.
+    """
+    unseen: list[int] = []
+    #: The places of print since the last code that ended, and where among them each open field begins.
+    found: list[int] = []
+    begun: list[int | None] = []
+    for place, element in enumerate(root.iter()):
+        if element.tag == f"{_W}p":
+            found, begun = [], []
+        elif element.tag in _PRINT:
+            found.append(place)
+        elif element.tag == f"{_W}fldChar":
+            match element.get(f"{_W}fldCharType"), begun:
+                case "begin", _:
+                    begun.append(len(found))
+                case "separate", [*_, int(start)]:
+                    unseen += found[start:]
+                    del found[start:]
+                    begun[-1] = None
+                case "end", [*_, _]:
+                    begun.pop()
+    return frozenset(unseen)
 
 
 def _is_left_out(name: str, attributes: Sequence[str]) -> bool:
