@@ -16,6 +16,8 @@ from typing import Any, cast
 import pytest
 
 from braildesk import Mark, Paragraph, Session, Style, Table
+from braildesk.desk.documents.contents import contents_of
+from braildesk.desk.documents.kinds import ManuscriptKind
 from braildesk.desk.find import Hit
 from braildesk.desk.layout import PageSize
 from braildesk.desk.manuscript import Position, passages
@@ -44,6 +46,22 @@ def test_each_character_that_a_table_lacks_is_found_in_one_walk_along_its_line()
     assert [fault.position.column for fault in found] == list(range(1, 2_001))
     steps = after.hits + after.misses - before.hits - before.misses
     assert steps < 4 * len(lacking)
+
+
+@pytest.mark.parametrize(
+    "page",
+    [
+        f"<style>{'/* ' * 20_000}</style><ol><li>a</ol>",
+        f"<style>.x {'div ' * 7} li {{ display: none }}</style>{'<div>' * 36}<ul><li>a</ul>",
+        "<style>ol.x li { list-style: none }</style>" * 1_500 + "<ol><li>a</ol>",
+        "<p>a" * 5_000 + "<ol>" + "<li>a" * 5_000 + "</ol>",
+    ],
+    ids=["comments", "selectors", "sheets", "paragraphs"],
+)
+def test_what_style_sheets_say_of_a_page_is_found_in_one_walk(page: str) -> None:
+    started = time.process_time()
+    assert contents_of(page.encode(), ManuscriptKind.HTML).losses == []
+    assert time.process_time() - started < SECONDS
 
 
 def test_places_are_found_in_combining_sequences_over_lines() -> None:

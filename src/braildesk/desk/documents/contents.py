@@ -488,8 +488,7 @@ class _Html(Tags):
     def __init__(self, linked: Callable[[str], str]) -> None:
         super().__init__()
         self._linked = linked
-        self._sheets: list[str] = []
-        self._sheet = Sheet(())
+        self._sheet = Sheet()
         #: The elements that are open.
         self._path: list[PageElement] = []
         self.texts: list[str] = [""]
@@ -554,7 +553,7 @@ class _Html(Tags):
 
     def handle_data(self, data: str) -> None:
         if self._path and self._path[-1].tag == "style":
-            self._take_sheet(data)
+            self._sheet.add(data)
         if not self._silent and not self._back:
             texts = self.lists if self._in_list else self.texts
             texts[-1] += data
@@ -563,11 +562,12 @@ class _Html(Tags):
         """Notes an element that is open from here on, or that links to a sheet."""
         self._link(tag, attributes)
         if tag == "li":
-            tags = [each.tag for each in self._path]
             # an item ends where the next one of its list begins
-            inner = tags[::-1].index("li") if "li" in tags else len(tags)
-            if not {"ol", "ul"} & set(tags[len(tags) - inner :]):
+            lists = (each.tag for each in reversed(self._path))
+            if next((tag for tag in lists if tag in ("li", "ol", "ul")), "") == "li":
                 self._leave("li")
+        elif tag == "p" and self._path and self._path[-1].tag == "p":
+            self._leave("p")
         if tag not in self._VOID:
             classes = frozenset((attributes.get("class") or "").split())
             self._path.append(PageElement(tag, attributes.get("id") or "", classes))
@@ -580,11 +580,7 @@ class _Html(Tags):
 
     def _link(self, tag: str, attributes: dict[str, str | None]) -> None:
         if tag == "link" and "stylesheet" in (attributes.get("rel") or "").lower():
-            self._take_sheet(self._linked(attributes.get("href") or ""))
-
-    def _take_sheet(self, text: str) -> None:
-        self._sheets.append(text)
-        self._sheet = Sheet(self._sheets)
+            self._sheet.add(self._linked(attributes.get("href") or ""))
 
     def _count(self, tag: str, attributes: dict[str, str | None]) -> None:
         """Notes a list, or an item of the list that is open."""

@@ -5,10 +5,11 @@ media or for print.
 """
 
 import re
-from collections.abc import Iterable, Iterator, Mapping, Sequence
+from collections.abc import Iterator, Mapping, Sequence
 from dataclasses import dataclass
 
-_COMMENT = re.compile(r"/\*.*?\*/", re.DOTALL)
+#: A comment, which goes on to the end where nothing ends it.
+_COMMENT = re.compile(r"/\*.*?(?:\*/|\Z)", re.DOTALL)
 _BRACE = re.compile("[{}]")
 _FOR_PRINT = re.compile(r"@media\s+(?:only\s+)?(?:all|print)", re.IGNORECASE)
 _SELECTOR = re.compile(r"([\w-]+|\*)?((?:[.#][\w-]+)*)")
@@ -52,50 +53,53 @@ class _Rule:
     #: Whether each but the first stands right within the one before it.
     is_child: tuple[bool, ...]
     values: Mapping[str, str]
-
-    @property
-    def weight(self) -> tuple[int, int, int]:
-        """How grave it is beside others."""
-        names = sum(len(each.names) for each in self.selectors)
-        classes = sum(len(each.classes) for each in self.selectors)
-        tags = sum(each.tag != "*" for each in self.selectors)
-        return names, classes, tags
+    #: How grave it is beside others.
+    weight: tuple[int, int, int]
 
     def fits(self, path: Sequence[PageElement]) -> bool:
         """Whether it is for the last of some elements, each of which is within the one before it."""
-        return self._fits(path, len(self.selectors))
-
-    def _fits(self, path: Sequence[PageElement], count: int) -> bool:
-        if not path or not self.selectors[count - 1].fits(path[-1]):
-            return False
-        if count == 1:
-            return True
-        if self.is_child[count - 2]:
-            return self._fits(path[:-1], count - 1)
-        return any(self._fits(path[:n], count - 1) for n in range(len(path) - 1, 0, -1))
+        *outer, last = self.selectors
+        # where the element may stand that each of the selectors names, the innermost first
+        places = [len(path) - 1] if last.fits(path[-1]) else []
+        for selector, is_child in zip(reversed(outer), reversed(self.is_child)):
+            inner = places[0] if places else 0
+            before = range(inner - 1, -1, -1)
+            its = [place - 1 for place in places if place] if is_child else before
+            places = [place for place in its if selector.fits(path[place])]
+        return bool(places)
 
 
 class Sheet:
     """The rules of some style sheets, of which later ones come after the others."""
 
-    def __init__(self, texts: Iterable[str]) -> None:
-        found = [rule for text in texts for rule in _rules(text)]
-        self._rules = sorted(found, key=lambda rule: rule.weight)
+    def __init__(self) -> None:
+        #: The lightest first.
+        self._rules: list[_Rule] = []
+        #: What they say of elements that were asked about, each after those that it is within.
+        self._found: dict[tuple[PageElement, ...], dict[str, str]] = {}
+
+    def add(self, text: str) -> None:
+        """Adds the rules of a text after the others."""
+        self._rules += _rules(text)
+        self._rules.sort(key=lambda rule: rule.weight)
+        self._found = {}
 
     def mark_of(self, path: Sequence[PageElement], own: str) -> str | None:
         """What stands before an item of a list, or the items of one, if that is said.
 
         ``path`` is the element and those that it is within, ``own`` the style that it has itself.
         """
-        values: dict[str, str] = {}
-        for rule in self._rules:
-            if rule.fits(path):
-                values |= rule.values
-        values |= _values(own)
+        values = self._values(tuple(path)) | _values(own)
         display = values.get(_DISPLAY, "list-item")
         if path[-1].tag == "li" and "list-item" not in display:
             return "none"
         return values.get(_TYPE)
+
+    def _values(self, path: tuple[PageElement, ...]) -> dict[str, str]:
+        if path not in self._found:
+            fit = (rule.values for rule in self._rules if rule.fits(path))
+            self._found[path] = {name: each[name] for each in fit for name in each}
+        return self._found[path]
 
 
 def _rules(text: str) -> Iterator[_Rule]:
@@ -145,7 +149,15 @@ def _rule(selector: str, values: Mapping[str, str]) -> _Rule | None:
         selectors.append(_Selector((known[1] or "*").lower(), names, classes))
     if not selectors or len(is_child) != len(selectors) - 1:
         return None
-    return _Rule(tuple(selectors), tuple(is_child), values)
+    return _Rule(tuple(selectors), tuple(is_child), values, _weight(selectors))
+
+
+def _weight(selectors: Sequence[_Selector]) -> tuple[int, int, int]:
+    """How grave a rule is beside others: by identifiers, classes and tags."""
+    names = sum(len(each.names) for each in selectors)
+    classes = sum(len(each.classes) for each in selectors)
+    tags = sum(each.tag != "*" for each in selectors)
+    return names, classes, tags
 
 
 def _values(text: str) -> dict[str, str]:
