@@ -10,7 +10,7 @@ from pathlib import Path
 
 import pytest
 
-from braildesk.desk.documents import kinds, pandoc
+from braildesk.desk.documents import contents, kinds, pandoc
 from braildesk.desk.documents.contents import missing
 from braildesk.desk.documents.document import read_document
 from braildesk.desk.documents.kinds import (
@@ -914,6 +914,25 @@ def test_lists_of_a_book_whose_sheet_hides_their_numbers_are_noted(
     found = read_manuscript(book_of(tmp_path / "moon.epub", "a b c", pages, sheet))
     assert found.texts == ["1. One", "1. Two", "1. Three"]
     assert lost(found, LossKind.LIST) == ["One"]
+
+
+def test_a_sheet_to_which_many_pages_link_is_read_once(
+    tmp_path: Path, monkeypatch: pytest.MonkeyPatch
+) -> None:
+    link = '<head><link rel="stylesheet" href="../styles/a%20sheet.css"/></head>'
+    page = PAGE.format("<ol><li>One</li></ol>").replace("<body>", f"{link}<body>")
+    pages = {name: page.encode() for name in "abc"}
+    path = book_of(tmp_path / "moon.epub", "a b c", pages, "ol { list-style: none }")
+    parts: list[str] = []
+
+    def part_of(container: zipfile.ZipFile, name: str) -> bytes:
+        parts.append(name)
+        return container.read(name)
+
+    monkeypatch.setattr(contents, "part_of", part_of)
+    found = contents.contents_of(path.read_bytes(), ManuscriptKind.EPUB)
+    assert [each.words for each in found.numbers] == ["One"] * 3
+    assert parts.count("styles/a sheet.css") == 1
 
 
 def test_pages_of_a_book_are_read_in_what_they_are_encoded(tmp_path: Path) -> None:

@@ -54,9 +54,9 @@ def test_each_character_that_a_table_lacks_is_found_in_one_walk_along_its_line()
         f"<style>{'/* ' * 20_000}</style><ol><li>a</ol>",
         f"<style>.x {'div ' * 7} li {{ display: none }}</style>{'<div>' * 36}<ul><li>a</ul>",
         "<style>ol.x li { list-style: none }</style>" * 1_500 + "<ol><li>a</ol>",
-        "<p>a" * 5_000 + "<ol>" + "<li>a" * 5_000 + "</ol>",
+        f"<style>{'@media print {' * 3_000 + '}' * 3_000}</style><ol><li>a</ol>",
     ],
-    ids=["comments", "selectors", "sheets", "paragraphs"],
+    ids=["comments", "selectors", "sheets", "media"],
 )
 def test_what_style_sheets_say_of_a_page_is_found_in_one_walk(page: str) -> None:
     started = time.process_time()

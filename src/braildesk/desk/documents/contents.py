@@ -9,7 +9,7 @@ import zipfile
 from collections import Counter
 from collections.abc import Callable, Collection, Iterable, Iterator, Sequence
 from dataclasses import dataclass, field
-from functools import partial
+from functools import cache, partial
 from pathlib import PurePosixPath
 from posixpath import normpath
 from urllib.parse import unquote
@@ -21,7 +21,7 @@ from braildesk.desk.documents.markup import Tags, characters_of_page
 from braildesk.desk.documents.notes import BACK
 from braildesk.desk.documents.package import Package
 from braildesk.desk.documents.reading import Loss, LossKind, Missing, plain, whole
-from braildesk.desk.documents.sheets import PageElement, Sheet
+from braildesk.desk.documents.sheets import PageElement, Rule, Sheet, rules_of
 from braildesk.desk.manuscript import UnreadableText
 
 #: How many characters are shown of a table of contents, of a page, or of an item of a list.
@@ -392,12 +392,16 @@ def _odt_runs(element: Element, inner: list[Element]) -> Iterator[str]:
 def _of_epub(container: zipfile.ZipFile, found: Contents) -> None:
     """The pages of a book, those at the end to which no order of reading leads."""
     package = Package(container)
+    names = frozenset(container.namelist())
 
-    def linked(part: str, address: str) -> str:
+    # most pages link to the same sheets
+    @cache
+    def rules_in(sheet: str) -> tuple[Rule, ...]:
+        return rules_of(part_of(container, sheet).decode(errors="replace"))
+
+    def linked(part: str, address: str) -> tuple[Rule, ...]:
         sheet = normpath(str(PurePosixPath(part).parent / unquote(address)))
-        if sheet not in container.namelist():
-            return ""
-        return part_of(container, sheet).decode(errors="replace")
+        return rules_in(sheet) if sheet in names else ()
 
     for page in package.pages():
         try:
@@ -485,7 +489,7 @@ class _Html(Tags):
         "area base br col embed hr img input link meta param source track wbr".split()
     )
 
-    def __init__(self, linked: Callable[[str], str]) -> None:
+    def __init__(self, linked: Callable[[str], Sequence[Rule]]) -> None:
         super().__init__()
         self._linked = linked
         self._sheet = Sheet()
@@ -553,7 +557,7 @@ class _Html(Tags):
 
     def handle_data(self, data: str) -> None:
         if self._path and self._path[-1].tag == "style":
-            self._sheet.add(data)
+            self._sheet.add(rules_of(data))
         if not self._silent and not self._back:
             texts = self.lists if self._in_list else self.texts
             texts[-1] += data
@@ -634,7 +638,9 @@ def _typed(attributes: dict[str, str | None]) -> str:
     return next((word for word in words if word in _TYPES.values()), "")
 
 
-def _page_of(text: str, linked: Callable[[str], str] = lambda address: "") -> _Html:
+def _page_of(
+    text: str, linked: Callable[[str], Sequence[Rule]] = lambda address: ()
+) -> _Html:
     page = _Html(linked)
     page.feed(text)
     page.close()

@@ -5,7 +5,7 @@ media or for print.
 """
 
 import re
-from collections.abc import Iterator, Mapping, Sequence
+from collections.abc import Iterable, Iterator, Mapping, Sequence
 from dataclasses import dataclass
 
 #: A comment, which goes on to the end where nothing ends it.
@@ -13,6 +13,8 @@ _COMMENT = re.compile(r"/\*.*?(?:\*/|\Z)", re.DOTALL)
 _BRACE = re.compile("[{}]")
 _FOR_PRINT = re.compile(r"@media\s+(?:only\s+)?(?:all|print)", re.IGNORECASE)
 _SELECTOR = re.compile(r"([\w-]+|\*)?((?:[.#][\w-]+)*)")
+#: How deep rules for some media are looked for within others.
+_DEEPEST = 8
 _TYPE, _DISPLAY = "list-style-type", "display"
 _PLACES = ("inside", "outside")
 #: What only says where another value is taken from.
@@ -46,7 +48,7 @@ class _Selector:
 
 
 @dataclass(frozen=True, slots=True)
-class _Rule:
+class Rule:
     """What a sheet says of the elements that a selector names, within others before it."""
 
     selectors: tuple[_Selector, ...]
@@ -74,13 +76,13 @@ class Sheet:
 
     def __init__(self) -> None:
         #: The lightest first.
-        self._rules: list[_Rule] = []
+        self._rules: list[Rule] = []
         #: What they say of elements that were asked about, each after those that it is within.
         self._found: dict[tuple[PageElement, ...], dict[str, str]] = {}
 
-    def add(self, text: str) -> None:
-        """Adds the rules of a text after the others."""
-        self._rules += _rules(text)
+    def add(self, rules: Iterable[Rule]) -> None:
+        """Adds the rules of a sheet after the others."""
+        self._rules += rules
         self._rules.sort(key=lambda rule: rule.weight)
         self._found = {}
 
@@ -102,11 +104,15 @@ class Sheet:
         return self._found[path]
 
 
-def _rules(text: str) -> Iterator[_Rule]:
-    text = _COMMENT.sub(" ", text)
+def rules_of(text: str) -> tuple[Rule, ...]:
+    """The rules of a style sheet that are known and say something of lists."""
+    return tuple(_rules(_COMMENT.sub(" ", text), 1))
+
+
+def _rules(text: str, depth: int) -> Iterator[Rule]:
     for head, body in _blocks(text):
         if _FOR_PRINT.fullmatch(head):
-            yield from _rules(body)
+            yield from _rules(body, depth + 1) if depth < _DEEPEST else ()
         elif not head.startswith("@") and (values := _values(body)):
             for selector in head.split(","):
                 if (rule := _rule(selector, values)) is not None:
@@ -130,7 +136,7 @@ def _blocks(text: str) -> Iterator[tuple[str, str]]:
                 place = brace.end()
 
 
-def _rule(selector: str, values: Mapping[str, str]) -> _Rule | None:
+def _rule(selector: str, values: Mapping[str, str]) -> Rule | None:
     """The rule of a selector; None of one that isn't known."""
     selectors: list[_Selector] = []
     is_child: list[bool] = []
@@ -149,7 +155,7 @@ def _rule(selector: str, values: Mapping[str, str]) -> _Rule | None:
         selectors.append(_Selector((known[1] or "*").lower(), names, classes))
     if not selectors or len(is_child) != len(selectors) - 1:
         return None
-    return _Rule(tuple(selectors), tuple(is_child), values, _weight(selectors))
+    return Rule(tuple(selectors), tuple(is_child), values, _weight(selectors))
 
 
 def _weight(selectors: Sequence[_Selector]) -> tuple[int, int, int]:
