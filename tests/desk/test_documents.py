@@ -935,6 +935,18 @@ def test_a_sheet_to_which_many_pages_link_is_read_once(
     assert parts.count("styles/a sheet.css") == 1
 
 
+def test_a_note_within_one_word_leaves_no_word_missing(tmp_path: Path) -> None:
+    body = paragraph(run("Sea"), note(1), run("side"))
+    typed = ["Sea[1]side", "[1: A note.]"]
+    found = read_manuscript(docx(tmp_path / "a.docx", body, [(1, "A note.")]))
+    assert (found.texts, found.missing) == (typed, ())
+    inner = "<text:note-citation>1</text:note-citation><text:note-body><text:p>A note."
+    noted = f'<text:note text:note-class="footnote">{inner}</text:p></text:note-body>'
+    path = odt(tmp_path / "a.odt", f"<text:p>Sea{noted}</text:note>side</text:p>")
+    found = read_manuscript(path)
+    assert (found.texts, found.missing) == (typed, ())
+
+
 def test_pages_of_a_book_are_read_in_what_they_are_encoded(tmp_path: Path) -> None:
     said = "<?xml version='1.0' encoding='{}'?>" + PAGE.format("<p>Größe {}</p>")
     pages = {

@@ -50,6 +50,8 @@ _DESCRIPTIONS = {
     f"{_V}textpath": "string",
 }
 _OFF = ("0", "false", "off")
+#: What parts words: the number of a note is typed where it stands.
+_PARTING = ("tab", "ptab", "br", "cr", "footnoteReference", "endnoteReference")
 _FALLBACK = "{http://schemas.openxmlformats.org/markup-compatibility/2006}Fallback"
 _TEXT = "{urn:oasis:names:tc:opendocument:xmlns:text:1.0}"
 _OFFICE = "{urn:oasis:names:tc:opendocument:xmlns:office:1.0}"
@@ -62,6 +64,9 @@ _EMBEDDED = re.compile(
     r"word/(embeddings|afchunk)[^/]*(/.+|\..+)|word/.*\.(mht|altchunk)"
 )
 _DELETED = (f"{_W}del", f"{_W}moveFrom")
+_ODT_PARTING = tuple(
+    f"{_TEXT}{name}" for name in ("s", "tab", "line-break", "note-citation")
+)
 _ODT_DELETED = f"{_TEXT}deletion"
 _ANNOTATION = f"{_OFFICE}annotation"
 _NUMBER = re.compile(r"[\W\d_]*")
@@ -304,7 +309,7 @@ def _runs(element: Element, inner: list[Element]) -> Iterator[str]:
             continue
         if tag == "t":
             yield child.text or ""
-        elif tag in ("tab", "ptab", "br", "cr"):
+        elif tag in _PARTING:
             yield " "
         elif tag == "ddList":
             yield _chosen(child)
@@ -378,13 +383,9 @@ def _odt_runs(element: Element, inner: list[Element]) -> Iterator[str]:
     for child in element:
         if child.tag in (f"{_TEXT}note-body", f"{_TEXT}p", f"{_TEXT}h"):
             inner.append(child)
-        elif child.tag in (f"{_TEXT}s", f"{_TEXT}tab", f"{_TEXT}line-break"):
+        elif child.tag in _ODT_PARTING:
             yield " "
-        elif child.tag not in (
-            _ANNOTATION,
-            f"{_TEXT}note-citation",
-            f"{_OFFICE}binary-data",
-        ):
+        elif child.tag not in (_ANNOTATION, f"{_OFFICE}binary-data"):
             yield from _odt_runs(child, inner)
         yield child.tail or ""
 
