@@ -935,6 +935,17 @@ def test_a_sheet_to_which_many_pages_link_is_read_once(
     assert parts.count("styles/a sheet.css") == 1
 
 
+@pytest.mark.parametrize("name", ["iso-8859-1", "windows-1252", "utf-8"])
+def test_a_page_that_says_in_what_it_is_encoded_has_no_word_missing(
+    tmp_path: Path, name: str
+) -> None:
+    path = tmp_path / "a.html"
+    page = f"<html><meta charset='{name}'><p>Größe</p></html>"
+    path.write_bytes(page.encode(name))
+    found = read_manuscript(path)
+    assert (found.texts, found.missing) == (["Größe"], ())
+
+
 def test_a_note_within_one_word_leaves_no_word_missing(tmp_path: Path) -> None:
     body = paragraph(run("Sea"), note(1), run("side"))
     typed = ["Sea[1]side", "[1: A note.]"]

@@ -114,10 +114,10 @@ class Contents:
 
 
 def contents_of(data: bytes, kind: ManuscriptKind) -> Contents:
-    """What the file of a document has; nothing for the kinds that are text."""
+    """What the file of a document has, a page in UTF-8; nothing for the kinds that are text."""
     found = Contents()
     if kind is ManuscriptKind.HTML:
-        page = _page_of(characters_of_page(data))
+        page = _page_of(data.decode())
         found.passages += page.passages
         found.note_page(page)
     if kind in _READERS:
