@@ -936,12 +936,13 @@ def test_a_sheet_to_which_many_pages_link_is_read_once(
 
 
 @pytest.mark.parametrize("name", ["iso-8859-1", "windows-1252", "utf-8"])
+@pytest.mark.parametrize("is_so", [True, False])
 def test_a_page_that_says_in_what_it_is_encoded_has_no_word_missing(
-    tmp_path: Path, name: str
+    tmp_path: Path, name: str, is_so: bool
 ) -> None:
     path = tmp_path / "a.html"
     page = f"<html><meta charset='{name}'><p>Größe</p></html>"
-    path.write_bytes(page.encode(name))
+    path.write_bytes(page.encode(name if is_so else "utf-8"))
     found = read_manuscript(path)
     assert (found.texts, found.missing) == (["Größe"], ())
 

@@ -21,6 +21,8 @@ _WIDER = {
 _OF_NO_PAGE = re.compile(
     r"utf[-_]?(7|16|32).*|undefined|idna|punycode|(raw[-_])?unicode[-_]escape"
 )
+#: Encodings that many pages name from of old which are in UTF-8: no text in them is that by chance.
+_OF_ONE_BYTE = re.compile(r"(iso[-_]?8859|windows[-_]?125|cp125|latin).*")
 _MARKS = ((b"\xff\xfe", "utf-16"), (b"\xfe\xff", "utf-16"), (b"", "utf-8-sig"))
 
 
@@ -43,7 +45,8 @@ def characters_of_page(data: bytes) -> str:
     if said := _CHARSET.search(data[:_FRONT]):
         named = said[1].decode().lower()
         if not _OF_NO_PAGE.fullmatch(named):
-            names.insert(0, _WIDER.get(named, named))
+            place = len(names) if _OF_ONE_BYTE.fullmatch(named) else 0
+            names.insert(place, _WIDER.get(named, named))
     found = _strictly(data, names) or _mostly(data, names)
     return found or _strictly(data, ["cp1252"]) or decoded(data)
 
