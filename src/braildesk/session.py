@@ -10,7 +10,7 @@ from dataclasses import replace
 from itertools import zip_longest
 from os import fspath
 from types import TracebackType
-from typing import Any, Self, TypeVar
+from typing import TYPE_CHECKING, Any, Self, TypeVar
 
 from braildesk import opening, program as programs
 from braildesk.asking import Asking
@@ -36,7 +36,9 @@ from braildesk.refusals import (
     refused,
     refused_as,
 )
-from braildesk.rescue import NOT_ALL_THERE, Rescue, says_nothing
+
+if TYPE_CHECKING:
+    from braildesk.rescue import Rescue
 
 #: How many requests are under way at most, and how many bytes of them wait to be written. More
 #: would be no faster, and if somebody stops in the middle, the more would be carried out.
@@ -74,7 +76,6 @@ class Session(Asking):
         self._program = program
         self._while_waiting = while_waiting
         self._pipe, self._file, self._seen = waited(self._open, timeout)
-        self._rescue = Rescue(self._book, self._file, program)
         #: The requests of ``each`` whose answers weren't taken yet, in order.
         self._sent: deque[Request[Any] | Refused] = deque()
         self._is_streaming = False
@@ -92,6 +93,13 @@ class Session(Asking):
         self._count_kept = 0
         #: Until which read of replies the file was looked at.
         self._judged = 0
+
+    @property
+    def _rescue(self) -> "Rescue":
+        """What says what became of the book's file, and saves the book; few sessions need it."""
+        from braildesk.rescue import Rescue
+
+        return Rescue(self._book, self._file, self._program)
 
     def __del__(self) -> None:
         if not self._is_closed:
@@ -366,6 +374,8 @@ class Session(Asking):
             return self._lose(Lost, refusal.sentence)
         self._is_closed = True
         waiting = tuple(each for each in self._sent if isinstance(each, Command))
+        from braildesk.rescue import NOT_ALL_THERE  # which few sessions need
+
         self._lost = self._lost_as(Displaced, refusal.sentence, NOT_ALL_THERE, waiting)
         self._file.close()
         return self._lost
@@ -415,6 +425,8 @@ class Session(Asking):
                 pairs = zip_longest(self._whole(), other._whole())
                 return all(own == found for own, found in pairs)
         except Refused as refused:
+            from braildesk.rescue import says_nothing  # which few sessions need
+
             return says_nothing(refused)
         except (OSError, DeskError):
             if self._lost is not None:

@@ -26,10 +26,10 @@ WORDS = "far away"
 #: How many of our modules are imported, and how many in all, at most.
 MODULES = {
     "--help": (20, 116),
-    "show": (50, 163),
-    "marks": (49, 163),
-    "find": (50, 163),
-    "import": (66, 187),
+    "show": (51, 163),
+    "marks": (50, 163),
+    "find": (51, 163),
+    "import": (67, 187),
 }
 #: Modules that take as long as all of a short command, and are needed by few.
 DEAR = {
