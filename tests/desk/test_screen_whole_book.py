@@ -449,10 +449,11 @@ def test_of_a_change_that_was_cut_short_no_earlier_one_is_taken_back(
     sat.press("a")
     assert sat.state.message == (
         "The session was ended by signal 9. The book was opened again: it is at version"
-        f" {version + 1}. What was being done was stopped after 1 change."
+        f" {version + 1}. What was being done was stopped after 1 change. The places are listed as"
+        " they are now."
     )
     assert "last kept" not in sat.lines[0]
-    sat.press("u")
+    sat.press("escape", "u")
     taken = "Taken back: the newest correction of paragraph 1."
     assert sat.state.message == taken
     assert sat.state.openings[1].words == "O The tide"
