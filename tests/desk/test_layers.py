@@ -160,7 +160,7 @@ def test_no_method_has_the_name_of_a_function_that_python_has() -> None:
 
 
 #: The named tuples, which are rows of books and texts: many thousands of each are made at once.
-ROWS = {"MarkOfBook", "ParagraphReading", "Position", "Reply", "Span", "TextLine"}
+ROWS = {"MarkOfBook", "Position", "Reply", "Span", "TextLine"}
 
 
 def test_only_rows_of_which_many_are_made_are_named_tuples() -> None:

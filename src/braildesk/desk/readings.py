@@ -1,7 +1,8 @@
 """What a book says of many of its paragraphs, asked ahead of the replies."""
 
 from collections.abc import Callable, Iterable, Iterator, Sequence
-from typing import Any, NamedTuple, TypeVar
+from dataclasses import dataclass
+from typing import Any, TypeVar
 
 from braildesk import Mark, Paragraph, Refused, Session
 from braildesk.protocol.answers import read_paragraph
@@ -10,8 +11,8 @@ from braildesk.protocol.requests import Braille, List, Marks, Print, Request
 Answer = TypeVar("Answer")
 
 
-# made in less time than a dataclass, since all paragraphs of a book may be shown
-class ParagraphReading(NamedTuple):
+@dataclass(frozen=True, slots=True)
+class ParagraphReading:
     """A paragraph with its print, its braille and its marks."""
 
     paragraph: Paragraph

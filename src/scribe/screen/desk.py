@@ -664,7 +664,7 @@ class Desk:
                 cells = Span(0, 0)
                 if not its.paragraph.struck:
                     marks = (deeds.on_a_character(mark, len(its.text)),)
-                    (cells,) = cells_of_marks(self._session, its._replace(marks=marks))
+                    (cells,) = cells_of_marks(self._session, replace(its, marks=marks))
                 return deeds.resolved(mark, its.paragraph.id, cells)
         return None
 
