@@ -1,3 +1,3 @@
 pub mod Plans
-pub mod Kept
+pub mod Held
 pub mod RowPuts

@@ -6,10 +6,10 @@ use Rattle.std.specs.Option.{option_map_or}
 use Rattle.desk_book.specs.declared.change.Effect.{Effect}
 use Rattle.desk_book.specs.declared.change.Effect.TheVariants as effect
 use Rattle.desk_model.specs.declared.style.Style.{Style}
-use Rattle.desk_memory.specs.declared.history.KeptEntry.{KeptEntry}
-use Rattle.desk_memory.specs.declared.history.KeptEntry.TheVariants.{Corrects, Undoes}
-use Rattle.desk_memory.specs.declared.marks.KeptMark.{KeptMark}
-use Rattle.desk_memory.specs.declared.paragraphs.Paragraph.{Paragraph as KeptParagraph}
+use Rattle.desk_memory.specs.declared.history.HeldEntry.{HeldEntry}
+use Rattle.desk_memory.specs.declared.history.HeldEntry.TheVariants.{Corrects, Undoes}
+use Rattle.desk_memory.specs.declared.marks.HeldMark.{HeldMark}
+use Rattle.desk_memory.specs.declared.paragraphs.Paragraph.{Paragraph as HeldParagraph}
 use Rattle.desk_memory.specs.declared.tables.BookTable.{BookTable}
 use Rattle.desk_model.specs.Book.{Book, Mark}
 use Rattle.desk_model.specs.Limits.{most_print}
@@ -23,7 +23,7 @@ use Rattle.desk_model.specs.Step.{next_id, next_mark}
 use Rattle.desk_model.specs.Loans.{next_entry_number, row_number}
 
 -- the entry with this number in the history of the paragraph with this id
-abbrev pub entry_row : (id seq : ℕ) → KeptEntry → NamedCorr
+abbrev pub entry_row : (id seq : ℕ) → HeldEntry → NamedCorr
 entry_row id seq (Corrects c) = record {
   entry = record {
     para = row_number id;
@@ -91,29 +91,29 @@ AreSpans marks = All (λ mark. (mark.start ≤ mark.end) × (mark.end ≤ most_p
 
 -- ---- a change's, effect by effect
 
--- the row of a paragraph as it is kept
-abbrev pub kept_row : (id place : ℕ) → KeptParagraph → Para
-kept_row id place kept = record {
+-- the row of a paragraph as it is held
+abbrev pub held_row : (id place : ℕ) → HeldParagraph → Para
+held_row id place held = record {
   id = row_number id;
   place = row_number place;
-  tab = encode_utf8_all kept.table;
-  original = encode_utf8_all kept.original;
-  print = encode_utf8_all kept.print;
-  style = style_number kept.style;
-  volume = flag_number kept.begins_volume;
-  struck = flag_number kept.struck;
+  tab = encode_utf8_all held.table;
+  original = encode_utf8_all held.original;
+  print = encode_utf8_all held.print;
+  style = style_number held.style;
+  volume = flag_number held.begins_volume;
+  struck = flag_number held.struck;
 }
 
--- the row of a mark as it is kept
-abbrev pub kept_mark_row : ℕ → KeptMark → MarkRow
-kept_mark_row id kept = record {
+-- the row of a mark as it is held
+abbrev pub held_mark_row : ℕ → HeldMark → MarkRow
+held_mark_row id held = record {
   id = row_number id;
-  para = row_number kept.paragraph;
-  start = row_number kept.start;
-  stop = row_number kept.end;
-  note = encode_utf8_all kept.note;
-  touched = flag_number kept.touched;
-  resolved = flag_number kept.resolved;
+  para = row_number held.paragraph;
+  start = row_number held.start;
+  stop = row_number held.end;
+  note = encode_utf8_all held.note;
+  touched = flag_number held.touched;
+  resolved = flag_number held.resolved;
 }
 
 -- the table with this name
@@ -149,13 +149,13 @@ abbrev pub effect_puts : Book → Effect → List RowPut
 effect_puts book (effect.AddTable name table room) = tab_put name table ∷ []
 effect_puts book (effect.ReplaceTable name table cells) = tab_put name table ∷ cells_from 0 cells.items
 effect_puts book (effect.AddParagraph paragraph room order_room place) =
-    PutRow tables.Para (kept_row (next_id book) (place + 1) paragraph) ∷ cache_put (next_id book) paragraph.cells
+    PutRow tables.Para (held_row (next_id book) (place + 1) paragraph) ∷ cache_put (next_id book) paragraph.cells
     ∷ further_from place (map (λ other. other.id) book.paragraphs)
 effect_puts book (effect.ChangePrint id change) =
     PutRow tables.NamedCorr (entry_row id (next_entry_number book id) change.entry) ∷ print_put id change.print
     ∷ cache_put id change.cells
     ∷ map (span_put change.start change.removed change.added) (marks_on id book.marks)
-effect_puts book (effect.AddMark mark room index_room) = PutRow tables.Mark (kept_mark_row (next_mark book) mark) ∷ []
+effect_puts book (effect.AddMark mark room index_room) = PutRow tables.Mark (held_mark_row (next_mark book) mark) ∷ []
 effect_puts book (effect.ResolveMark id) = resolved_put id ∷ []
 effect_puts book (effect.SetFlags id style begins struck) = flags_put id style begins struck ∷ []
 effect_puts book (effect.ChangeTable id table cells) = used_table_put id table ∷ cache_put id cells ∷ []

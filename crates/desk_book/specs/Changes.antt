@@ -10,17 +10,17 @@ use Rattle.louis_table.specs.Table.{Means}
 use Rattle.desk_book.specs.declared.change.Effect.{Effect}
 use Rattle.desk_book.specs.declared.change.Effect.TheVariants.{AddTable, ReplaceTable, AddParagraph, ChangePrint}
 use Rattle.desk_book.specs.declared.change.Effect.TheVariants.{AddMark, ResolveMark, SetFlags, ChangeTable, Reorder}
-use Rattle.desk_memory.specs.declared.marks.KeptMark.{KeptMark}
+use Rattle.desk_memory.specs.declared.marks.HeldMark.{HeldMark}
 use Rattle.desk_memory.specs.declared.paragraphs.PrintChange.{PrintChange}
 use Rattle.desk_model.specs.declared.command.Anchor.{Anchor}
 use Rattle.desk_model.specs.declared.command.Command.{Command}
 use Rattle.desk_model.specs.declared.command.Command.TheVariants.{TypeIn}
-use Rattle.desk_memory.specs.declared.paragraphs.Paragraph.{Paragraph as KeptParagraph}
+use Rattle.desk_memory.specs.declared.paragraphs.Paragraph.{Paragraph as HeldParagraph}
 use Rattle.desk_model.specs.Book.{Book, Paragraph, text_of, paragraph_of}
 use Rattle.desk_book.specs.ChangePuts.{effect_puts, version_put}
 use Rattle.desk_model.specs.Loans.{GetsEntry, GetsFlags, GetsResolved, GetsTable, Reorders}
-use Rattle.desk_memory.specs.Histories.{HaveTaken, TookFrom, entry_kept}
-use Rattle.desk_memory.specs.Kept.{IsKept, KeptParagraphs, KeptTables, book_kept, mark_kept, new_cells, paragraph_kept}
+use Rattle.desk_memory.specs.Histories.{HaveTaken, TookFrom, entry_held}
+use Rattle.desk_memory.specs.Held.{HeldParagraphs, HeldTables, IsHeld, book_held, mark_held, new_cells, paragraph_held}
 use Rattle.desk_model.specs.Limits.{most_entries, most_marks, most_paragraphs, most_print}
 use Rattle.desk_model.specs.Marks.{mark_moved_by}
 use Rattle.desk_model.specs.ParagraphMarks.{marks_on}
@@ -41,17 +41,17 @@ AreRenewed book name meaning cells =
     (paragraph.table ≢ name)
     (λ new. (paragraph.table ≡ name) × AreCellsOf meaning (print_of paragraph) new)) book.paragraphs
 
--- a paragraph as it is kept when it was just typed
-pub record IsKeptTyped (book : Book) (table text : List ℕ) (kept : KeptParagraph) : Type 0 where
-  pub kept_is : paragraph_kept (next_id book, kept) ≡ new_paragraph (next_id book) table text
-  pub print : kept.print ≡ normal_form text
+-- a paragraph as it is held when it was just typed
+pub record IsHeldTyped (book : Book) (table text : List ℕ) (held : HeldParagraph) : Type 0 where
+  pub held_is : paragraph_held (next_id book, held) ≡ new_paragraph (next_id book) table text
+  pub print : held.print ≡ normal_form text
   pub source : List ℕ
   pub meaning : Meaning
   pub found : text_of book table ≡ Some source
   pub means : Means source meaning
-  pub cells : AreCellsOf meaning kept.print kept.cells
-  pub taken : HaveTaken kept.original kept.history
-  pub unmarked : kept.marks ≡ []
+  pub cells : AreCellsOf meaning held.print held.cells
+  pub taken : HaveTaken held.original held.history
+  pub unmarked : held.marks ≡ []
 
 -- the cells are those of the paragraph's print by the table with this name
 pub record AreCellsByTable (book : Book) (id : ℕ) (table cells : List ℕ) : Type 0 where
@@ -67,12 +67,12 @@ pub record AreCellsByTable (book : Book) (id : ℕ) (table cells : List ℕ) : T
 -- from it, and moves its marks
 pub record ChangesPrint (book next : Book) (id : ℕ) (change : PrintChange) : Type 0 where
   pub next_is : next
-      ≡ next_with_entry book id (entry_kept change.entry) (mark_moved_by change.start change.removed change.added)
+      ≡ next_with_entry book id (entry_held change.entry) (mark_moved_by change.start change.removed change.added)
   pub paragraph : Paragraph
   pub there : paragraph_of book id ≡ Some paragraph
   pub room : Suffices (length paragraph.history) change.room
   pub few : length paragraph.history < most_entries
-  pub print : change.print ≡ print_of (with_entry (entry_kept change.entry) paragraph)
+  pub print : change.print ≡ print_of (with_entry (entry_held change.entry) paragraph)
   pub source : List ℕ
   pub meaning : Meaning
   pub found : text_of book paragraph.table ≡ Some source
@@ -84,12 +84,12 @@ pub record ChangesPrint (book next : Book) (id : ℕ) (change : PrintChange) : T
 
 -- the change adds a paragraph that was just typed by the command, with room for it and for its id,
 -- at its place in the order
-pub record AddsParagraph (book next : Book) (command : Command) (kept : KeptParagraph) (room order_room : Option ℕ)
+pub record AddsParagraph (book next : Book) (command : Command) (held : HeldParagraph) (room order_room : Option ℕ)
     (place : ℕ) : Type 0 where
   pub anchor : Anchor
   pub text : List ℕ
-  pub command_is : command ≡ TypeIn anchor kept.table text
-  pub typed_is : IsKeptTyped book kept.table text kept
+  pub command_is : command ≡ TypeIn anchor held.table text
+  pub typed_is : IsHeldTyped book held.table text held
   pub few : length book.paragraphs < most_paragraphs
   pub room_is : Suffices (length book.paragraphs) room
   pub order_room_is : Suffices (length book.paragraphs) order_room
@@ -127,7 +127,7 @@ Does book command next (AddParagraph paragraph room order_room place) =
     AddsParagraph book next command paragraph room order_room place
 Does book command next (ChangePrint id change) = GetsEntry command id × ChangesPrint book next id change
 Does book command next (AddMark mark room index_room) =
-    (next ≡ next_with_marks book (book.marks ++ mark_kept (next_mark book, mark) ∷ []))
+    (next ≡ next_with_marks book (book.marks ++ mark_held (next_mark book, mark) ∷ []))
     × Suffices (length book.marks) room
     × (length book.marks < most_marks) × Suffices (length (marks_on mark.paragraph book.marks)) index_room
 Does book command next (ResolveMark id) =
@@ -150,10 +150,10 @@ pub record IsEffect (book : Book) (version : ℕ) (effect : Effect) (next : Book
   pub at : version ≡ next.version
   pub does : Does book command next effect
 
--- the effect is one on the book that these parts are kept of
-abbrev pub IsEffectOn : (was : ℕ) → KeptTables → KeptParagraphs → List KeptMark → (at : ℕ) → Effect → Book → Type 0
+-- the effect is one on the book that these parts are held of
+abbrev pub IsEffectOn : (was : ℕ) → HeldTables → HeldParagraphs → List HeldMark → (at : ℕ) → Effect → Book → Type 0
 IsEffectOn was tables paragraphs marks at effect next =
-    IsKept was tables paragraphs marks × IsEffect (book_kept was tables paragraphs marks) at effect next
+    IsHeld was tables paragraphs marks × IsEffect (book_held was tables paragraphs marks) at effect next
 
 -- a change as its callers see it: the version that it gives its book, and the number that the
 -- command answers. What it does is named here alone, so that nothing that is said of a change

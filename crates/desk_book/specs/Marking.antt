@@ -5,9 +5,9 @@ use Rattle.louis_table.specs.Meaning.{Meaning}
 use Rattle.louis_translate.specs.declared.choices.Choice.{Choice}
 use Rattle.louis_translate.specs.Braille.{IsPrintEnd, IsPrintPlace, braille}
 use Rattle.louis_translate.specs.Tiling.{Tiles}
-use Rattle.desk_memory.specs.declared.marks.KeptMark.{KeptMark}
+use Rattle.desk_memory.specs.declared.marks.HeldMark.{HeldMark}
 use Rattle.desk_model.specs.Book.{Book, mark_of}
-use Rattle.desk_memory.specs.Kept.{mark_kept}
+use Rattle.desk_memory.specs.Held.{mark_held}
 
 -- the cells are there, and stand for the places from start up to but not including end
 abbrev pub AreMarkedIn : Meaning → List ℕ → (cell count start end : ℕ) → Type 0
@@ -22,9 +22,9 @@ AreNotMarkedIn meaning print cell count =
     (choices : List Choice) → Tiles meaning print choices
     → (count ≡ 0) ⊎ (length (braille meaning print choices) < cell + count)
 
--- the kept mark is the book's with this id
-abbrev pub IsKeptMarkFor : Book → ℕ → KeptMark → Type 0
-IsKeptMarkFor book id kept = mark_of book id ≡ Some (mark_kept (id, kept))
+-- the held mark is the book's with this id
+abbrev pub IsHeldMarkFor : Book → ℕ → HeldMark → Type 0
+IsHeldMarkFor book id held = mark_of book id ≡ Some (mark_held (id, held))
 
 -- the braille of the print has this many cells
 abbrev pub HasCells : Meaning → List ℕ → ℕ → Type 0

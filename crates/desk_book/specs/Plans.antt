@@ -8,14 +8,14 @@ use Rattle.desk_book.specs.declared.change.Effect.{Effect}
 use Rattle.desk_model.specs.declared.command.Command.{Command}
 use Rattle.desk_model.specs.declared.refusal.Refusal.{Refusal}
 use Rattle.desk_model.specs.declared.refusal.Refusal.TheVariants.{NoMemory}
-use Rattle.desk_memory.specs.declared.paragraphs.Paragraph.{Paragraph as KeptParagraph}
+use Rattle.desk_memory.specs.declared.paragraphs.Paragraph.{Paragraph as HeldParagraph}
 use Rattle.desk_model.specs.declared.style.Style.TheVariants.{Body}
 use Rattle.desk_memory.specs.declared.tables.BookTable.{BookTable}
 use Rattle.desk_model.specs.Book.{Book, paragraph_of, text_of}
 use Rattle.desk_book.specs.Changes.{Does}
 use Rattle.desk_memory.specs.Braille.{AreCellsOf}
 use Rattle.desk_model.specs.Judging.{MayLackMemory}
-use Rattle.desk_memory.specs.Kept.{paragraph_kept}
+use Rattle.desk_memory.specs.Held.{paragraph_held}
 use Rattle.desk_model.specs.Named.{HasCharacters}
 use Rattle.desk_model.specs.Print.{print_of}
 use Rattle.desk_model.specs.Refusals.{IsAccepted, IsRefused}
@@ -42,27 +42,27 @@ AreThere book ids = (id : ℕ) → Contains ids id → IsSome (paragraph_of book
 abbrev pub AreNotAllThere : Book → List ℕ → Type 0
 AreNotAllThere book ids = (id : ℕ) × Contains ids id × (paragraph_of book id ≡ None)
 
--- the kept paragraph is the only one of the book with this id, and has its print
-pub record IsKeptFor (book : Book) (id : ℕ) (kept : KeptParagraph) : Type 0 where
-  pub found : paragraph_of book id ≡ Some (paragraph_kept (id, kept))
-  pub alone : All (λ paragraph. paragraph.id ≡ id → paragraph ≡ paragraph_kept (id, kept)) book.paragraphs
-  pub print : kept.print ≡ print_of (paragraph_kept (id, kept))
+-- the held paragraph is the only one of the book with this id, and has its print
+pub record IsHeldFor (book : Book) (id : ℕ) (held : HeldParagraph) : Type 0 where
+  pub found : paragraph_of book id ≡ Some (paragraph_held (id, held))
+  pub alone : All (λ paragraph. paragraph.id ≡ id → paragraph ≡ paragraph_held (id, held)) book.paragraphs
+  pub print : held.print ≡ print_of (paragraph_held (id, held))
 
--- the kept table is the book's with this name, and has the rules that its text means
+-- the held table is the book's with this name, and has the rules that its text means
 pub record IsTableFor (book : Book) (name : List ℕ) (table : BookTable) : Type 0 where
   pub found : text_of book name ≡ Some table.text
   pub means : Means table.text table.rules
 
--- the kept paragraph was just typed: it uses this table, has this print and the cells by this
+-- the held paragraph was just typed: it uses this table, has this print and the cells by this
 -- meaning
-pub record IsNewParagraph (table print : List ℕ) (meaning : Meaning) (kept : KeptParagraph) : Type 0 where
-  pub table_is : kept.table ≡ table
-  pub original : kept.original ≡ print
-  pub style : kept.style ≡ Body
-  pub begins_volume : kept.begins_volume ≡ false
-  pub struck : kept.struck ≡ false
-  pub print_is : kept.print ≡ print
-  pub cells : AreCellsOf meaning print kept.cells
+pub record IsNewParagraph (table print : List ℕ) (meaning : Meaning) (held : HeldParagraph) : Type 0 where
+  pub table_is : held.table ≡ table
+  pub original : held.original ≡ print
+  pub style : held.style ≡ Body
+  pub begins_volume : held.begins_volume ≡ false
+  pub struck : held.struck ≡ false
+  pub print_is : held.print ≡ print
+  pub cells : AreCellsOf meaning print held.cells
   pub characters : AreCharacters print
-  pub history : kept.history ≡ []
-  pub unmarked : kept.marks ≡ []
+  pub history : held.history ≡ []
+  pub unmarked : held.marks ≡ []

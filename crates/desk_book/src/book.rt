@@ -9,7 +9,7 @@ ghost use Rattle.std.specs.Prelude.{◌≡◌, MatchResult, IfErr, IfOk};
 use desk_memory::{Marks, Paragraphs, Tables};
 use desk_model::PartsFault;
 use desk_parts::Parts;
-use desk_rebuild::{KeptBook, rebuild};
+use desk_rebuild::{HeldBook, rebuild};
 use std::alloc::{AllocError, Global};
 use std::marker::Model;
 
@@ -26,13 +26,13 @@ pub struct Book {
 
 impl Model for Book {
     ghost use Rattle.desk_model.specs.Book.{Book};
-    ghost use Rattle.desk_memory.specs.Kept.{IsKept, book_kept};
+    ghost use Rattle.desk_memory.specs.Held.{IsHeld, book_held};
 
     ghost Value = { Book };
 
-    ghost view = { λ b. book_kept b.version b.tables b.paragraphs b.marks };
+    ghost view = { λ b. book_held b.version b.tables b.paragraphs b.marks };
 
-    ghost invariant = { λ b. IsKept b.version b.tables b.paragraphs b.marks };
+    ghost invariant = { λ b. IsHeld b.version b.tables b.paragraphs b.marks };
 }
 
 impl Book {
@@ -59,7 +59,7 @@ impl Book {
         ensures shown { IfOk result (Shows (rows_in parts)) }
         ensures damaged { IfErr result (IsFaultOf (rows_in parts)) }
     {
-        let KeptBook {
+        let HeldBook {
             version,
             tables,
             paragraphs,

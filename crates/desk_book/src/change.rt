@@ -2,7 +2,7 @@
 ghost use Rattle.std.specs.Prelude.{◌≡◌};
 
 use cell_core::Cells;
-use desk_memory::{BoxedTable, KeptMark, Order, Paragraph, PrintChange, Room, TablesRoom};
+use desk_memory::{BoxedTable, HeldMark, Order, Paragraph, PrintChange, Room, TablesRoom};
 use desk_model::{Style, Text};
 use std::marker::Model;
 
@@ -49,9 +49,9 @@ pub(crate) enum Effect {
     /// A new mark.
     AddMark {
         /// The mark.
-        mark: KeptMark,
+        mark: HeldMark,
         /// Room for it beside the others.
-        room: Room<KeptMark>,
+        room: Room<HeldMark>,
         /// Room for its index among those of its paragraph.
         index_room: Room<usize>,
     },

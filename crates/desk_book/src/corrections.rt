@@ -10,7 +10,7 @@ use super::book::Book;
 use super::change::Effect;
 use super::plan::{check_length, check_limit, check_print, check_text, copy, text_of_print};
 use desk_memory::{
-    Correction, KeptEntry, MOST_ENTRIES, MOST_PRINT, Paragraph, PrintChange, cells_of,
+    Correction, HeldEntry, MOST_ENTRIES, MOST_PRINT, Paragraph, PrintChange, cells_of,
     is_proofreader_name, newest, normal_form, replace_span,
 };
 use desk_model::{Command, LentText, Limit, Refusal};
@@ -67,7 +67,7 @@ fn correction(
 #[derive(Drop)]
 pub(crate) struct NewEntry {
     /// The entry.
-    pub(crate) entry: KeptEntry,
+    pub(crate) entry: HeldEntry,
     /// The print that follows from it.
     pub(crate) print: Vec<char>,
     /// The place of the old print from which on characters give way.
@@ -161,7 +161,7 @@ impl Book {
         self.check_entry(paragraph, old.len() - count + put.len())?;
         let print = replace_span(alloc, old, start, count, &put)?;
         let new = NewEntry {
-            entry: KeptEntry::Corrects(correction(alloc, old, start, count, &put, who)?),
+            entry: HeldEntry::Corrects(correction(alloc, old, start, count, &put, who)?),
             print,
             start,
             removed: count,
@@ -183,7 +183,7 @@ impl Book {
         let old = paragraph.print.as_slice();
         self.check_entry(paragraph, old.len() - count + taken.len())?;
         let new = NewEntry {
-            entry: KeptEntry::Undoes(number),
+            entry: HeldEntry::Undoes(number),
             print: correction.undone(alloc, old)?,
             start: correction.start,
             removed: count,

@@ -28,8 +28,8 @@ fn first_entry(
         let Some((id, paragraph)) = paragraphs.at(place) else {
             unreachable!()
         };
-        if let Some(kept) = paragraph.history.as_slice().get(at) {
-            return Some((place, at + 1, entry(id, at as u64 + 1, kept)));
+        if let Some(held) = paragraph.history.as_slice().get(at) {
+            return Some((place, at + 1, entry(id, at as u64 + 1, held)));
         }
         at = 0;
     }

@@ -1,5 +1,5 @@
 //! Marks that come and that are dealt with.
-ghost use Rattle.desk_book.specs.Marking.{AreMarkedIn, AreNotMarkedIn, HasCells, IsKeptMarkFor};
+ghost use Rattle.desk_book.specs.Marking.{AreMarkedIn, AreNotMarkedIn, HasCells, IsHeldMarkFor};
 ghost use Rattle.desk_book.specs.Plans.{IsPlanned, IsTurnedDown};
 ghost use Rattle.desk_model.specs.Book.{mark_of};
 ghost use Rattle.louis_translate.specs.Position.{AreDefined};
@@ -8,7 +8,7 @@ ghost use Rattle.std.specs.Prelude.{◌≡◌, ◌+◌, ◌<◌, ◌≤◌, ◌�
 use super::book::Book;
 use super::change::Effect;
 use super::plan::{check_length, check_limit, check_text, copy};
-use desk_memory::{KeptMark, MOST_MARKS, MOST_NOTE, count_of};
+use desk_memory::{HeldMark, MOST_MARKS, MOST_NOTE, count_of};
 use desk_model::{Command, LentText, Limit, Refusal};
 use louis_translate::{RuleIndex, choice_of_cell};
 use std::alloc::Global;
@@ -66,7 +66,7 @@ impl Book {
         check_length(count_of(note.as_str()), MOST_NOTE)?;
         check_limit(self.marks.len(), MOST_MARKS, Limit::Marks)?;
         self.check_version()?;
-        let mark = KeptMark::new(id, start, end, copy(alloc, note.as_str())?);
+        let mark = HeldMark::new(id, start, end, copy(alloc, note.as_str())?);
         Ok(Effect::AddMark {
             mark,
             room: self.marks.room(alloc)?,
@@ -75,8 +75,8 @@ impl Book {
     }
 
     /// The mark with an id.
-    fn mark(&self, id: u64) -> Result<&KeptMark, Refusal>
-        ensures found { IfOk result (λ kept. IsKeptMarkFor self.now id kept.now) }
+    fn mark(&self, id: u64) -> Result<&HeldMark, Refusal>
+        ensures found { IfOk result (λ held. IsHeldMarkFor self.now id held.now) }
         ensures missing { IfErr result (λ refusal. (refusal ≡ Refusal.NoMark) × (mark_of self.now id ≡ None)) }
     {
         self.marks.get(id).ok_or(Refusal::NoMark)

@@ -244,7 +244,7 @@ impl Book {
             (refusal ≡ Refusal.NoParagraph) × AreNotAllThere self.now (paragraph_before anchor)) }
     {
         if let Anchor::Para(id) = anchor {
-            self.kept_paragraph(id)?;
+            self.held_paragraph(id)?;
         }
         Ok(())
     }
@@ -274,7 +274,7 @@ impl Book {
         ensures planned { IfOk result (IsPlanned self.now (Command.Strike id)) }
         ensures refused { IfErr result (IsTurnedDown self.now (Command.Strike id)) }
     {
-        let paragraph = self.kept_paragraph(id)?;
+        let paragraph = self.held_paragraph(id)?;
         if paragraph.struck {
             return Err(Refusal::Struck);
         }
@@ -291,7 +291,7 @@ impl Book {
         ensures planned { IfOk result (IsPlanned self.now (Command.Restore id)) }
         ensures refused { IfErr result (IsTurnedDown self.now (Command.Restore id)) }
     {
-        let paragraph = self.kept_paragraph(id)?;
+        let paragraph = self.held_paragraph(id)?;
         if !paragraph.struck {
             return Err(Refusal::NotStruck);
         }
@@ -308,7 +308,7 @@ impl Book {
         ensures planned { IfOk result (IsPlanned self.now (Command.Style id style)) }
         ensures refused { IfErr result (IsTurnedDown self.now (Command.Style id style)) }
     {
-        let paragraph = self.kept_paragraph(id)?;
+        let paragraph = self.held_paragraph(id)?;
         self.check_version()?;
         Ok(Effect::SetFlags {
             id,
@@ -322,7 +322,7 @@ impl Book {
         ensures planned { IfOk result (IsPlanned self.now (Command.Volume id begins)) }
         ensures refused { IfErr result (IsTurnedDown self.now (Command.Volume id begins)) }
     {
-        let paragraph = self.kept_paragraph(id)?;
+        let paragraph = self.held_paragraph(id)?;
         self.check_version()?;
         Ok(Effect::SetFlags {
             id,
@@ -336,7 +336,7 @@ impl Book {
         ensures planned { IfOk result (IsPlanned self.now (Command.Move id anchor)) }
         ensures refused { IfErr result (IsTurnedDown self.now (Command.Move id anchor)) }
     {
-        self.kept_paragraph(id)?;
+        self.held_paragraph(id)?;
         self.check_anchor(anchor)?;
         self.check_version()?;
         Ok(Effect::Reorder {
@@ -348,18 +348,18 @@ impl Book {
         ensures planned { IfOk result (IsPlanned self.now (Command.Retable id table.now)) }
         ensures refused { IfErr result (IsTurnedDown self.now (Command.Retable id table.now)) }
     {
-        let paragraph = self.kept_paragraph(id)?;
-        let kept = self.table_named(table)?;
+        let paragraph = self.held_paragraph(id)?;
+        let held = self.table_named(table)?;
         if paragraph.struck {
             return Err(Refusal::Struck);
         }
         self.check_version()?;
         let print = paragraph.print.as_slice();
-        check_print(&kept.rules, print)?;
+        check_print(&held.rules, print)?;
         Ok(Effect::ChangeTable {
             id,
             table: copy(alloc, table.as_str())?,
-            cells: cells_of(alloc, &kept.rules, print)?,
+            cells: cells_of(alloc, &held.rules, print)?,
         })
     }
 
@@ -375,14 +375,14 @@ impl Book {
     {
         check_text(text)?;
         self.check_anchor(anchor)?;
-        let kept = self.table_named(table)?;
+        let held = self.table_named(table)?;
         let print = normal_form(alloc, text.as_str())?;
         check_length(print.len(), MOST_PRINT)?;
         check_limit(self.paragraphs.len(), MOST_PARAGRAPHS, Limit::Paragraphs)?;
         self.check_version()?;
-        check_print(&kept.rules, &print)?;
+        check_print(&held.rules, &print)?;
         Ok(Effect::AddParagraph {
-            paragraph: new_paragraph(alloc, table, &kept.rules, print)?,
+            paragraph: new_paragraph(alloc, table, &held.rules, print)?,
             room: self.paragraphs.room(alloc)?,
             order_room: self.paragraphs.order_room(alloc)?,
             place: self.paragraphs.place_for(anchor),

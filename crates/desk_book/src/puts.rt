@@ -1,7 +1,7 @@
 //! What a change puts into the rows of its book's file.
 ghost use Rattle.desk_model.specs.Loans.{AreLent, LeadTo, row_number};
 ghost use Rattle.desk_book.specs.ChangePuts.{cache_put, cells_from, effect_puts, elsewhere_from, entry_row, flags_put};
-ghost use Rattle.desk_book.specs.ChangePuts.{further_from, kept_mark_row, kept_row, place_put, resolved_put, span_put};
+ghost use Rattle.desk_book.specs.ChangePuts.{further_from, held_mark_row, held_row, place_put, resolved_put, span_put};
 ghost use Rattle.desk_book.specs.ChangePuts.{stays_in, tab_put, used_table_put, version_put};
 ghost use Rattle.desk_book.specs.Changes.{Carries, Does, change_puts};
 ghost use Rattle.desk_model.specs.Limits.{most_paragraphs, most_print};
@@ -16,7 +16,7 @@ ghost use Rattle.std.specs.Prelude.{◌≡◌, ◌+◌, ◌-◌, ◌<◌, ◌≤
 use super::book::Book;
 use super::change::{Change, Effect};
 use cell_core::Cells;
-use desk_memory::{BoxedTable, KeptEntry, KeptMark, Order, Paragraph, ParagraphMarks, PrintChange};
+use desk_memory::{BoxedTable, HeldEntry, HeldMark, Order, Paragraph, ParagraphMarks, PrintChange};
 use desk_model::{Span, Style, Text};
 use desk_parts::{CachePut, MarkPut, NamedCorrPut, ParaPut, Put, TabPut};
 use std::marker::Model;
@@ -47,11 +47,11 @@ fn style_row(style: Style) -> i64
 }
 
 /// The entry with a number of the history of a paragraph.
-pub(crate) fn entry(id: u64, seq: u64, entry: &KeptEntry) -> Put<'_>
+pub(crate) fn entry(id: u64, seq: u64, entry: &HeldEntry) -> Put<'_>
     ensures { put_of result ≡ PutRow FileTable.NamedCorr (entry_row id seq entry.now) }
 {
     match entry {
-        KeptEntry::Corrects(correction) => Put::NamedCorr(NamedCorrPut {
+        HeldEntry::Corrects(correction) => Put::NamedCorr(NamedCorrPut {
             para: number(id),
             seq: number(seq),
             kind: 0,
@@ -60,7 +60,7 @@ pub(crate) fn entry(id: u64, seq: u64, entry: &KeptEntry) -> Put<'_>
             body: correction.text.as_str(),
             who: correction.who.as_str(),
         }),
-        KeptEntry::Undoes(undone) => Put::NamedCorr(NamedCorrPut {
+        HeldEntry::Undoes(undone) => Put::NamedCorr(NamedCorrPut {
             para: number(id),
             seq: number(seq),
             kind: 1,
@@ -405,7 +405,7 @@ pub(crate) fn cache(id: u64, cells: &Cells) -> Put<'_>
 
 /// The row of a paragraph.
 fn para(id: u64, place: usize, paragraph: &Paragraph) -> Put<'_>
-    ensures { put_of result ≡ PutRow FileTable.Para (kept_row id place paragraph.now) }
+    ensures { put_of result ≡ PutRow FileTable.Para (held_row id place paragraph.now) }
 {
     Put::Para(ParaPut {
         id: number(id),
@@ -420,8 +420,8 @@ fn para(id: u64, place: usize, paragraph: &Paragraph) -> Put<'_>
 }
 
 /// The row of a mark.
-fn mark(id: u64, mark: &KeptMark) -> Put<'_>
-    ensures { put_of result ≡ PutRow FileTable.Mark (kept_mark_row id mark.now) }
+fn mark(id: u64, mark: &HeldMark) -> Put<'_>
+    ensures { put_of result ≡ PutRow FileTable.Mark (held_mark_row id mark.now) }
 {
     Put::Mark(MarkPut {
         id: number(id),
@@ -486,7 +486,7 @@ impl Book {
     ) -> Puts<'a>
         requires { place ≤ length self.now.paragraphs }
         ensures { result ≡ version_put version
-            ∷ PutRow FileTable.Para (kept_row (next_id self.now) (place + 1) paragraph.now)
+            ∷ PutRow FileTable.Para (held_row (next_id self.now) (place + 1) paragraph.now)
             ∷ cache_put (next_id self.now) paragraph.now.cells
             ∷ further_from place (map (λ other. other.id) self.now.paragraphs) }
     {
@@ -575,8 +575,8 @@ impl Effect {
                 ..
             } => book.new_paragraph_puts(version, paragraph, *place),
             Effect::ChangePrint { id, change } => book.print_puts(version, *id, change),
-            Effect::AddMark { mark: kept, .. } => {
-                Puts::of_row(version, mark(book.next_mark(), kept))
+            Effect::AddMark { mark: held, .. } => {
+                Puts::of_row(version, mark(book.next_mark(), held))
             }
             Effect::ResolveMark { id } => Puts::of_row(version, resolved(*id)),
             Effect::SetFlags {

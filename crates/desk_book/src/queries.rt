@@ -3,7 +3,7 @@ ghost use Rattle.desk_model.specs.Book.{paragraph_of};
 ghost use Rattle.desk_model.specs.ParagraphMarks.{marks_on};
 ghost use Rattle.desk_model.specs.Print.{print_of};
 ghost use Rattle.desk_memory.specs.Display.{IsShown};
-ghost use Rattle.desk_book.specs.Plans.{IsKeptFor};
+ghost use Rattle.desk_book.specs.Plans.{IsHeldFor};
 ghost use Rattle.desk_model.specs.Translation.{IsBraille, IsOutputPlace, IsPrintPlace, LacksCell, LacksPlace};
 ghost use Rattle.louis_table.specs.Meaning.{Meaning};
 ghost use Rattle.std.specs.List.{enumerate_from};
@@ -16,16 +16,16 @@ use desk_model::Refusal;
 use louis_translate::{RuleIndex, output_place, print_place};
 
 impl Book {
-    /// A paragraph as it is kept.
-    pub(crate) fn kept_paragraph(&self, id: u64) -> Result<&Paragraph, Refusal>
-        ensures found { IfOk result (λ kept. IsKeptFor self.now id kept.now) }
-        ensures shown { IfOk result (λ kept. (meaning : Meaning) × IsShown self.now id kept.now meaning) }
+    /// A paragraph as it is held.
+    pub(crate) fn held_paragraph(&self, id: u64) -> Result<&Paragraph, Refusal>
+        ensures found { IfOk result (λ held. IsHeldFor self.now id held.now) }
+        ensures shown { IfOk result (λ held. (meaning : Meaning) × IsShown self.now id held.now meaning) }
         ensures missing { IfErr result (λ why. (why ≡ Refusal.NoParagraph) × (paragraph_of self.now id ≡ None)) }
     {
         self.paragraphs.get(id).ok_or(Refusal::NoParagraph)
     }
 
-    /// A paragraph as it is kept, and the rules of its table.
+    /// A paragraph as it is held, and the rules of its table.
     pub(crate) fn paragraph_and_rules(&self, id: u64) -> Result<(&Paragraph, &RuleIndex), Refusal>
         ensures found { IfOk result (λ shown. IsShown self.now id shown.0.now shown.1.now) }
         ensures missing { IfErr result (λ why. (why ≡ Refusal.NoParagraph) × (paragraph_of self.now id ≡ None)) }
@@ -49,7 +49,7 @@ impl Book {
             × (print.now ≡ print_of paragraph)) }
         ensures missing { IfErr result (λ why. (why ≡ Refusal.NoParagraph) × (paragraph_of self.now id ≡ None)) }
     {
-        let paragraph = self.kept_paragraph(id)?;
+        let paragraph = self.held_paragraph(id)?;
         Ok(paragraph.print.as_slice())
     }
 
@@ -63,7 +63,7 @@ impl Book {
             × IsBraille self.now paragraph cells.now) }
         ensures missing { IfErr result (λ why. (why ≡ Refusal.NoParagraph) × (paragraph_of self.now id ≡ None)) }
     {
-        let paragraph = self.kept_paragraph(id)?;
+        let paragraph = self.held_paragraph(id)?;
         Ok(paragraph.cells.as_slice())
     }
 
@@ -85,7 +85,7 @@ impl Book {
         if place >= paragraph.print.as_slice().len() {
             return Err(Refusal::BadSpan);
         }
-        // the cells are kept, so there are few enough to be counted
+        // the cells are held, so there are few enough to be counted
         let _ = paragraph.cells.as_slice();
         Ok(output_place(rules, paragraph.print.as_slice(), place))
     }
@@ -118,7 +118,7 @@ impl Book {
             × (history ≡ enumerate_from 1 paragraph.history)) }
         ensures missing { IfErr result (λ why. (why ≡ Refusal.NoParagraph) × (paragraph_of self.now id ≡ None)) }
     {
-        let paragraph = self.kept_paragraph(id)?;
+        let paragraph = self.held_paragraph(id)?;
         Ok(History::new(paragraph.history.as_slice()))
     }
 

@@ -1,6 +1,6 @@
 //! Changes put into their books.
 ghost use Rattle.desk_book.specs.Changes.{Carries, IsEffectOn};
-ghost use Rattle.desk_memory.specs.Kept.{IsKept, book_kept};
+ghost use Rattle.desk_memory.specs.Held.{IsHeld, book_held};
 ghost use Rattle.std.specs.Prelude.{◌≡◌, ℕ};
 
 use super::book::Book;
@@ -12,8 +12,8 @@ fn apply(effect: Effect, tables: &mut Tables, paragraphs: &mut Paragraphs, marks
     requires { (was : ℕ) × (at : ℕ) × (next : _)
         × IsEffectOn was tables.old paragraphs.old marks.old at effect next }
     ensures { (was at : ℕ) (next : _) → IsEffectOn was tables.old paragraphs.old marks.old at effect next
-        → IsKept at tables.new paragraphs.new marks.new
-        × (book_kept at tables.new paragraphs.new marks.new ≡ next) }
+        → IsHeld at tables.new paragraphs.new marks.new
+        × (book_held at tables.new paragraphs.new marks.new ≡ next) }
 {
     match effect {
         Effect::AddTable { name, table, room } => tables.add(name, table, room),

@@ -11,8 +11,8 @@ use Rattle.std.proofs.lemmas.List.Sorted.{All-permutation, Contains-permutation,
 use Rattle.std.proofs.lemmas.List.FromFn.{length-range_with_len, get_or-range_with_len}
 use Rattle.std.proofs.lemmas.Map.Views.{list_any-from_Contains}
 use Rattle.std.proofs.lemmas.Option.{none-some, same_Some, slice_get_past, slice_get_within}
-use Rattle.desk_memory.specs.Kept.{KeptParagraphs, paragraph_with_id, in_order_of, ids, with_kept_change}
-use Rattle.desk_memory.specs.declared.paragraphs.Paragraph.{Paragraph as KeptParagraph}
+use Rattle.desk_memory.specs.Held.{HeldParagraphs, paragraph_with_id, in_order_of, ids, with_held_change}
+use Rattle.desk_memory.specs.declared.paragraphs.Paragraph.{Paragraph as HeldParagraph}
 use Rattle.desk_model.proofs.Lists.Items.{flat_map-agree, here-at, map-flat_map, range_with_len-push, slice_get-append_left, slice_get-set_other, slice_get-set_same, slice_get-there}
 
 -- the id is one of 1, 2, .., count
@@ -44,17 +44,17 @@ length-order count order permutes = length_permutation _ _ permutes ∙ length-r
 -- ---- paragraphs in an order of their ids
 
 -- the paragraph with an id from 1 on is there
-pub paragraph_with_id-there : (items : List KeptParagraph) (id : ℕ) → IsUpTo (length items) id → (kept : KeptParagraph) × (slice_get items (id - 1) ≡ Some kept)
+pub paragraph_with_id-there : (items : List HeldParagraph) (id : ℕ) → IsUpTo (length items) id → (held : HeldParagraph) × (slice_get items (id - 1) ≡ Some held)
 paragraph_with_id-there items id up = slice_get-there items (id - 1) (omega (arith, up.0, up.1))
 
 -- what stands for an id
-abbrev pub entry_of : ℕ → Option KeptParagraph → KeptParagraphs
-entry_of id found = option_to_list (option_map (λ kept. (id, kept)) found)
+abbrev pub entry_of : ℕ → Option HeldParagraph → HeldParagraphs
+entry_of id found = option_to_list (option_map (λ held. (id, held)) found)
 
-module _ (items : List KeptParagraph) where
+module _ (items : List HeldParagraph) where
   -- the list is this one, then those that follow
-  pub paragraph_with_id-cons : (id : ℕ) (order : List ℕ) (kept : KeptParagraph) → slice_get items (id - 1) ≡ Some kept → flat_map (paragraph_with_id items) (id ∷ order) ≡ (id, kept) ∷ flat_map (paragraph_with_id items) order
-  paragraph_with_id-cons id order kept is = ap (λ found. entry_of id found ++ flat_map (paragraph_with_id items) order) is
+  pub paragraph_with_id-cons : (id : ℕ) (order : List ℕ) (held : HeldParagraph) → slice_get items (id - 1) ≡ Some held → flat_map (paragraph_with_id items) (id ∷ order) ≡ (id, held) ∷ flat_map (paragraph_with_id items) order
+  paragraph_with_id-cons id order held is = ap (λ found. entry_of id found ++ flat_map (paragraph_with_id items) order) is
 
   -- the ids that stand in the list are the order
   pub ids-in_order : (order : List ℕ) → All (IsUpTo (length items)) order → ids (flat_map (paragraph_with_id items) order) ≡ order
@@ -66,11 +66,11 @@ module _ (items : List KeptParagraph) where
 
   -- the entry at a place
   pub slice_get-in_order : (order : List ℕ) (place : ℕ) → All (IsUpTo (length items)) order
-      → slice_get (flat_map (paragraph_with_id items) order) place ≡ option_and_then (λ id. option_map (λ kept. (id, kept)) (slice_get items (id - 1))) (slice_get order place)
+      → slice_get (flat_map (paragraph_with_id items) order) place ≡ option_and_then (λ id. option_map (λ held. (id, held)) (slice_get items (id - 1))) (slice_get order place)
   slice_get-in_order [] place up = refl
   slice_get-in_order (id ∷ order) zero up =
       let found = paragraph_with_id-there items id (All-head (IsUpTo (length items)) id order up) in
-      ap (λ list. slice_get list 0) (paragraph_with_id-cons id order found.0 found.1) ∙ sym (ap (option_map (λ kept. (id, kept))) found.1)
+      ap (λ list. slice_get list 0) (paragraph_with_id-cons id order found.0 found.1) ∙ sym (ap (option_map (λ held. (id, held))) found.1)
   slice_get-in_order (id ∷ order) (suc place) up =
       let found = paragraph_with_id-there items id (All-head (IsUpTo (length items)) id order up) in
       ap (λ list. slice_get list (suc place)) (paragraph_with_id-cons id order found.0 found.1)
@@ -79,13 +79,13 @@ module _ (items : List KeptParagraph) where
   -- no entry stands where no id does, and one where one does
   pub slice_get_none-in_order : (order : List ℕ) (place : ℕ) → All (IsUpTo (length items)) order → slice_get order place ≡ None → slice_get (flat_map (paragraph_with_id items) order) place ≡ None
   slice_get_none-in_order order place up none =
-      slice_get-in_order order place up ∙ ap (option_and_then (λ id. option_map (λ kept. (id, kept)) (slice_get items (id - 1)))) none
+      slice_get-in_order order place up ∙ ap (option_and_then (λ id. option_map (λ held. (id, held)) (slice_get items (id - 1)))) none
 
-  pub slice_get_some-in_order : (order : List ℕ) (place id : ℕ) (kept : KeptParagraph) → All (IsUpTo (length items)) order
-      → slice_get order place ≡ Some id → slice_get items (id - 1) ≡ Some kept → slice_get (flat_map (paragraph_with_id items) order) place ≡ Some (id, kept)
-  slice_get_some-in_order order place id kept up at is =
+  pub slice_get_some-in_order : (order : List ℕ) (place id : ℕ) (held : HeldParagraph) → All (IsUpTo (length items)) order
+      → slice_get order place ≡ Some id → slice_get items (id - 1) ≡ Some held → slice_get (flat_map (paragraph_with_id items) order) place ≡ Some (id, held)
+  slice_get_some-in_order order place id held up at is =
       slice_get-in_order order place up
-      ∙ (ap (option_and_then (λ id. option_map (λ kept. (id, kept)) (slice_get items (id - 1)))) at ∙ ap (option_map (λ kept. (id, kept))) is)
+      ∙ (ap (option_and_then (λ id. option_map (λ held. (id, held)) (slice_get items (id - 1)))) at ∙ ap (option_map (λ held. (id, held))) is)
 
   -- a look-up finds an id that stands in the order
   lookup-any : (id : ℕ) (order : List ℕ) → All (IsUpTo (length items)) order
@@ -122,7 +122,7 @@ module _ (items : List KeptParagraph) where
           | inr within ↦ ap (λ t. cond t (slice_get items (id - 1)) None) (list_any-order (length items) order id permutes (positive, within))
         ]
       where
-        cond-None : (t : Bool) → ◌≡◌ {A = Option KeptParagraph} (cond t None None) None
+        cond-None : (t : Bool) → ◌≡◌ {A = Option HeldParagraph} (cond t None None) None
         cond-None true = refl
         cond-None false = refl
 
@@ -153,7 +153,7 @@ module _ (items : List KeptParagraph) where
         (λ id is. ap (entry_of id) (lookup-in_order id is.0)) other up)
 
     -- the paragraphs change as their items do
-    pub map-in_order : (items' : List KeptParagraph) (change : ℕ × KeptParagraph → ℕ × KeptParagraph)
+    pub map-in_order : (items' : List HeldParagraph) (change : ℕ × HeldParagraph → ℕ × HeldParagraph)
         → ((id : ℕ) → IsUpTo (length items) id → map change (paragraph_with_id items id) ≡ paragraph_with_id items' id)
         → map change (flat_map (paragraph_with_id items) order) ≡ flat_map (paragraph_with_id items') order
     map-in_order items' change each =
@@ -162,28 +162,28 @@ module _ (items : List KeptParagraph) where
         (All-weaker (IsUpTo (length items)) (λ id. map change (paragraph_with_id items id) ≡ paragraph_with_id items' id) each order (AreUpTo-order (length items) order permutes))
 
     -- a change of the paragraph with this id
-    pub with_kept_change-in_order : (id index : ℕ) (kept : KeptParagraph) (change : KeptParagraph → KeptParagraph)
-        → index + 1 ≡ id → slice_get items index ≡ Some kept
-        → with_kept_change id change (flat_map (paragraph_with_id items) order) ≡ flat_map (paragraph_with_id (set items index (change kept))) order
-    with_kept_change-in_order id index kept change at is = map-in_order (set items index (change kept)) changed each
+    pub with_held_change-in_order : (id index : ℕ) (held : HeldParagraph) (change : HeldParagraph → HeldParagraph)
+        → index + 1 ≡ id → slice_get items index ≡ Some held
+        → with_held_change id change (flat_map (paragraph_with_id items) order) ≡ flat_map (paragraph_with_id (set items index (change held))) order
+    with_held_change-in_order id index held change at is = map-in_order (set items index (change held)) changed each
       where
-        changed : ℕ × KeptParagraph → ℕ × KeptParagraph
+        changed : ℕ × HeldParagraph → ℕ × HeldParagraph
         changed entry = if entry.0 == id then (entry.0, change entry.1) else entry
 
-        here : (other : ℕ) (found : KeptParagraph) → other ≡ id → other - 1 ≡ index → slice_get items (other - 1) ≡ Some found
-            → map changed (entry_of other (Some found)) ≡ paragraph_with_id (set items index (change kept)) other
+        here : (other : ℕ) (found : HeldParagraph) → other ≡ id → other - 1 ≡ index → slice_get items (other - 1) ≡ Some found
+            → map changed (entry_of other (Some found)) ≡ paragraph_with_id (set items index (change held)) other
         here other found same place there =
             ap (λ t. cond t (other, change found) (other, found) ∷ []) (eq-eqb other id same)
-            ∙ (ap (λ k. (other, change k) ∷ []) (same_Some found kept (sym there ∙ (ap (slice_get items) place ∙ is)))
-            ∙ sym (ap (entry_of other) (ap (slice_get (set items index (change kept))) place ∙ slice_get-set_same items index (change kept) (slice_get_within items index kept is))))
+            ∙ (ap (λ k. (other, change k) ∷ []) (same_Some found held (sym there ∙ (ap (slice_get items) place ∙ is)))
+            ∙ sym (ap (entry_of other) (ap (slice_get (set items index (change held))) place ∙ slice_get-set_same items index (change held) (slice_get_within items index held is))))
 
-        elsewhere : (other : ℕ) (found : KeptParagraph) → other ≢ id → other - 1 ≢ index → slice_get items (other - 1) ≡ Some found
-            → map changed (entry_of other (Some found)) ≡ paragraph_with_id (set items index (change kept)) other
+        elsewhere : (other : ℕ) (found : HeldParagraph) → other ≢ id → other - 1 ≢ index → slice_get items (other - 1) ≡ Some found
+            → map changed (entry_of other (Some found)) ≡ paragraph_with_id (set items index (change held)) other
         elsewhere other found apart away there =
             ap (λ t. cond t (other, change found) (other, found) ∷ []) (ne_eqb other id apart)
-            ∙ sym (ap (entry_of other) (slice_get-set_other items index (other - 1) (change kept) away ∙ there))
+            ∙ sym (ap (entry_of other) (slice_get-set_other items index (other - 1) (change held) away ∙ there))
 
-        each : (other : ℕ) → IsUpTo (length items) other → map changed (paragraph_with_id items other) ≡ paragraph_with_id (set items index (change kept)) other
+        each : (other : ℕ) → IsUpTo (length items) other → map changed (paragraph_with_id items other) ≡ paragraph_with_id (set items index (change held)) other
         each other up =
             let found = paragraph_with_id-there items other up in
             ap (λ o. map changed (entry_of other o)) found.1
@@ -193,7 +193,7 @@ module _ (items : List KeptParagraph) where
             ]
 
     -- these paragraphs and one more
-    pub pushed-in_order : (new : KeptParagraph) → flat_map (paragraph_with_id items) order ++ (length items + 1, new) ∷ [] ≡ flat_map (paragraph_with_id (items ++ new ∷ [])) (order ++ (length items + 1) ∷ [])
+    pub pushed-in_order : (new : HeldParagraph) → flat_map (paragraph_with_id items) order ++ (length items + 1, new) ∷ [] ≡ flat_map (paragraph_with_id (items ++ new ∷ [])) (order ++ (length items + 1) ∷ [])
     pushed-in_order new =
         sym (flat_map-append (paragraph_with_id (items ++ new ∷ [])) order ((length items + 1) ∷ []) ∙ ap₂ (λ front back. front ++ back)
         (sym (flat_map-agree (paragraph_with_id items) (paragraph_with_id (items ++ new ∷ [])) order
@@ -208,17 +208,17 @@ module _ (items : List KeptParagraph) where
         (IsPermutation-append_left ((length items + 1) ∷ []) _ _ permutes)
 
 -- how many paragraphs a value has
-pub length-shown : (items : List KeptParagraph) (order : List ℕ) (value : KeptParagraphs)
+pub length-shown : (items : List HeldParagraph) (order : List ℕ) (value : HeldParagraphs)
     → IsPermutation (range_with_len 1 (length items)) order → flat_map (paragraph_with_id items) order ≡ value → length value ≡ length items
 length-shown items order value permutes shown = sym (ap length shown) ∙ length-in_order items order permutes
 
 -- and what their ids are
-pub ids-shown : (items : List KeptParagraph) (order : List ℕ) (value : KeptParagraphs)
+pub ids-shown : (items : List HeldParagraph) (order : List ℕ) (value : HeldParagraphs)
     → IsPermutation (range_with_len 1 (length items)) order → flat_map (paragraph_with_id items) order ≡ value → ids value ≡ order
 ids-shown items order value permutes shown = sym (ap ids shown) ∙ ids-in_order items order (AreUpTo-order (length items) order permutes)
 
 -- a paragraph is added, in another order
-pub in_order_of-pushed : (items : List KeptParagraph) (order other : List ℕ) (new : KeptParagraph)
+pub in_order_of-pushed : (items : List HeldParagraph) (order other : List ℕ) (new : HeldParagraph)
     → IsPermutation (range_with_len 1 (length items)) order
     → IsPermutation (range_with_len 1 (length items + 1)) other
     → in_order_of other (flat_map (paragraph_with_id items) order ++ (length items + 1, new) ∷ []) ≡ flat_map (paragraph_with_id (items ++ new ∷ [])) other
@@ -230,14 +230,14 @@ in_order_of-pushed items order other new permutes others =
     other (subst (λ n. All (IsUpTo n) other) (sym count) (AreUpTo-order (length items + 1) other others))
 
 -- a change of a paragraph that is not there changes nothing
-pub with_kept_change-missing : (id : ℕ) (change : KeptParagraph → KeptParagraph) (kept : KeptParagraphs) → lookup (nat_eq id) kept ≡ None → with_kept_change id change kept ≡ kept
-with_kept_change-missing id change [] none = refl
-with_kept_change-missing id change (entry ∷ kept) none =
+pub with_held_change-missing : (id : ℕ) (change : HeldParagraph → HeldParagraph) (held : HeldParagraphs) → lookup (nat_eq id) held ≡ None → with_held_change id change held ≡ held
+with_held_change-missing id change [] none = refl
+with_held_change-missing id change (entry ∷ held) none =
     elim (cases_eq id entry.0) [
-      | inl same ↦ absurd (none-some entry.1 (sym none ∙ ap (λ t. cond t (Some entry.1) (lookup (nat_eq id) kept)) (eq-eqb id entry.0 same)))
+      | inl same ↦ absurd (none-some entry.1 (sym none ∙ ap (λ t. cond t (Some entry.1) (lookup (nat_eq id) held)) (eq-eqb id entry.0 same)))
       | inr apart ↦
-          let rest : lookup (nat_eq id) kept ≡ None = sym (ap (λ t. cond t (Some entry.1) (lookup (nat_eq id) kept)) (ne_eqb id entry.0 apart)) ∙ none in
+          let rest : lookup (nat_eq id) held ≡ None = sym (ap (λ t. cond t (Some entry.1) (lookup (nat_eq id) held)) (ne_eqb id entry.0 apart)) ∙ none in
           ap₂ (λ first others. first ∷ others)
           (ap (λ t. cond t (entry.0, change entry.1) entry) (ne_eqb entry.0 id (λ same. apart (sym same))))
-          (with_kept_change-missing id change kept rest)
+          (with_held_change-missing id change held rest)
     ]

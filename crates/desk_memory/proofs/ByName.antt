@@ -14,7 +14,7 @@ use Rattle.indexmap.proofs.MapLemmas.{absent_before, absent_from_lookup, insert_
 use Rattle.std.proofs.lemmas.Bool.Decides.{same_from_decides}
 use Rattle.std.proofs.lemmas.Str.{IsUtf8-string_bytes, encodes-chars}
 use lib.Utf8.{encodes}
-use Rattle.desk_memory.specs.Kept.{KeptTables, by_name, with_table}
+use Rattle.desk_memory.specs.Held.{HeldTables, by_name, with_table}
 use Rattle.desk_memory.specs.declared.tables.BookTable.{BookTable}
 
 -- ---- names
@@ -123,7 +123,7 @@ module _ {Z : Type 0} where
   by_name-shown : (entries : List (String Z × BookTable)) → by_name entries ≡ put_all [] (map shown entries)
   by_name-shown = from []
     where
-      from : (start : KeptTables) (entries : List (String Z × BookTable))
+      from : (start : HeldTables) (entries : List (String Z × BookTable))
           → fold (λ sorted entry. with_table (chars (string_bytes entry.0)) entry.1 sorted) start entries ≡ put_all start (map shown entries)
       from start [] = refl
       from start (entry ∷ entries) = from (with_table (chars (string_bytes entry.0)) entry.1 start) entries
@@ -233,7 +233,7 @@ insert_all-distinct eq laws done (e ∷ es) distinct =
     ∙ append_assoc done (e ∷ []) es)
 
 -- tables by name, and a new one beside them
-pub by_name-joined : {Z : Type 0} (old done new : List (String Z × BookTable)) (key : String Z) (name : List ℕ) (table : BookTable) (tables : KeptTables)
+pub by_name-joined : {Z : Type 0} (old done new : List (String Z × BookTable)) (key : String Z) (name : List ℕ) (table : BookTable) (tables : HeldTables)
     → IsDistinct string_eq (keys_of old) → by_name old ≡ tables → chars (string_bytes key) ≡ name → lookup (pointwise nat_eq name) tables ≡ None
     → done ≡ insert_all string_eq [] old → new ≡ insert_entry string_eq done key table → by_name new ≡ with_table name table tables
 by_name-joined old done new key name table tables distinct shows named none moved inserted =

@@ -1,8 +1,8 @@
 pub mod Arranging
 pub mod ByName
 pub mod Callers
-pub mod KeptBooks
-pub mod KeptHistories
+pub mod HeldBooks
+pub mod HeldHistories
 pub mod MarkIndexes
 pub mod MarkSettled
 pub mod OrderLists

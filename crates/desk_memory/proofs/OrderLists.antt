@@ -5,13 +5,13 @@ use Rattle.std.proofs.lemmas.List.{map-append}
 use Rattle.desk_model.specs.declared.command.Anchor.{Anchor}
 use Rattle.desk_model.specs.declared.command.Anchor.TheVariants.{Front, End, Para}
 use Rattle.desk_model.specs.Book.{Book, Paragraph, paragraph_of}
-use Rattle.desk_memory.specs.Kept.{KeptParagraphs, ids, paragraph_kept, with_id, with_id_moved}
+use Rattle.desk_memory.specs.Held.{HeldParagraphs, ids, paragraph_held, with_id, with_id_moved}
 use Rattle.desk_model.proofs.Books.ParagraphLists.{ids_of, without_paragraph}
 use Rattle.desk_model.specs.Step.{is_after, with_move, with_paragraph}
 
-pub ids_of-kept : (kept : KeptParagraphs) → ids_of (map paragraph_kept kept) ≡ ids kept
-ids_of-kept [] = refl
-ids_of-kept ((id, p) ∷ kept) = ap (λ (t : List ℕ). id ∷ t) (ids_of-kept kept)
+pub ids_of-held : (held : HeldParagraphs) → ids_of (map paragraph_held held) ≡ ids held
+ids_of-held [] = refl
+ids_of-held ((id, p) ∷ held) = ap (λ (t : List ℕ). id ∷ t) (ids_of-held held)
 
 ids_of-behind : (id : ℕ) (new : Paragraph) (ps : List Paragraph) → ids_of (with_paragraph (Para id) new ps) ≡ with_id (Para id) new.id (ids_of ps)
 ids_of-behind id new [] = refl

@@ -10,7 +10,7 @@ use Rattle.std.proofs.lemmas.List.Recursion.{is_position_or_len}
 use Rattle.std.proofs.lemmas.Map.Keys.{IsDistinct-head, IsDistinct-tail}
 use Rattle.std.proofs.lemmas.Option.{slice_get_read}
 use Rattle.desk_model.specs.declared.command.Anchor.TheVariants.{Para}
-use Rattle.desk_memory.specs.Kept.{with_id}
+use Rattle.desk_memory.specs.Held.{with_id}
 use Rattle.desk_model.proofs.Lists.Items.{All-slice_get}
 use Rattle.desk_model.proofs.Lists.Members.{Contains-cases, Contains-none}
 

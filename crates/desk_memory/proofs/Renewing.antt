@@ -6,23 +6,23 @@ use Rattle.std.specs.Vec.Iter.{into_iter_items, into_iter_steps}
 use Rattle.std.specs.declared.vec.IntoIter.{IntoIter}
 use Rattle.std.proofs.lemmas.List.{nil_from_length}
 use Rattle.std.proofs.lemmas.Option.{none-some, same_Some}
-use Rattle.desk_memory.specs.Kept.{new_cells, paragraph_with_id, renewed_items, with_cells, with_new_cells}
-use Rattle.desk_memory.specs.declared.paragraphs.Paragraph.{Paragraph as KeptParagraph}
+use Rattle.desk_memory.specs.Held.{new_cells, paragraph_with_id, renewed_items, with_cells, with_new_cells}
+use Rattle.desk_memory.specs.declared.paragraphs.Paragraph.{Paragraph as HeldParagraph}
 use Rattle.desk_memory.proofs.Arranging.{IsUpTo, entry_of, map-in_order, paragraph_with_id-there}
 
-pub length-renewed_items : (cells : List (Option (List ℕ))) (items : List KeptParagraph) → length (renewed_items cells items) ≡ length items
+pub length-renewed_items : (cells : List (Option (List ℕ))) (items : List HeldParagraph) → length (renewed_items cells items) ≡ length items
 length-renewed_items cells [] = refl
-length-renewed_items [] (kept ∷ items) = refl
-length-renewed_items (new ∷ cells) (kept ∷ items) = ap suc (length-renewed_items cells items)
+length-renewed_items [] (held ∷ items) = refl
+length-renewed_items (new ∷ cells) (held ∷ items) = ap suc (length-renewed_items cells items)
 
-option_map-with_none : (found : Option KeptParagraph) → found ≡ option_map (with_cells None) found
+option_map-with_none : (found : Option HeldParagraph) → found ≡ option_map (with_cells None) found
 option_map-with_none None = refl
-option_map-with_none (Some kept) = refl
+option_map-with_none (Some held) = refl
 
-pub slice_get-renewed_items : (cells : List (Option (List ℕ))) (items : List KeptParagraph) (i : ℕ)
+pub slice_get-renewed_items : (cells : List (Option (List ℕ))) (items : List HeldParagraph) (i : ℕ)
     → slice_get (renewed_items cells items) i ≡ option_map (with_cells (option_flatten (slice_get cells i))) (slice_get items i)
-slice_get-renewed_items [] (kept ∷ items) i = option_map-with_none (slice_get (kept ∷ items) i)
-slice_get-renewed_items (new ∷ cells) (kept ∷ items) (suc i) = slice_get-renewed_items cells items i
+slice_get-renewed_items [] (held ∷ items) i = option_map-with_none (slice_get (held ∷ items) i)
+slice_get-renewed_items (new ∷ cells) (held ∷ items) (suc i) = slice_get-renewed_items cells items i
 slice_get-renewed_items cells items i = refl
 
 flatten_is : (found : Option (Option (List ℕ))) → option_flatten found ≡ option_and_then (λ new. new) found
@@ -30,7 +30,7 @@ flatten_is None = refl
 flatten_is (Some new) = refl
 
 -- the paragraphs of a book change as their items do
-pub with_new_cells-in_order : (cells : List (Option (List ℕ))) (items : List KeptParagraph) (order : List ℕ) → IsPermutation (range_with_len 1 (length items)) order
+pub with_new_cells-in_order : (cells : List (Option (List ℕ))) (items : List HeldParagraph) (order : List ℕ) → IsPermutation (range_with_len 1 (length items)) order
     → map (with_new_cells cells) (flat_map (paragraph_with_id items) order) ≡ flat_map (paragraph_with_id (renewed_items cells items)) order
 with_new_cells-in_order cells items order permutes = map-in_order items order permutes (renewed_items cells items) (with_new_cells cells) each
   where
@@ -100,14 +100,14 @@ next_cases old new None is = (nil_from_length (into_iter_items old) (sym old.res
 next_cases old new (Some x) is = is.0
 
 -- one more item is new
-pub reached-renewed : (cells : List (Option (List ℕ))) (old now : List KeptParagraph) (i : ℕ) (next : Option (Option (List ℕ))) (kept new : KeptParagraph)
-    → now ≡ reached i (renewed_items cells old) old → slice_get now i ≡ Some kept → slice_get cells i ≡ next → new ≡ with_cells (option_flatten next) kept
+pub reached-renewed : (cells : List (Option (List ℕ))) (old now : List HeldParagraph) (i : ℕ) (next : Option (Option (List ℕ))) (held new : HeldParagraph)
+    → now ≡ reached i (renewed_items cells old) old → slice_get now i ≡ Some held → slice_get cells i ≡ next → new ≡ with_cells (option_flatten next) held
     → set now i new ≡ reached (i + 1) (renewed_items cells old) old
-reached-renewed cells old now i next kept new so_far at given is =
+reached-renewed cells old now i next held new so_far at given is =
     let long = length-renewed_items cells old in
-    let was : slice_get old i ≡ Some kept = sym (ap (λ list. slice_get list i) so_far ∙ slice_get-reached i (renewed_items cells old) old long) ∙ at in
+    let was : slice_get old i ≡ Some held = sym (ap (λ list. slice_get list i) so_far ∙ slice_get-reached i (renewed_items cells old) old long) ∙ at in
     let comes : slice_get (renewed_items cells old) i ≡ Some new =
     slice_get-renewed_items cells old i
     ∙ (ap (option_map (with_cells (option_flatten (slice_get cells i)))) was
-    ∙ (ap (λ found. Some (with_cells (option_flatten found) kept)) given ∙ ap (λ kept. Some kept) (sym is))) in
+    ∙ (ap (λ found. Some (with_cells (option_flatten found) held)) given ∙ ap (λ held. Some held) (sym is))) in
     ap (λ list. set list i new) so_far ∙ set-reached i (renewed_items cells old) old new comes long

@@ -3,22 +3,22 @@ use Rattle.std.proofs.Common.{◌≡◌, ℕ, ◌+◌, ◌-◌, ◌≤◌, List,
 use Rattle.std.specs.List.{take-map}
 use Rattle.std.proofs.lemmas.Option.{slice_get-map}
 use Rattle.desk_memory.specs.declared.history.Correction.{Correction}
-use Rattle.desk_memory.specs.declared.history.KeptEntry.{KeptEntry}
-use Rattle.desk_memory.specs.declared.history.KeptEntry.TheVariants.{Corrects as KeptCorrects}
+use Rattle.desk_memory.specs.declared.history.HeldEntry.{HeldEntry}
+use Rattle.desk_memory.specs.declared.history.HeldEntry.TheVariants.{Corrects as HeldCorrects}
 use Rattle.desk_model.specs.Book.{Corrects, Entry, Replacement, Undoes}
 use Rattle.desk_memory.specs.Histories.{replaced_by}
-use Rattle.desk_memory.specs.Histories.{IsNewestInForce, LeavePrint, entries_kept, entry_kept, replacement_kept}
+use Rattle.desk_memory.specs.Histories.{IsNewestInForce, LeavePrint, entries_held, entry_held, replacement_held}
 use Rattle.desk_model.specs.Print.{corrected_print, with_replacement}
 use Rattle.desk_memory.proofs.Replacing.{replaced-back}
 use Rattle.desk_model.proofs.Books.HistoryLists.{corrected_print-before, corrected_print-undone}
 use Rattle.desk_model.proofs.Books.SoundEntries.{length-replaced}
 
-module _ (original : List ℕ) (entries : List KeptEntry) (print : List ℕ) (left : LeavePrint original entries print) (number : ℕ) (c : Correction) (force : IsNewestInForce entries number c) where
+module _ (original : List ℕ) (entries : List HeldEntry) (print : List ℕ) (left : LeavePrint original entries print) (number : ℕ) (c : Correction) (force : IsNewestInForce entries number c) where
   abbrev h : List Entry
-  h = entries_kept entries
+  h = entries_held entries
 
   abbrev r : Replacement
-  r = replacement_kept c
+  r = replacement_held c
 
   abbrev before : List ℕ
   before = corrected_print original (h ++ Undoes number ∷ [])
@@ -32,14 +32,14 @@ module _ (original : List ℕ) (entries : List KeptEntry) (print : List ℕ) (le
   -- what gave way is there again
   pub taken-span : c.start + length c.taken ≤ length before
   taken-span =
-      let at : slice_get h (number - 1) ≡ Some (Corrects r c.who) = slice_get-map entry_kept entries (number - 1) ∙ ap (option_map entry_kept) force.at in
+      let at : slice_get h (number - 1) ≡ Some (Corrects r c.who) = slice_get-map entry_held entries (number - 1) ∙ ap (option_map entry_held) force.at in
       subst (λ (t : List ℕ). r.start + r.count ≤ length t) (sym then_is) (left.sound (number - 1) (Corrects r c.who) at).0
 
   taken_is : c.taken ≡ take (length c.taken) (drop c.start before)
   taken_is =
-      let same : corrected_print original (entries_kept (take (number - 1) entries)) ≡ before =
-      ap (corrected_print original) (sym (take-map entry_kept (number - 1) entries)) ∙ sym then_is in
-      subst (λ (t : List ℕ). c.taken ≡ take (length c.taken) (drop c.start t)) same (left.taken (number - 1) (KeptCorrects c) force.at)
+      let same : corrected_print original (entries_held (take (number - 1) entries)) ≡ before =
+      ap (corrected_print original) (sym (take-map entry_held (number - 1) entries)) ∙ sym then_is in
+      subst (λ (t : List ℕ). c.taken ≡ take (length c.taken) (drop c.start t)) same (left.taken (number - 1) (HeldCorrects c) force.at)
 
   -- so many characters the print has after it
   pub undone-length : length print + length c.taken ≡ length before + length c.text

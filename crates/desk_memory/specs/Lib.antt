@@ -2,8 +2,8 @@ pub mod Braille
 pub mod Display
 pub mod Histories
 pub mod ItemsLeft
-pub mod Kept
-pub mod KeptMarks
-pub mod KeptPrints
+pub mod Held
+pub mod HeldMarks
+pub mod HeldPrints
 pub mod Lending
 pub mod Room

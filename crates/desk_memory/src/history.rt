@@ -1,5 +1,5 @@
 //! The histories of paragraphs.
-ghost use Rattle.desk_memory.specs.Histories.{IsNewestInForce, entries_kept, replaced_by};
+ghost use Rattle.desk_memory.specs.Histories.{IsNewestInForce, entries_held, replaced_by};
 ghost use Rattle.desk_model.specs.Sound.{AreSoundEntries};
 ghost use Rattle.desk_model.specs.Print.{newest as newest_lem};
 ghost use Rattle.std.specs.Prelude.{◌≡◌, ◌+◌, ◌≤◌, IfNone, IfOk, IfSome, None, length};
@@ -60,9 +60,9 @@ impl Correction {
     }
 }
 
-/// An entry of a history, as it is kept.
+/// An entry of a history, as it is held.
 #[derive(Drop)]
-pub enum KeptEntry {
+pub enum HeldEntry {
     /// A correction.
     Corrects(Correction),
     /// The undo of the correction with this number.
@@ -73,16 +73,16 @@ pub enum KeptEntry {
 ///
 /// An undo brings back the state before the correction that it takes back, so the search leaps over
 /// all entries between the two.
-pub fn newest(history: &[KeptEntry]) -> Option<(u64, &Correction)>
-    requires { (original : _) × AreSoundEntries original (entries_kept history.now) }
+pub fn newest(history: &[HeldEntry]) -> Option<(u64, &Correction)>
+    requires { (original : _) × AreSoundEntries original (entries_held history.now) }
     ensures found { IfSome result (λ found. IsNewestInForce history.now found.0 found.1.now) }
-    ensures none { IfNone result (newest_lem (entries_kept history.now) ≡ None) }
+    ensures none { IfNone result (newest_lem (entries_held history.now) ≡ None) }
 {
     let mut count = history.len();
     while count > 0 {
         match &history[count - 1] {
-            KeptEntry::Corrects(correction) => return Some((count as u64, correction)),
-            KeptEntry::Undoes(number) => count = (*number - 1) as usize,
+            HeldEntry::Corrects(correction) => return Some((count as u64, correction)),
+            HeldEntry::Undoes(number) => count = (*number - 1) as usize,
         }
     }
     None

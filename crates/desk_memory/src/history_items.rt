@@ -1,11 +1,11 @@
 //! What a book shows of a paragraph's history.
-ghost use Rattle.desk_memory.specs.Histories.{entries_kept, entry_kept};
+ghost use Rattle.desk_memory.specs.Histories.{entries_held, entry_held};
 ghost use Rattle.desk_model.specs.Limits.{most_entries};
 ghost use Rattle.desk_model.specs.HistoryItems.{TellsOf};
 ghost use Rattle.std.specs.List.{enumerate_from};
 ghost use Rattle.std.specs.Prelude.{◌≡◌, ◌≤◌, length};
 
-use super::history::KeptEntry;
+use super::history::HeldEntry;
 use desk_model::{Done, HistoryItem};
 use std::marker::Model;
 
@@ -13,7 +13,7 @@ use std::marker::Model;
 /// that are left, with their numbers.
 #[derive(Drop)]
 pub struct History<'a> {
-    entries: &'a [KeptEntry],
+    entries: &'a [HeldEntry],
     at: usize,
 }
 
@@ -32,26 +32,26 @@ impl<'a> Model for History<'a> {
 
 impl<'a> History<'a> {
     /// All entries.
-    pub fn new(entries: &'a [KeptEntry]) -> Self
+    pub fn new(entries: &'a [HeldEntry]) -> Self
         requires { length entries.now ≤ most_entries }
-        ensures { result ≡ enumerate_from 1 (entries_kept entries.now) }
+        ensures { result ≡ enumerate_from 1 (entries_held entries.now) }
     {
         History { entries, at: 0 }
     }
 }
 
 /// What an entry did.
-fn told_of(entry: &KeptEntry) -> Done<'_>
-    ensures { TellsOf (entry_kept entry.now) result }
+fn told_of(entry: &HeldEntry) -> Done<'_>
+    ensures { TellsOf (entry_held entry.now) result }
 {
     match entry {
-        KeptEntry::Corrects(correction) => Done::Corrected {
+        HeldEntry::Corrects(correction) => Done::Corrected {
             start: correction.start,
             count: correction.taken.as_slice().len(),
             text: correction.text.as_str(),
             who: correction.who.as_str(),
         },
-        KeptEntry::Undoes(number) => Done::TookBack(*number),
+        HeldEntry::Undoes(number) => Done::TookBack(*number),
     }
 }
 

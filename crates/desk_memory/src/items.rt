@@ -89,7 +89,7 @@ impl<T: Drop> Items<T> {
     /// The items of a list, with the room of one that grew to them.
     pub fn from_vec(mut items: Vec<T>) -> Result<Self, AllocError>
         requires { length items.items < 2 ^ 32 }
-        ensures { IfOk result (λ kept. kept ≡ items.items) }
+        ensures { IfOk result (λ held. held ≡ items.items) }
     {
         let room = room_for(items.len());
         items.reserve_exact(room - items.len())?;

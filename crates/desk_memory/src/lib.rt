@@ -1,4 +1,4 @@
-//! How a book is kept in memory: its tables, its paragraphs with their histories and their order,
+//! How a book is held in memory: its tables, its paragraphs with their histories and their order,
 //! its marks, and the room that they have to grow.
 //!
 //! A command makes a list longer in two steps. What the list needs is asked for first
@@ -15,7 +15,7 @@
 //! assert_eq!(rt; items.as_slice(), &[7]);
 //! ```
 //!
-//! `desk_model` says what a book is. `desk_rebuild` makes what is kept here of the rows of a file,
+//! `desk_model` says what a book is. `desk_rebuild` makes what is held here of the rows of a file,
 //! and `desk_book` changes it by commands.
 #![tactic(auto)]
 
@@ -33,7 +33,7 @@ mod tables;
 mod texts;
 
 pub use braille::cells_of;
-pub use history::{Correction, KeptEntry, newest, replace_span};
+pub use history::{Correction, HeldEntry, newest, replace_span};
 pub use history_items::History;
 pub use items::{Items, Room};
 pub use limits::{
@@ -41,7 +41,7 @@ pub use limits::{
     MOST_TABLES, MOST_VERSION,
 };
 pub use list::List;
-pub use marks::{KeptMark, Marks};
+pub use marks::{HeldMark, Marks};
 pub use paragraph_marks::ParagraphMarks;
 pub use paragraphs::{Order, Paragraph, Paragraphs, PrintChange, renew_paragraphs};
 pub use tables::{BookTable, BoxedTable, Tables, TablesRoom};

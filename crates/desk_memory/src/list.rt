@@ -13,7 +13,7 @@ pub struct List<'a> {
 
 impl<'a> Model for List<'a> {
     ghost use Rattle.desk_model.specs.Book.{ParagraphList};
-    ghost use Rattle.desk_memory.specs.Kept.{HavePrints, paragraphs_from};
+    ghost use Rattle.desk_memory.specs.Held.{HavePrints, paragraphs_from};
 
     ghost Value = { ParagraphList };
 
@@ -23,7 +23,7 @@ impl<'a> Model for List<'a> {
 }
 
 impl<'a> List<'a> {
-    ghost use Rattle.desk_memory.specs.Kept.{HavePrints, paragraphs_from};
+    ghost use Rattle.desk_memory.specs.Held.{HavePrints, paragraphs_from};
     ghost use Rattle.std.specs.Prelude.{◌≡◌};
 
     /// All paragraphs.

@@ -1,7 +1,7 @@
 //! The marks of proofreaders.
-ghost use Rattle.desk_memory.specs.KeptMarks.{AreWithin, IsWithin, indexes_on, moved_kept, kept_mark};
-ghost use Rattle.desk_memory.specs.KeptMarks.{span_kept, with_kept_moved, with_kept_resolved};
-ghost use Rattle.desk_memory.specs.Kept.{mark_kept};
+ghost use Rattle.desk_memory.specs.HeldMarks.{AreWithin, IsWithin, indexes_on, moved_held, held_mark};
+ghost use Rattle.desk_memory.specs.HeldMarks.{span_held, with_held_moved, with_held_resolved};
+ghost use Rattle.desk_memory.specs.Held.{mark_held};
 ghost use Rattle.desk_model.specs.Book.{new_mark};
 ghost use Rattle.desk_model.specs.Limits.{most_print};
 ghost use Rattle.std.specs.Prelude.{option_copied, ◌≡◌, ◌+◌, ◌-◌, ◌<◌, ◌≤◌, ℕ, None};
@@ -9,8 +9,8 @@ ghost use Rattle.std.specs.Prelude.{option_copied, ◌≡◌, ◌+◌, ◌-◌, 
 use super::items::Items;
 use desk_model::{Span, Text};
 
-/// A mark, as it is kept.
-pub struct KeptMark {
+/// A mark, as it is held.
+pub struct HeldMark {
     /// The paragraph that it is put on.
     pub paragraph: u64,
     /// The first place of the print that it covers, from 0.
@@ -26,7 +26,7 @@ pub struct KeptMark {
 }
 
 // Written out, as the drop of a paragraph is.
-impl Drop for KeptMark {
+impl Drop for HeldMark {
     fn drop(self) {
         let Self {
             paragraph,
@@ -39,12 +39,12 @@ impl Drop for KeptMark {
     }
 }
 
-impl KeptMark {
+impl HeldMark {
     /// A mark that was just put on places of a print: neither touched nor resolved.
     pub fn new(paragraph: u64, start: usize, end: usize, note: Text) -> Self
-        ensures { (id : ℕ) → mark_kept (id, result) ≡ new_mark id paragraph start end note }
+        ensures { (id : ℕ) → mark_held (id, result) ≡ new_mark id paragraph start end note }
     {
-        KeptMark {
+        HeldMark {
             paragraph,
             start,
             end,
@@ -56,7 +56,7 @@ impl KeptMark {
 
     /// The places that it covers.
     fn span(&self) -> Span
-        ensures { result ≡ span_kept self.now }
+        ensures { result ≡ span_held self.now }
     {
         Span {
             start: self.start,
@@ -70,7 +70,7 @@ impl KeptMark {
         requires mark { IsWithin self.old }
         requires within { start + removed ≤ most_print }
         requires short { added ≤ most_print }
-        ensures { self.new ≡ moved_kept start removed added self.old }
+        ensures { self.new ≡ moved_held start removed added self.old }
     {
         let span = self.span().after_edit(start, removed, added);
         self.start = span.start;
@@ -81,13 +81,13 @@ impl KeptMark {
 
 /// Moves the marks of a paragraph, which have these indexes, as so many characters of its print,
 /// from a place on, give way to others.
-fn give_way(marks: &mut [KeptMark], indexes: &[usize], start: usize, removed: usize, added: usize)
+fn give_way(marks: &mut [HeldMark], indexes: &[usize], start: usize, removed: usize, added: usize)
     requires indexes { (id : ℕ) × (indexes.now ≡ indexes_on id marks.old) }
     requires marks { AreWithin marks.old }
     requires within { start + removed ≤ most_print }
     requires short { added ≤ most_print }
     ensures { (id : ℕ) → indexes.now ≡ indexes_on id marks.old
-        → marks.new ≡ with_kept_moved id start removed added marks.old }
+        → marks.new ≡ with_held_moved id start removed added marks.old }
 {
     for index in indexes {
         marks[*index].give_way(start, removed, added);
@@ -95,12 +95,12 @@ fn give_way(marks: &mut [KeptMark], indexes: &[usize], start: usize, removed: us
 }
 
 /// Marks with the ids 1, 2, .. in the order of their coming: the one with id n has index n - 1.
-pub type Marks = Items<KeptMark>;
+pub type Marks = Items<HeldMark>;
 
-impl Items<KeptMark> {
+impl Items<HeldMark> {
     /// The mark with an id, if there is one.
-    pub fn get(&self, id: u64) -> Option<&KeptMark>
-        ensures { option_copied result ≡ kept_mark id self.now }
+    pub fn get(&self, id: u64) -> Option<&HeldMark>
+        ensures { option_copied result ≡ held_mark id self.now }
     {
         let index = id.checked_sub(1)?;
         self.items.get(index as usize)
@@ -108,7 +108,7 @@ impl Items<KeptMark> {
 
     /// Resolves the mark with an id, if there is one.
     pub fn resolve(&mut self, id: u64)
-        ensures { self.new ≡ with_kept_resolved id self.old }
+        ensures { self.new ≡ with_held_resolved id self.old }
     {
         if id == 0 {
             return;
@@ -126,7 +126,7 @@ impl Items<KeptMark> {
         requires within { start + removed ≤ most_print }
         requires short { added ≤ most_print }
         ensures { (id : ℕ) → indexes.now ≡ indexes_on id self.old
-            → self.new ≡ with_kept_moved id start removed added self.old }
+            → self.new ≡ with_held_moved id start removed added self.old }
     {
         give_way(&mut self.items, indexes, start, removed, added);
     }

@@ -2,7 +2,7 @@
 ghost use Rattle.desk_memory.specs.ItemsLeft.{AreMarks, marks_at};
 ghost use Rattle.std.specs.Prelude.{◌≡◌};
 
-use super::marks::KeptMark;
+use super::marks::HeldMark;
 use desk_model::MarkItem;
 use std::marker::Model;
 
@@ -11,7 +11,7 @@ use std::marker::Model;
 #[derive(Drop)]
 pub struct ParagraphMarks<'a> {
     // the marks of the book
-    marks: &'a [KeptMark],
+    marks: &'a [HeldMark],
     // the indexes of those of the paragraph
     indexes: &'a [usize],
     at: usize,
@@ -30,7 +30,7 @@ impl<'a> Model for ParagraphMarks<'a> {
 
 impl<'a> ParagraphMarks<'a> {
     /// The marks with these indexes.
-    pub fn new(marks: &'a [KeptMark], indexes: &'a [usize]) -> Self
+    pub fn new(marks: &'a [HeldMark], indexes: &'a [usize]) -> Self
         requires { AreMarks marks.now indexes.now }
         ensures { result ≡ marks_at 0 indexes.now marks.now }
     {

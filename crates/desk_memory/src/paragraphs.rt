@@ -1,7 +1,7 @@
 //! The paragraphs of a book.
-ghost use Rattle.desk_memory.specs.Kept.{ids, in_order_of, paragraph_with_id, renewed_items, with_id};
-ghost use Rattle.desk_memory.specs.Kept.{with_id_moved, with_kept_change, with_new_cells};
-ghost use Rattle.desk_memory.specs.KeptPrints.{HasRoomFor, HasRoomForMark, with_mark, with_print_changed};
+ghost use Rattle.desk_memory.specs.Held.{ids, in_order_of, paragraph_with_id, renewed_items, with_id};
+ghost use Rattle.desk_memory.specs.Held.{with_held_change, with_id_moved, with_new_cells};
+ghost use Rattle.desk_memory.specs.HeldPrints.{HasRoomFor, HasRoomForMark, with_mark, with_print_changed};
 ghost use Rattle.desk_model.specs.Named.{paragraph_before};
 ghost use Rattle.desk_memory.specs.Room.{Suffices};
 ghost use Rattle.desk_model.specs.Step.{is_after};
@@ -12,7 +12,7 @@ ghost use Rattle.desk_model.specs.Limits.{most_paragraphs};
 ghost use Rattle.std.specs.Prelude.{IsPermutation, ◌≡◌, ◌+◌, ◌<◌, ◌≤◌, ◌^◌, [], ◌∷◌, ◌++◌, ℕ, IfNone, IfOk, IfSome};
 ghost use Rattle.std.specs.Prelude.{MatchOption, OnOk, Some, ◌==◌, length, map, nat_eq, not, option_map, slice_get};
 
-use super::history::KeptEntry;
+use super::history::HeldEntry;
 use super::items::{Items, Room};
 use cell_core::{Cells, Sequence};
 use desk_model::{Anchor, Style, Text};
@@ -27,7 +27,7 @@ pub struct Paragraph {
     /// The text that was typed, as it is stored.
     pub original: Text,
     /// The corrections and undos of it.
-    pub history: Items<KeptEntry>,
+    pub history: Items<HeldEntry>,
     /// Its style.
     pub style: Style,
     /// Whether it begins a volume.
@@ -85,9 +85,9 @@ pub fn renew_paragraphs(paragraphs: &mut [Paragraph], cells: Vec<Option<Cells>>)
 #[derive(Drop)]
 pub struct PrintChange {
     /// The new entry of its history.
-    pub entry: KeptEntry,
+    pub entry: HeldEntry,
     /// Room for it beside the others.
-    pub room: Room<KeptEntry>,
+    pub room: Room<HeldEntry>,
     /// The new print.
     pub print: Characters,
     /// The braille of that.
@@ -114,11 +114,11 @@ pub struct Paragraphs {
 }
 
 impl Model for Paragraphs {
-    ghost use Rattle.desk_memory.specs.Kept.{KeptParagraphs, paragraph_with_id};
+    ghost use Rattle.desk_memory.specs.Held.{HeldParagraphs, paragraph_with_id};
     ghost use Rattle.std.specs.List.{flat_map, range_with_len};
     ghost use Rattle.std.specs.Prelude.{IsPermutation, length};
 
-    ghost Value = { KeptParagraphs };
+    ghost Value = { HeldParagraphs };
 
     ghost view = { λ p. flat_map (paragraph_with_id p.items) p.order };
 
@@ -255,9 +255,9 @@ impl Paragraphs {
     fn get_mut(&mut self, id: u64) -> Option<&mut Paragraph>
         ensures* lends { sem 𝓛 (lends_paragraph self.entry id result) }
         ensures value { option_copied_mut result ≡ lookup (nat_eq id) self.old }
-        ensures alone { MatchOption result ((change : _) → self.old ≡ with_kept_change id change self.old)
+        ensures alone { MatchOption result ((change : _) → self.old ≡ with_held_change id change self.old)
             (λ lent. (change : _)
-            → with_kept_change id (λ _. change lent.now) self.old ≡ with_kept_change id change self.old) }
+            → with_held_change id (λ _. change lent.now) self.old ≡ with_held_change id change self.old) }
     {
         let index = self.index_of(id)?;
         self.items.item_mut(index)
@@ -265,7 +265,7 @@ impl Paragraphs {
 
     /// The indexes of the marks of the paragraph with an id, if there is one.
     pub fn marks_of(&self, id: u64) -> &[usize]
-        ensures { (kept : _) → lookup (nat_eq id) self.now ≡ Some kept → result.now ≡ kept.marks }
+        ensures { (held : _) → lookup (nat_eq id) self.now ≡ Some held → result.now ≡ held.marks }
     {
         match self.get(id) {
             Some(paragraph) => paragraph.marks.as_slice(),
@@ -366,8 +366,8 @@ impl Paragraphs {
 
     /// Gives the paragraph with an id, if there is one, a style and flags.
     pub fn set_flags(&mut self, id: u64, style: Style, begins_volume: bool, struck: bool)
-        ensures { self.new ≡ with_kept_change id
-            (λ kept. record kept { style = style; begins_volume = begins_volume; struck = struck }) self.old }
+        ensures { self.new ≡ with_held_change id
+            (λ held. record held { style = style; begins_volume = begins_volume; struck = struck }) self.old }
     {
         if let Some(paragraph) = self.get_mut(id) {
             paragraph.style = style;
@@ -378,7 +378,7 @@ impl Paragraphs {
 
     /// Gives the paragraph with an id, if there is one, another table and the cells by it.
     pub fn set_table(&mut self, id: u64, table: Text, cells: Cells)
-        ensures { self.new ≡ with_kept_change id (λ kept. record kept { table = table; cells = cells }) self.old }
+        ensures { self.new ≡ with_held_change id (λ held. record held { table = table; cells = cells }) self.old }
     {
         if let Some(paragraph) = self.get_mut(id) {
             paragraph.table = table;
@@ -390,7 +390,7 @@ impl Paragraphs {
     /// history one entry more. It allocates nothing.
     pub fn change_print(&mut self, id: u64, change: PrintChange)
         requires { HasRoomFor self.old id change.room }
-        ensures { self.new ≡ with_kept_change id (with_print_changed change) self.old }
+        ensures { self.new ≡ with_held_change id (with_print_changed change) self.old }
     {
         let Some(paragraph) = self.get_mut(id) else {
             return;
@@ -413,7 +413,7 @@ impl Paragraphs {
     /// allocates nothing.
     pub fn add_mark(&mut self, id: u64, room: Room<usize>, index: usize)
         requires { HasRoomForMark self.old id room }
-        ensures { self.new ≡ with_kept_change id (with_mark index) self.old }
+        ensures { self.new ≡ with_held_change id (with_mark index) self.old }
     {
         if let Some(paragraph) = self.get_mut(id) {
             paragraph.marks.push(room, index);

@@ -142,11 +142,11 @@ pub struct Tables {
 }
 
 impl Model for Tables {
-    ghost use Rattle.desk_memory.specs.Kept.{KeptTables, by_name};
+    ghost use Rattle.desk_memory.specs.Held.{HeldTables, by_name};
     ghost use Rattle.indexmap.specs.IndexMap.{IsUnique};
     ghost use Rattle.std.specs.String.{string_eq};
 
-    ghost Value = { KeptTables };
+    ghost Value = { HeldTables };
 
     ghost view = { λ t. by_name t.entries.entries };
 
@@ -154,7 +154,7 @@ impl Model for Tables {
 }
 
 impl Tables {
-    ghost use Rattle.desk_memory.specs.Kept.{with_table};
+    ghost use Rattle.desk_memory.specs.Held.{with_table};
 
     /// No tables.
     pub fn new(alloc: Global) -> Self

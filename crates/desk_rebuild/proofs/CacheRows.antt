@@ -1,4 +1,4 @@
--- The rows of `cache` in the order of their ids, against the paragraphs that are kept: the first that doesn't fit is the
+-- The rows of `cache` in the order of their ids, against the paragraphs that are held: the first that doesn't fit is the
 -- smallest id of the damage.
 use Rattle.std.proofs.Common.{◌≡◌, ◌⊎◌, ℕ, zero, suc, ◌+◌, ◌-◌, ◌<◌, ◌≤◌, ℤ, pos, negsuc, ◌≤ℤ◌, nat_abs, Bool, List, [], ◌∷◌, map, filter, length, take, drop, get_or, slice_get, Option, Some, None, option_map, Contains, refl, sym, ap, subst, ◌∙◌, arith, inl, inr, IsPermutation, IsSortedByKey, int_cmp, int_eq, nat_eq, chars, take-append-drop}
 use Rattle.std.specs.Cmp.Lexicographic.{pointwise}
@@ -14,14 +14,14 @@ use Rattle.std.proofs.lemmas.List.Sorted.{Contains-permutation, IsPermutation-sy
 use Rattle.std.proofs.lemmas.Option.{same_Some, slice_get-get_or, slice_get-map, slice_get_within}
 use Rattle.louis_table.specs.Meaning.{Meaning}
 use Rattle.louis_translate.specs.Position.{AreDefined}
-use Rattle.desk_memory.specs.declared.paragraphs.Paragraph.{Paragraph as KeptParagraph}
+use Rattle.desk_memory.specs.declared.paragraphs.Paragraph.{Paragraph as HeldParagraph}
 use Rattle.desk_memory.specs.declared.tables.BookTable.{BookTable}
 use Rattle.desk_memory.specs.Braille.{AreCellsOf}
 use Rattle.desk_model.specs.Damage.{IsDamagedCache, IsDamagedPara, IsItsTable, IsSoundCacheRow, IsSoundParaRow, rows_with}
 use Rattle.desk_parts.specs.declared.file_table.FileTable.TheVariants as file
-use Rattle.desk_rebuild.specs.Rows.{AreOf, AreTables, HasCells, HasKept, IsFirstId, IsOf, IsWhole, without_cells}
+use Rattle.desk_rebuild.specs.Rows.{AreOf, AreTables, HasCells, HasHeld, IsFirstId, IsOf, IsWhole, without_cells}
 use Rattle.desk_rebuild.specs.Caches.{AreAllRight, AreRight, AreTheirCells, IsItsBraille, IsLacking, IsMisfit, IsSurplus, IsTranslatable, IsWrong}
-use Rattle.desk_memory.specs.Kept.{KeptTables, renewed_items, with_cells}
+use Rattle.desk_memory.specs.Held.{HeldTables, renewed_items, with_cells}
 use Rattle.desk_model.specs.Limits.{most_paragraphs}
 use Rattle.desk_parts.specs.Rows.{Para, ParaCells, Tab}
 use Rattle.desk_model.proofs.Lists.Items.{Contains-there, slice_get-there}
@@ -58,13 +58,13 @@ module _ {X : Type 0} (key : X → ℤ) where
 
 -- ---- paragraphs with new cells
 
-pub same-but-cells : (cells : List (Option (List ℕ))) (items : List KeptParagraph) → map without_cells (renewed_items cells items) ≡ map without_cells items
+pub same-but-cells : (cells : List (Option (List ℕ))) (items : List HeldParagraph) → map without_cells (renewed_items cells items) ≡ map without_cells items
 same-but-cells cells [] = refl
-same-but-cells [] (kept ∷ items) = refl
-same-but-cells (None ∷ cells) (kept ∷ items) = ap (λ (rest : List KeptParagraph). without_cells kept ∷ rest) (same-but-cells cells items)
-same-but-cells (Some new ∷ cells) (kept ∷ items) = ap (λ (rest : List KeptParagraph). without_cells kept ∷ rest) (same-but-cells cells items)
+same-but-cells [] (held ∷ items) = refl
+same-but-cells (None ∷ cells) (held ∷ items) = ap (λ (rest : List HeldParagraph). without_cells held ∷ rest) (same-but-cells cells items)
+same-but-cells (Some new ∷ cells) (held ∷ items) = ap (λ (rest : List HeldParagraph). without_cells held ∷ rest) (same-but-cells cells items)
 
-module _ (tabs : List Tab) (paras : List Para) (tables : KeptTables) (items : List KeptParagraph)
+module _ (tabs : List Tab) (paras : List Para) (tables : HeldTables) (items : List HeldParagraph)
     (are : AreTables tabs tables) (of : AreOf paras items) (whole : IsWhole (IsDamagedPara tabs paras)) where
   -- ---- paragraphs and their rows
 
@@ -79,56 +79,56 @@ module _ (tabs : List Tab) (paras : List Para) (tables : KeptTables) (items : Li
   pub few-items : length items ≤ most_paragraphs
   few-items = subst (λ n. n ≤ most_paragraphs) count (few-rows (λ (row : Para). row.id) most_paragraphs paras (λ row c. (sound row c).number))
 
-  its-place : (row : Para) → Contains paras row → (index : ℕ) × (kept : KeptParagraph) × (slice_get items index ≡ Some kept) × (row.id ≡ pos (index + 1)) × IsOf row kept
+  its-place : (row : Para) → Contains paras row → (index : ℕ) × (held : HeldParagraph) × (slice_get items index ≡ Some held) × (row.id ≡ pos (index + 1)) × IsOf row held
   its-place row c =
       let k = key-number (λ (row : Para). row.id) paras (length items) of.ids row c in
-      let has = All-contains (HasKept items) paras row of.each c in
+      let has = All-contains (HasHeld items) paras row of.each c in
       let back : k.0 - 1 + 1 ≡ k.0 = omega (arith, k.2) in
-      (k.0 - 1, has.kept, subst (λ z. slice_get items (nat_abs z - 1) ≡ Some has.kept) k.1 has.at, k.1 ∙ ap pos (sym back), has.of)
+      (k.0 - 1, has.held, subst (λ z. slice_get items (nat_abs z - 1) ≡ Some has.held) k.1 has.at, k.1 ∙ ap pos (sym back), has.of)
 
-  row-for : (index : ℕ) (kept : KeptParagraph) → slice_get items index ≡ Some kept → (row : Para) × Contains paras row × (row.id ≡ pos (index + 1)) × IsOf row kept
-  row-for index kept at =
-      let less = slice_get_within items index kept at in
+  row-for : (index : ℕ) (held : HeldParagraph) → slice_get items index ≡ Some held → (row : Para) × Contains paras row × (row.id ≡ pos (index + 1)) × IsOf row held
+  row-for index held at =
+      let less = slice_get_within items index held at in
       let found = number-key (λ (row : Para). row.id) paras (length items) of.ids (index + 1) (omega arith) (omega (arith, less)) in
       let own = its-place found.0 found.1 in
       let place : own.0 ≡ index = omega (arith, same_number (own.0 + 1) (index + 1) (sym own.3 ∙ found.2)) in
-      let one : own.1 ≡ kept = same_Some own.1 kept (sym own.2 ∙ (ap (slice_get items) place ∙ at)) in
+      let one : own.1 ≡ held = same_Some own.1 held (sym own.2 ∙ (ap (slice_get items) place ∙ at)) in
       (found.0, found.1, found.2, subst (IsOf found.0) one own.4)
 
   -- the table of a row is found by its name
-  table-of : (row : Para) (kept : KeptParagraph) (meaning : Meaning) → IsOf row kept → IsItsTable tabs row meaning
-      → (table : BookTable) × (lookup (pointwise nat_eq kept.table) tables ≡ Some table) × (meaning ≡ table.rules)
-  table-of row kept meaning own its =
+  table-of : (row : Para) (held : HeldParagraph) (meaning : Meaning) → IsOf row held → IsItsTable tabs row meaning
+      → (table : BookTable) × (lookup (pointwise nat_eq held.table) tables ≡ Some table) × (meaning ≡ table.rules)
+  table-of row held meaning own its =
       let t = table-found tabs tables are row meaning its in
       (t.0, ap (λ name. lookup (pointwise nat_eq name) tables) own.table ∙ t.1, sym t.2)
 
   pub translatable : All (IsTranslatable tables) items
   translatable k d within =
-      let kept = get_or items k d in
-      let row = row-for k kept (slice_get-get_or items k d within) in
+      let held = get_or items k d in
+      let row = row-for k held (slice_get-get_or items k d within) in
       let s = sound row.0 row.1 in
-      let t = table-of row.0 kept s.meaning row.3 s.table in
+      let t = table-of row.0 held s.meaning row.3 s.table in
       record {
         table = t.0;
         found = t.1;
-        defined = subst (λ m. AreDefined m kept.print) t.2 (subst (λ (print : List ℕ). AreDefined s.meaning print) (sym row.3.print) s.defined);
+        defined = subst (λ m. AreDefined m held.print) t.2 (subst (λ (print : List ℕ). AreDefined s.meaning print) (sym row.3.print) s.defined);
       }
 
-  module _ (row : Para) (kept : KeptParagraph) (meaning : Meaning) (own : IsOf row kept) (its : IsItsTable tabs row meaning) (cells : List ℕ) where
-    braille-to : AreCellsOf meaning (chars row.print) cells → IsItsBraille tables kept cells
+  module _ (row : Para) (held : HeldParagraph) (meaning : Meaning) (own : IsOf row held) (its : IsItsTable tabs row meaning) (cells : List ℕ) where
+    braille-to : AreCellsOf meaning (chars row.print) cells → IsItsBraille tables held cells
     braille-to b =
-        let t = table-of row kept meaning own its in
+        let t = table-of row held meaning own its in
         record {
           table = t.0;
           found = t.1;
-          cells_are = subst (λ m. AreCellsOf m kept.print cells) t.2 (subst (λ (print : List ℕ). AreCellsOf meaning print cells) (sym own.print) b);
+          cells_are = subst (λ m. AreCellsOf m held.print cells) t.2 (subst (λ (print : List ℕ). AreCellsOf meaning print cells) (sym own.print) b);
         }
 
-    braille-from : IsItsBraille tables kept cells → AreCellsOf meaning kept.print cells
+    braille-from : IsItsBraille tables held cells → AreCellsOf meaning held.print cells
     braille-from b =
-        let t = table-of row kept meaning own its in
+        let t = table-of row held meaning own its in
         let same : t.0 ≡ b.table = same_Some t.0 b.table (sym t.1 ∙ b.found) in
-        subst (λ m. AreCellsOf m kept.print cells) (sym (t.2 ∙ ap (λ (table : BookTable). table.rules) same)) b.cells_are
+        subst (λ m. AreCellsOf m held.print cells) (sym (t.2 ∙ ap (λ (table : BookTable). table.rules) same)) b.cells_are
 
   pub has-cells : (cells : List (Option (List ℕ))) → AreTheirCells tables items cells → All (HasCells tabs (renewed_items cells items)) paras
   has-cells cells theirs k d within =
@@ -137,12 +137,12 @@ module _ (tabs : List Tab) (paras : List Para) (tables : KeptTables) (items : Li
       let p = its-place row c in
       let own = theirs p.0 p.1 p.2 in
       let s = sound row c in
-      let new : KeptParagraph = record p.1 { cells = own.0 } in
+      let new : HeldParagraph = record p.1 { cells = own.0 } in
       let back : p.0 + 1 - 1 ≡ p.0 = omega arith in
       let here : slice_get (renewed_items cells items) p.0 ≡ Some new =
       slice_get-renewed_items cells items p.0 ∙ (λ i. option_map (with_cells (option_flatten (own.1 i))) (p.2 i)) in
       record {
-        kept = new;
+        held = new;
         at = subst (λ z. slice_get (renewed_items cells items) (nat_abs z - 1) ≡ Some new) (sym p.3) (ap (slice_get (renewed_items cells items)) back ∙ here);
         meaning = s.meaning;
         table = s.table;
@@ -193,10 +193,10 @@ module _ (tabs : List Tab) (paras : List Para) (tables : KeptTables) (items : Li
       right-sound k less row at alone =
           let r = right k less in
           let same : r.row ≡ row = same_Some r.row row (sym r.row_at ∙ at) in
-          let own = row-for k r.kept r.at in
+          let own = row-for k r.held r.at in
           let s = sound own.0 own.1 in
           let id : row.para ≡ pos (k + 1) = sym (ap para_of same) ∙ r.para in
-          let b = braille-from own.0 r.kept s.meaning own.3 s.table r.row.cells r.cells in
+          let b = braille-from own.0 r.held s.meaning own.3 s.table r.row.cells r.cells in
           let c = subst (λ (cells : List ℕ). AreCellsOf s.meaning (chars own.0.print) cells) (ap (λ (row : ParaCells). row.cells) same)
           (subst (λ (print : List ℕ). AreCellsOf s.meaning print r.row.cells) own.3.print b) in
           let before = ap (λ z. rows_with para_of z (take i rows)) id ∙ one-before (k + 1) (omega arith) (omega (arith, less)) in
@@ -263,8 +263,8 @@ module _ (tabs : List Tab) (paras : List Para) (tables : KeptTables) (items : Li
 
     lacking : (i : ℕ) (id : ℤ) → AreRight tables items rows i → IsLacking items rows i id → IsFirstId (IsDamagedCache tabs paras caches) id
     lacking i id right l =
-        let kept = slice_get-there items i l.within in
-        let own = row-for i kept.0 kept.1 in
+        let held = slice_get-there items i l.within in
+        let own = row-for i held.0 held.1 in
         let front = none-before i right (i + 1) (omega arith) in
         let rest = none-after i right (pos (i + 1)) (λ j row low at same. past j row low at) in
         let all = counted i (pos (i + 1)) in
@@ -291,17 +291,17 @@ module _ (tabs : List Tab) (paras : List Para) (tables : KeptTables) (items : Li
         above : (j : ℕ) (row : ParaCells) → i ≤ j → slice_get rows j ≡ Some row → pos (i + 1) ≤ℤ row.para
         above j row low at = omega (arith, ints, rises i j w.row row low w.row_at at, w.no_earlier)
 
-        own : (row : Para) × Contains paras row × (row.id ≡ pos (i + 1)) × IsOf row w.kept
-        own = row-for i w.kept w.at
+        own : (row : Para) × Contains paras row × (row.id ≡ pos (i + 1)) × IsOf row w.held
+        own = row-for i w.held w.at
 
         unsound : w.row.para ≡ pos (i + 1) → ¬ IsSoundCacheRow tabs paras caches w.row
         unsound is s =
             let p = its-place s.paragraph s.there in
             let place : p.0 ≡ i = omega (arith, same_number (p.0 + 1) (i + 1) (sym p.3 ∙ (s.named ∙ is))) in
-            let one : p.1 ≡ w.kept = same_Some p.1 w.kept (sym p.2 ∙ (ap (slice_get items) place ∙ w.at)) in
+            let one : p.1 ≡ w.held = same_Some p.1 w.held (sym p.2 ∙ (ap (slice_get items) place ∙ w.at)) in
             w.wrong (
               is,
-              subst (λ kept. IsItsBraille tables kept w.row.cells) one
+              subst (λ held. IsItsBraille tables held w.row.cells) one
                   (braille-to s.paragraph p.1 s.meaning p.4 s.table w.row.cells (s.choices, s.tiles, s.cells)),
             )
 
@@ -353,9 +353,9 @@ module _ (tabs : List Tab) (paras : List Para) (tables : KeptTables) (items : Li
 
   -- the cells of right rows are those of the paragraphs
   pub their-cells : (rows : List ParaCells) → AreAllRight tables items rows → AreTheirCells tables items (map (λ row. Some row.cells) rows)
-  their-cells rows all index kept at =
-      let r = all.right index (slice_get_within items index kept at) in
-      let same : r.kept ≡ kept = same_Some r.kept kept (sym r.at ∙ at) in (
+  their-cells rows all index held at =
+      let r = all.right index (slice_get_within items index held at) in
+      let same : r.held ≡ held = same_Some r.held held (sym r.at ∙ at) in (
         r.row.cells,
         slice_get-map (λ (row : ParaCells). Some row.cells) rows index ∙ ap (option_map (λ (row : ParaCells). Some row.cells)) r.row_at,
         subst (λ k. IsItsBraille tables k r.row.cells) same r.cells,

@@ -6,9 +6,9 @@ use Rattle.std.proofs.lemmas.Int.{ints}
 use Rattle.std.proofs.lemmas.List.Elements.{All-contains, All-weaker, All-contains_itself}
 use Rattle.std.proofs.lemmas.List.Sorted.{Contains-permutation, IsPermutation-sym}
 use Rattle.std.proofs.lemmas.Option.{slice_get-map, slice_get_within}
-use Rattle.desk_memory.specs.declared.paragraphs.Paragraph.{Paragraph as KeptParagraph}
+use Rattle.desk_memory.specs.declared.paragraphs.Paragraph.{Paragraph as HeldParagraph}
 use Rattle.desk_model.specs.Damage.{HasPara, HasSoundEntries, IsDamagedEntries, IsWithin, history_of}
-use Rattle.desk_rebuild.specs.Rows.{AreOf, HasHistory, HasKept, IsFirstId, IsOf, IsWhole, without_history}
+use Rattle.desk_rebuild.specs.Rows.{AreOf, HasHeld, HasHistory, IsFirstId, IsOf, IsWhole, without_history}
 use Rattle.desk_rebuild.specs.Entries.{AreGrouped, HaveRead, IsFirstStray, IsStray, IsUnread, rows_of}
 use Rattle.desk_rebuild.specs.History.{AreSoundRows, CanBeRead, HasRead}
 use Rattle.desk_model.specs.Print.{corrected_print}
@@ -28,35 +28,35 @@ above-all n count (pos k) small past = pos_le n k (let more : count < k = elim (
 above-all n count (negsuc k) small past = absurd (past (record { le = tt }))
 
 -- paragraphs that differ in their histories alone
-pub kept-at : (was now : List KeptParagraph) → map without_history now ≡ map without_history was → (k : ℕ) (kept : KeptParagraph) → slice_get was k ≡ Some kept
-    → (new : KeptParagraph) × (slice_get now k ≡ Some new) × (new.original ≡ kept.original) × (new.print ≡ kept.print)
-kept-at was now same k kept at = by (slice_get now k) refl
+pub held-at : (was now : List HeldParagraph) → map without_history now ≡ map without_history was → (k : ℕ) (held : HeldParagraph) → slice_get was k ≡ Some held
+    → (new : HeldParagraph) × (slice_get now k ≡ Some new) × (new.original ≡ held.original) × (new.print ≡ held.print)
+held-at was now same k held at = by (slice_get now k) refl
   where
-    there : option_map without_history (slice_get now k) ≡ Some (without_history kept)
-    there = sym (slice_get-map without_history now k) ∙ (ap (λ (t : List KeptParagraph). slice_get t k) same ∙ (slice_get-map without_history was k ∙ ap (option_map without_history) at))
+    there : option_map without_history (slice_get now k) ≡ Some (without_history held)
+    there = sym (slice_get-map without_history now k) ∙ (ap (λ (t : List HeldParagraph). slice_get t k) same ∙ (slice_get-map without_history was k ∙ ap (option_map without_history) at))
 
-    by : (o : Option KeptParagraph) → slice_get now k ≡ o → (new : KeptParagraph) × (slice_get now k ≡ Some new) × (new.original ≡ kept.original) × (new.print ≡ kept.print)
+    by : (o : Option HeldParagraph) → slice_get now k ≡ o → (new : HeldParagraph) × (slice_get now k ≡ Some new) × (new.original ≡ held.original) × (new.print ≡ held.print)
     by None none = absurd (let both = sym (ap (option_map without_history) none) ∙ there in cc)
     by (Some new) some =
-        let both : Some (without_history new) ≡ Some (without_history kept) = sym (ap (option_map without_history) some) ∙ there in
-        let is : without_history new ≡ without_history kept = cc in
-        (new, some, ap (λ (q : KeptParagraph). q.original) is, ap (λ (q : KeptParagraph). q.print) is)
+        let both : Some (without_history new) ≡ Some (without_history held) = sym (ap (option_map without_history) some) ∙ there in
+        let is : without_history new ≡ without_history held = cc in
+        (new, some, ap (λ (q : HeldParagraph). q.original) is, ap (λ (q : HeldParagraph). q.print) is)
 
-module _ (paras : List Para) (was : List KeptParagraph) (are : AreOf paras was) (entries : List NamedCorr) (groups : List (List NamedCorr)) (grouped : AreGrouped (length was) entries groups) where
+module _ (paras : List Para) (was : List HeldParagraph) (are : AreOf paras was) (entries : List NamedCorr) (groups : List (List NamedCorr)) (grouped : AreGrouped (length was) entries groups) where
   -- the paragraph of a row, by its index
   pub record IsAt (para : Para) : Type 0 where
     pub index : ℕ
     pub id : para.id ≡ pos (index + 1)
     pub within : index < length was
-    pub kept : KeptParagraph
-    pub at : slice_get was index ≡ Some kept
-    pub of : IsOf para kept
+    pub held : HeldParagraph
+    pub at : slice_get was index ≡ Some held
+    pub of : IsOf para held
     pub rows : slice_get groups index ≡ Some (rows_of entries para.id)
 
   pub at-row : (para : Para) → Contains paras para → IsAt para
   at-row para c =
       let number = key-number (λ (row : Para). row.id) paras (length was) are.ids para c in
-      let has : HasKept was para = All-contains (HasKept was) paras para are.each c in
+      let has : HasHeld was para = All-contains (HasHeld was) paras para are.each c in
       let k : ℕ = number.0 - 1 in
       let low = number.2 in
       let high = number.3 in
@@ -68,7 +68,7 @@ module _ (paras : List Para) (was : List KeptParagraph) (are : AreOf paras was) 
         index = k;
         id = id;
         within = omega (arith, low, high);
-        kept = has.kept;
+        held = has.held;
         at = ap (slice_get was) (sym index) ∙ has.at;
         of = has.of;
         rows = group.1 ∙ ap Some (grouped.each k group.0 group.1 ∙ ap (rows_of entries) (sym id));
@@ -91,7 +91,7 @@ module _ (paras : List Para) (was : List KeptParagraph) (are : AreOf paras was) 
       let up : k.0 - 1 + 1 ≡ k.0 = omega (arith, low) in
       (found.0, found.1, found.2 ∙ (ap pos up ∙ sym k.1))
 
-  sound-from_read : (para : Para) (c : Contains paras para) → CanBeRead (rows_of entries para.id) (at-row para c).kept.original (at-row para c).kept.print → HasSoundEntries entries para
+  sound-from_read : (para : Para) (c : Contains paras para) → CanBeRead (rows_of entries para.id) (at-row para c).held.original (at-row para c).held.print → HasSoundEntries entries para
   sound-from_read para c can =
       let a = at-row para c in
       record {
@@ -101,7 +101,7 @@ module _ (paras : List Para) (was : List KeptParagraph) (are : AreOf paras was) 
         print = ap (λ (t : List ℕ). corrected_print t (history_of can.sorted)) (sym a.of.original) ∙ (can.print_is ∙ a.of.print);
       }
 
-  read-from_sound : (para : Para) (c : Contains paras para) → HasSoundEntries entries para → CanBeRead (rows_of entries para.id) (at-row para c).kept.original (at-row para c).kept.print
+  read-from_sound : (para : Para) (c : Contains paras para) → HasSoundEntries entries para → CanBeRead (rows_of entries para.id) (at-row para c).held.original (at-row para c).held.print
   read-from_sound para c has =
       let a = at-row para c in
       record {
@@ -125,7 +125,7 @@ module _ (paras : List Para) (was : List KeptParagraph) (are : AreOf paras was) 
 
   -- damage is a stray id, or a paragraph whose rows can't be read
   pub damage-cases : (P : Type 0) (id : ℤ) → IsDamagedEntries paras entries id → (IsStray (length was) entries id → P)
-      → ((para : Para) (c : Contains paras para) → para.id ≡ id → ¬ CanBeRead (rows_of entries para.id) (at-row para c).kept.original (at-row para c).kept.print → P) → P
+      → ((para : Para) (c : Contains paras para) → para.id ≡ id → ¬ CanBeRead (rows_of entries para.id) (at-row para c).held.original (at-row para c).held.print → P) → P
   damage-cases P id (inl (para, c, named, unsound)) stray unread = unread para c named (λ can. unsound (sound-from_read para c can))
   damage-cases P id (inr (row, c, named, lacks)) stray unread = stray ((row, c, named), λ within. lacks (has-para id within))
 
@@ -144,12 +144,12 @@ module _ (paras : List Para) (was : List KeptParagraph) (are : AreOf paras was) 
     -- a paragraph whose rows can't be read comes first, where those before it can and no stray id is below the paragraphs'
     pub unread-first : (index : ℕ) → IsUnread groups was index → ((id : ℤ) → first ≡ Some id → pos 1 ≤ℤ id) → IsFirstId (IsDamagedEntries paras entries) (pos (index + 1))
     unread-first index u above =
-        let within = slice_get_within was index u.kept u.item in
+        let within = slice_get_within was index u.held u.item in
         let found = row-at index within in
         let a = at-row found.0 found.1 in
         let here : a.index ≡ index = (let equal = same_number (a.index + 1) (index + 1) (sym a.id ∙ found.2) in omega (arith, equal)) in
-        let kept_is : Some a.kept ≡ Some u.kept = sym a.at ∙ (ap (slice_get was) here ∙ u.item) in
-        let kept : a.kept ≡ u.kept = cc in
+        let held_is : Some a.held ≡ Some u.held = sym a.at ∙ (ap (slice_get was) here ∙ u.item) in
+        let held : a.held ≡ u.held = cc in
         let rows_is : Some (rows_of entries found.0.id) ≡ Some u.rows = sym a.rows ∙ (ap (slice_get groups) here ∙ u.group) in
         let rows : rows_of entries found.0.id ≡ u.rows = cc in (
           inl (
@@ -157,14 +157,14 @@ module _ (paras : List Para) (was : List KeptParagraph) (are : AreOf paras was) 
             found.1,
             found.2,
             λ sound.
-                u.unsound (subst (λ (q : KeptParagraph). CanBeRead u.rows q.original q.print) kept (subst (λ (r : List NamedCorr). CanBeRead r a.kept.original a.kept.print) rows (read-from_sound found.0 found.1 sound))),
+                u.unsound (subst (λ (q : HeldParagraph). CanBeRead u.rows q.original q.print) held (subst (λ (r : List NamedCorr). CanBeRead r a.held.original a.held.print) rows (read-from_sound found.0 found.1 sound))),
           ),
           λ other damaged. damage-cases (pos (index + 1) ≤ℤ other) other damaged (stray-after index within above other)
               (λ para c named unread. let b = at-row para c in
               let is : other ≡ pos (b.index + 1) = sym named ∙ b.id in
               subst (λ z. pos (index + 1) ≤ℤ z) (sym is) (pos_le (index + 1) (b.index + 1)
               (elim (cases_lt b.index index) [
-                | inl less ↦ absurd (unread (u.before b.index (rows_of entries para.id) b.kept less b.rows b.at))
+                | inl less ↦ absurd (unread (u.before b.index (rows_of entries para.id) b.held less b.rows b.at))
                 | inr past ↦ omega (arith, past)
               ]))),
         )
@@ -181,11 +181,11 @@ module _ (paras : List Para) (was : List KeptParagraph) (are : AreOf paras was) 
                   | inr past ↦ above-all (index + 1) (length was) other (omega (arith, within)) past
                 ]
 
-    module _ (now : List KeptParagraph) (same : map without_history now ≡ map without_history was) (read : HaveRead groups now) where
-      can-read : (para : Para) (c : Contains paras para) → CanBeRead (rows_of entries para.id) (at-row para c).kept.original (at-row para c).kept.print
+    module _ (now : List HeldParagraph) (same : map without_history now ≡ map without_history was) (read : HaveRead groups now) where
+      can-read : (para : Para) (c : Contains paras para) → CanBeRead (rows_of entries para.id) (at-row para c).held.original (at-row para c).held.print
       can-read para c =
           let a = at-row para c in
-          let new = kept-at was now same a.index a.kept a.at in
+          let new = held-at was now same a.index a.held a.at in
           let has : HasRead (rows_of entries para.id) new.0 = read a.index (rows_of entries para.id) new.0 a.rows new.1 in
           record {
             sorted = has.sorted;
@@ -209,7 +209,7 @@ module _ (paras : List Para) (was : List KeptParagraph) (are : AreOf paras was) 
       has-history : (para : Para) → Contains paras para → HasHistory entries now para
       has-history para c =
           let a = at-row para c in
-          let new = kept-at was now same a.index a.kept a.at in
+          let new = held-at was now same a.index a.held a.at in
           let has : HasRead (rows_of entries para.id) new.0 = read a.index (rows_of entries para.id) new.0 a.rows new.1 in
           let original : new.0.original ≡ chars para.original = new.2 ∙ a.of.original in
           let index : nat_abs para.id - 1 ≡ a.index = (let plus : a.index + 1 - 1 ≡ a.index = omega arith in ap (λ (z : ℤ). nat_abs z - 1) a.id ∙ plus) in
@@ -217,7 +217,7 @@ module _ (paras : List Para) (was : List KeptParagraph) (are : AreOf paras was) 
             sorted = has.sorted;
             its_own = has.same;
             each = subst (λ (t : List ℕ). AreSoundRows t has.sorted) original has.each;
-            kept = new.0;
+            held = new.0;
             at = ap (slice_get now) index ∙ new.1;
             history = has.history;
             taken = has.taken;

@@ -4,7 +4,7 @@ pub mod EntryRows
 pub mod FirstTables
 pub mod GroupedEntries
 pub mod JoinedBook
-pub mod KeptRows
+pub mod HeldRows
 pub mod MarkRows
 pub mod OrderedRows
 pub mod ParaOrder

@@ -1,20 +1,20 @@
--- Rows of marks, read in the order of their ids, beside kept paragraphs.
+-- Rows of marks, read in the order of their ids, beside held paragraphs.
 use Rattle.std.proofs.Common.{◌≡◌, ℕ, suc, ◌+◌, ◌-◌, ◌<◌, ◌≤◌, ℤ, pos, ◌≤ℤ◌, nat_abs, false, List, [], ◌∷◌, ◌++◌, map, length, take, set, get_or, Some, Contains, refl, sym, ap, subst, ◌∙◌, arith, inl, inr, IsPermutation, nat_eq, slice_get, chars, length-take-le}
 use Rattle.std.specs.List.{All, enumerate_from}
 use Rattle.std.proofs.lemmas.Bool.{cond_both, false_from_ne_true, eqb-true}
 use Rattle.std.proofs.lemmas.List.Elements.{All-contains}
 use Rattle.std.proofs.lemmas.List.Sorted.{All-permutation, IsPermutation-map, IsPermutation-sym}
 use Rattle.std.proofs.lemmas.Option.{slice_get-get_or, slice_get_within}
-use Rattle.desk_memory.specs.declared.marks.KeptMark.{KeptMark}
-use Rattle.desk_memory.specs.declared.paragraphs.Paragraph.{Paragraph as KeptParagraph}
+use Rattle.desk_memory.specs.declared.marks.HeldMark.{HeldMark}
+use Rattle.desk_memory.specs.declared.paragraphs.Paragraph.{Paragraph as HeldParagraph}
 use Rattle.desk_model.specs.Damage.{IsDamagedMark, IsNumber, IsSoundMarkRow, IsSpanned}
 use Rattle.desk_parts.specs.declared.file_table.FileTable.TheVariants as tables
 use Rattle.desk_parts.specs.FileRows.{HasUtf8Texts, spelled}
-use Rattle.desk_rebuild.specs.Rows.{AreMarksOf, AreOf, HasKept, HaveMarks, IsFirstId, IsWhole, without_marks}
-use Rattle.desk_rebuild.specs.Marks.{AreKeptOf, IsKeptOf, IsMarkOn, IsOnOne, mark_rule}
+use Rattle.desk_rebuild.specs.Rows.{AreMarksOf, AreOf, HasHeld, HaveMarks, IsFirstId, IsWhole, without_marks}
+use Rattle.desk_rebuild.specs.Marks.{AreHeldOf, IsHeldOf, IsMarkOn, IsOnOne, mark_rule}
 use Rattle.desk_rebuild.specs.OrderedRows.{AreInOrder, AreSoundUpTo, IsFirstUnsound, IsNext, IsSoundAt}
-use Rattle.desk_memory.specs.Kept.{mark_kept}
-use Rattle.desk_memory.specs.KeptMarks.{indexes_from, indexes_on}
+use Rattle.desk_memory.specs.Held.{mark_held}
+use Rattle.desk_memory.specs.HeldMarks.{indexes_from, indexes_on}
 use Rattle.desk_model.specs.Limits.{most_marks}
 use Rattle.desk_parts.specs.Rows.{Mark as MarkRow, Para}
 use Rattle.desk_model.specs.Shows.{mark_row_of}
@@ -25,23 +25,23 @@ use Rattle.desk_model.proofs.Lists.RowNumbers.{key-number, number-key, same_numb
 
 -- ---- rows beside paragraphs
 
-module _ (paras : List Para) (items : List KeptParagraph) (of : AreOf paras items) where
+module _ (paras : List Para) (items : List HeldParagraph) (of : AreOf paras items) where
   abbrev id_of : Para → ℤ
   id_of para = para.id
 
-  same-kept : (para : Para) (index : ℕ) (kept : KeptParagraph) → Contains paras para → para.id ≡ pos (index + 1) → slice_get items index ≡ Some kept → kept.print ≡ chars para.print
-  same-kept para index kept c is at =
-      let has = All-contains (HasKept items) paras para of.each c in
+  same-held : (para : Para) (index : ℕ) (held : HeldParagraph) → Contains paras para → para.id ≡ pos (index + 1) → slice_get items index ≡ Some held → held.print ≡ chars para.print
+  same-held para index held c is at =
+      let has = All-contains (HasHeld items) paras para of.each c in
       let place : nat_abs para.id - 1 ≡ index = ap (λ z. nat_abs z - 1) is ∙ omega arith in
-      let both : Some has.kept ≡ Some kept = sym has.at ∙ (ap (slice_get items) place ∙ at) in
-      let same : has.kept ≡ kept = cc in
-      ap (λ (k : KeptParagraph). k.print) (sym same) ∙ has.of.print
+      let both : Some has.held ≡ Some held = sym has.at ∙ (ap (slice_get items) place ∙ at) in
+      let same : has.held ≡ held = cc in
+      ap (λ (k : HeldParagraph). k.print) (sym same) ∙ has.of.print
 
   spanned : (row : MarkRow) → IsMarkOn items row → IsSpanned paras row
   spanned row on =
-      let within = slice_get_within items on.named.index on.kept on.named.at in
+      let within = slice_get_within items on.named.index on.held on.named.at in
       let para = number-key id_of paras (length items) of.ids (on.named.index + 1) (omega arith) (omega (arith, within)) in
-      let print = same-kept para.0 on.named.index on.kept para.1 para.2 on.named.at in
+      let print = same-held para.0 on.named.index on.held para.1 para.2 on.named.at in
       record {
         paragraph = para.0;
         there = para.1;
@@ -59,11 +59,11 @@ module _ (paras : List Para) (items : List KeptParagraph) (of : AreOf paras item
       let para = s.span.paragraph in
       let number = key-number id_of paras (length items) of.ids para s.span.there in
       let low = number.2 in
-      let has = All-contains (HasKept items) paras para of.each s.span.there in
+      let has = All-contains (HasHeld items) paras para of.each s.span.there in
       let next : number.0 ≡ nat_abs para.id - 1 + 1 = (let is : nat_abs para.id ≡ number.0 = ap nat_abs number.1 in omega (arith, is, low)) in
       let is : para.id ≡ pos (nat_abs para.id - 1 + 1) = number.1 ∙ ap pos next in
       record {
-        kept = has.kept;
+        held = has.held;
         named = record { index = nat_abs para.id - 1; is = sym s.span.named ∙ is; at = has.at };
         span = record {
           low = s.span.start;
@@ -92,67 +92,67 @@ module _ (paras : List Para) (items : List KeptParagraph) (of : AreOf paras item
     tells id first = first-told (mark_rule items) rows sorted moved up (IsSoundMarkRow paras rows) number-of sound-at at-sound id first
 
     -- nothing is damaged
-    pub whole : (marks : List KeptMark) → AreKeptOf items sorted marks → IsWhole (IsDamagedMark paras rows)
+    pub whole : (marks : List HeldMark) → AreHeldOf items sorted marks → IsWhole (IsDamagedMark paras rows)
     whole marks have = none-damaged (mark_rule items) rows sorted moved up (IsSoundMarkRow paras rows) number-of sound-at at-sound have.sound
 
 -- ---- the marks that the rows are
 
-kept-row : (n : ℕ) (row : MarkRow) (mark : KeptMark) → row.id ≡ pos n → IsKeptOf row mark → spelled tables.Mark row ≡ mark_row_of (mark_kept (n, mark))
-kept-row n row mark id kept = sym kept ∙ ap (λ (z : ℤ). record (mark_row_of (mark_kept (0, mark))) { id = z }) id
+held-row : (n : ℕ) (row : MarkRow) (mark : HeldMark) → row.id ≡ pos n → IsHeldOf row mark → spelled tables.Mark row ≡ mark_row_of (mark_held (n, mark))
+held-row n row mark id held = sym held ∙ ap (λ (z : ℤ). record (mark_row_of (mark_held (0, mark))) { id = z }) id
 
-kept-rows : (n : ℕ) (rows : List MarkRow) (marks : List KeptMark) → length marks ≡ length rows
-    → ((i : ℕ) (row : MarkRow) (mark : KeptMark) → slice_get rows i ≡ Some row → slice_get marks i ≡ Some mark → (row.id ≡ pos (n + i)) × IsKeptOf row mark)
-    → map (spelled tables.Mark) rows ≡ map mark_row_of (map mark_kept (enumerate_from n marks))
-kept-rows n [] [] long each = refl
-kept-rows n (r ∷ rs) (m ∷ ms) long each =
+held-rows : (n : ℕ) (rows : List MarkRow) (marks : List HeldMark) → length marks ≡ length rows
+    → ((i : ℕ) (row : MarkRow) (mark : HeldMark) → slice_get rows i ≡ Some row → slice_get marks i ≡ Some mark → (row.id ≡ pos (n + i)) × IsHeldOf row mark)
+    → map (spelled tables.Mark) rows ≡ map mark_row_of (map mark_held (enumerate_from n marks))
+held-rows n [] [] long each = refl
+held-rows n (r ∷ rs) (m ∷ ms) long each =
     let here = each 0 r m refl refl in
     let own : n + 0 ≡ n = omega arith in
-    let rest = kept-rows (n + 1) rs ms (omega arith) (λ i row mark at_row at_mark.
+    let rest = held-rows (n + 1) rs ms (omega arith) (λ i row mark at_row at_mark.
     let later = each (suc i) row mark at_row at_mark in
     let next : n + suc i ≡ n + 1 + i = omega arith in
     (later.0 ∙ ap pos next, later.1)) in
-    λ i. kept-row n r m (here.0 ∙ ap pos own) here.1 i ∷ rest i
-kept-rows n rows marks long each = absurd (omega arith)
+    λ i. held-row n r m (here.0 ∙ ap pos own) here.1 i ∷ rest i
+held-rows n rows marks long each = absurd (omega arith)
 
-pub are-marks : (items : List KeptParagraph) (rows sorted : List MarkRow) (marks : List KeptMark) → IsPermutation rows sorted → AreKeptOf items sorted marks → AreMarksOf rows marks
+pub are-marks : (items : List HeldParagraph) (rows sorted : List MarkRow) (marks : List HeldMark) → IsPermutation rows sorted → AreHeldOf items sorted marks → AreMarksOf rows marks
 are-marks items rows sorted marks moved have =
-    subst (IsPermutation (map (spelled tables.Mark) rows)) (kept-rows 1 sorted marks have.count_is (λ i row mark at_row at_mark.
+    subst (IsPermutation (map (spelled tables.Mark) rows)) (held-rows 1 sorted marks have.count_is (λ i row mark at_row at_mark.
     let next : i + 1 ≡ 1 + i = omega arith in
     ((have.sound i row (slice_get_within sorted i row at_row) at_row).0.next.1 ∙ ap pos next, have.each i row mark at_row at_mark)))
     (IsPermutation-map (spelled tables.Mark) _ _ moved)
 
 -- there are no more than there may be
-pub few-kept : (items : List KeptParagraph) (sorted : List MarkRow) (marks : List KeptMark) → AreKeptOf items sorted marks → length marks ≤ most_marks
-few-kept items sorted marks have =
+pub few-held : (items : List HeldParagraph) (sorted : List MarkRow) (marks : List HeldMark) → AreHeldOf items sorted marks → length marks ≤ most_marks
+few-held items sorted marks have =
     let few : length sorted ≤ most_marks = few-sound (mark_rule items) sorted (length sorted) (omega arith) have.sound in
     subst (λ n. n ≤ most_marks) (sym have.count_is) few
 
 -- each mark is on a paragraph
-pub on-ones : (items : List KeptParagraph) (sorted : List MarkRow) (marks : List KeptMark) → AreKeptOf items sorted marks → All (IsOnOne (length items)) marks
+pub on-ones : (items : List HeldParagraph) (sorted : List MarkRow) (marks : List HeldMark) → AreHeldOf items sorted marks → All (IsOnOne (length items)) marks
 on-ones items sorted marks have k d less =
     let there : k < length sorted = omega (arith, have.count_is, less) in
     let row = slice_get-there sorted k there in
     let its = (have.sound k row.0 there row.1).0.sound in
     let same = same_number (get_or marks k d).paragraph (its.named.index + 1)
     (ap (λ (r : MarkRow). r.para) (have.each k row.0 (get_or marks k d) row.1 (slice_get-get_or marks k d less)) ∙ its.named.is) in
-    (omega (arith, same), omega (arith, same, slice_get_within items its.named.index its.kept its.named.at))
+    (omega (arith, same), omega (arith, same, slice_get_within items its.named.index its.held its.named.at))
 
 -- and each row's text is UTF-8
-pub all-texts : (items : List KeptParagraph) (rows sorted : List MarkRow) (marks : List KeptMark) → IsPermutation rows sorted → AreKeptOf items sorted marks → All (HasUtf8Texts tables.Mark) rows
+pub all-texts : (items : List HeldParagraph) (rows sorted : List MarkRow) (marks : List HeldMark) → IsPermutation rows sorted → AreHeldOf items sorted marks → All (HasUtf8Texts tables.Mark) rows
 all-texts items rows sorted marks moved have =
     All-permutation (HasUtf8Texts tables.Mark) _ _ (IsPermutation-sym _ _ moved) (λ k d within.
     (have.sound k (get_or sorted k d) within (slice_get-get_or sorted k d within)).1)
 
 -- ---- the indexes of a paragraph's marks
 
-few-indexes : (id i : ℕ) (ms : List KeptMark) → length (indexes_from id i ms) ≤ length ms
+few-indexes : (id i : ℕ) (ms : List HeldMark) → length (indexes_from id i ms) ≤ length ms
 few-indexes id i [] = omega arith
 few-indexes id i (m ∷ ms) =
     let rest = few-indexes id (i + 1) ms in
     cond_both (nat_eq m.paragraph id) (i ∷ indexes_from id (i + 1) ms) (indexes_from id (i + 1) ms) (λ (xs : List ℕ). length xs ≤ suc (length ms))
     (λ e. omega (arith, rest)) (λ e. omega (arith, rest))
 
-module _ (marks : List KeptMark) (i : ℕ) (mark : KeptMark) (items : List KeptParagraph) (was : KeptParagraph)
+module _ (marks : List HeldMark) (i : ℕ) (mark : HeldMark) (items : List HeldParagraph) (was : HeldParagraph)
     (at : slice_get marks i ≡ Some mark) (on : IsOnOne (length items) mark) (there : slice_get items (mark.paragraph - 1) ≡ Some was)
     (have : HaveMarks (take i marks) items) where
   pub few-marks : length was.marks ≤ length marks
@@ -162,16 +162,16 @@ module _ (marks : List KeptMark) (i : ℕ) (mark : KeptMark) (items : List KeptP
       let long = length-take-le i marks (omega (arith, less)) in
       subst (λ (xs : List ℕ). length xs ≤ length marks) (sym (have (mark.paragraph - 1) was there)) (omega (arith, few, long, less))
 
-  pub shared : (new : KeptParagraph) → new.marks ≡ was.marks ++ i ∷ [] → HaveMarks (take (i + 1) marks) (set items (mark.paragraph - 1) new)
-  shared new pushed index kept here =
+  pub shared : (new : HeldParagraph) → new.marks ≡ was.marks ++ i ∷ [] → HaveMarks (take (i + 1) marks) (set items (mark.paragraph - 1) new)
+  shared new pushed index held here =
       let low = on.0 in
       let long = length-take-le i marks (omega (arith, slice_get_within marks i mark at)) in
       let more = take-more marks i mark at in
       let own : mark.paragraph - 1 + 1 ≡ mark.paragraph = omega (arith, low) in
-      elim (set-cases items (mark.paragraph - 1) index new kept here) [
+      elim (set-cases items (mark.paragraph - 1) index new held here) [
         | inl same ↦
             let id : mark.paragraph ≡ index + 1 = (let is = same.0 in omega (arith, is, low)) in
-            ap (λ (k : KeptParagraph). k.marks) same.1
+            ap (λ (k : HeldParagraph). k.marks) same.1
             ∙ (pushed
             ∙ (ap (λ (xs : List ℕ). xs ++ i ∷ []) (have (mark.paragraph - 1) was there ∙ ap (λ (n : ℕ). indexes_on n (take i marks)) own)
             ∙ (ap (λ (n : ℕ). indexes_on mark.paragraph (take i marks) ++ n ∷ []) (sym long)
@@ -181,10 +181,10 @@ module _ (marks : List KeptMark) (i : ℕ) (mark : KeptMark) (items : List KeptP
         | inr other ↦
             let apart : nat_eq mark.paragraph (index + 1) ≡ false =
             false_from_ne_true (nat_eq mark.paragraph (index + 1)) (λ e. other.0 (let is = eqb-true mark.paragraph (index + 1) e in omega (arith, is))) in
-            have index kept other.1
+            have index held other.1
             ∙ (sym (indexes-push_other (index + 1) (take i marks) mark apart)
             ∙ ap (indexes_on (index + 1)) (sym more))
       ]
 
-  pub shared-same : (new : KeptParagraph) → without_marks new ≡ without_marks was → map without_marks (set items (mark.paragraph - 1) new) ≡ map without_marks items
+  pub shared-same : (new : HeldParagraph) → without_marks new ≡ without_marks was → map without_marks (set items (mark.paragraph - 1) new) ≡ map without_marks items
   shared-same new same = map-set_same without_marks items (mark.paragraph - 1) was new there same

@@ -11,7 +11,7 @@ use Rattle.std.proofs.lemmas.List.Elements.{Contains-append_cases, Contains-appe
 use Rattle.std.proofs.lemmas.List.Sorted.{Contains-permutation, IsPermutation-sym, length_permutation, ranks_by, sorted_far}
 use Rattle.std.proofs.lemmas.Option.{get_or_from_slice_get, slice_get_within}
 use Rattle.desk_rebuild.specs.Rows.{IsFirstId, IsWhole}
-use Rattle.desk_rebuild.specs.OrderedRows.{AreInOrder, AreKeptUpTo, AreSoundUpTo, IsFirstUnsound, IsNext, IsSoundAt, RowRule}
+use Rattle.desk_rebuild.specs.OrderedRows.{AreHeldUpTo, AreInOrder, AreSoundUpTo, IsFirstUnsound, IsNext, IsSoundAt, RowRule}
 use Rattle.desk_model.specs.Damage.{IsNumber, rows_with}
 use Rattle.desk_model.proofs.Lists.Items.{Contains-there, drop-there, here-at, push-cases}
 use Rattle.desk_model.proofs.Lists.Members.{Contains-here, Contains-none}
@@ -138,21 +138,21 @@ module _ {X : Type 0} (rule : RowRule X) (rows : List X) where
             subst (λ x. IsSoundAt rule i x × rule.HasUtf8Texts x) same (subst (λ k. IsSoundAt rule k row) is own, texts)
       ]
 
-  -- a sound row more, and what is kept of it
-  pub kept-more : {K : Type 0} (IsKeptOf : X → K → Type 0) (count : ℕ) (kept : List K) (row : X) (item : K) → AreKeptUpTo rule IsKeptOf count rows kept
-      → slice_get rows count ≡ Some row → IsSoundAt rule count row → rule.HasUtf8Texts row → IsKeptOf row item → AreKeptUpTo rule IsKeptOf (count + 1) rows (kept ++ item ∷ [])
-  kept-more IsKeptOf count kept row item have here own texts of =
+  -- a sound row more, and what is held of it
+  pub held-more : {K : Type 0} (IsHeldOf : X → K → Type 0) (count : ℕ) (held : List K) (row : X) (item : K) → AreHeldUpTo rule IsHeldOf count rows held
+      → slice_get rows count ≡ Some row → IsSoundAt rule count row → rule.HasUtf8Texts row → IsHeldOf row item → AreHeldUpTo rule IsHeldOf (count + 1) rows (held ++ item ∷ [])
+  held-more IsHeldOf count held row item have here own texts of =
       record {
         sound = sound-more count row have.sound here own texts;
-        count_is = length-append kept (item ∷ []) ∙ ap (λ n. n + 1) have.count_is;
-        each = λ i r k at_row at_kept.
-            elim (push-cases kept item i k at_kept) [
+        count_is = length-append held (item ∷ []) ∙ ap (λ n. n + 1) have.count_is;
+        each = λ i r k at_row at_held.
+            elim (push-cases held item i k at_held) [
               | inl early ↦ have.each i r k at_row early.1
               | inr last ↦
                   let is : count ≡ i = sym have.count_is ∙ sym last.0 in
                   let both : Some row ≡ Some r = sym here ∙ (ap (slice_get rows) is ∙ at_row) in
                   let same : row ≡ r = cc in
-                  subst (λ x. IsKeptOf x k) same (subst (IsKeptOf row) last.1 of)
+                  subst (λ x. IsHeldOf x k) same (subst (IsHeldOf row) last.1 of)
             ];
       }
 

@@ -3,12 +3,12 @@ use Rattle.std.proofs.Common.{◌≡◌, ℕ, suc, ◌+◌, ◌-◌, ◌<◌, �
 use Rattle.std.proofs.lemmas.List.{length-map}
 use Rattle.std.proofs.lemmas.List.Sorted.{All-permutation, Contains-permutation, IsPermutation-map, IsPermutation-sym, length_permutation}
 use Rattle.std.proofs.lemmas.Option.{slice_get-get_or, slice_get_within, same_Some, slice_get-map}
-use Rattle.desk_memory.specs.declared.paragraphs.Paragraph.{Paragraph as KeptParagraph}
+use Rattle.desk_memory.specs.declared.paragraphs.Paragraph.{Paragraph as HeldParagraph}
 use Rattle.desk_parts.specs.declared.file_table.FileTable.TheVariants as file
 use Rattle.desk_parts.specs.FileRows.{HasUtf8Texts}
-use Rattle.desk_rebuild.specs.Rows.{AreInPlaces, AreOf, HasKept, IsWhole}
-use Rattle.desk_rebuild.specs.Paras.{AreKeptOf, para_rule}
-use Rattle.desk_memory.specs.Kept.{KeptTables}
+use Rattle.desk_rebuild.specs.Rows.{AreInPlaces, AreOf, HasHeld, IsWhole}
+use Rattle.desk_rebuild.specs.Paras.{AreHeldOf, para_rule}
+use Rattle.desk_memory.specs.Held.{HeldTables}
 use Rattle.desk_rebuild.specs.OrderedRows.{AreSoundUpTo}
 use Rattle.desk_parts.specs.Rows.{Para, Tab}
 use Rattle.desk_model.proofs.Lists.Items.{Contains-there, slice_get-there}
@@ -47,20 +47,20 @@ ids-at rows order long each = absurd (omega arith)
 
 -- ---- the paragraphs that the rows are
 
-module _ (tables : KeptTables) (rows sorted : List Para) (moved : IsPermutation rows sorted) (items : List KeptParagraph) (order : List ℕ)
-    (have : AreKeptOf tables (length sorted) sorted items order) where
+module _ (tables : HeldTables) (rows sorted : List Para) (moved : IsPermutation rows sorted) (items : List HeldParagraph) (order : List ℕ)
+    (have : AreHeldOf tables (length sorted) sorted items order) where
   sound : AreSoundUpTo (para_rule tables sorted) (length sorted) sorted
-  sound = have.kept.sound
+  sound = have.held.sound
 
-  has-kept : (index : ℕ) (row : Para) → index < length sorted → slice_get sorted index ≡ Some row → HasKept items row
-  has-kept index row less at =
+  has-held : (index : ℕ) (row : Para) → index < length sorted → slice_get sorted index ≡ Some row → HasHeld items row
+  has-held index row less at =
       let s = (sound index row less at).0 in
-      let kept = slice_get-there items index (let count = have.kept.count_is in omega (arith, less, count)) in
+      let held = slice_get-there items index (let count = have.held.count_is in omega (arith, less, count)) in
       let place : index ≡ nat_abs row.id - 1 = (let is : nat_abs row.id ≡ index + 1 = ap nat_abs s.next.1 in omega (arith, is)) in
       record {
-        kept = kept.0;
-        at = ap (slice_get items) (sym place) ∙ kept.1;
-        of = (have.kept.each index row kept.0 at kept.1).of;
+        held = held.0;
+        at = ap (slice_get items) (sym place) ∙ held.1;
+        of = (have.held.each index row held.0 at held.1).of;
         original = s.sound.para.original;
         print = s.sound.para.print;
       }
@@ -70,14 +70,14 @@ module _ (tables : KeptTables) (rows sorted : List Para) (moved : IsPermutation 
       let back = IsPermutation-sym _ _ moved in
       record {
         texts = All-permutation (HasUtf8Texts file.Para) _ _ back (λ k d within. (sound k (get_or sorted k d) within (slice_get-get_or sorted k d within)).1);
-        ids = subst (IsPermutation (map key rows)) (all-numbers (para_rule tables sorted) sorted sound ∙ ap (numbers 1) (sym have.kept.count_is)) (IsPermutation-map key _ _ moved);
-        each = All-permutation (HasKept items) _ _ back (λ k d within. has-kept k (get_or sorted k d) within (slice_get-get_or sorted k d within));
+        ids = subst (IsPermutation (map key rows)) (all-numbers (para_rule tables sorted) sorted sound ∙ ap (numbers 1) (sym have.held.count_is)) (IsPermutation-map key _ _ moved);
+        each = All-permutation (HasHeld items) _ _ back (λ k d within. has-held k (get_or sorted k d) within (slice_get-get_or sorted k d within));
       }
 
-  pub unmarked : All (λ (kept : KeptParagraph). kept.marks ≡ []) items
+  pub unmarked : All (λ (held : HeldParagraph). held.marks ≡ []) items
   unmarked k d within =
-      let row = slice_get-there sorted k (let count = have.kept.count_is in omega (arith, within, count)) in
-      (have.kept.each k row.0 (get_or items k d) row.1 (slice_get-get_or items k d within)).marks
+      let row = slice_get-there sorted k (let count = have.held.count_is in omega (arith, within, count)) in
+      (have.held.each k row.0 (get_or items k d) row.1 (slice_get-get_or items k d within)).marks
 
   -- ---- and by place
 

@@ -1,4 +1,4 @@
--- Rows of paragraphs, read in the order of their ids, beside kept tables.
+-- Rows of paragraphs, read in the order of their ids, beside held tables.
 use Rattle.std.proofs.Common.{◌≡◌, Option, None, ℕ, zero, suc, ◌+◌, ◌-◌, ◌<◌, ℤ, pos, ◌≤ℤ◌, List, [], ◌∷◌, ◌++◌, map, length, take, drop, set, Some, Contains, refl, sym, ap, subst, ◌∙◌, arith, inl, inr, nat_cmp, ◌≢◌, IsUtf8, nat_eq, option_map, slice_get, chars, length-set, take-append-drop}
 use Rattle.std.specs.Cmp.Lexicographic.{pointwise, slice_cmp}
 use Rattle.std.specs.List.Sorted.{IsPermutation, IsStrictlySortedBy}
@@ -13,21 +13,21 @@ use Rattle.louis_table.specs.Meaning.{Meaning}
 use Rattle.louis_table.specs.Table.{Means}
 use Rattle.louis_table.proofs.OneMeaning.{one_meaning}
 use Rattle.louis_translate.specs.Position.{AreDefined}
-use Rattle.desk_memory.specs.declared.paragraphs.Paragraph.{Paragraph as KeptParagraph}
+use Rattle.desk_memory.specs.declared.paragraphs.Paragraph.{Paragraph as HeldParagraph}
 use Rattle.desk_memory.specs.declared.tables.BookTable.{BookTable}
 use Rattle.desk_model.specs.Damage.{IsDamagedPara, IsItsTable, IsNumber, IsSoundParaRow, IsWithin}
 use Rattle.desk_parts.specs.declared.file_table.FileTable.TheVariants as file
 use Rattle.desk_parts.specs.FileRows.{HasUtf8Texts, spelled}
 use Rattle.desk_rebuild.specs.Rows.{AreTables, IsFirstId, IsWhole}
-use Rattle.desk_rebuild.specs.Paras.{AreKeptOf, ArePlacedUpTo, IsFree, IsKeptOf, IsParaAt, IsParaOn, para_rule}
-use Rattle.desk_memory.specs.Kept.{KeptTables}
+use Rattle.desk_rebuild.specs.Paras.{AreHeldOf, ArePlacedUpTo, IsFree, IsHeldOf, IsParaAt, IsParaOn, para_rule}
+use Rattle.desk_memory.specs.Held.{HeldTables}
 use Rattle.desk_rebuild.specs.OrderedRows.{AreInOrder, AreSoundUpTo, IsFirstUnsound, IsNext, IsSoundAt, RowRule}
 use Rattle.desk_model.specs.Limits.{most_paragraphs}
 use Rattle.desk_parts.specs.Rows.{Para, Tab}
 use Rattle.desk_model.specs.Shows.{tab_of}
 use Rattle.desk_model.proofs.Lists.Items.{Contains-there, drop-there, lookup-map, set-cases, slice_get-set_other, slice_get-set_same, slice_get-there}
 use Rattle.desk_model.proofs.Lists.Members.{Contains-map}
-use Rattle.desk_rebuild.proofs.OrderedRows.{from-place, kept-more as one-more, tells as first-told, whole as none-damaged}
+use Rattle.desk_rebuild.proofs.OrderedRows.{from-place, held-more as one-more, tells as first-told, whole as none-damaged}
 use Rattle.desk_model.proofs.Lists.RowNumbers.{Contains-from_map, pos_le, same_number}
 use Rattle.desk_model.proofs.Damage.SoundRows.{same_bytes}
 use Rattle.desk_model.proofs.Lists.Stable.{at_least, le_from}
@@ -37,7 +37,7 @@ use Rattle.desk_model.proofs.Books.HistoryLists.{slice_get-take}
 
 -- ---- rows beside tables
 
-module _ (tabs : List Tab) (tables : KeptTables) (are : AreTables tabs tables) where
+module _ (tabs : List Tab) (tables : HeldTables) (are : AreTables tabs tables) where
   abbrev text_of_entry : List ℕ × BookTable → List ℕ × List ℕ
   text_of_entry entry = (entry.0, entry.1.text)
 
@@ -89,7 +89,7 @@ module _ (tabs : List Tab) (tables : KeptTables) (are : AreTables tabs tables) w
 
 -- ---- a row more
 
-module _ (tables : KeptTables) (count : ℕ) (rows : List Para) (order : List ℕ) (have : ArePlacedUpTo count rows order) (row : Para) where
+module _ (tables : HeldTables) (count : ℕ) (rows : List Para) (order : List ℕ) (have : ArePlacedUpTo count rows order) (row : Para) where
   -- the place of the row is free where no row before has it
   pub free-place : IsParaAt tables rows count row → (index : ℕ) × IsFree order row.place index
   free-place s =
@@ -159,19 +159,19 @@ module _ (tables : KeptTables) (count : ℕ) (rows : List Para) (order : List �
       }
 
 -- a sound row more, its paragraph, and its number at its place
-pub kept-more : (tables : KeptTables) (count : ℕ) (rows : List Para) (items : List KeptParagraph) (order : List ℕ) → AreKeptOf tables count rows items order
-    → (row : Para) (kept : KeptParagraph) (index : ℕ) → slice_get rows count ≡ Some row → IsNext most_paragraphs count row.id → IsFree order row.place index
-    → IsParaOn tables row → HasUtf8Texts file.Para row → IsKeptOf row kept → AreKeptOf tables (count + 1) rows (items ++ kept ∷ []) (set order index (count + 1))
-kept-more tables count rows items order have row kept index here next free on texts of =
+pub held-more : (tables : HeldTables) (count : ℕ) (rows : List Para) (items : List HeldParagraph) (order : List ℕ) → AreHeldOf tables count rows items order
+    → (row : Para) (held : HeldParagraph) (index : ℕ) → slice_get rows count ≡ Some row → IsNext most_paragraphs count row.id → IsFree order row.place index
+    → IsParaOn tables row → HasUtf8Texts file.Para row → IsHeldOf row held → AreHeldOf tables (count + 1) rows (items ++ held ∷ []) (set order index (count + 1))
+held-more tables count rows items order have row held index here next free on texts of =
     record {
-      kept = one-more (para_rule tables rows) rows IsKeptOf count items row kept have.kept here
+      held = one-more (para_rule tables rows) rows IsHeldOf count items row held have.held here
           (record { next = next; sound = para-at tables count rows order have.places row index free on }) texts of;
       places = placed-more tables count rows order have.places row index free here;
     }
 
 -- ---- what is reported
 
-module _ (tabs : List Tab) (tables : KeptTables) (are : AreTables tabs tables) where
+module _ (tabs : List Tab) (tables : HeldTables) (are : AreTables tabs tables) where
   abbrev key : Para → ℤ
   key row = row.id
 

@@ -5,14 +5,14 @@ use Rattle.std.specs.Cmp.Lexicographic.{nat_list_cmp_total, pointwise, slice_cmp
 use Rattle.std.proofs.lemmas.Bool.{both_ways, cases_Bool}
 use Rattle.std.proofs.lemmas.List.{length-map}
 use Rattle.desk_memory.specs.declared.history.Correction.{Correction}
-use Rattle.desk_memory.specs.declared.history.KeptEntry.{KeptEntry}
-use Rattle.desk_memory.specs.declared.history.KeptEntry.TheVariants.{Corrects as KeptCorrects, Undoes as KeptUndoes}
+use Rattle.desk_memory.specs.declared.history.HeldEntry.{HeldEntry}
+use Rattle.desk_memory.specs.declared.history.HeldEntry.TheVariants.{Corrects as HeldCorrects, Undoes as HeldUndoes}
 use Rattle.desk_rebuild.specs.declared.history.Next.{Next}
 use Rattle.desk_rebuild.specs.declared.history.Reading.{Reading}
 use Rattle.desk_model.specs.Book.{Corrects, Entry, Replacement, Undoes}
 use Rattle.desk_memory.specs.Histories.{IsCorrection, replaced_by}
 use Rattle.desk_model.specs.Damage.{IsSoundUndo, entry_of}
-use Rattle.desk_memory.specs.Histories.{IsNewestInForce, LeavePrint, TookFrom, entries_kept, entry_kept}
+use Rattle.desk_memory.specs.Histories.{IsNewestInForce, LeavePrint, TookFrom, entries_held, entry_held}
 use Rattle.desk_rebuild.specs.History.{AreSoundRows, IsCorrecting, IsNext, IsRead}
 use Rattle.desk_model.specs.Limits.{most_entries}
 use Rattle.desk_model.specs.Name.{IsProofreaderName}
@@ -32,16 +32,16 @@ use Rattle.desk_model.proofs.Damage.UndamagedRows.{short-list}
 
 -- ---- an undo
 
-pub IsNext-undo : (original : List ℕ) (entries : List KeptEntry) (print : List ℕ) → LeavePrint original entries print → (number : ℕ) (c : Correction) → IsNewestInForce entries number c
-    → (row : NamedCorr) (next : Next) → IsSoundUndo (entries_kept entries) row → row.entry.start ≡ pos number → next.entry ≡ KeptUndoes number
-    → next.print.items ≡ replaced_by c.start (length c.text) c.taken print → IsNext original (entries_kept entries) row next
+pub IsNext-undo : (original : List ℕ) (entries : List HeldEntry) (print : List ℕ) → LeavePrint original entries print → (number : ℕ) (c : Correction) → IsNewestInForce entries number c
+    → (row : NamedCorr) (next : Next) → IsSoundUndo (entries_held entries) row → row.entry.start ≡ pos number → next.entry ≡ HeldUndoes number
+    → next.print.items ≡ replaced_by c.start (length c.text) c.taken print → IsNext original (entries_held entries) row next
 IsNext-undo original entries print left number c force row next undo start entry_is print_is =
-    let h = entries_kept entries in
+    let h = entries_held entries in
     let entry : Undoes number ≡ entry_of row = sym (entry-undoes row undo.kind ∙ ap (λ z. Undoes (nat_abs z)) start) in
     record {
       fits = inr undo;
       sound = subst (IsSoundEntry original h) entry (ap (option_map (λ (correction : ℕ × Replacement). correction.0)) force.newest_is);
-      entry = ap entry_kept entry_is ∙ entry;
+      entry = ap entry_held entry_is ∙ entry;
       taken = subst (TookFrom (corrected_print original h)) (sym entry_is) tt;
       print = print_is ∙ (undone-print original entries print left number c force ∙ ap (λ (e : Entry). corrected_print original (h ++ e ∷ [])) entry);
     }
@@ -49,7 +49,7 @@ IsNext-undo original entries print left number c force row next undo start entry
 -- ---- a correction
 
 pub IsCorrecting-made : (print : List ℕ) (row : NamedCorr) (start count : ℕ) (c : Correction) (next : Next) → row.entry.kind ≡ pos 0 → row.entry.start ≡ pos start → row.entry.len ≡ pos count → start + count ≤ length print
-    → IsUnbarred (chars row.entry.body) → IsProofreaderName (chars row.who) → IsCorrection print start count (chars row.entry.body) (chars row.who) c → next.entry ≡ KeptCorrects c
+    → IsUnbarred (chars row.entry.body) → IsProofreaderName (chars row.who) → IsCorrection print start count (chars row.entry.body) (chars row.who) c → next.entry ≡ HeldCorrects c
     → next.print.items ≡ replaced_by start count (chars row.entry.body) print → IsCorrecting print row next
 IsCorrecting-made print row start count c next kind starts counts span text who made entry_is print_is =
     let first : nat_abs row.entry.start ≡ start = ap nat_abs starts in
@@ -64,7 +64,7 @@ IsCorrecting-made print row start count c next kind starts counts span text who 
         text = text;
         who = who;
       };
-      entry = ap entry_kept entry_is
+      entry = ap entry_held entry_is
           ∙ (entry-correction print start count (chars row.entry.body) (chars row.who) c made span
           ∙ ((λ i. Corrects (record { start = sym first i; count = sym many i; text = chars row.entry.body }) (chars row.who)) ∙ sym (entry-corrects row kind)));
       taken = subst (TookFrom print) (sym entry_is) (TookFrom-correction print start count (chars row.entry.body) (chars row.who) c made span);
@@ -149,5 +149,5 @@ same-print one other differs is =
 pub few-read : (original : List ℕ) (rows : List NamedCorr) (reading : Reading) → AreSoundRows original rows → IsRead original rows reading
     → length reading.entries.items ≤ most_entries
 few-read original rows reading sound read =
-    subst (λ n. n ≤ most_entries) (sym (sym (length-map reading.entries.items entry_kept) ∙ (ap length read.entries ∙ length-map rows entry_of)))
+    subst (λ n. n ≤ most_entries) (sym (sym (length-map reading.entries.items entry_held) ∙ (ap length read.entries ∙ length-map rows entry_of)))
     (short-list rows most_entries (λ i row at. (sound i row at).room))

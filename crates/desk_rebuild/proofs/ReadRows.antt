@@ -3,12 +3,12 @@ use Rattle.std.proofs.Common.{◌≡◌, ℕ, ◌+◌, ◌<◌, ◌≤◌, pos, 
 use Rattle.std.proofs.lemmas.Bool.{cases_eq}
 use Rattle.std.proofs.lemmas.List.{length-map, length-take-le, map-append}
 use Rattle.std.proofs.lemmas.Option.{slice_get_within}
-use Rattle.desk_memory.specs.declared.history.KeptEntry.{KeptEntry}
+use Rattle.desk_memory.specs.declared.history.HeldEntry.{HeldEntry}
 use Rattle.desk_rebuild.specs.declared.history.Next.{Next}
 use Rattle.desk_rebuild.specs.declared.history.Reading.{Reading}
 use Rattle.desk_model.specs.Book.{Entry}
 use Rattle.desk_model.specs.Damage.{IsSoundEntryRow, entry_of, history_of}
-use Rattle.desk_memory.specs.Histories.{HaveTaken, entries_kept, entry_kept}
+use Rattle.desk_memory.specs.Histories.{HaveTaken, entries_held, entry_held}
 use Rattle.desk_rebuild.specs.History.{AreSoundRows, IsFit, IsNext, IsRead, IsSoundNext}
 use Rattle.desk_model.specs.Limits.{most_entries, most_print}
 use Rattle.desk_model.specs.Print.{corrected_print}
@@ -21,16 +21,16 @@ use Rattle.desk_model.proofs.Lists.Items.{take-more}
 -- ---- one row more
 
 module _ (original : List ℕ) (rows : List NamedCorr) (reading : Reading) (is : IsRead original rows reading) (row : NamedCorr) where
-  abbrev entries : List KeptEntry
+  abbrev entries : List HeldEntry
   entries = reading.entries.items
 
   pub as-many : length reading.entries.items ≡ length rows
-  as-many = sym (length-map entries entry_kept) ∙ (ap length is.entries ∙ length-map rows entry_of)
+  as-many = sym (length-map entries entry_held) ∙ (ap length is.entries ∙ length-map rows entry_of)
 
-  pub unfit-next : ¬ IsFit original (entries_kept reading.entries.items) row → ¬ IsSoundNext original rows row
+  pub unfit-next : ¬ IsFit original (entries_held reading.entries.items) row → ¬ IsSoundNext original rows row
   unfit-next unfit sound = unfit (subst (λ (h : List Entry). IsFit original h row) (sym is.entries) sound.fits)
 
-  module _ (next : Next) (follows : IsNext original (entries_kept reading.entries.items) row next) where
+  module _ (next : Next) (follows : IsNext original (entries_held reading.entries.items) row next) where
     print_is : next.print.items ≡ corrected_print original (history_of (rows ++ row ∷ []))
     print_is = follows.print ∙ (ap (λ (h : List Entry). corrected_print original (h ++ entry_of row ∷ [])) is.entries ∙ ap (corrected_print original) (sym (map-append entry_of rows (row ∷ []))))
 
@@ -47,15 +47,15 @@ module _ (original : List ℕ) (rows : List NamedCorr) (reading : Reading) (is :
 
     pub read-next : (new : Reading) → new.entries.items ≡ reading.entries.items ++ next.entry ∷ [] → new.print.items ≡ next.print.items → IsRead original (rows ++ row ∷ []) new
     read-next new more printed =
-        let kept : entries_kept new.entries.items ≡ entries_kept entries ++ entry_of row ∷ [] =
-        ap entries_kept more ∙ (map-append entry_kept entries (next.entry ∷ []) ∙ ap (λ (e : Entry). entries_kept entries ++ e ∷ []) follows.entry) in
+        let held : entries_held new.entries.items ≡ entries_held entries ++ entry_of row ∷ [] =
+        ap entries_held more ∙ (map-append entry_held entries (next.entry ∷ []) ∙ ap (λ (e : Entry). entries_held entries ++ e ∷ []) follows.entry) in
         record {
           left = record {
-            sound = subst (AreSoundEntries original) (sym kept) (AreSoundEntries-push original (entries_kept entries) (entry_of row) is.left.sound follows.sound);
+            sound = subst (AreSoundEntries original) (sym held) (AreSoundEntries-push original (entries_held entries) (entry_of row) is.left.sound follows.sound);
             taken = subst (HaveTaken original) (sym more) (HaveTaken-push original entries next.entry is.left.taken follows.taken);
-            print_is = printed ∙ (follows.print ∙ ap (corrected_print original) (sym kept));
+            print_is = printed ∙ (follows.print ∙ ap (corrected_print original) (sym held));
           };
-          entries = kept ∙ (ap (λ (h : List Entry). h ++ entry_of row ∷ []) is.entries ∙ sym (map-append entry_of rows (row ∷ [])));
+          entries = held ∙ (ap (λ (h : List Entry). h ++ entry_of row ∷ []) is.entries ∙ sym (map-append entry_of rows (row ∷ [])));
         }
 
 -- ---- all rows
@@ -110,9 +110,9 @@ unsound-at original rows index row at unsound each = unsound (next-from_row orig
 pub nothing-read : (original : List ℕ) (reading : Reading) → reading.entries.items ≡ [] → reading.print.items ≡ original → IsRead original [] reading
 nothing-read original reading none printed = record {
   left = record {
-    sound = subst (λ (es : List KeptEntry). AreSoundEntries original (entries_kept es)) (sym none) (λ i e at. absurd (cc));
+    sound = subst (λ (es : List HeldEntry). AreSoundEntries original (entries_held es)) (sym none) (λ i e at. absurd (cc));
     taken = subst (HaveTaken original) (sym none) (λ i e at. absurd (cc));
-    print_is = printed ∙ ap (λ (es : List KeptEntry). corrected_print original (entries_kept es)) (sym none);
+    print_is = printed ∙ ap (λ (es : List HeldEntry). corrected_print original (entries_held es)) (sym none);
   };
-  entries = ap entries_kept none;
+  entries = ap entries_held none;
 }

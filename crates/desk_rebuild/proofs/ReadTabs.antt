@@ -26,7 +26,7 @@ use Rattle.desk_parts.specs.declared.file_table.FileTable.TheVariants as file
 use Rattle.desk_parts.specs.FileRows.{HasUtf8Texts, spelled}
 use Rattle.desk_rebuild.specs.Rows.{AreTables, IsWhole, TellsDamage}
 use Rattle.desk_rebuild.specs.Tabs.{AreRead, MayCome, TellsFirstUnsound, TellsNoMeaning, TellsUnsoundTab, rows_of, tab_order}
-use Rattle.desk_memory.specs.Kept.{KeptTables, with_table}
+use Rattle.desk_memory.specs.Held.{HeldTables, with_table}
 use Rattle.desk_model.specs.Limits.{most_tables}
 use Rattle.desk_parts.specs.Rows.{StoredTab, Tab}
 use Rattle.desk_model.specs.Shows.{tab_of}
@@ -129,7 +129,7 @@ sorted_once tabs one other moved up moved' up' =
 
 -- ---- tables, and one more
 
-found-some : (name : List ℕ) (table : BookTable) (es : KeptTables) → Contains es (name, table) → ¬ (lookup (pointwise nat_eq name) es ≡ None)
+found-some : (name : List ℕ) (table : BookTable) (es : HeldTables) → Contains es (name, table) → ¬ (lookup (pointwise nat_eq name) es ≡ None)
 found-some name table [] c none = Contains-none (name, table) c
 found-some name table (e ∷ es) c none = by (pointwise nat_eq name e.0) refl (found-some name table es) none
   where
@@ -146,7 +146,7 @@ missing : (b : Bool) (table : BookTable) (rest : Option BookTable) → cond b (S
 missing true table rest h = absurd (cc)
 missing false table rest h = h
 
-put-moved : (name : List ℕ) (table : BookTable) (es : KeptTables) → lookup (pointwise nat_eq name) es ≡ None → IsPermutation ((name, table) ∷ es) (with_table name table es)
+put-moved : (name : List ℕ) (table : BookTable) (es : HeldTables) → lookup (pointwise nat_eq name) es ≡ None → IsPermutation ((name, table) ∷ es) (with_table name table es)
 put-moved name table [] none = IsPermutation-refl ((name, table) ∷ [])
 put-moved name table (e ∷ es) none = by (slice_cmp nat_cmp name e.0) refl (put-moved name table es (missing (pointwise nat_eq name e.0) e.1 (lookup (pointwise nat_eq name) es) none))
   where
@@ -159,29 +159,29 @@ put-moved name table (e ∷ es) none = by (slice_cmp nat_cmp name e.0) refl (put
 
 -- ---- a row, after those before it
 
-abbrev kept_tab : List ℕ × BookTable → Tab
-kept_tab entry = tab_of (entry.0, entry.1.text)
+abbrev held_tab : List ℕ × BookTable → Tab
+held_tab entry = tab_of (entry.0, entry.1.text)
 
-module _ (done rest : List Tab) (row : Tab) (tables : KeptTables) (text : HasUtf8Texts file.Tab row) (read : AreRead (done ++ row ∷ rest) done tables) where
+module _ (done rest : List Tab) (row : Tab) (tables : HeldTables) (text : HasUtf8Texts file.Tab row) (read : AreRead (done ++ row ∷ rest) done tables) where
   abbrev sorted : List Tab
   sorted = done ++ row ∷ rest
 
   pub count : length tables ≡ length done
-  count = omega (arith, length_permutation _ _ read.rows, length-map done (spelled file.Tab), length-map tables kept_tab)
+  count = omega (arith, length_permutation _ _ read.rows, length-map done (spelled file.Tab), length-map tables held_tab)
 
-  -- a row before it has the name under which a table is kept
+  -- a row before it has the name under which a table is held
   row-named : (name : List ℕ) (table : BookTable) → Contains tables (name, table) → (other : Tab) × Contains done other × (chars other.name ≡ name)
   row-named name table c =
-      let back = Contains-permutation _ _ (kept_tab (name, table))
-      (IsPermutation-sym _ _ read.rows) (Contains-map kept_tab tables (name, table) c) in
-      let other = Contains-from_map (spelled file.Tab) done (kept_tab (name, table)) back in
+      let back = Contains-permutation _ _ (held_tab (name, table))
+      (IsPermutation-sym _ _ read.rows) (Contains-map held_tab tables (name, table) c) in
+      let other = Contains-from_map (spelled file.Tab) done (held_tab (name, table)) back in
       (other.0, other.1, ap (λ (t : Tab). t.name) other.2)
 
-  -- and a table is kept under the name of each row before it
+  -- and a table is held under the name of each row before it
   table-named : (other : Tab) → Contains done other → (table : BookTable) × Contains tables (chars other.name, table)
   table-named other c =
       let there = Contains-permutation _ _ (spelled file.Tab other) read.rows (Contains-map (spelled file.Tab) done other c) in
-      let entry = Contains-from_map kept_tab tables (spelled file.Tab other) there in
+      let entry = Contains-from_map held_tab tables (spelled file.Tab other) there in
       (entry.0.1, subst (λ n. Contains tables (n, entry.0.1)) (ap (λ (t : Tab). t.name) entry.2) entry.1)
 
   same-bytes : (other : Tab) → Contains done other → chars other.name ≡ chars row.name → other.name ≡ row.name
@@ -213,13 +213,13 @@ module _ (done rest : List Tab) (row : Tab) (tables : KeptTables) (text : HasUtf
       → AreRead sorted (done ++ row ∷ []) (with_table (chars row.name) table tables)
   more-read table may is means =
       let moved = put-moved (chars row.name) table tables may.new in
-      let own : kept_tab (chars row.name, table) ≡ spelled file.Tab row = λ i. record { name = chars row.name; body = is i } in
+      let own : held_tab (chars row.name, table) ≡ spelled file.Tab row = λ i. record { name = chars row.name; body = is i } in
       record {
         texts = All-push (HasUtf8Texts file.Tab) done row read.texts text;
-        rows = subst (λ xs. IsPermutation xs (map kept_tab (with_table (chars row.name) table tables))) (sym (map-append (spelled file.Tab) done (row ∷ [])))
-            (IsPermutation-push_more (map (spelled file.Tab) done) (map kept_tab tables) (map kept_tab (with_table (chars row.name) table tables)) (spelled file.Tab row) read.rows
-            (subst (λ t. IsPermutation (t ∷ map kept_tab tables) (map kept_tab (with_table (chars row.name) table tables))) own
-            (IsPermutation-map kept_tab _ _ moved)));
+        rows = subst (λ xs. IsPermutation xs (map held_tab (with_table (chars row.name) table tables))) (sym (map-append (spelled file.Tab) done (row ∷ [])))
+            (IsPermutation-push_more (map (spelled file.Tab) done) (map held_tab tables) (map held_tab (with_table (chars row.name) table tables)) (spelled file.Tab row) read.rows
+            (subst (λ t. IsPermutation (t ∷ map held_tab tables) (map held_tab (with_table (chars row.name) table tables))) own
+            (IsPermutation-map held_tab _ _ moved)));
         means = All-put (slice_cmp nat_cmp) same_name (λ entry. Means entry.1.text entry.1.rules) (chars row.name) table tables read.means
             (subst (λ text. Means text table.rules) (sym is) means);
         names = IsStrictlySortedBy-put (slice_cmp nat_cmp) nat_list_cmp_total (chars row.name) table tables read.names;
@@ -248,7 +248,7 @@ module _ (done rest : List Tab) (row : Tab) (tables : KeptTables) (text : HasUtf
 
 -- ---- all rows
 
-pub whole : (tabs sorted : List Tab) (tables : KeptTables) → IsPermutation tabs sorted → AreInOrder sorted → AreRead sorted sorted tables → IsWhole (IsDamagedTab tabs)
+pub whole : (tabs sorted : List Tab) (tables : HeldTables) → IsPermutation tabs sorted → AreInOrder sorted → AreRead sorted sorted tables → IsWhole (IsDamagedTab tabs)
 whole tabs sorted tables moved up read id (other, moved', up', (index, row, at, told, bad)) =
     let same = sorted_once tabs sorted other moved up moved' up' in
     let there : slice_get sorted index ≡ Some row = ap (λ list. slice_get list index) same ∙ at in
@@ -272,7 +272,7 @@ tells tabs sorted (Damaged id) moved up (index, row, at, is, bad, before) = (
         ]))
 
 -- the row after those that are read
-pub first-unsound : (done rest : List Tab) (row : Tab) (tables : KeptTables) (fault : RowsFault) → AreRead (done ++ row ∷ rest) done tables
+pub first-unsound : (done rest : List Tab) (row : Tab) (tables : HeldTables) (fault : RowsFault) → AreRead (done ++ row ∷ rest) done tables
     → TellsUnsoundTab (done ++ row ∷ rest) (length done) row fault → TellsFirstUnsound (done ++ row ∷ rest) fault
 first-unsound done rest row tables NoMemory read told = tt
 first-unsound done rest row tables (Damaged id) read (is, bad) = (length done, row, here-at done rest row, is, bad, read.sound)
@@ -310,7 +310,7 @@ none-read all = record {
   sound = λ index row within at. absurd (omega (arith, within));
 }
 
-pub are-tables : (tabs all : List Tab) → IsPermutation tabs all → (result : Result KeptTables RowsFault) → IfOk result (AreRead all all) → IfOk result (AreTables tabs)
+pub are-tables : (tabs all : List Tab) → IsPermutation tabs all → (result : Result HeldTables RowsFault) → IfOk result (AreRead all all) → IfOk result (AreTables tabs)
 are-tables tabs all moved (Err fault) read = tt
 are-tables tabs all moved (Ok tables) read = record {
   texts = All-permutation (HasUtf8Texts file.Tab) _ _ (IsPermutation-sym _ _ moved) read.texts;

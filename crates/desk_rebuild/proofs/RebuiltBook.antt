@@ -3,8 +3,8 @@ use Rattle.std.proofs.Common.{◌≡◌, ℕ, ◌≤◌, ℤ, pos, List, [], ◌
 use Rattle.std.proofs.lemmas.Int.{to_z-of_z}
 use Rattle.std.proofs.lemmas.List.Elements.{All-contains}
 use Rattle.std.proofs.lemmas.Option.{slice_get-get_or}
-use Rattle.desk_memory.specs.declared.marks.KeptMark.{KeptMark}
-use Rattle.desk_memory.specs.declared.paragraphs.Paragraph.{Paragraph as KeptParagraph}
+use Rattle.desk_memory.specs.declared.marks.HeldMark.{HeldMark}
+use Rattle.desk_memory.specs.declared.paragraphs.Paragraph.{Paragraph as HeldParagraph}
 use Rattle.desk_parts.specs.declared.file_table.FileTable.{FileTable}
 use Rattle.desk_parts.specs.declared.file_table.FileTable.TheVariants.{Book, Tab, Para, Mark, Cache}
 use Rattle.desk_parts.specs.declared.parts.Parts.{Parts}
@@ -15,7 +15,7 @@ use Rattle.desk_parts.specs.declared.file_table.FileTable.TheVariants as file
 use Rattle.desk_parts.specs.FileRows.{AreTexts, EntryRows, FileRows, HasUtf8Texts, Named, Unnamed, entries_in, format_of, table_of}
 use Rattle.desk_rebuild.specs.Faults.{IsDamagedBraille, TellsDamageOf}
 use Rattle.desk_rebuild.specs.Rows.{AreInPlaces, AreMarksOf, AreOf, AreTables, HasCells, HasHistory, HaveMarks, IsWhole, without_cells, without_history, without_marks}
-use Rattle.desk_memory.specs.Kept.{IsKept, KeptTables, book_kept, paragraph_with_id}
+use Rattle.desk_memory.specs.Held.{HeldTables, IsHeld, book_held, paragraph_with_id}
 use Rattle.desk_model.specs.Limits.{most_version}
 use Rattle.desk_model.specs.Rebuilding.{IsFaultOf}
 use Rattle.desk_parts.specs.Parts.{rows_in}
@@ -23,29 +23,29 @@ use Rattle.desk_parts.specs.Rows.{Para as ParaRow}
 use Rattle.desk_model.specs.Shows.{Shows}
 use Rattle.desk_model.proofs.Damage.FirstDamage.{IsWholeBefore, before-cache, before-entries, before-mark, before-para, before-tab, no-damage}
 use Rattle.desk_rebuild.proofs.FirstTables.{entries-damaged, first-fault}
-use Rattle.desk_rebuild.proofs.JoinedBook.{is_kept, shown}
+use Rattle.desk_rebuild.proofs.JoinedBook.{is_held, shown}
 use Rattle.desk_model.proofs.Lists.Items.{Contains-there}
-use Rattle.desk_rebuild.proofs.KeptRows.{AreOf-same, HaveMarks-same, histories-same, less-same, plain, same-at, told}
+use Rattle.desk_rebuild.proofs.HeldRows.{AreOf-same, HaveMarks-same, histories-same, less-same, plain, same-at, told}
 use Rattle.desk_model.proofs.Lists.RowNumbers.{pos_le}
 
--- ---- kept paragraphs, while histories, marks and braille are read of them
+-- ---- held paragraphs, while histories, marks and braille are read of them
 
-pub of-with_history : (paras : List ParaRow) (items others : List KeptParagraph) → map without_history others ≡ map without_history items → AreOf paras items → AreOf paras others
+pub of-with_history : (paras : List ParaRow) (items others : List HeldParagraph) → map without_history others ≡ map without_history items → AreOf paras items → AreOf paras others
 of-with_history paras items others same = AreOf-same items others (less-same without_history plain plain (λ x. refl) items others (sym same)) paras
 
-pub of-with_marks : (paras : List ParaRow) (items others : List KeptParagraph) → map without_marks others ≡ map without_marks items → AreOf paras items → AreOf paras others
+pub of-with_marks : (paras : List ParaRow) (items others : List HeldParagraph) → map without_marks others ≡ map without_marks items → AreOf paras items → AreOf paras others
 of-with_marks paras items others same = AreOf-same items others (less-same without_marks plain plain (λ x. refl) items others (sym same)) paras
 
-pub of-with_cells : (paras : List ParaRow) (items others : List KeptParagraph) → map without_cells others ≡ map without_cells items → AreOf paras items → AreOf paras others
+pub of-with_cells : (paras : List ParaRow) (items others : List HeldParagraph) → map without_cells others ≡ map without_cells items → AreOf paras items → AreOf paras others
 of-with_cells paras items others same = AreOf-same items others (less-same without_cells plain plain (λ x. refl) items others (sym same)) paras
 
 -- no marks are there after the histories were read, where none were before
-pub unmarked-with_history : (items others : List KeptParagraph) → map without_history others ≡ map without_history items
-    → All (λ kept. kept.marks ≡ []) items → All (λ kept. kept.marks ≡ []) others
+pub unmarked-with_history : (items others : List HeldParagraph) → map without_history others ≡ map without_history items
+    → All (λ held. held.marks ≡ []) items → All (λ held. held.marks ≡ []) others
 unmarked-with_history items others same none k d within =
     let other = same-at without_history others items same k (get_or others k d) (slice_get-get_or others k d within) in
-    ap (λ (kept : KeptParagraph). kept.marks) other.2
-    ∙ All-contains (λ (kept : KeptParagraph). kept.marks ≡ []) items other.0 none (Contains-there items k other.0 other.1)
+    ap (λ (held : HeldParagraph). held.marks) other.2
+    ∙ All-contains (λ (held : HeldParagraph). held.marks ≡ []) items other.0 none (Contains-there items k other.0 other.1)
 
 -- ---- what is reported
 
@@ -111,11 +111,11 @@ module _ (parts : Parts) (within : IsWithin 0 most_version parts.version) where
 
             -- ---- what is made
 
-            module _ (version : ℕ) (is_version : pos version ≡ parts.version) (tables : KeptTables) (are_tables : AreTables rows.tabs tables)
-                (read with_history with_marks items : List KeptParagraph) (order : List ℕ) (of : AreOf rows.paras read) (places : AreInPlaces rows.paras order)
+            module _ (version : ℕ) (is_version : pos version ≡ parts.version) (tables : HeldTables) (are_tables : AreTables rows.tabs tables)
+                (read with_history with_marks items : List HeldParagraph) (order : List ℕ) (of : AreOf rows.paras read) (places : AreInPlaces rows.paras order)
                 (entry_texts : All (HasUtf8Texts file.NamedCorr) (entries_in rows.entries)) (histories : All (HasHistory (entries_in rows.entries) with_history) rows.paras)
                 (same_history : map without_history with_history ≡ map without_history read)
-                (mark_texts : All (HasUtf8Texts file.Mark) rows.marks) (marks : List KeptMark) (are_marks : AreMarksOf rows.marks marks) (have_marks : HaveMarks marks with_marks)
+                (mark_texts : All (HasUtf8Texts file.Mark) rows.marks) (marks : List HeldMark) (are_marks : AreMarksOf rows.marks marks) (have_marks : HaveMarks marks with_marks)
                 (same_marks : map without_marks with_marks ≡ map without_marks with_history)
                 (cells : All (HasCells rows.tabs items) rows.paras) (same_cells : map without_cells items ≡ map without_cells with_marks) where
               texts : AreTexts rows
@@ -138,9 +138,9 @@ module _ (parts : Parts) (within : IsWithin 0 most_version parts.version) where
               have_all_marks : HaveMarks marks items
               have_all_marks = HaveMarks-same marks with_marks items (sym same_cells) have_marks
 
-              pub made : IsKept version tables (flat_map (paragraph_with_id items) order) marks
-                  × Shows rows (book_kept version tables (flat_map (paragraph_with_id items) order) marks)
+              pub made : IsHeld version tables (flat_map (paragraph_with_id items) order) marks
+                  × Shows rows (book_held version tables (flat_map (paragraph_with_id items) order) marks)
               made = (
-                is_kept rows texts its-tables none version versioned tables are_tables items order are_of places have_histories cells marks are_marks have_all_marks,
+                is_held rows texts its-tables none version versioned tables are_tables items order are_of places have_histories cells marks are_marks have_all_marks,
                 shown rows texts its-tables none version versioned tables are_tables items order are_of places have_histories cells marks are_marks have_all_marks,
               )

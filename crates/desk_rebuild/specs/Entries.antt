@@ -2,7 +2,7 @@
 use Rattle.std.specs.Prelude.{◌≡◌, ℕ, ◌+◌, ◌<◌, ℤ, pos, ◌≤ℤ◌, List, Option, Some, None, filter, length, slice_get}
 use Rattle.std.specs.List.{Contains}
 use Rattle.std.specs.Ordering.{int_eq}
-use Rattle.desk_memory.specs.declared.paragraphs.Paragraph.{Paragraph as KeptParagraph}
+use Rattle.desk_memory.specs.declared.paragraphs.Paragraph.{Paragraph as HeldParagraph}
 use Rattle.desk_rebuild.specs.declared.damage.RowsFault.{RowsFault}
 use Rattle.desk_rebuild.specs.declared.damage.RowsFault.TheVariants.{Damaged}
 use Rattle.desk_model.specs.Damage.{IsWithin}
@@ -29,23 +29,23 @@ IsFirstStray count rows None = (id : ℤ) → ¬ IsStray count rows id
 IsFirstStray count rows (Some first) = IsStray count rows first × ((id : ℤ) → IsStray count rows id → first ≤ℤ id)
 
 -- each paragraph has the history of the rows in its group
-abbrev pub HaveRead : List (List NamedCorr) → List KeptParagraph → Type 0
+abbrev pub HaveRead : List (List NamedCorr) → List HeldParagraph → Type 0
 HaveRead groups items =
-    (index : ℕ) (rows : List NamedCorr) (kept : KeptParagraph) → slice_get groups index ≡ Some rows
-    → slice_get items index ≡ Some kept
-    → HasRead rows kept
+    (index : ℕ) (rows : List NamedCorr) (held : HeldParagraph) → slice_get groups index ≡ Some rows
+    → slice_get items index ≡ Some held
+    → HasRead rows held
 
 -- the rows of the paragraph at this index can't be read, and those of each before it can
-pub record IsUnread (groups : List (List NamedCorr)) (items : List KeptParagraph) (index : ℕ) : Type 0 where
+pub record IsUnread (groups : List (List NamedCorr)) (items : List HeldParagraph) (index : ℕ) : Type 0 where
   pub rows : List NamedCorr
-  pub kept : KeptParagraph
+  pub held : HeldParagraph
   pub group : slice_get groups index ≡ Some rows
-  pub item : slice_get items index ≡ Some kept
-  pub unsound : ¬ CanBeRead rows kept.original kept.print
-  pub before : (k : ℕ) (others : List NamedCorr) (other : KeptParagraph) → k < index → slice_get groups k ≡ Some others
+  pub item : slice_get items index ≡ Some held
+  pub unsound : ¬ CanBeRead rows held.original held.print
+  pub before : (k : ℕ) (others : List NamedCorr) (other : HeldParagraph) → k < index → slice_get groups k ≡ Some others
       → slice_get items k ≡ Some other
       → CanBeRead others other.original other.print
 
 -- the first paragraph whose rows can't be read is reported
-abbrev pub IsFirstUnread : List (List NamedCorr) → List KeptParagraph → RowsFault → Type 0
+abbrev pub IsFirstUnread : List (List NamedCorr) → List HeldParagraph → RowsFault → Type 0
 IsFirstUnread groups items fault = (index : ℕ) × (fault ≡ Damaged (pos (index + 1))) × IsUnread groups items index

@@ -3,11 +3,11 @@ use Rattle.std.specs.Prelude.{◌≡◌, ◌⊎◌, ℕ, ◌+◌, ◌<◌, ◌�
 use Rattle.std.specs.Prelude.{IsPermutation, chars}
 use Rattle.desk_rebuild.specs.declared.history.Next.{Next}
 use Rattle.desk_rebuild.specs.declared.history.Reading.{Reading}
-use Rattle.desk_memory.specs.declared.paragraphs.Paragraph.{Paragraph as KeptParagraph}
+use Rattle.desk_memory.specs.declared.paragraphs.Paragraph.{Paragraph as HeldParagraph}
 use Rattle.desk_model.specs.Book.{Entry}
 use Rattle.desk_memory.specs.Histories.{replaced_by}
 use Rattle.desk_model.specs.Damage.{IsSoundCorrection, IsSoundEntryRow, IsSoundUndo, entry_of, history_of}
-use Rattle.desk_memory.specs.Histories.{HaveTaken, LeavePrint, TookFrom, entries_kept, entry_kept}
+use Rattle.desk_memory.specs.Histories.{HaveTaken, LeavePrint, TookFrom, entries_held, entry_held}
 use Rattle.desk_model.specs.Limits.{most_entries, most_print}
 use Rattle.desk_model.specs.Print.{corrected_print}
 use Rattle.desk_parts.specs.Rows.{NamedCorr}
@@ -31,7 +31,7 @@ pub record IsSoundNext (original : List ℕ) (rows : List NamedCorr) (row : Name
 -- the entry is that of the row, which corrects this print, and the next print follows from it
 pub record IsCorrecting (print : List ℕ) (row : NamedCorr) (next : Next) : Type 0 where
   pub sound : IsSoundCorrection print row
-  pub entry : entry_kept next.entry ≡ entry_of row
+  pub entry : entry_held next.entry ≡ entry_of row
   pub taken : TookFrom print next.entry
   pub print_is : next.print.items
       ≡ replaced_by (nat_abs row.entry.start) (nat_abs row.entry.len) (chars row.entry.body) print
@@ -42,7 +42,7 @@ pub record IsCorrecting (print : List ℕ) (row : NamedCorr) (next : Next) : Typ
 pub record IsNext (original : List ℕ) (before : List Entry) (row : NamedCorr) (next : Next) : Type 0 where
   pub fits : IsFit original before row
   pub sound : IsSoundEntry original before (entry_of row)
-  pub entry : entry_kept next.entry ≡ entry_of row
+  pub entry : entry_held next.entry ≡ entry_of row
   pub taken : TookFrom (corrected_print original before) next.entry
   pub print : next.print.items ≡ corrected_print original (before ++ entry_of row ∷ [])
 
@@ -51,7 +51,7 @@ pub record IsNext (original : List ℕ) (before : List Entry) (row : NamedCorr) 
 -- the rows have been read
 pub record IsRead (original : List ℕ) (rows : List NamedCorr) (reading : Reading) : Type 0 where
   pub left : LeavePrint original reading.entries.items reading.print.items
-  pub entries : entries_kept reading.entries.items ≡ history_of rows
+  pub entries : entries_held reading.entries.items ≡ history_of rows
 
 -- the rows in this order are sound
 abbrev pub AreSoundRows : List ℕ → List NamedCorr → Type 0
@@ -67,11 +67,11 @@ pub record CanBeRead (rows : List NamedCorr) (original print : List ℕ) : Type 
   pub each : AreSoundRows original sorted
   pub print_is : corrected_print original (history_of sorted) ≡ print
 
--- the kept paragraph has the history of these rows
-pub record HasRead (rows : List NamedCorr) (kept : KeptParagraph) : Type 0 where
+-- the held paragraph has the history of these rows
+pub record HasRead (rows : List NamedCorr) (held : HeldParagraph) : Type 0 where
   pub sorted : List NamedCorr
   pub same : IsPermutation rows sorted
-  pub each : AreSoundRows kept.original sorted
-  pub history : entries_kept kept.history ≡ history_of sorted
-  pub taken : HaveTaken kept.original kept.history
-  pub print : corrected_print kept.original (history_of sorted) ≡ kept.print
+  pub each : AreSoundRows held.original sorted
+  pub history : entries_held held.history ≡ history_of sorted
+  pub taken : HaveTaken held.original held.history
+  pub print : corrected_print held.original (history_of sorted) ≡ held.print

@@ -1,10 +1,10 @@
--- Rows of marks, checked against the paragraphs that are kept.
+-- Rows of marks, checked against the paragraphs that are held.
 use Rattle.std.specs.Prelude.{◌≡◌, ℕ, ℤ, pos, ◌+◌, ◌<◌, ◌≤◌, ◌≤ℤ◌, List, length, slice_get, Some, chars}
-use Rattle.desk_memory.specs.declared.marks.KeptMark.{KeptMark}
-use Rattle.desk_memory.specs.declared.paragraphs.Paragraph.{Paragraph as KeptParagraph}
-use Rattle.desk_memory.specs.Kept.{mark_kept}
+use Rattle.desk_memory.specs.declared.marks.HeldMark.{HeldMark}
+use Rattle.desk_memory.specs.declared.paragraphs.Paragraph.{Paragraph as HeldParagraph}
+use Rattle.desk_memory.specs.Held.{mark_held}
 use Rattle.desk_model.specs.Damage.{IsFlag}
-use Rattle.desk_rebuild.specs.OrderedRows.{AreKeptUpTo, RowRule}
+use Rattle.desk_rebuild.specs.OrderedRows.{AreHeldUpTo, RowRule}
 use Rattle.desk_model.specs.Limits.{most_marks, most_note}
 use Rattle.desk_parts.specs.declared.file_table.FileTable.TheVariants as tables
 use Rattle.desk_parts.specs.FileRows.{HasUtf8Texts, spelled}
@@ -14,11 +14,11 @@ use Rattle.desk_model.specs.NormalForm.{IsUnbarred}
 
 -- ---- a row, but for its id
 
--- the kept paragraph has this id
-pub record HasId (items : List KeptParagraph) (id : ℤ) (kept : KeptParagraph) : Type 0 where
+-- the held paragraph has this id
+pub record HasId (items : List HeldParagraph) (id : ℤ) (held : HeldParagraph) : Type 0 where
   pub index : ℕ
   pub is : id ≡ pos (index + 1)
-  pub at : slice_get items index ≡ Some kept
+  pub at : slice_get items index ≡ Some held
 
 -- a print of so many characters has the places from the start up to the stop
 pub record IsSpan (count : ℕ) (start stop : ℤ) : Type 0 where
@@ -37,22 +37,22 @@ pub record HasFlags (row : MarkRow) : Type 0 where
   pub resolved : IsFlag row.resolved
 
 -- the row is sound, whatever its id
-pub record IsMarkOn (items : List KeptParagraph) (row : MarkRow) : Type 0 where
-  pub kept : KeptParagraph
-  pub named : HasId items row.para kept
-  pub span : IsSpan (length kept.print) row.start row.stop
+pub record IsMarkOn (items : List HeldParagraph) (row : MarkRow) : Type 0 where
+  pub held : HeldParagraph
+  pub named : HasId items row.para held
+  pub span : IsSpan (length held.print) row.start row.stop
   pub note : IsNoteText (chars row.note)
   pub flags : HasFlags row
 
--- the kept mark has what the row says: its own row, given the id of this one, is this one with its
+-- the held mark has what the row says: its own row, given the id of this one, is this one with its
 -- note as characters
-abbrev pub IsKeptOf : MarkRow → KeptMark → Type 0
-IsKeptOf row mark = record (mark_row_of (mark_kept (0, mark))) { id = row.id } ≡ spelled tables.Mark row
+abbrev pub IsHeldOf : MarkRow → HeldMark → Type 0
+IsHeldOf row mark = record (mark_row_of (mark_held (0, mark))) { id = row.id } ≡ spelled tables.Mark row
 
 -- ---- rows in the order of their ids
 
 -- what is asked of the rows beside these paragraphs
-abbrev pub mark_rule : List KeptParagraph → RowRule MarkRow
+abbrev pub mark_rule : List HeldParagraph → RowRule MarkRow
 mark_rule items = record {
   id = λ row. row.id;
   most = most_marks;
@@ -61,11 +61,11 @@ mark_rule items = record {
 }
 
 -- each row is sound, and has its mark
-abbrev pub AreKeptOf : List KeptParagraph → List MarkRow → List KeptMark → Type 0
-AreKeptOf items rows marks = AreKeptUpTo (mark_rule items) IsKeptOf (length rows) rows marks
+abbrev pub AreHeldOf : List HeldParagraph → List MarkRow → List HeldMark → Type 0
+AreHeldOf items rows marks = AreHeldUpTo (mark_rule items) IsHeldOf (length rows) rows marks
 
 -- ---- the indexes of a paragraph's marks
 
 -- the mark is on one of so many paragraphs
-abbrev pub IsOnOne : ℕ → KeptMark → Type 0
+abbrev pub IsOnOne : ℕ → HeldMark → Type 0
 IsOnOne count mark = (0 < mark.paragraph) × (mark.paragraph ≤ count)

@@ -31,13 +31,13 @@ AreSoundUpTo {X} rule count rows =
     (index : ℕ) (row : X) → index < count → slice_get rows index ≡ Some row
     → IsSoundAt rule index row × rule.HasUtf8Texts row
 
--- so many rows are sound, and what is kept of each of them is there
-pub record AreKeptUpTo {X K : Type 0} (rule : RowRule X) (IsKeptOf : X → K → Type 0) (count : ℕ) (rows : List X)
-    (kept : List K) : Type 0 where
+-- so many rows are sound, and what is held of each of them is there
+pub record AreHeldUpTo {X K : Type 0} (rule : RowRule X) (IsHeldOf : X → K → Type 0) (count : ℕ) (rows : List X)
+    (held : List K) : Type 0 where
   pub sound : AreSoundUpTo rule count rows
-  pub count_is : length kept ≡ count
-  pub each : (index : ℕ) (row : X) (item : K) → slice_get rows index ≡ Some row → slice_get kept index ≡ Some item
-      → IsKeptOf row item
+  pub count_is : length held ≡ count
+  pub each : (index : ℕ) (row : X) (item : K) → slice_get rows index ≡ Some row → slice_get held index ≡ Some item
+      → IsHeldOf row item
 
 -- the first row that isn't sound has this id
 pub record IsFirstUnsound {X : Type 0} (rule : RowRule X) (rows : List X) (id : ℤ) : Type 0 where

@@ -12,7 +12,7 @@ use Rattle.desk_rebuild.specs.declared.damage.RowsFault.TheVariants.{Damaged, No
 use Rattle.desk_model.specs.Damage.{IsSoundTabRow}
 use Rattle.desk_parts.specs.declared.file_table.FileTable.TheVariants as file
 use Rattle.desk_parts.specs.FileRows.{HasUtf8Texts, spelled}
-use Rattle.desk_memory.specs.Kept.{KeptTables}
+use Rattle.desk_memory.specs.Held.{HeldTables}
 use Rattle.desk_model.specs.Limits.{most_tables}
 use Rattle.desk_model.specs.Name.{IsTableName}
 use Rattle.desk_parts.specs.Rows.{StoredTab, Tab}
@@ -27,9 +27,9 @@ rows_of rows = map (λ stored. stored.row) rows
 abbrev pub tab_order : Tab → Tab → Ordering
 tab_order one other = ordering_then (slice_cmp nat_cmp one.name other.name) (slice_cmp nat_cmp one.body other.body)
 
--- each of these rows, which are the first of a list in order, is sound, and the kept tables are
+-- each of these rows, which are the first of a list in order, is sound, and the held tables are
 -- theirs
-pub record AreRead (sorted done : List Tab) (tables : KeptTables) : Type 0 where
+pub record AreRead (sorted done : List Tab) (tables : HeldTables) : Type 0 where
   pub texts : All (HasUtf8Texts file.Tab) done
   pub rows : IsPermutation (map (spelled file.Tab) done) (map (λ entry. tab_of (entry.0, entry.1.text)) tables)
   pub means : All (λ entry. Means entry.1.text entry.1.rules) tables
@@ -45,7 +45,7 @@ TellsUnsoundTab sorted index row (Damaged id) = (id ≡ pos (index + 1)) × ¬ I
 TellsUnsoundTab sorted index row NoMemory = ⊤
 
 -- there is room for one more table, and this is the name of one that isn't there
-pub record MayCome (tables : KeptTables) (name : List ℕ) : Type 0 where
+pub record MayCome (tables : HeldTables) (name : List ℕ) : Type 0 where
   pub room : length tables < most_tables
   pub named : IsTableName name
   pub new : lookup (pointwise nat_eq name) tables ≡ None

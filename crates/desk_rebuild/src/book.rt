@@ -4,7 +4,7 @@ ghost use Rattle.desk_parts.specs.FileRows.{HasUtf8Texts, Unnamed, entries_in, t
 ghost use Rattle.desk_rebuild.specs.Faults.{IsDamagedBraille, TellsDamageOf};
 ghost use Rattle.desk_rebuild.specs.Rows.{AreOf, AreTables, HasCells, HasHistory, IsWhole};
 ghost use Rattle.desk_rebuild.specs.Rows.{without_cells, without_history};
-ghost use Rattle.desk_memory.specs.Kept.{IsKept, book_kept, paragraph_with_id};
+ghost use Rattle.desk_memory.specs.Held.{IsHeld, book_held, paragraph_with_id};
 ghost use Rattle.desk_model.specs.Rebuilding.{IsFaultOf};
 ghost use Rattle.desk_parts.specs.Parts.{entry_rows, rows_in};
 ghost use Rattle.desk_parts.specs.Rows.{Para, Tab};
@@ -21,7 +21,7 @@ use super::entries::read_entries;
 use super::marks::read_marks;
 use super::paras::{OrderedParas, read_paras};
 use super::tabs::read_tabs;
-use desk_memory::{KeptMark, MOST_VERSION, Marks, Paragraph, Paragraphs, Tables};
+use desk_memory::{HeldMark, MOST_VERSION, Marks, Paragraph, Paragraphs, Tables};
 use desk_model::PartsFault;
 use desk_parts::{CacheRow, CorrRow, EntryRows, FileTable, NamedCorrRow, Parts};
 use std::alloc::{AllocError, Global};
@@ -108,9 +108,9 @@ fn give_cells(
     of_table(FileTable::Cache, given)
 }
 
-/// What is kept of a book: its version, its tables, its paragraphs and its marks.
+/// What is held of a book: its version, its tables, its paragraphs and its marks.
 #[derive(Drop)]
-pub struct KeptBook {
+pub struct HeldBook {
     /// The version.
     pub version: u64,
     /// The tables.
@@ -121,15 +121,15 @@ pub struct KeptBook {
     pub marks: Marks,
 }
 
-/// What is kept of what was read of a book's tables: the paragraphs in the order of their ids, and
+/// What is held of what was read of a book's tables: the paragraphs in the order of their ids, and
 /// these ids as they stand.
-fn kept_book(
+fn held_book(
     version: u64,
     tables: Tables,
     items: Vec<Paragraph>,
     order: Vec<u64>,
-    marks: Vec<KeptMark>,
-) -> Result<KeptBook, AllocError>
+    marks: Vec<HeldMark>,
+) -> Result<HeldBook, AllocError>
     requires order { IsPermutation (range_with_len 1 (length items.items)) order.items }
     requires few_paragraphs { length items.items ≤ most_paragraphs }
     requires few_marks { length marks.items ≤ most_marks }
@@ -142,7 +142,7 @@ fn kept_book(
 {
     let paragraphs = Paragraphs::from_vecs(items, order)?;
     let marks = Marks::from_vec(marks)?;
-    Ok(KeptBook {
+    Ok(HeldBook {
         version,
         tables,
         paragraphs,
@@ -150,16 +150,16 @@ fn kept_book(
     })
 }
 
-/// What is kept of the book that the parts show. Its braille is that of the rows of `cache`, which
+/// What is held of the book that the parts show. Its braille is that of the rows of `cache`, which
 /// has to be that of the prints; without these rows it is made.
 ///
 /// # Errors
 ///
 /// The first damage of parts that show no book, and [`PartsFault::NoMemory`] if an allocation
 /// failed.
-pub fn rebuild(alloc: Global, parts: Parts) -> Result<KeptBook, PartsFault>
-    ensures made { IfOk result (λ book. IsKept book.version book.tables book.paragraphs book.marks
-        × Shows (rows_in parts) (book_kept book.version book.tables book.paragraphs book.marks)) }
+pub fn rebuild(alloc: Global, parts: Parts) -> Result<HeldBook, PartsFault>
+    ensures made { IfOk result (λ book. IsHeld book.version book.tables book.paragraphs book.marks
+        × Shows (rows_in parts) (book_held book.version book.tables book.paragraphs book.marks)) }
     ensures damaged { IfErr result (IsFaultOf (rows_in parts)) }
 {
     let Some(version) = version_of(parts.version) else {
@@ -173,6 +173,6 @@ pub fn rebuild(alloc: Global, parts: Parts) -> Result<KeptBook, PartsFault>
     give_histories(alloc, &mut items, parts.entries)?;
     let marks = read_marks(alloc, &mut items, parts.marks)?;
     give_cells(alloc, &tables, &mut items, parts.cache)?;
-    let book = kept_book(version, tables, items, order, marks)?;
+    let book = held_book(version, tables, items, order, marks)?;
     Ok(book)
 }

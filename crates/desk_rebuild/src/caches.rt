@@ -3,7 +3,7 @@ ghost use Rattle.desk_memory.specs.Braille.{AreCellsOf};
 ghost use Rattle.desk_model.specs.Damage.{IsDamagedCache, IsDamagedPara};
 ghost use Rattle.desk_rebuild.specs.Rows.{AreOf, AreTables, HasCells, IsWhole, TellsDamage, without_cells};
 ghost use Rattle.desk_rebuild.specs.Caches.{AreAllRight, AreTheirCells, IsItsBraille, IsMisfit, IsTranslatable};
-ghost use Rattle.desk_memory.specs.Kept.{renewed_items};
+ghost use Rattle.desk_memory.specs.Held.{renewed_items};
 ghost use Rattle.desk_model.specs.Limits.{most_paragraphs};
 ghost use Rattle.desk_parts.specs.Rows.{Para, Tab};
 ghost use Rattle.louis_translate.specs.Position.{AreDefined};

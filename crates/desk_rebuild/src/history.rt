@@ -1,6 +1,6 @@
 //! The rows of one paragraph's entries, validated and converted into its history.
 ghost use Rattle.desk_model.specs.Damage.{IsSoundCorrection, IsSoundUndo};
-ghost use Rattle.desk_memory.specs.Histories.{LeavePrint, entries_kept};
+ghost use Rattle.desk_memory.specs.Histories.{LeavePrint, entries_held};
 ghost use Rattle.desk_rebuild.specs.Rows.{without_history};
 ghost use Rattle.desk_rebuild.specs.History.{AreSoundRows, CanBeRead, HasRead, IsCorrecting};
 ghost use Rattle.desk_rebuild.specs.History.{IsFit, IsNext, IsRead, IsSoundNext};
@@ -10,7 +10,7 @@ ghost use Rattle.std.specs.Prelude.{IfOk, IfSome, IsTrue, OnOk, length, chars};
 
 use super::damage::RowsFault;
 use desk_memory::{
-    Correction, Items, KeptEntry, MOST_ENTRIES, MOST_PRINT, Paragraph, first_barred,
+    Correction, HeldEntry, Items, MOST_ENTRIES, MOST_PRINT, Paragraph, first_barred,
     is_proofreader_name, newest, replace_span,
 };
 use desk_model::Text;
@@ -42,7 +42,7 @@ fn is_print(text: &str, print: &[char]) -> bool
 /// An entry, and the print that follows from it.
 #[derive(Drop)]
 struct Next {
-    entry: KeptEntry,
+    entry: HeldEntry,
     print: Vec<char>,
 }
 
@@ -70,7 +70,7 @@ fn correction(alloc: Global, print: &[char], row: NamedCorrRow) -> Result<Option
         taken: Characters::from_vec(taken),
     };
     Ok(Some(Next {
-        entry: KeptEntry::Corrects(correction),
+        entry: HeldEntry::Corrects(correction),
         print,
     }))
 }
@@ -79,15 +79,15 @@ fn correction(alloc: Global, print: &[char], row: NamedCorrRow) -> Result<Option
 /// which left this print.
 fn undo(
     alloc: Global,
-    history: &[KeptEntry],
+    history: &[HeldEntry],
     print: &[char],
     row: &NamedCorrRow,
 ) -> Result<Option<Next>, AllocError>
     requires left { (original : List ℕ) × LeavePrint original history.now print.now }
     requires kind { row.now.entry.kind ≡ pos 1 }
     ensures sound { (original : List ℕ) → LeavePrint original history.now print.now
-        → IfOk result (λ next. IfSome next (IsNext original (entries_kept history.now) row.now)) }
-    ensures unsound { IfOk result (λ next. IfNone next (¬ IsSoundUndo (entries_kept history.now) row.now)) }
+        → IfOk result (λ next. IfSome next (IsNext original (entries_held history.now) row.now)) }
+    ensures unsound { IfOk result (λ next. IfNone next (¬ IsSoundUndo (entries_held history.now) row.now)) }
 {
     let Some((number, correction)) = newest(history) else {
         return Ok(None);
@@ -102,7 +102,7 @@ fn undo(
     }
     let print = correction.undone(alloc, print)?;
     Ok(Some(Next {
-        entry: KeptEntry::Undoes(number),
+        entry: HeldEntry::Undoes(number),
         print,
     }))
 }
@@ -111,7 +111,7 @@ fn undo(
 #[derive(Drop)]
 struct Reading {
     /// The entries so far.
-    entries: Vec<KeptEntry>,
+    entries: Vec<HeldEntry>,
     /// The print that they leave.
     print: Vec<char>,
 }
@@ -121,9 +121,9 @@ impl Reading {
     fn next(&self, alloc: Global, row: NamedCorrRow) -> Result<Option<Next>, AllocError>
         requires { (original : List ℕ) × LeavePrint original self.now.entries.items self.now.print.items }
         ensures sound { (original : List ℕ) → LeavePrint original self.now.entries.items self.now.print.items
-            → IfOk result (λ next. IfSome next (IsNext original (entries_kept self.now.entries.items) row)) }
+            → IfOk result (λ next. IfSome next (IsNext original (entries_held self.now.entries.items) row)) }
         ensures unsound { (original : List ℕ) → LeavePrint original self.now.entries.items self.now.print.items
-            → IfOk result (λ next. IfNone next (¬ IsFit original (entries_kept self.now.entries.items) row)) }
+            → IfOk result (λ next. IfNone next (¬ IsFit original (entries_held self.now.entries.items) row)) }
     {
         match row.entry.kind {
             0 => correction(alloc, &self.print, row),

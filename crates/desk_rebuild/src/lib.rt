@@ -9,8 +9,8 @@
 //! ```rust
 //! use desk_rebuild::rebuild;
 //!
-//! let kept = rebuild(alloc, parts)?;
-//! assert_eq!(rt; kept.version, 1);
+//! let held = rebuild(alloc, parts)?;
+//! assert_eq!(rt; held.version, 1);
 //! ```
 //!
 //! `desk_model` says which rows show a book, and what is damaged. `desk_rows` reads the rows from a
@@ -27,4 +27,4 @@ mod ordered_rows;
 mod paras;
 mod tabs;
 
-pub use book::{KeptBook, rebuild, version_of};
+pub use book::{HeldBook, rebuild, version_of};

@@ -3,7 +3,7 @@ ghost use Rattle.desk_model.specs.Damage.{IsDamagedMark};
 ghost use Rattle.desk_parts.specs.FileRows.{HasUtf8Texts};
 ghost use Rattle.desk_rebuild.specs.Faults.{TellsDamageOf};
 ghost use Rattle.desk_rebuild.specs.Rows.{AreMarksOf, AreOf, HaveMarks, IsWhole, without_marks};
-ghost use Rattle.desk_rebuild.specs.Marks.{AreKeptOf, HasId, IsKeptOf, IsMarkOn};
+ghost use Rattle.desk_rebuild.specs.Marks.{AreHeldOf, HasId, IsHeldOf, IsMarkOn};
 ghost use Rattle.desk_rebuild.specs.Marks.{IsNoteText, IsOnOne, IsSpan, mark_rule};
 ghost use Rattle.desk_rebuild.specs.OrderedRows.{AreInOrder, IsSoundAt, TellsUnsound};
 ghost use Rattle.desk_model.specs.Limits.{most_marks};
@@ -14,7 +14,7 @@ ghost use Rattle.std.specs.Prelude.{MatchResult, OnOk, length, map, pos, chars};
 
 use super::damage::{RowsFault, flag_of, of_table};
 use crate::ordered_rows::is_next;
-use desk_memory::{KeptMark, MOST_MARKS, MOST_NOTE, Paragraph, count_of, first_barred};
+use desk_memory::{HeldMark, MOST_MARKS, MOST_NOTE, Paragraph, count_of, first_barred};
 use desk_model::{PartsFault, Text};
 use desk_parts::{FileTable, MarkRow};
 use std::alloc::{AllocError, Global};
@@ -28,7 +28,7 @@ fn is_note(text: &str) -> bool
 
 /// The paragraph with an id, if there is one, among all in the order of their ids.
 fn paragraph_of(items: &[Paragraph], id: i64) -> Option<&Paragraph>
-    ensures { MatchOption result ((kept : _) → ¬ HasId items.now id kept) (λ kept. HasId items.now id kept.now) }
+    ensures { MatchOption result ((held : _) → ¬ HasId items.now id held) (λ held. HasId items.now id held.now) }
 {
     let index = usize::try_from(id).ok()?.checked_sub(1)?;
     items.get(index)
@@ -48,9 +48,9 @@ fn span_of(count: usize, start: i64, stop: i64) -> Option<(usize, usize)>
 }
 
 /// The mark of a row, if the row is sound but for its id.
-fn mark_of(items: &[Paragraph], row: MarkRow) -> Option<KeptMark>
+fn mark_of(items: &[Paragraph], row: MarkRow) -> Option<HeldMark>
     ensures { MatchOption result (¬ IsMarkOn items.now row)
-        (λ mark. IsMarkOn items.now row × HasUtf8Texts FileTable.Mark row × IsKeptOf row mark) }
+        (λ mark. IsMarkOn items.now row × HasUtf8Texts FileTable.Mark row × IsHeldOf row mark) }
 {
     let paragraph = paragraph_of(items, row.para)?;
     let (start, end) = span_of(paragraph.print.as_slice().len(), row.start, row.stop)?;
@@ -59,7 +59,7 @@ fn mark_of(items: &[Paragraph], row: MarkRow) -> Option<KeptMark>
     if !is_note(row.note.as_str()) {
         return None;
     }
-    Some(KeptMark {
+    Some(HeldMark {
         paragraph: row.para as u64,
         start,
         end,
@@ -70,10 +70,10 @@ fn mark_of(items: &[Paragraph], row: MarkRow) -> Option<KeptMark>
 }
 
 /// The mark of the row that comes after so many, if it is sound.
-fn judged(items: &[Paragraph], row: MarkRow, count: usize) -> Result<KeptMark, RowsFault>
+fn judged(items: &[Paragraph], row: MarkRow, count: usize) -> Result<HeldMark, RowsFault>
     ensures { MatchResult result
         (λ mark. IsSoundAt (mark_rule items.now) count row
-        × HasUtf8Texts FileTable.Mark row × IsKeptOf row mark)
+        × HasUtf8Texts FileTable.Mark row × IsHeldOf row mark)
         (λ fault. (fault ≡ RowsFault.Damaged row.id) × ¬ IsSoundAt (mark_rule items.now) count row) }
 {
     let id = row.id;
@@ -88,8 +88,8 @@ fn marks_of(
     alloc: Global,
     items: &[Paragraph],
     rows: Vec<MarkRow>,
-) -> Result<Vec<KeptMark>, RowsFault>
-    ensures marks { IfOk result (λ marks. AreKeptOf items.now rows.items marks.items) }
+) -> Result<Vec<HeldMark>, RowsFault>
+    ensures marks { IfOk result (λ marks. AreHeldOf items.now rows.items marks.items) }
     ensures damaged { IfErr result (TellsUnsound (mark_rule items.now) rows.items) }
 {
     let mut marks = Vec::new(alloc);
@@ -104,11 +104,11 @@ fn marks_of(
 fn give_indexes(
     alloc: Global,
     items: &mut [Paragraph],
-    marks: &[KeptMark],
+    marks: &[HeldMark],
 ) -> Result<(), AllocError>
     requires there { All (IsOnOne (length items.old)) marks.now }
     requires few { length marks.now ≤ most_marks }
-    requires unmarked { All (λ kept. kept.marks ≡ []) items.old }
+    requires unmarked { All (λ held. held.marks ≡ []) items.old }
     ensures indexes { OnOk result (HaveMarks marks.now items.new) }
     ensures same { OnOk result (map without_marks items.new ≡ map without_marks items.old) }
 {
@@ -134,9 +134,9 @@ pub(crate) fn read_marks(
     alloc: Global,
     items: &mut Vec<Paragraph>,
     mut rows: Vec<MarkRow>,
-) -> Result<Vec<KeptMark>, PartsFault>
+) -> Result<Vec<HeldMark>, PartsFault>
     requires of { (paras : List Para) × AreOf paras items.old.items }
-    requires unmarked { All (λ kept. kept.marks ≡ []) items.old.items }
+    requires unmarked { All (λ held. held.marks ≡ []) items.old.items }
     ensures whole { (paras : List Para) → AreOf paras items.old.items
         → IfOk result (λ _. IsWhole (IsDamagedMark paras rows.items)) }
     ensures texts { IfOk result (λ _. All (HasUtf8Texts FileTable.Mark) rows.items) }

@@ -2,7 +2,7 @@
 ghost use Rattle.desk_model.specs.Damage.{IsDamagedPara, IsFlag, IsPrintText};
 ghost use Rattle.desk_rebuild.specs.Faults.{TellsDamageOf};
 ghost use Rattle.desk_rebuild.specs.Rows.{AreInPlaces, AreOf, AreTables, IsWhole};
-ghost use Rattle.desk_rebuild.specs.Paras.{AreDefinedBy, AreKeptOf, IsFree, IsKeptOf, IsParaOn, para_rule};
+ghost use Rattle.desk_rebuild.specs.Paras.{AreDefinedBy, AreHeldOf, IsFree, IsHeldOf, IsParaOn, para_rule};
 ghost use Rattle.desk_rebuild.specs.OrderedRows.{AreInOrder, TellsUnsound};
 ghost use Rattle.desk_parts.specs.FileRows.{HasUtf8Texts};
 ghost use Rattle.desk_parts.specs.Rows.{Tab};
@@ -64,7 +64,7 @@ fn paragraph_of(
     row: ParaRow,
 ) -> Result<Option<Paragraph>, AllocError>
     ensures { IfOk result (λ found. MatchOption found (¬ IsParaOn tables.now row)
-        (λ kept. IsParaOn tables.now row × HasUtf8Texts FileTable.Para row × IsKeptOf row kept)) }
+        (λ held. IsParaOn tables.now row × HasUtf8Texts FileTable.Para row × IsHeldOf row held)) }
 {
     let (Some(style), Some(begins_volume), Some(struck)) = (
         style_of(row.style),
@@ -119,8 +119,8 @@ fn paragraphs_of(
     tables: &Tables,
     rows: Vec<ParaRow>,
 ) -> Result<OrderedParas, RowsFault>
-    ensures kept { IfOk result
-        (λ judged. AreKeptOf tables.now (length rows.items) rows.items judged.items.items judged.order.items) }
+    ensures held { IfOk result
+        (λ judged. AreHeldOf tables.now (length rows.items) rows.items judged.items.items judged.order.items) }
     ensures damaged { IfErr result (TellsUnsound (para_rule tables.now rows.items) rows.items) }
 {
     let mut order = free_places(alloc, rows.len())?;
@@ -160,7 +160,7 @@ pub(crate) fn read_paras(
         → IfOk result (λ _. IsWhole (IsDamagedPara tabs rows.items)) }
     ensures items { (tabs : List Tab) → AreTables tabs tables.now
         → IfOk result (λ judged. AreOf rows.items judged.items.items) }
-    ensures unmarked { IfOk result (λ judged. All (λ kept. kept.marks ≡ []) judged.items.items) }
+    ensures unmarked { IfOk result (λ judged. All (λ held. held.marks ≡ []) judged.items.items) }
     ensures order { (tabs : List Tab) → AreTables tabs tables.now
         → IfOk result (λ judged. AreInPlaces rows.items judged.order.items) }
     ensures damaged { (tabs : List Tab) → AreTables tabs tables.now

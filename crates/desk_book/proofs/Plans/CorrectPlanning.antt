@@ -6,13 +6,13 @@ use Rattle.desk_book.specs.declared.change.Effect.{Effect}
 use Rattle.desk_book.specs.declared.corrections.NewEntry.{NewEntry}
 use Rattle.desk_model.specs.declared.command.Command.{Command}
 use Rattle.desk_model.specs.declared.command.Command.TheVariants.{Correct}
-use Rattle.desk_memory.specs.declared.paragraphs.Paragraph.{Paragraph as KeptParagraph}
+use Rattle.desk_memory.specs.declared.paragraphs.Paragraph.{Paragraph as HeldParagraph}
 use Rattle.desk_model.specs.declared.refusal.Refusal.{Refusal}
 use Rattle.desk_model.specs.declared.refusal.Refusal.TheVariants.{BadReader, BadSpan, NoMemory, NoParagraph, NotStruck, TooLong}
 use Rattle.desk_model.specs.Book.{Book, Corrects, Paragraph, Replacement}
 use Rattle.desk_book.specs.Changes.{Does}
 use Rattle.desk_book.specs.Corrections.{HaltsEntry, HaltsPrint, IsEntered, TakesEntry}
-use Rattle.desk_memory.specs.Histories.{TookFrom, entry_kept}
+use Rattle.desk_memory.specs.Histories.{TookFrom, entry_held}
 use Rattle.desk_model.specs.Judging.{Passes}
 use Rattle.desk_model.specs.Limits.{most_note, most_print}
 use Rattle.desk_model.specs.Marks.{mark_moved, mark_moved_by}
@@ -50,14 +50,14 @@ module _ (book : Book) (id start count : ℕ) (text who : List ℕ) where
       cleaned : Passes book None command (rank NoParagraph)
       cleaned = past_text book command text past_proofreader refl unbarred
 
-      module _ (kept : KeptParagraph) (meaning : Meaning) (shown : IsShown book id kept meaning) (free : kept.struck ≡ false) where
+      module _ (held : HeldParagraph) (meaning : Meaning) (shown : IsShown book id held meaning) (free : held.struck ≡ false) where
         abbrev p : Paragraph
         p = shown.paragraph
 
         fit : Passes book None command (rank BadSpan)
-        fit = to_rank book command (rank NotStruck) (rank BadSpan) refl (unstruck book command id refl refl refl cleaned kept meaning shown free)
+        fit = to_rank book command (rank NotStruck) (rank BadSpan) refl (unstruck book command id refl refl refl cleaned held meaning shown free)
 
-        module _ (span : start + count ≤ length kept.print) where
+        module _ (span : start + count ≤ length held.print) where
           spanned : Passes book None command (rank TooLong)
           spanned =
               Passes-past book None command BadSpan (rank TooLong) refl fit
@@ -66,7 +66,7 @@ module _ (book : Book) (id start count : ℕ) (text who : List ℕ) where
               omega arith)
 
           -- so many characters the print has after it
-          pub counted : (len put : ℕ) → len ≡ length kept.print → put ≡ length (normal_form text) → (len - count) + put ≡ length (with_replacement (print_of p) r)
+          pub counted : (len put : ℕ) → len ≡ length held.print → put ≡ length (normal_form text) → (len - count) + put ≡ length (with_replacement (print_of p) r)
           counted len put a b =
               let same = ap length shown.print in
               let sum = length-replaced (print_of p) r (subst (λ (t : List ℕ). start + count ≤ length t) shown.print span) in
@@ -85,17 +85,17 @@ module _ (book : Book) (id start count : ℕ) (text who : List ℕ) where
             no_note : ¬ IsLongerThan most_note None
             no_note l = l
 
-            pub halted_here : (told : Refusal) → HaltsEntry book kept (length print) told → IsTurnedDown book command told
+            pub halted_here : (told : Refusal) → HaltsEntry book held (length print) told → IsTurnedDown book command told
             halted_here told =
-                halted book command id p shown.found kept shown.kept_is print shown.translated.text meaning shown.translated.found shown.translated.means refl replaced refl made
+                halted book command id p shown.found held shown.held_is print shown.translated.text meaning shown.translated.found shown.translated.means refl replaced refl made
                 (not_longer most_print (Some (normal_form text)) (normal_form text) refl short) no_note spanned refl refl refl refl told
 
-            pub undefined_here : TakesEntry book kept (length print) → (told : Refusal) → HaltsPrint meaning print told → IsTurnedDown book command told
+            pub undefined_here : TakesEntry book held (length print) → (told : Refusal) → HaltsPrint meaning print told → IsTurnedDown book command told
             undefined_here takes told =
-                undefined book command id p shown.found kept shown.kept_is print shown.translated.text meaning shown.translated.found shown.translated.means refl replaced refl made
+                undefined book command id p shown.found held shown.held_is print shown.translated.text meaning shown.translated.found shown.translated.means refl replaced refl made
                 (not_longer most_print (Some (normal_form text)) (normal_form text) refl short) no_note spanned refl refl refl refl (rank TooLong) refl (lit≤ tt) takes told
 
-            pub planned_here : (new : NewEntry) (effect : Effect) → new.print.items ≡ print → IsEntered book id kept meaning new effect → entry_kept new.entry ≡ Corrects r who → TookFrom (print_of p) new.entry
+            pub planned_here : (new : NewEntry) (effect : Effect) → new.print.items ≡ print → IsEntered book id held meaning new effect → entry_held new.entry ≡ Corrects r who → TookFrom (print_of p) new.entry
                 → new.start ≡ start → new.removed ≡ count → new.added ≡ length (normal_form text) → AreCharacters (normal_form text) × AreCharacters who → IsPlanned book command effect
             planned_here new effect printed is entry_is taken starts removes adds written =
                 let shorts : length print ≤ most_print = subst (λ (t : List ℕ). length t ≤ most_print) printed is.short in
@@ -103,10 +103,10 @@ module _ (book : Book) (id start count : ℕ) (text who : List ℕ) where
                 let within : length (print_of p) ≤ most_print = short-sound book p shown.sound in
                 let same = ap length shown.print in
                 let after : new.print.items ≡ print_of (with_entry (Corrects r who) p) = printed ∙ (print_is ∙ sym (corrected_print-corrects p.original p.history r who shown.sound.history.entries)) in
-                let change = ChangesPrint-entered book id kept meaning new effect shown is (Corrects r who) entry_is after taken (omega arith) (omega arith) in
+                let change = ChangesPrint-entered book id held meaning new effect shown is (Corrects r who) entry_is after taken (omega arith) (omega arith) in
                 let moves : next_with_entry book id (Corrects r who) (mark_moved_by new.start new.removed new.added) ≡ next_with_entry book id (Corrects r who) (mark_moved r) =
                 λ i. next_with_entry book id (Corrects r who) (mark_moved_by (starts i) (removes i) (adds i)) in (
-                  accepts_entry book command id p shown.found kept shown.kept_is print shown.translated.text meaning shown.translated.found shown.translated.means refl replaced refl made
+                  accepts_entry book command id p shown.found held shown.held_is print shown.translated.text meaning shown.translated.found shown.translated.means refl replaced refl made
                       (not_longer most_print (Some (normal_form text)) (normal_form text) refl short) no_note spanned refl refl refl refl shorts is.few is.left defined,
                   (next_with_entry book id (Corrects r who) (mark_moved_by new.start new.removed new.added), moves, subst (Does book command (next_with_entry book id (Corrects r who) (mark_moved_by new.start new.removed new.added))) (sym is.effect_is) (refl, change)),
                   (written.0, written.1, tt),

@@ -4,12 +4,12 @@ use Rattle.std.proofs.lemmas.List.{length-map}
 use Rattle.louis_table.specs.Meaning.{Meaning}
 use Rattle.desk_book.specs.declared.change.Effect.{Effect}
 use Rattle.desk_book.specs.declared.corrections.NewEntry.{NewEntry}
-use Rattle.desk_memory.specs.declared.paragraphs.Paragraph.{Paragraph as KeptParagraph}
+use Rattle.desk_memory.specs.declared.paragraphs.Paragraph.{Paragraph as HeldParagraph}
 use Rattle.desk_model.specs.Book.{Book, Entry, Paragraph}
 use Rattle.desk_book.specs.Changes.{ChangesPrint}
 use Rattle.desk_memory.specs.Braille.{AreCellsOf}
 use Rattle.desk_book.specs.Corrections.{IsEntered}
-use Rattle.desk_memory.specs.Histories.{TookFrom, entry_kept}
+use Rattle.desk_memory.specs.Histories.{TookFrom, entry_held}
 use Rattle.desk_model.specs.Limits.{most_entries, most_print}
 use Rattle.desk_model.specs.Marks.{mark_moved_by}
 use Rattle.desk_model.specs.Print.{print_of, with_entry}
@@ -17,13 +17,13 @@ use Rattle.desk_memory.specs.Room.{Suffices}
 use Rattle.desk_memory.specs.Display.{IsShown}
 use Rattle.desk_model.specs.Step.{next_with_entry}
 
-pub ChangesPrint-entered : (book : Book) (id : ℕ) (kept : KeptParagraph) (meaning : Meaning) (new : NewEntry) (effect : Effect) (shown : IsShown book id kept meaning) (is : IsEntered book id kept meaning new effect) (e : Entry)
-    → entry_kept new.entry ≡ e → new.print.items ≡ print_of (with_entry e shown.paragraph) → TookFrom (print_of shown.paragraph) new.entry → new.start + new.removed ≤ most_print → new.added ≤ most_print
+pub ChangesPrint-entered : (book : Book) (id : ℕ) (held : HeldParagraph) (meaning : Meaning) (new : NewEntry) (effect : Effect) (shown : IsShown book id held meaning) (is : IsEntered book id held meaning new effect) (e : Entry)
+    → entry_held new.entry ≡ e → new.print.items ≡ print_of (with_entry e shown.paragraph) → TookFrom (print_of shown.paragraph) new.entry → new.start + new.removed ≤ most_print → new.added ≤ most_print
     → ChangesPrint book (next_with_entry book id e (mark_moved_by new.start new.removed new.added)) id is.change
-ChangesPrint-entered book id kept meaning new effect shown is e entry_is print_is taken within short =
+ChangesPrint-entered book id held meaning new effect shown is e entry_is print_is taken within short =
     let p : Paragraph = shown.paragraph in
-    let count : length p.history ≡ length kept.history = ap (λ (q : Paragraph). length q.history) shown.kept_is ∙ length-map kept.history entry_kept in
-    let entry : entry_kept is.change.entry ≡ e = ap entry_kept is.entry ∙ entry_is in
+    let count : length p.history ≡ length held.history = ap (λ (q : Paragraph). length q.history) shown.held_is ∙ length-map held.history entry_held in
+    let entry : entry_held is.change.entry ≡ e = ap entry_held is.entry ∙ entry_is in
     let start = is.start in
     let removed = is.removed in
     let added = is.added in

@@ -7,7 +7,7 @@ use Rattle.louis_table.specs.Meaning.{Meaning}
 use Rattle.louis_table.specs.Table.{Means}
 use Rattle.louis_translate.specs.Position.{AreDefined}
 use Rattle.desk_model.specs.declared.command.Command.{Command}
-use Rattle.desk_memory.specs.declared.paragraphs.Paragraph.{Paragraph as KeptParagraph}
+use Rattle.desk_memory.specs.declared.paragraphs.Paragraph.{Paragraph as HeldParagraph}
 use Rattle.desk_memory.specs.declared.tables.BookTable.{BookTable}
 use Rattle.desk_model.specs.declared.refusal.Limit.TheVariants.{Entries, Marks, Tables, Version}
 use Rattle.desk_model.specs.declared.refusal.Refusal.{Refusal}
@@ -15,9 +15,9 @@ use Rattle.desk_model.specs.declared.refusal.Refusal.TheVariants.{Full, NoMemory
 use Rattle.desk_model.specs.Book.{Book, Paragraph, paragraph_of, text_of}
 use Rattle.desk_book.specs.Corrections.{HaltsEntry, HaltsPrint, TakesEntry}
 use Rattle.desk_memory.specs.Display.{IsShown}
-use Rattle.desk_memory.specs.Histories.{entry_kept}
+use Rattle.desk_memory.specs.Histories.{entry_held}
 use Rattle.desk_model.specs.Judging.{Passes}
-use Rattle.desk_memory.specs.Kept.{paragraph_kept}
+use Rattle.desk_memory.specs.Held.{paragraph_held}
 use Rattle.desk_model.specs.Limits.{most_entries, most_note, most_print, most_version}
 use Rattle.desk_book.specs.Plans.{IsTurnedDown}
 use Rattle.desk_model.specs.Named.{Changed, named_by}
@@ -31,10 +31,10 @@ use Rattle.desk_model.proofs.Commands.Ranks.{accepted_after, changed-print, chan
 module _ (book : Book) (command : Command) (id : ℕ) (named : (named_by command).paragraphs_named ≡ id ∷ []) (live : (named_by command).live_paragraph ≡ Some id) (skip : skips command (rank NoTable) (rank Struck) ≡ true)
     (passes : Passes book None command (rank NoParagraph)) where
   -- it is there, and isn't struck
-  pub unstruck : (kept : KeptParagraph) (meaning : Meaning) (shown : IsShown book id kept meaning) → kept.struck ≡ false → Passes book None command (rank NotStruck)
-  unstruck kept meaning shown free = past_fit book command id named live skip passes shown.paragraph shown.found (ap (λ (q : Paragraph). q.struck) shown.kept_is ∙ free)
+  pub unstruck : (held : HeldParagraph) (meaning : Meaning) (shown : IsShown book id held meaning) → held.struck ≡ false → Passes book None command (rank NotStruck)
+  unstruck held meaning shown free = past_fit book command id named live skip passes shown.paragraph shown.found (ap (λ (q : Paragraph). q.struck) shown.held_is ∙ free)
 
-module _ (book : Book) (command : Command) (id : ℕ) (p : Paragraph) (there : paragraph_of book id ≡ Some p) (kept : KeptParagraph) (kept_is : p ≡ paragraph_kept (id, kept)) (print source : List ℕ) (meaning : Meaning)
+module _ (book : Book) (command : Command) (id : ℕ) (p : Paragraph) (there : paragraph_of book id ≡ Some p) (held : HeldParagraph) (held_is : p ≡ paragraph_held (id, held)) (print source : List ℕ) (meaning : Meaning)
     (found : text_of book p.table ≡ Some source) (means : Means source meaning) (grows : (named_by command).history_grown ≡ Some id) (change : Paragraph → Option (List ℕ))
     (changed : (named_by command).paragraph_translated ≡ Some (Changed id change)) (makes : change p ≡ Some print) (text : ¬ IsLongerThan most_print (named_by command).text_stored)
     (note : ¬ IsLongerThan most_note (named_by command).note_given) (passes : Passes book None command (rank TooLong))
@@ -52,29 +52,29 @@ module _ (book : Book) (command : Command) (id : ℕ) (p : Paragraph) (there : p
   shown : print_to_translate book command ≡ Some (print, p.table)
   shown = ap (option_and_then (print_and_table book)) changed ∙ changed-translated book id change p print there makes
 
-  count : length p.history ≡ length kept.history
-  count = ap (λ (q : Paragraph). length q.history) kept_is ∙ length-map kept.history entry_kept
+  count : length p.history ≡ length held.history
+  count = ap (λ (q : Paragraph). length q.history) held_is ∙ length-map held.history entry_held
 
   short : length print ≤ most_print → Passes book None command (rank (Full Entries))
   short h = to_rank book command (rank (Full Tables)) (rank (Full Entries)) to_entries (past_lengths book command passes text (not_longer most_print (new_print book command) print made h) note)
 
-  few : length print ≤ most_print → length kept.history < most_entries → Passes book None command (rank (Full Marks))
+  few : length print ≤ most_print → length held.history < most_entries → Passes book None command (rank (Full Marks))
   few h room =
       Passes-past book None command (Full Entries) (rank (Full Marks)) refl (short h)
       (λ f. let full = IsSomeAnd-value at_limit there (IsSomeAnd-value (λ (n : ℕ). IsSomeAnd (paragraph_of book n) at_limit) grows f) in
       omega (arith, count))
 
-  left : length print ≤ most_print → length kept.history < most_entries → book.version < most_version → Passes book None command undefined_rank
+  left : length print ≤ most_print → length held.history < most_entries → book.version < most_version → Passes book None command undefined_rank
   left h room version = to_rank book command bad_table_rank undefined_rank to_print (past_version book command (rank (Full Marks)) (few h room) to_version version)
 
-  pub halted : (told : Refusal) → HaltsEntry book kept (length print) told → IsTurnedDown book command told
+  pub halted : (told : Refusal) → HaltsEntry book held (length print) told → IsTurnedDown book command told
   halted told (inl (is, long)) = too_long book command told print passes made long is
   halted told (inr (inl (is, h, full))) =
       turned_down book command (rank (Full Entries)) (Full Entries) told (short h) refl (IsSomeAnd-of (λ (n : ℕ). IsSomeAnd (paragraph_of book n) at_limit) grows
       (IsSomeAnd-of at_limit there (omega (arith, count, full)))) is
   halted told (inr (inr (is, h, room, full))) = full_version book command (rank (Full Marks)) told (few h room) to_version full is
 
-  module _ (n : ℕ) (asks : (named_by command).rank_after_asking ≡ Some n) (soon : n ≤ undefined_rank) (takes : TakesEntry book kept (length print)) where
+  module _ (n : ℕ) (asks : (named_by command).rank_after_asking ≡ Some n) (soon : n ≤ undefined_rank) (takes : TakesEntry book held (length print)) where
     pub lacking : (told : Refusal) → told ≡ NoMemory → IsTurnedDown book command told
     lacking told is = no_memory book command told n asks (λ other h. let after = left takes.short takes.few takes.left other h in omega arith) is
 
@@ -84,6 +84,6 @@ module _ (book : Book) (command : Command) (id : ℕ) (p : Paragraph) (there : p
         (record { print = print; name = p.table; print_is = shown; text = source; meaning = meaning; found = found; means = means; first = first }) is
     undefined told (inr is) = lacking told is
 
-  pub accepts_entry : length print ≤ most_print → length kept.history < most_entries → book.version < most_version → AreDefined meaning print → IsAccepted book None command
+  pub accepts_entry : length print ≤ most_print → length held.history < most_entries → book.version < most_version → AreDefined meaning print → IsAccepted book None command
   accepts_entry h room version defined =
       accepted_after book command untranslatable_rank (past_print book command p.table print table shown (record { found = found; means = means }) (left h room version) defined) to_end

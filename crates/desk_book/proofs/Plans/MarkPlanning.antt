@@ -6,7 +6,7 @@ use Rattle.louis_translate.specs.Tiling.{Tiles}
 use Rattle.louis_translate.proofs.Tilings.{one_cover}
 use Rattle.desk_model.specs.declared.command.Command.{Command}
 use Rattle.desk_model.specs.declared.command.Command.TheVariants.{Mark}
-use Rattle.desk_memory.specs.declared.paragraphs.Paragraph.{Paragraph as KeptParagraph}
+use Rattle.desk_memory.specs.declared.paragraphs.Paragraph.{Paragraph as HeldParagraph}
 use Rattle.desk_model.specs.declared.refusal.Limit.TheVariants.{Marks, Tables, Version}
 use Rattle.desk_model.specs.declared.refusal.Refusal.{Refusal}
 use Rattle.desk_model.specs.declared.refusal.Refusal.TheVariants.{BadSpan, Full, NoMemory, NoParagraph, NotStruck, TooLong}
@@ -35,20 +35,20 @@ module _ (book : Book) (id cell count : ℕ) (note : List ℕ) where
     cleaned : Passes book None command (rank NoParagraph)
     cleaned = past_text book command note (passes_to book command bad_text_rank refl) refl unbarred
 
-    module _ (kept : KeptParagraph) (meaning : Meaning) (shown : IsShown book id kept meaning) (free : kept.struck ≡ false) where
+    module _ (held : HeldParagraph) (meaning : Meaning) (shown : IsShown book id held meaning) (free : held.struck ≡ false) where
       abbrev p : Paragraph
       p = shown.paragraph
 
       fit : Passes book None command (rank BadSpan)
-      fit = to_rank book command (rank NotStruck) (rank BadSpan) refl (unstruck book command id refl refl refl cleaned kept meaning shown free)
+      fit = to_rank book command (rank NotStruck) (rank BadSpan) refl (unstruck book command id refl refl refl cleaned held meaning shown free)
 
-      pub has_cells : (print cells : List ℕ) → print ≡ kept.print → cells ≡ kept.cells → HasCells meaning print (length cells)
+      pub has_cells : (print cells : List ℕ) → print ≡ held.print → cells ≡ held.cells → HasCells meaning print (length cells)
       has_cells print cells same these choices tiles =
           let its : Tiles meaning (print_of p) choices = subst (λ (t : List ℕ). Tiles meaning t choices) (same ∙ shown.print) tiles in
           let one : shown.choices ≡ choices = one_cover meaning (print_of p) 0 shown.choices choices shown.translated.tiles its in
           ap length (these ∙ (shown.cells ∙ (ap (braille meaning (print_of p)) one ∙ ap (λ (t : List ℕ). braille meaning t choices) (sym (same ∙ shown.print)))))
 
-      module _ (start end : ℕ) (print : List ℕ) (same : print ≡ kept.print) (there : AreMarkedIn meaning print cell count start end) where
+      module _ (start end : ℕ) (print : List ℕ) (same : print ≡ held.print) (there : AreMarkedIn meaning print cell count start end) where
         its_span : AreMarkedIn meaning (print_of p) cell count start end
         its_span = subst (λ (t : List ℕ). AreMarkedIn meaning t cell count start end) (same ∙ shown.print) there
 

@@ -7,7 +7,7 @@ use Rattle.louis_table.proofs.OneMeaning.{one_meaning}
 use Rattle.louis_translate.specs.Position.{AreDefined}
 use Rattle.desk_book.specs.declared.change.Effect.{Effect}
 use Rattle.desk_model.specs.declared.command.Command.{Command}
-use Rattle.desk_memory.specs.declared.paragraphs.Paragraph.{Paragraph as KeptParagraph}
+use Rattle.desk_memory.specs.declared.paragraphs.Paragraph.{Paragraph as HeldParagraph}
 use Rattle.desk_memory.specs.declared.tables.BookTable.{BookTable}
 use Rattle.desk_model.specs.declared.refusal.Limit.TheVariants.{Version}
 use Rattle.desk_model.specs.declared.refusal.Refusal.{Refusal}
@@ -15,7 +15,7 @@ use Rattle.desk_model.specs.declared.refusal.Refusal.TheVariants.{BadName, Full,
 use Rattle.desk_model.specs.Book.{Book, Paragraph, paragraph_of, text_of}
 use Rattle.desk_model.specs.Judging.{Passes}
 use Rattle.desk_model.specs.Limits.{most_print, most_version}
-use Rattle.desk_book.specs.Plans.{AreNotAllThere, AreThere, IsKeptFor, IsTableFor, IsTurnedDown}
+use Rattle.desk_book.specs.Plans.{AreNotAllThere, AreThere, IsHeldFor, IsTableFor, IsTurnedDown}
 use Rattle.desk_model.specs.Named.{named_by}
 use Rattle.desk_model.specs.Refusals.{Holds, IsUndefined, new_print, print_to_translate}
 use Rattle.desk_model.specs.Ranks.{rank, undefined_rank, untranslatable_rank}
@@ -39,9 +39,9 @@ module _ (book : Book) where
   pub AreThere-none : AreThere book []
   AreThere-none id (k, within, at) = absurd (omega arith)
 
-  pub AreThere-cons : (id : ℕ) (kept : KeptParagraph) (ids : List ℕ) → IsKeptFor book id kept → AreThere book ids → AreThere book (id ∷ ids)
-  AreThere-cons id kept ids k rest other (zero, within, at) = subst (λ (n : ℕ). IsSome (paragraph_of book n)) at (ap is_some k.found)
-  AreThere-cons id kept ids k rest other (suc i, within, at) = rest other (i, omega arith, at)
+  pub AreThere-cons : (id : ℕ) (held : HeldParagraph) (ids : List ℕ) → IsHeldFor book id held → AreThere book ids → AreThere book (id ∷ ids)
+  AreThere-cons id held ids k rest other (zero, within, at) = subst (λ (n : ℕ). IsSome (paragraph_of book n)) at (ap is_some k.found)
+  AreThere-cons id held ids k rest other (suc i, within, at) = rest other (i, omega arith, at)
 
 -- ---- ranks
 
@@ -81,20 +81,20 @@ module _ (book : Book) (command : Command) where
 
   -- ---- a paragraph that is named first
 
-  module _ (id : ℕ) (kept : KeptParagraph) (k : IsKeptFor book id kept) where
+  module _ (id : ℕ) (held : HeldParagraph) (k : IsHeldFor book id held) where
     pub past_named : skips command (rank BadName) (rank NoParagraph) ≡ true → (named_by command).paragraphs_named ≡ id ∷ [] → Passes book None command (rank NoTable)
-    past_named skip named = past_paragraphs (passes_to book command (rank NoParagraph) skip) (subst (AreThere book) (sym named) (AreThere-cons book id kept [] k (AreThere-none book)))
+    past_named skip named = past_paragraphs (passes_to book command (rank NoParagraph) skip) (subst (AreThere book) (sym named) (AreThere-cons book id held [] k (AreThere-none book)))
 
-    pub past_struck : Passes book None command (rank Struck) → (named_by command).live_paragraph ≡ Some id → kept.struck ≡ false → Passes book None command (rank NotStruck)
+    pub past_struck : Passes book None command (rank Struck) → (named_by command).live_paragraph ≡ Some id → held.struck ≡ false → Passes book None command (rank NotStruck)
     past_struck passes named live =
         Passes-past book None command Struck (rank NotStruck) refl passes
-        (λ s. both_ways kept.struck live
+        (λ s. both_ways held.struck live
         (IsSomeAnd-value (λ (p : Paragraph). p.struck ≡ true) k.found
         (IsSomeAnd-value (λ (n : ℕ). IsSomeAnd (paragraph_of book n) (λ p. p.struck ≡ true)) named s)))
 
-    pub past_live : Passes book None command (rank NotStruck) → (named_by command).struck_paragraph ≡ Some id → kept.struck ≡ true → Passes book None command (rank Resolved)
+    pub past_live : Passes book None command (rank NotStruck) → (named_by command).struck_paragraph ≡ Some id → held.struck ≡ true → Passes book None command (rank Resolved)
     past_live passes named struck =
         Passes-past book None command NotStruck (rank Resolved) refl passes
-        (λ s. both_ways kept.struck
+        (λ s. both_ways held.struck
         (IsSomeAnd-value (λ (p : Paragraph). p.struck ≡ false) k.found
         (IsSomeAnd-value (λ (n : ℕ). IsSomeAnd (paragraph_of book n) (λ p. p.struck ≡ false)) named s)) struck)

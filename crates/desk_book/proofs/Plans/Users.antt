@@ -7,13 +7,13 @@ use Rattle.std.proofs.lemmas.List.Elements.{All-contains, All-nil, Contains-get_
 use Rattle.std.proofs.lemmas.Option.{slice_get-get_or, same_Some}
 use Rattle.louis_table.specs.Meaning.{Meaning}
 use Rattle.louis_translate.specs.Position.{AreDefined, IsFirstUndefined}
-use Rattle.desk_memory.specs.declared.paragraphs.Paragraph.{Paragraph as KeptParagraph}
+use Rattle.desk_memory.specs.declared.paragraphs.Paragraph.{Paragraph as HeldParagraph}
 use Rattle.desk_model.specs.Book.{Book, Paragraph, paragraph_of}
 use Rattle.desk_book.specs.Changes.{AreRenewed}
 use Rattle.desk_memory.specs.Braille.{AreCellsOf}
-use Rattle.desk_memory.specs.Kept.{paragraph_kept}
+use Rattle.desk_memory.specs.Held.{paragraph_held}
 use Rattle.desk_model.specs.Refusals.{DefinesUser, IsFirstUser}
-use Rattle.desk_book.specs.Plans.{IsKeptFor}
+use Rattle.desk_book.specs.Plans.{IsHeldFor}
 use Rattle.desk_model.specs.Print.{print_of}
 use Rattle.desk_model.specs.Sound.{IsSound}
 use Rattle.desk_model.proofs.Books.ParagraphLists.{Contains-found}
@@ -38,10 +38,10 @@ module _ (meaning : Meaning) (name : List ℕ) where
   pub DefinesUsersBelow-all : (ps : List Paragraph) (n : ℕ) → length ps ≤ n → DefinesUsersBelow meaning name ps n → All (DefinesUser meaning name) ps
   DefinesUsersBelow-all ps n many below k d lt = below k (get_or ps k d) (omega arith) (slice_get-get_or ps k d lt)
 
-  pub DefinesUser-kept : (ps : List Paragraph) (n id : ℕ) (kept : KeptParagraph) → (slice_get ps n ≡ Some (paragraph_kept (id, kept))) × (kept.print ≡ print_of (paragraph_kept (id, kept)))
-      → (kept.table ≡ name → AreDefined meaning kept.print) → (p : Paragraph) → slice_get ps n ≡ Some p → DefinesUser meaning name p
-  DefinesUser-kept ps n id kept (at, print) defined p e =
-      subst (DefinesUser meaning name) (same_Some (paragraph_kept (id, kept)) p (sym at ∙ e)) (λ uses. subst (AreDefined meaning) print (defined uses))
+  pub DefinesUser-held : (ps : List Paragraph) (n id : ℕ) (held : HeldParagraph) → (slice_get ps n ≡ Some (paragraph_held (id, held))) × (held.print ≡ print_of (paragraph_held (id, held)))
+      → (held.table ≡ name → AreDefined meaning held.print) → (p : Paragraph) → slice_get ps n ≡ Some p → DefinesUser meaning name p
+  DefinesUser-held ps n id held (at, print) defined p e =
+      subst (DefinesUser meaning name) (same_Some (paragraph_held (id, held)) p (sym at ∙ e)) (λ uses. subst (AreDefined meaning) print (defined uses))
 
   pub IsFirstUser-at : (ps : List Paragraph) (n place : ℕ) (p : Paragraph) → slice_get ps n ≡ Some p → DefinesUsersBelow meaning name ps n → p.table ≡ name → IsFirstUndefined meaning (print_of p) place → IsFirstUser meaning name ps p.id place
   IsFirstUser-at [] n place p at below uses first = absurd (cc)
@@ -66,12 +66,12 @@ abbrev pub Renews : Book → Meaning → List ℕ → ℕ → Option (List ℕ) 
 Renews book meaning name id cells =
     (p : Paragraph) → paragraph_of book id ≡ Some p → MatchOption cells (p.table ≢ name) (λ new. (p.table ≡ name) × AreCellsOf meaning (print_of p) new)
 
-pub Renews-found : (book : Book) (meaning : Meaning) (name : List ℕ) (id : ℕ) (kept : KeptParagraph) (cells : Option (List ℕ)) → IsKeptFor book id kept
-    → MatchOption cells (kept.table ≢ name) (λ new. (kept.table ≡ name) × AreCellsOf meaning kept.print new) → Renews book meaning name id cells
-Renews-found book meaning name id kept cells k given p e =
-    let same : paragraph_kept (id, kept) ≡ p = same_Some (paragraph_kept (id, kept)) p (sym k.found ∙ e) in
+pub Renews-found : (book : Book) (meaning : Meaning) (name : List ℕ) (id : ℕ) (held : HeldParagraph) (cells : Option (List ℕ)) → IsHeldFor book id held
+    → MatchOption cells (held.table ≢ name) (λ new. (held.table ≡ name) × AreCellsOf meaning held.print new) → Renews book meaning name id cells
+Renews-found book meaning name id held cells k given p e =
+    let same : paragraph_held (id, held) ≡ p = same_Some (paragraph_held (id, held)) p (sym k.found ∙ e) in
     subst (λ (q : Paragraph). MatchOption cells (q.table ≢ name) (λ new. (q.table ≡ name) × AreCellsOf meaning (print_of q) new)) same
-    (subst (λ (t : List ℕ). MatchOption cells (kept.table ≢ name) (λ new. (kept.table ≡ name) × AreCellsOf meaning t new)) k.print given)
+    (subst (λ (t : List ℕ). MatchOption cells (held.table ≢ name) (λ new. (held.table ≡ name) × AreCellsOf meaning t new)) k.print given)
 
 pub Renews-missing : (book : Book) (meaning : Meaning) (name : List ℕ) (id : ℕ) (cells : Option (List ℕ)) → paragraph_of book id ≡ None → Renews book meaning name id cells
 Renews-missing book meaning name id cells none p e = absurd (cc)

@@ -13,27 +13,27 @@ use Rattle.louis_table.specs.Meaning.{Meaning}
 use Rattle.louis_table.specs.Table.{Means}
 use Rattle.desk_book.specs.declared.change.Effect.{Effect}
 use Rattle.desk_book.specs.declared.change.Effect.TheVariants as effect
-use Rattle.desk_memory.specs.declared.history.KeptEntry.{KeptEntry}
-use Rattle.desk_memory.specs.declared.history.KeptEntry.TheVariants.{Corrects, Undoes}
+use Rattle.desk_memory.specs.declared.history.HeldEntry.{HeldEntry}
+use Rattle.desk_memory.specs.declared.history.HeldEntry.TheVariants.{Corrects, Undoes}
 use Rattle.desk_model.specs.declared.command.Command.{Command}
 use Rattle.desk_parts.specs.Puts.{RowPut}
 use Rattle.desk_model.specs.Book.{Book, Mark, Paragraph}
 use Rattle.desk_book.specs.ChangePuts.{cache_put, cells_from, cells_put, effect_puts, elsewhere_put, entry_row, further_from, further_put, place_put, print_put, span_put, stays_in, tab_put, version_put}
 use Rattle.desk_model.specs.Loans.{AreLent, IsAdded, GetsEntry, IsLent, Reorders, StandsAt, next_entry_number, row_number}
 use Rattle.desk_book.specs.Changes.{Carries, Change, Does, change_puts, puts-change_by, has-effect}
-use Rattle.desk_memory.specs.Kept.{mark_kept}
+use Rattle.desk_memory.specs.Held.{mark_held}
 use Rattle.desk_model.specs.ParagraphMarks.{marks_on}
 use Rattle.desk_model.specs.Named.{named_by}
 use Rattle.desk_model.specs.Sound.{IsSound}
 use Rattle.desk_model.specs.Step.{next_id, next_mark}
 use Rattle.desk_model.proofs.Lists.Members.{Contains-behind, Contains-here}
 use Rattle.desk_book.proofs.RowPuts.PutReplacement.{RenewsFrom, renews-all, renews-here, renews-next}
-use Rattle.desk_book.proofs.Kept.Settled.{Does-carried}
+use Rattle.desk_book.proofs.Held.Settled.{Does-carried}
 use Rattle.desk_book.proofs.RowPuts.PutOrder.{index-at}
 use Rattle.desk_model.proofs.Books.ParagraphLists.{ids_of}
 use Rattle.desk_model.proofs.Books.SoundBooks.{paragraph_of-some, paragraphs-apart}
 
-entry-row : (id n : ℕ) (kept : KeptEntry) → ((entry_row id n kept).entry.para ≡ row_number id) × ((entry_row id n kept).entry.seq ≡ row_number n)
+entry-row : (id n : ℕ) (held : HeldEntry) → ((entry_row id n held).entry.para ≡ row_number id) × ((entry_row id n held).entry.seq ≡ row_number n)
 entry-row id n (Corrects c) = (refl, refl)
 entry-row id n (Undoes undone) = (refl, refl)
 
@@ -137,7 +137,7 @@ module _ (book next : Book) (command : Command) where
       All-cons P (tab_put name table) (cells_from 0 cells.items) (name, table.text, does.0.0, refl, refl)
       (cells-lent name table.text table.rules sound does.2 does.0.0 1 cells.items (omega arith) (let few = does.4 in omega arith)
       (renews-all book name table.text table.rules sound does.2 cells.items does.3))
-  effect-lent sound (effect.AddParagraph kept room order_room place) does =
+  effect-lent sound (effect.AddParagraph held room order_room place) does =
       let adds : (named_by command).adds_paragraph ≡ true = ap (λ (c : Command). (named_by c).adds_paragraph) does.command_is in
       let added : IsAdded book command (next_id book) = (refl, adds) in
       let reorders : Reorders command = ap (λ (c : Command). is_some (named_by c).place_given) does.command_is in
@@ -145,8 +145,8 @@ module _ (book next : Book) (command : Command) where
       let count : length ids ≡ length book.paragraphs = length-map book.paragraphs (λ (other : Paragraph). other.id) in
       let within = does.within in
       let places = further-lent reorders place (next_id book) ids refl (paragraphs-apart book sound) (omega arith) does.order in
-      All-cons P _ (cache_put (next_id book) kept.cells ∷ further_from place ids) (next_id book, refl, added)
-      (All-cons P (cache_put (next_id book) kept.cells) (further_from place ids) (next_id book, refl, inl added) places)
+      All-cons P _ (cache_put (next_id book) held.cells ∷ further_from place ids) (next_id book, refl, added)
+      (All-cons P (cache_put (next_id book) held.cells) (further_from place ids) (next_id book, refl, inl added) places)
   effect-lent sound (effect.ChangePrint id change) does =
       let grows : GetsEntry command id = does.0 in
       let row = entry-row id (next_entry_number book id) change.entry in
@@ -156,7 +156,7 @@ module _ (book next : Book) (command : Command) where
       (All-cons P (cache_put id change.cells) spans (id, refl, inr (inl grows))
       (spans-lent id change.start change.removed change.added grows book.marks (λ mark c. c))))
   effect-lent sound (effect.AddMark mark room index_room) does =
-      All-cons P _ [] (mark_kept (next_mark book, mark), refl, ap (λ (b : Book). b.marks) does.0) (All-nil P)
+      All-cons P _ [] (mark_held (next_mark book, mark), refl, ap (λ (b : Book). b.marks) does.0) (All-nil P)
   effect-lent sound (effect.ResolveMark id) does = All-cons P _ [] (id, refl, does.0) (All-nil P)
   effect-lent sound (effect.SetFlags id style begins struck) does = All-cons P _ [] (id, refl, does.0) (All-nil P)
   effect-lent sound (effect.ChangeTable id table cells) does =

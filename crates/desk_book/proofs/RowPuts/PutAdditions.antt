@@ -8,12 +8,12 @@ use Rattle.std.proofs.lemmas.Bool.{cases_Bool, cond-true, cond-false, ne_eqb}
 use Rattle.std.proofs.lemmas.List.{length-append, map-append}
 use Rattle.std.proofs.lemmas.List.Elements.{All-cons, All-contains, All-filter, All-head, All-map, All-tail, All-weaker, Contains-push}
 use Rattle.std.proofs.lemmas.List.Sorted.{IsPermutation-cons, IsPermutation-sym, IsPermutation-to_front, IsPermutation-trans}
-use Rattle.desk_memory.specs.declared.marks.KeptMark.{KeptMark}
+use Rattle.desk_memory.specs.declared.marks.HeldMark.{HeldMark}
 use Rattle.desk_model.specs.Book.{Book, Mark}
 use Rattle.desk_model.specs.Loans.{LeadTo, row_number}
-use Rattle.desk_book.specs.ChangePuts.{kept_mark_row, version_put}
+use Rattle.desk_book.specs.ChangePuts.{held_mark_row, version_put}
 use Rattle.desk_parts.specs.FileRows.{HasUtf8Texts, spelled}
-use Rattle.desk_memory.specs.Kept.{mark_kept}
+use Rattle.desk_memory.specs.Held.{mark_held}
 use Rattle.desk_parts.specs.declared.file_table.FileTable.TheVariants as tables
 use Rattle.desk_parts.specs.Puts.{PutRow, put_by_key}
 use Rattle.desk_parts.specs.Rows.{Mark as MarkRow}
@@ -60,19 +60,19 @@ All-put_in P has_key x xs here all = All-cons P x (filter (λ y. not (has_key y)
 
 -- ---- a mark more
 
-module _ (book : Book) (kept : KeptMark) (sound : IsSound book) where
+module _ (book : Book) (held : HeldMark) (sound : IsSound book) where
   abbrev number : ℕ
   number = next_mark book
 
   abbrev mark : Mark
-  mark = mark_kept (number, kept)
+  mark = mark_held (number, held)
 
   abbrev marked : Book
   marked = next_with_marks book (book.marks ++ mark ∷ [])
 
   module _ (after : IsSound marked) where
     abbrev row : MarkRow
-    row = kept_mark_row number kept
+    row = held_mark_row number held
 
     is_sound : IsSoundMark marked mark
     is_sound = All-contains (IsSoundMark marked) (book.marks ++ mark ∷ []) mark after.marks (Contains-push book.marks mark)
@@ -83,15 +83,15 @@ module _ (book : Book) (kept : KeptMark) (sound : IsSound book) where
     spelled-row : spelled tables.Mark row ≡ mark_row_of mark
     spelled-row =
         let s = is_sound in
-        let paragraph = paragraph_of-within marked after kept.paragraph s.paragraph s.found in
+        let paragraph = paragraph_of-within marked after held.paragraph s.paragraph s.found in
         let paragraphs = after.few_paragraphs in
         let within = IsWithin-sound marked mark after s in
         let small = few in
         let id = number-small number (omega arith) in
-        let para = number-small kept.paragraph (omega arith) in
-        let start = number-small kept.start (omega arith) in
-        let stop = number-small kept.end (omega arith) in
-        let note = spelled-encoded kept.note s.clean.characters in
+        let para = number-small held.paragraph (omega arith) in
+        let start = number-small held.start (omega arith) in
+        let stop = number-small held.end (omega arith) in
+        let note = spelled-encoded held.note s.clean.characters in
         cc
 
     others-apart : All (λ (m : MarkRow). not (int_eq m.id (row_number number)) ≡ true) (map mark_row_of book.marks)
@@ -112,7 +112,7 @@ module _ (book : Book) (kept : KeptMark) (sound : IsSound book) where
         let all : filter (λ m. not (key m)) old ≡ old = filter-all (λ m. not (key m)) old others-apart in
         let now : map mark_row_of (book.marks ++ mark ∷ []) ≡ old ++ mark_row_of mark ∷ [] = map-append mark_row_of book.marks (mark ∷ []) in
         shown-marked book (book.marks ++ mark ∷ []) after rows shows put
-        (All-put_in (HasUtf8Texts tables.Mark) key row rows.marks (encoded-text kept.note is_sound.clean.characters) shows.texts.marks)
+        (All-put_in (HasUtf8Texts tables.Mark) key row rows.marks (encoded-text held.note is_sound.clean.characters) shows.texts.marks)
         (subst (IsPermutation (map (spelled tables.Mark) put)) (sym now)
         (IsPermutation-trans (map (spelled tables.Mark) put) (mark_row_of mark ∷ old) (old ++ mark_row_of mark ∷ [])
         (subst (IsPermutation (map (spelled tables.Mark) put)) (λ i. spelled-row i ∷ all i) moved)

@@ -15,15 +15,15 @@ use Rattle.louis_table.specs.Meaning.{Meaning}
 use Rattle.louis_table.specs.Table.{Means}
 use Rattle.louis_translate.specs.Braille.{braille}
 use Rattle.louis_translate.specs.Tiling.{Tiles}
-use Rattle.desk_memory.specs.declared.history.KeptEntry.{KeptEntry}
-use Rattle.desk_memory.specs.declared.paragraphs.Paragraph.{Paragraph as KeptParagraph}
+use Rattle.desk_memory.specs.declared.history.HeldEntry.{HeldEntry}
+use Rattle.desk_memory.specs.declared.paragraphs.Paragraph.{Paragraph as HeldParagraph}
 use Rattle.desk_model.specs.Book.{Book, Paragraph, text_of}
 use Rattle.desk_model.specs.Loans.{LeadTo, row_number}
-use Rattle.desk_book.specs.ChangePuts.{cache_put, further_from, kept_row, version_put}
+use Rattle.desk_book.specs.ChangePuts.{cache_put, further_from, held_row, version_put}
 use Rattle.desk_memory.specs.Braille.{AreCellsOf}
 use Rattle.desk_parts.specs.FileRows.{FileRows, HasUtf8Texts, format_of, spelled}
-use Rattle.desk_memory.specs.Histories.{entries_kept}
-use Rattle.desk_memory.specs.Kept.{paragraph_kept}
+use Rattle.desk_memory.specs.Histories.{entries_held}
+use Rattle.desk_memory.specs.Held.{paragraph_held}
 use Rattle.desk_model.specs.Print.{corrected_print, print_of}
 use Rattle.desk_parts.specs.declared.file_table.FileTable.TheVariants as tables
 use Rattle.desk_parts.specs.Puts.{PutRow, RowPut, put_by_key, with_put, with_puts}
@@ -145,10 +145,10 @@ new-index new (x ∷ xs) (suc place) others within =
 
 -- ---- a paragraph more
 
-module _ (book : Book) (ps : List Paragraph) (kept : KeptParagraph) (place : ℕ) (source : List ℕ) (meaning : Meaning) (sound : IsSound book)
-    (within : place ≤ length book.paragraphs) (fresh : kept.history ≡ []) (print : kept.print ≡ kept.original)
-    (found : text_of book kept.table ≡ Some source) (means : Means source meaning) (cells : AreCellsOf meaning kept.print kept.cells)
-    (moved : IsPermutation (paragraph_kept (next_id book, kept) ∷ book.paragraphs) ps)
+module _ (book : Book) (ps : List Paragraph) (held : HeldParagraph) (place : ℕ) (source : List ℕ) (meaning : Meaning) (sound : IsSound book)
+    (within : place ≤ length book.paragraphs) (fresh : held.history ≡ []) (print : held.print ≡ held.original)
+    (found : text_of book held.table ≡ Some source) (means : Means source meaning) (cells : AreCellsOf meaning held.print held.cells)
+    (moved : IsPermutation (paragraph_held (next_id book, held) ∷ book.paragraphs) ps)
     (order : insert (ids_of book.paragraphs) place (next_id book) ≡ ids_of ps) where
   abbrev next : Book
   next = next_with_paragraphs book ps
@@ -157,7 +157,7 @@ module _ (book : Book) (ps : List Paragraph) (kept : KeptParagraph) (place : ℕ
   number = next_id book
 
   abbrev new : Paragraph
-  new = paragraph_kept (number, kept)
+  new = paragraph_held (number, held)
 
   abbrev old_ids : List ℕ
   old_ids = ids_of book.paragraphs
@@ -178,14 +178,14 @@ module _ (book : Book) (ps : List Paragraph) (kept : KeptParagraph) (place : ℕ
         let lower = (paragraph_of-within book sound p.id p (paragraph_of-own book sound p c)).1 in
         ne_eqb number p.id (λ same. omega arith)) book.paragraphs (All-contains_itself book.paragraphs))
 
-    characters : AreCharacters kept.table
-    characters = name-characters kept.table (IsSoundTable-found next after kept.table is_sound.text is_sound.found).named
+    characters : AreCharacters held.table
+    characters = name-characters held.table (IsSoundTable-found next after held.table is_sound.text is_sound.found).named
 
-    print_is : kept.print ≡ print_of new
-    print_is = print ∙ sym (ap (λ (h : List KeptEntry). corrected_print kept.original (entries_kept h)) fresh)
+    print_is : held.print ≡ print_of new
+    print_is = print ∙ sym (ap (λ (h : List HeldEntry). corrected_print held.original (entries_held h)) fresh)
 
     abbrev row : Para
-    row = kept_row number (place + 1) kept
+    row = held_row number (place + 1) held
 
     spelled-row : spelled tables.Para row ≡ para_of (place + 1, new)
     spelled-row =
@@ -193,9 +193,9 @@ module _ (book : Book) (ps : List Paragraph) (kept : KeptParagraph) (place : ℕ
         let lower : number ≡ length book.paragraphs + 1 = refl in
         let id = number-small number (omega arith) in
         let at = number-small (place + 1) (omega arith) in
-        let tab = spelled-encoded kept.table characters in
-        let original = spelled-encoded kept.original is_sound.clean.characters in
-        let shown = spelled-encoded kept.print (subst AreCharacters (sym print) is_sound.clean.characters) ∙ print_is in
+        let tab = spelled-encoded held.table characters in
+        let original = spelled-encoded held.original is_sound.clean.characters in
+        let shown = spelled-encoded held.print (subst AreCharacters (sym print) is_sound.clean.characters) ∙ print_is in
         cc
 
     old-placed : (q : Paragraph) → Contains book.paragraphs q → placed es (para_of (1 + index_in old_ids q.id, q)) ≡ para_of (1 + index_in (insert old_ids place number) q.id, q)
@@ -244,7 +244,7 @@ module _ (book : Book) (ps : List Paragraph) (kept : KeptParagraph) (place : ℕ
         subst (λ (ns : List ℤ). IsPermutation (pos number ∷ ns) (map id_number ps)) (sym all) (IsPermutation-map id_number (new ∷ book.paragraphs) ps moved)
 
     abbrev cached : ParaCells
-    cached = record { para = pos number; cells = kept.cells }
+    cached = record { para = pos number; cells = held.cells }
 
     cached-here : IsCached next cached
     cached-here = record {
@@ -269,7 +269,7 @@ module _ (book : Book) (ps : List Paragraph) (kept : KeptParagraph) (place : ℕ
 
     entries-same : IsPermutation (flat_map entry_rows_of book.paragraphs) (flat_map entry_rows_of ps)
     entries-same =
-        let none : entry_rows_of new ≡ [] = ap (λ (h : List KeptEntry). map (entry_row_of number) (enumerate_from 1 (entries_kept h))) fresh in
+        let none : entry_rows_of new ≡ [] = ap (λ (h : List HeldEntry). map (entry_row_of number) (enumerate_from 1 (entries_held h))) fresh in
         subst (λ (es : List NamedCorr). IsPermutation (es ++ flat_map entry_rows_of book.paragraphs) (flat_map entry_rows_of ps)) none
         (IsPermutation-flat_map entry_rows_of (new ∷ book.paragraphs) ps moved)
 
@@ -295,7 +295,7 @@ module _ (book : Book) (ps : List Paragraph) (kept : KeptParagraph) (place : ℕ
     shown-placed rows shows =
         let at : FileRows = with_put (PutRow tables.Cache cached) (with_put (PutRow tables.Para row) (with_put (version_put next.version) rows)) in
         let texts : All (HasUtf8Texts tables.Para) (put_by_key key row rows.paras) = All-put_in (HasUtf8Texts tables.Para) key row rows.paras
-        (encoded-text kept.table characters, encoded-text kept.original is_sound.clean.characters, encoded-text kept.print (subst AreCharacters (sym print) is_sound.clean.characters)) shows.texts.paras in
+        (encoded-text held.table characters, encoded-text held.original is_sound.clean.characters, encoded-text held.print (subst AreCharacters (sym print) is_sound.clean.characters)) shows.texts.paras in
         subst (λ (r : FileRows). Shows r next) (sym (places-put es at)) (record {
           sound = after;
           texts = record {
@@ -317,10 +317,10 @@ module _ (book : Book) (ps : List Paragraph) (kept : KeptParagraph) (place : ℕ
     further-puts : further_from place old_ids ≡ map place_set es
     further-puts = sym (map-map place_set further_pair (drop place (enumerate_from 1 old_ids)))
 
-    pub paragraph-lead : LeadTo book (version_put next.version ∷ PutRow tables.Para row ∷ cache_put number kept.cells ∷ further_from place old_ids) next
+    pub paragraph-lead : LeadTo book (version_put next.version ∷ PutRow tables.Para row ∷ cache_put number held.cells ∷ further_from place old_ids) next
     paragraph-lead rows shows has =
         let most = few in
         let small : row_number number ≡ pos number = number-small number (omega arith) in
-        subst (λ (puts : List RowPut). Shows (with_puts puts (with_put (cache_put number kept.cells) (with_put (PutRow tables.Para row) (with_put (version_put next.version) rows)))) next) (sym further-puts)
-        (subst (λ (n : ℤ). Shows (with_puts (map place_set es) (with_put (PutRow tables.Cache (record { para = n; cells = kept.cells })) (with_put (PutRow tables.Para row) (with_put (version_put next.version) rows)))) next) (sym small)
+        subst (λ (puts : List RowPut). Shows (with_puts puts (with_put (cache_put number held.cells) (with_put (PutRow tables.Para row) (with_put (version_put next.version) rows)))) next) (sym further-puts)
+        (subst (λ (n : ℤ). Shows (with_puts (map place_set es) (with_put (PutRow tables.Cache (record { para = n; cells = held.cells })) (with_put (PutRow tables.Para row) (with_put (version_put next.version) rows)))) next) (sym small)
         (shown-placed rows shows))

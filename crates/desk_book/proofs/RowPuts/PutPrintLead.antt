@@ -21,7 +21,7 @@ use Rattle.desk_model.specs.Loans.{LeadTo, row_number}
 use Rattle.desk_book.specs.ChangePuts.{cache_put, entry_row, print_put, span_put, version_put}
 use Rattle.desk_book.specs.Changes.{ChangesPrint}
 use Rattle.desk_parts.specs.FileRows.{EntryRows, FileRows, HasUtf8Texts, Named, Unnamed, entries_in, format_of, spelled, table_of}
-use Rattle.desk_memory.specs.Histories.{entry_kept}
+use Rattle.desk_memory.specs.Histories.{entry_held}
 use Rattle.desk_model.specs.Marks.{mark_moved_by}
 use Rattle.desk_model.specs.ParagraphMarks.{marks_on}
 use Rattle.desk_model.specs.Print.{corrected_print, print_of, with_entry}
@@ -85,7 +85,7 @@ own-missed id m (k ∷ ms) small c on misses =
 
 module _ (book : Book) (id : ℕ) (change : PrintChange) (sound : IsSound book) where
   abbrev entry : Entry
-  entry = entry_kept change.entry
+  entry = entry_held change.entry
 
   abbrev more : Paragraph → Paragraph
   more = with_entry entry

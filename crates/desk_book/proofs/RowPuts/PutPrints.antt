@@ -10,14 +10,14 @@ use Rattle.std.proofs.lemmas.List.Elements.{All-cons, All-head, All-nil, All-tai
 use Rattle.std.proofs.lemmas.List.Sorted.{IsPermutation-cons, IsPermutation-map, IsPermutation-middle, IsPermutation-sym, IsPermutation-trans}
 use Rattle.std.proofs.lemmas.Simd.{map-map}
 use Rattle.std.proofs.lemmas.Str.{chars-nil}
-use Rattle.desk_memory.specs.declared.history.KeptEntry.{KeptEntry}
-use Rattle.desk_memory.specs.declared.history.KeptEntry.TheVariants.{Corrects as KeptCorrects, Undoes as KeptUndoes}
+use Rattle.desk_memory.specs.declared.history.HeldEntry.{HeldEntry}
+use Rattle.desk_memory.specs.declared.history.HeldEntry.TheVariants.{Corrects as HeldCorrects, Undoes as HeldUndoes}
 use Rattle.desk_model.specs.Book.{Entry, Mark, Paragraph, Replacement}
 use Rattle.desk_book.specs.ChangePuts.{entry_row, span_put}
 use Rattle.desk_model.specs.Loans.{row_number}
 use Rattle.desk_parts.specs.declared.file_table.FileTable.TheVariants as tables
 use Rattle.desk_parts.specs.FileRows.{FileRows, HasUtf8Texts, spelled}
-use Rattle.desk_memory.specs.Histories.{entry_kept}
+use Rattle.desk_memory.specs.Histories.{entry_held}
 use Rattle.desk_model.specs.Marks.{mark_moved_by}
 use Rattle.desk_model.specs.Print.{corrected_print, newest, with_entry}
 use Rattle.desk_parts.specs.Puts.{with_puts}
@@ -36,8 +36,8 @@ use Rattle.desk_model.proofs.Rows.PutRows.{number-small}
 
 module _ (original : List ℕ) (before : List Entry) (id seq : ℕ) (small : id ≤ 20000) (early : seq ≤ 10001) (few : length before ≤ 10000)
     (short : length (corrected_print original before) ≤ 4000) where
-  pub entry-spelled : (kept : KeptEntry) → IsSoundEntry original before (entry_kept kept) → spelled tables.NamedCorr (entry_row id seq kept) ≡ entry_row_of id (seq, entry_kept kept)
-  entry-spelled (KeptCorrects c) sound =
+  pub entry-spelled : (held : HeldEntry) → IsSoundEntry original before (entry_held held) → spelled tables.NamedCorr (entry_row id seq held) ≡ entry_row_of id (seq, entry_held held)
+  entry-spelled (HeldCorrects c) sound =
       let span = sound.0 in
       let para = number-small id (omega arith) in
       let number = number-small seq (omega arith) in
@@ -46,7 +46,7 @@ module _ (original : List ℕ) (before : List Entry) (id seq : ℕ) (small : id 
       let body = spelled-encoded c.text sound.1.characters in
       let who = spelled-encoded c.who sound.3 in
       λ i. record { entry = record { para = para i; seq = number i; kind = pos 0; start = start i; len = len i; body = body i }; who = who i }
-  entry-spelled (KeptUndoes n) sound =
+  entry-spelled (HeldUndoes n) sound =
       let para = number-small id (omega arith) in
       let number = number-small seq (omega arith) in
       let undone = number-small n (let most = undone-small in omega arith) in
@@ -65,9 +65,9 @@ module _ (original : List ℕ) (before : List Entry) (id seq : ℕ) (small : id 
               let to = is.to in
               omega arith
 
-  pub entry-texts : (kept : KeptEntry) → IsSoundEntry original before (entry_kept kept) → HasUtf8Texts tables.NamedCorr (entry_row id seq kept)
-  entry-texts (KeptCorrects c) sound = (encoded-text c.text sound.1.characters, encoded-text c.who sound.3)
-  entry-texts (KeptUndoes n) sound = (([], (refl, refl)), ([], (refl, refl)))
+  pub entry-texts : (held : HeldEntry) → IsSoundEntry original before (entry_held held) → HasUtf8Texts tables.NamedCorr (entry_row id seq held)
+  entry-texts (HeldCorrects c) sound = (encoded-text c.text sound.1.characters, encoded-text c.who sound.3)
+  entry-texts (HeldUndoes n) sound = (([], (refl, refl)), ([], (refl, refl)))
 
 -- ---- the entries of a book, one more
 

@@ -16,7 +16,7 @@ use Rattle.desk_book.specs.ChangePuts.{cells_from, cells_put, version_put}
 use Rattle.desk_book.specs.Changes.{AreRenewed}
 use Rattle.desk_memory.specs.Braille.{AreCellsOf}
 use Rattle.desk_parts.specs.FileRows.{FileRows}
-use Rattle.desk_memory.specs.Kept.{new_cells}
+use Rattle.desk_memory.specs.Held.{new_cells}
 use Rattle.desk_model.specs.Print.{print_of}
 use Rattle.desk_parts.specs.declared.file_table.FileTable.TheVariants.{Tab}
 use Rattle.desk_parts.specs.Puts.{PutRow, put_by_key, with_puts}

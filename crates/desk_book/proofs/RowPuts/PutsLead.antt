@@ -7,13 +7,13 @@ use Rattle.desk_book.specs.declared.change.Effect.{Effect}
 use Rattle.desk_book.specs.declared.change.Effect.TheVariants as effect
 use Rattle.desk_model.specs.declared.command.Command.{Command}
 use Rattle.desk_model.specs.declared.command.Command.TheVariants.{TypeIn}
-use Rattle.desk_memory.specs.declared.history.KeptEntry.{KeptEntry}
+use Rattle.desk_memory.specs.declared.history.HeldEntry.{HeldEntry}
 use Rattle.desk_model.specs.Book.{Book, Paragraph, paragraph_of}
 use Rattle.desk_model.specs.Loans.{LeadTo}
 use Rattle.desk_book.specs.ChangePuts.{cache_put, effect_puts, entry_row, print_put, span_put, version_put}
 use Rattle.desk_book.specs.Changes.{Carries, Change, ChangesPrint, Does, IsEffect, change_puts, puts-change_by, has-effect}
-use Rattle.desk_memory.specs.Histories.{entries_kept, entry_kept}
-use Rattle.desk_memory.specs.Kept.{paragraph_kept}
+use Rattle.desk_memory.specs.Histories.{entries_held, entry_held}
+use Rattle.desk_memory.specs.Held.{paragraph_held}
 use Rattle.desk_model.specs.Marks.{mark_moved_by}
 use Rattle.desk_model.specs.ParagraphMarks.{marks_on}
 use Rattle.desk_parts.specs.declared.file_table.FileTable.TheVariants.{NamedCorr}
@@ -34,11 +34,11 @@ use Rattle.desk_book.proofs.RowPuts.PutParagraph.{paragraph-lead}
 use Rattle.desk_book.proofs.RowPuts.PutPrintLead.{print-lead}
 use Rattle.desk_book.proofs.RowPuts.PutReplacement.{replaced-lead}
 use Rattle.desk_book.proofs.RowPuts.PutTables.{table-lead}
-use Rattle.desk_book.proofs.Kept.Settled.{IsEffect-carried}
+use Rattle.desk_book.proofs.Held.Settled.{IsEffect-carried}
 use Rattle.desk_model.proofs.Books.SoundBooks.{paragraphs-apart}
 use Rattle.desk_model.proofs.Books.SoundSteps.{IsSound-makes}
 
-no-entries : (history : List KeptEntry) → entries_kept history ≡ [] → history ≡ []
+no-entries : (history : List HeldEntry) → entries_held history ≡ [] → history ≡ []
 no-entries [] e = refl
 no-entries (h ∷ hs) e = absurd (cc)
 
@@ -55,32 +55,32 @@ module _ (book next : Book) (command : Command) (sound : IsSound book) (accepted
       let is : next ≡ next_with_table book name table.text = does.0.1 in
       subst (Leads (effect.ReplaceTable name table cells)) (sym is)
       (replaced-lead book name table.text table.rules sound does.2 cells.items does.3 does.4 (subst IsSound is after))
-  leads (effect.AddParagraph kept room order_room place) does =
+  leads (effect.AddParagraph held room order_room place) does =
       let given = does in
-      let new : Paragraph = new_paragraph (next_id book) kept.table given.text in
+      let new : Paragraph = new_paragraph (next_id book) held.table given.text in
       let ps : List Paragraph = with_paragraph given.anchor new book.paragraphs in
       let is : next ≡ next_with_paragraphs book ps = subst (λ (c : Command). Makes book c next) given.command_is makes in
-      let same = given.typed_is.kept_is in
-      let fresh : kept.history ≡ [] = no-entries kept.history (ap (λ (q : Paragraph). q.history) same) in
-      let original : kept.original ≡ normal_form given.text = ap (λ (q : Paragraph). q.original) same in
+      let same = given.typed_is.held_is in
+      let fresh : held.history ≡ [] = no-entries held.history (ap (λ (q : Paragraph). q.history) same) in
+      let original : held.original ≡ normal_form given.text = ap (λ (q : Paragraph). q.original) same in
       let anchored : (id : ℕ) → Contains (paragraph_before given.anchor) id → Contains (ids_of book.paragraphs) id =
       λ id c.
-      let p = named_paragraph book None (TypeIn given.anchor kept.table given.text) (subst (IsAccepted book None) given.command_is accepted) id c in
+      let p = named_paragraph book None (TypeIn given.anchor held.table given.text) (subst (IsAccepted book None) given.command_is accepted) id c in
       subst (Contains (ids_of book.paragraphs)) (id-found id book.paragraphs p.0 p.1) (Contains-map (λ (q : Paragraph). q.id) book.paragraphs p.0 (Contains-found id book.paragraphs p.0 p.1)) in
-      let moved : IsPermutation (paragraph_kept (next_id book, kept) ∷ book.paragraphs) ps =
+      let moved : IsPermutation (paragraph_held (next_id book, held) ∷ book.paragraphs) ps =
       subst (λ (q : Paragraph). IsPermutation (q ∷ book.paragraphs) ps) (sym same) (IsPermutation-with_paragraph given.anchor new book.paragraphs (paragraphs-apart book sound) anchored) in
       let order : insert (ids_of book.paragraphs) place (next_id book) ≡ ids_of ps = given.order ∙ ap (λ (b : Book). ids_of b.paragraphs) is in
-      subst (Leads (effect.AddParagraph kept room order_room place)) (sym is)
-      (paragraph-lead book ps kept place given.typed_is.source given.typed_is.meaning sound given.within fresh (given.typed_is.print ∙ sym original) given.typed_is.found given.typed_is.means given.typed_is.cells moved order (subst IsSound is after))
+      subst (Leads (effect.AddParagraph held room order_room place)) (sym is)
+      (paragraph-lead book ps held place given.typed_is.source given.typed_is.meaning sound given.within fresh (given.typed_is.print ∙ sym original) given.typed_is.found given.typed_is.means given.typed_is.cells moved order (subst IsSound is after))
   leads (effect.ChangePrint id change) does =
       let is = does.1.next_is in
-      let given : ChangesPrint book (next_with_entry book id (entry_kept change.entry) (mark_moved_by change.start change.removed change.added)) id change =
+      let given : ChangesPrint book (next_with_entry book id (entry_held change.entry) (mark_moved_by change.start change.removed change.added)) id change =
       subst (λ (b : Book). ChangesPrint book b id change) is does.1 in
       let number : length given.paragraph.history + 1 ≡ unwrap_or (option_map (λ (q : Paragraph). length q.history + 1) (paragraph_of book id)) 1 =
       ap (λ (o : Option Paragraph). unwrap_or (option_map (λ (q : Paragraph). length q.history + 1) o) 1) (sym given.there) in
       subst (Leads (effect.ChangePrint id change)) (sym is)
       (subst (λ (n : ℕ). LeadTo book (version_put (book.version + 1) ∷ PutRow NamedCorr (entry_row id n change.entry) ∷ print_put id change.print ∷ cache_put id change.cells
-      ∷ map (span_put change.start change.removed change.added) (marks_on id book.marks)) (next_with_entry book id (entry_kept change.entry) (mark_moved_by change.start change.removed change.added))) number
+      ∷ map (span_put change.start change.removed change.added) (marks_on id book.marks)) (next_with_entry book id (entry_held change.entry) (mark_moved_by change.start change.removed change.added))) number
       (print-lead book id change sound given (subst IsSound is after)))
   leads (effect.AddMark mark room index_room) does =
       subst (Leads (effect.AddMark mark room index_room)) (sym does.0) (mark-lead book mark sound (subst IsSound does.0 after))

@@ -5,26 +5,26 @@ use Rattle.std.specs.Map.{lookup}
 use Rattle.std.specs.Prelude.{IsSome, nat_eq}
 use Rattle.desk_book.specs.declared.change.Effect.{Effect}
 use Rattle.desk_book.specs.Changes.{IsEffect, IsEffectOn}
-use Rattle.desk_memory.specs.declared.marks.KeptMark.{KeptMark}
-use Rattle.desk_memory.specs.Kept.{KeptParagraphs, KeptTables, IsKept, book_kept, ids, with_kept_change, with_new_cells, with_table}
-use Rattle.desk_memory.specs.KeptMarks.{with_kept_resolved}
-use Rattle.desk_memory.specs.KeptPrints.{with_mark, with_print_changed}
+use Rattle.desk_memory.specs.declared.marks.HeldMark.{HeldMark}
+use Rattle.desk_memory.specs.Held.{HeldParagraphs, HeldTables, IsHeld, book_held, ids, with_held_change, with_new_cells, with_table}
+use Rattle.desk_memory.specs.HeldMarks.{with_held_resolved}
+use Rattle.desk_memory.specs.HeldPrints.{with_mark, with_print_changed}
 use Rattle.desk_memory.specs.Room.{Suffices}
 use Rattle.desk_memory.proofs.Callers.{count-marks, indexes-resolved, marks-resolved}
 use Rattle.desk_model.specs.Book.{Book}
-use Rattle.desk_book.proofs.Kept.Settled as settled
-use Rattle.desk_book.proofs.Kept.Settled.{sound-next}
-use Rattle.desk_book.proofs.Kept.ShownEffects.{accepted-by, makes-by}
+use Rattle.desk_book.proofs.Held.Settled as settled
+use Rattle.desk_book.proofs.Held.Settled.{sound-next}
+use Rattle.desk_book.proofs.Held.ShownEffects.{accepted-by, makes-by}
 use Rattle.desk_book.proofs.settle.apply.Goals as goal
 
 -- the effect on these parts, where it is this one
-on : {was at : ℕ} {tables : KeptTables} {paragraphs : KeptParagraphs} {marks : List KeptMark} {effect this : Effect} {next : Book}
-    → effect ≡ this → IsEffectOn was tables paragraphs marks at effect next → IsEffect (book_kept was tables paragraphs marks) at this next
-on {was} {at} {tables} {paragraphs} {marks} {effect} {this} {next} is it = subst (λ e. IsEffect (book_kept was tables paragraphs marks) at e next) is it.1
+on : {was at : ℕ} {tables : HeldTables} {paragraphs : HeldParagraphs} {marks : List HeldMark} {effect this : Effect} {next : Book}
+    → effect ≡ this → IsEffectOn was tables paragraphs marks at effect next → IsEffect (book_held was tables paragraphs marks) at this next
+on {was} {at} {tables} {paragraphs} {marks} {effect} {this} {next} is it = subst (λ e. IsEffect (book_held was tables paragraphs marks) at e next) is it.1
 
 -- the parts are those of the next book
-abbrev AreOf : ℕ → KeptTables → KeptParagraphs → List KeptMark → Book → Type 0
-AreOf at tables paragraphs marks next = IsKept at tables paragraphs marks × (book_kept at tables paragraphs marks ≡ next)
+abbrev AreOf : ℕ → HeldTables → HeldParagraphs → List HeldMark → Book → Type 0
+AreOf at tables paragraphs marks next = IsHeld at tables paragraphs marks × (book_held at tables paragraphs marks ≡ next)
 
 -- ---- tables
 
@@ -42,7 +42,7 @@ returns-in-AddTable c = λ was at next it.
     let table = c.in-AddTable.table in
     let here = on c.in-AddTable.is it in
     subst (λ new. AreOf at new paragraphs marks next) (sym c.add.ensures)
-    (settled.IsKept-added was tables paragraphs marks next at name table c.in-AddTable.room here it.0, settled.next-added was tables paragraphs marks next at name table c.in-AddTable.room here)
+    (settled.IsHeld-added was tables paragraphs marks next at name table c.in-AddTable.room here it.0, settled.next-added was tables paragraphs marks next at name table c.in-AddTable.room here)
 
 pub replace-requires : goal.replace-requires
 replace-requires c =
@@ -64,7 +64,7 @@ returns-in-ReplaceTable c = λ was at next it.
     let replaced : c.replace.new.self ≡ with_table name table tables = c.replace.ensures ∙ ap (λ (name : List ℕ). with_table name table tables) c.as_str.ensures in
     subst (λ new. AreOf at c.replace.new.self new marks next) (sym c.renew.ensures)
     (subst (λ new. AreOf at new (map (with_new_cells cells) paragraphs) marks next) (sym replaced) (
-      settled.IsKept-replaced was tables paragraphs marks next at name table cells here.at here.does.0.1 here.does.2 here.does.3 it.0 (sound-next _ _ _ _ it.0 _ _ _ here),
+      settled.IsHeld-replaced was tables paragraphs marks next at name table cells here.at here.does.0.1 here.does.2 here.does.3 it.0 (sound-next _ _ _ _ it.0 _ _ _ here),
       settled.next-replaced was tables paragraphs marks next at name table cells here.at here.does.0.1 here.does.2 here.does.3,
     ))
 
@@ -96,7 +96,7 @@ returns-in-AddParagraph c = λ was at next it.
     let makes = makes-by here here.does.command_is in
     let sound = sound-next _ _ _ _ it.0 _ _ _ here in
     subst (λ new. AreOf at tables new marks next) (sym c.add-in-AddParagraph.ensures) (
-      settled.IsKept-typed was tables paragraphs marks next at here.does.anchor here.does.text ordered paragraph here.at accepted makes here.does.typed_is order it.0 sound,
+      settled.IsHeld-typed was tables paragraphs marks next at here.does.anchor here.does.text ordered paragraph here.at accepted makes here.does.typed_is order it.0 sound,
       settled.next-typed was tables paragraphs marks next at here.does.anchor here.does.text ordered paragraph here.at accepted makes here.does.typed_is order it.0 sound,
     )
 
@@ -128,8 +128,8 @@ returns-in-ChangePrint c = λ was at next it.
     let here = on c.in-ChangePrint.is it in
     let indexes = settled.indexes-print_changed was tables paragraphs marks next at id change here.at here.does.1 it.0 c.marks_of-indexes.result.now c.marks_of-indexes.ensures in
     subst (λ new. AreOf at tables new c.give_way.new.self next) (sym c.change_print.ensures)
-    (subst (λ new. AreOf at tables (with_kept_change id (with_print_changed change) paragraphs) new next) (sym (c.give_way.ensures id indexes)) (
-      settled.IsKept-print_changed was tables paragraphs marks next at id change here.at here.does.1 it.0 (sound-next _ _ _ _ it.0 _ _ _ here),
+    (subst (λ new. AreOf at tables (with_held_change id (with_print_changed change) paragraphs) new next) (sym (c.give_way.ensures id indexes)) (
+      settled.IsHeld-print_changed was tables paragraphs marks next at id change here.at here.does.1 it.0 (sound-next _ _ _ _ it.0 _ _ _ here),
       settled.next-print_changed was tables paragraphs marks next at id change here.at here.does.1,
     ))
 
@@ -141,7 +141,7 @@ returns-in-SetFlags c = λ was at next it.
     let set = c.in-SetFlags in
     let here = on set.is it in
     subst (λ new. AreOf at tables new marks next) (sym c.set_flags.ensures) (
-      settled.IsKept-flagged was tables paragraphs marks next at set.id set.style set.begins_volume set.struck here.at here.does.1 it.0 (sound-next _ _ _ _ it.0 _ _ _ here),
+      settled.IsHeld-flagged was tables paragraphs marks next at set.id set.style set.begins_volume set.struck here.at here.does.1 it.0 (sound-next _ _ _ _ it.0 _ _ _ here),
       settled.next-flagged was tables paragraphs marks next at set.id set.style set.begins_volume set.struck here.at here.does.1,
     )
 
@@ -153,7 +153,7 @@ returns-in-ChangeTable c = λ was at next it.
     let set = c.in-ChangeTable in
     let here = on set.is it in
     subst (λ new. AreOf at tables new marks next) (sym c.set_table.ensures) (
-      settled.IsKept-retabled was tables paragraphs marks next at set.id set.table set.cells here.at here.does.0.1 here.does.1 it.0 (sound-next _ _ _ _ it.0 _ _ _ here),
+      settled.IsHeld-retabled was tables paragraphs marks next at set.id set.table set.cells here.at here.does.0.1 here.does.1 it.0 (sound-next _ _ _ _ it.0 _ _ _ here),
       settled.next-retabled was tables paragraphs marks next at set.id set.table set.cells here.at here.does.0.1 here.does.1,
     )
 
@@ -171,7 +171,7 @@ returns-in-Reorder c = λ was at next it.
     let here = on c.in-Reorder.is it in
     let sound = sound-next _ _ _ _ it.0 _ _ _ here in
     subst (λ new. AreOf at tables new marks next) (sym c.reorder.ensures) (
-      settled.IsKept-reordered was tables paragraphs marks next at c.in-Reorder.order here.at here.does.0.1 here.does.0.2 here.does.1 it.0 sound,
+      settled.IsHeld-reordered was tables paragraphs marks next at c.in-Reorder.order here.at here.does.0.1 here.does.0.2 here.does.1 it.0 sound,
       settled.next-reordered was tables paragraphs marks next at c.in-Reorder.order here.at here.does.0.1 here.does.0.2 here.does.1 it.0 sound,
     )
 
@@ -202,10 +202,10 @@ returns-in-AddMark c = λ was at next it.
     let marks = c.args.marks.now in
     let mark = c.in-AddMark.mark in
     let here = on c.in-AddMark.is it in
-    let noted = c.add_mark.ensures ∙ ap (λ (n : ℕ). with_kept_change mark.paragraph (with_mark n) paragraphs) c.len.ensures in
+    let noted = c.add_mark.ensures ∙ ap (λ (n : ℕ). with_held_change mark.paragraph (with_mark n) paragraphs) c.len.ensures in
     subst (λ new. AreOf at tables c.add_mark.new.self new next) (sym c.push.ensures)
     (subst (λ new. AreOf at tables new (marks ++ mark ∷ []) next) (sym noted) (
-      settled.IsKept-noted was tables paragraphs marks next at mark here.at here.does.0 it.0 (sound-next _ _ _ _ it.0 _ _ _ here),
+      settled.IsHeld-noted was tables paragraphs marks next at mark here.at here.does.0 it.0 (sound-next _ _ _ _ it.0 _ _ _ here),
       settled.next-noted was tables paragraphs marks next at mark here.at here.does.0,
     ))
 
@@ -215,10 +215,10 @@ returns-in-ResolveMark c = λ was at next it.
     let paragraphs = c.args.paragraphs.now in
     let marks = c.args.marks.now in
     let id = c.in-ResolveMark.id in
-    let resolved = with_kept_resolved id marks in
+    let resolved = with_held_resolved id marks in
     let here = on c.in-ResolveMark.is it in
     let same = marks-resolved id marks in
     subst (λ new. AreOf at tables paragraphs new next) (sym c.resolve.ensures) (
-      settled.IsKept-marked was tables paragraphs marks next at _ resolved here.at here.does.1 same it.0 (sound-next _ _ _ _ it.0 _ _ _ here) (λ other. indexes-resolved id other marks),
+      settled.IsHeld-marked was tables paragraphs marks next at _ resolved here.at here.does.1 same it.0 (sound-next _ _ _ _ it.0 _ _ _ here) (λ other. indexes-resolved id other marks),
       settled.next-marked was tables paragraphs marks next at _ resolved here.at here.does.1 same,
     )

@@ -1,6 +1,6 @@
 use Rattle.std.proofs.Common.{◌-◌, Some, length, ap, ◌∙◌, arith, refl}
 use Rattle.std.proofs.lemmas.Option.{slice_get_read}
-use Rattle.desk_memory.proofs.KeptHistories.{IsNewestInForce-found, leap}
+use Rattle.desk_memory.proofs.HeldHistories.{IsNewestInForce-found, leap}
 use Rattle.desk_memory.proofs.history.newest.Goals as goal
 
 pub returns-in-Corrects-clause-found : goal.returns-in-Corrects-clause-found

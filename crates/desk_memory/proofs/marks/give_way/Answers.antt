@@ -1,31 +1,31 @@
 use Rattle.std.proofs.Common.{◌≡◌, ℕ, ◌+◌, ◌<◌, List, ◌∷◌, length, set, get_or, drop, slice_get, Some, subst, sym, ap, ◌∙◌, All, rules}
 use Rattle.std.proofs.lemmas.List.{drop_all}
 use Rattle.std.proofs.lemmas.Option.{get_or_from_slice_get, slice_get-get_or, slice_get_within}
-use Rattle.desk_memory.specs.declared.marks.KeptMark.{KeptMark}
-use Rattle.desk_memory.specs.KeptMarks.{IsWithin, moved_kept}
+use Rattle.desk_memory.specs.declared.marks.HeldMark.{HeldMark}
+use Rattle.desk_memory.specs.HeldMarks.{IsWithin, moved_held}
 use Rattle.desk_model.proofs.Lists.Items.{All-slice_get, drop-there}
 use Rattle.desk_memory.proofs.MarkIndexes.{HaveMoved, HaveMoved-end, HaveMoved-next, item-moved}
 use Rattle.desk_memory.proofs.marks.give_way.Goals as goal
 
-module _ (id start removed added i : ℕ) (indexes : List ℕ) (old marks : List KeptMark) (within : i < length indexes) (have : HaveMoved id start removed added old (drop i indexes) marks) where
+module _ (id start removed added i : ℕ) (indexes : List ℕ) (old marks : List HeldMark) (within : i < length indexes) (have : HaveMoved id start removed added old (drop i indexes) marks) where
   left : drop i indexes ≡ get_or indexes i 0 ∷ drop (i + 1) indexes
   left = (drop-there indexes i (get_or indexes i 0) (slice_get-get_or indexes i 0 within)).0
 
-  mark_there : (m : KeptMark) × (slice_get old (get_or indexes i 0) ≡ Some m) × (slice_get marks (get_or indexes i 0) ≡ Some m)
+  mark_there : (m : HeldMark) × (slice_get old (get_or indexes i 0) ≡ Some m) × (slice_get marks (get_or indexes i 0) ≡ Some m)
   mark_there = item-moved id start removed added old (drop i indexes) marks have (get_or indexes i 0) (drop (i + 1) indexes) left
 
   index-within : get_or indexes i 0 < length marks
   index-within = slice_get_within marks (get_or indexes i 0) mark_there.0 mark_there.2
 
-  mark-within : (d : KeptMark) → All IsWithin old → IsWithin (get_or marks (get_or indexes i 0) d)
+  mark-within : (d : HeldMark) → All IsWithin old → IsWithin (get_or marks (get_or indexes i 0) d)
   mark-within d all =
       subst IsWithin (sym (get_or_from_slice_get marks (get_or indexes i 0) mark_there.0 d mark_there.2))
       (All-slice_get IsWithin old (get_or indexes i 0) mark_there.0 all mark_there.1)
 
-  next-moved : (d new : KeptMark) → new ≡ moved_kept start removed added (get_or marks (get_or indexes i 0) d) → HaveMoved id start removed added old (drop (i + 1) indexes) (set marks (get_or indexes i 0) new)
+  next-moved : (d new : HeldMark) → new ≡ moved_held start removed added (get_or marks (get_or indexes i 0) d) → HaveMoved id start removed added old (drop (i + 1) indexes) (set marks (get_or indexes i 0) new)
   next-moved d new is =
       let one : get_or marks (get_or indexes i 0) d ≡ mark_there.0 = get_or_from_slice_get marks (get_or indexes i 0) mark_there.0 d mark_there.2 in
-      subst (λ (m : KeptMark). HaveMoved id start removed added old (drop (i + 1) indexes) (set marks (get_or indexes i 0) m)) (sym (is ∙ ap (moved_kept start removed added) one))
+      subst (λ (m : HeldMark). HaveMoved id start removed added old (drop (i + 1) indexes) (set marks (get_or indexes i 0) m)) (sym (is ∙ ap (moved_held start removed added) one))
       (HaveMoved-next id start removed added old (drop i indexes) marks have (get_or indexes i 0) (drop (i + 1) indexes) mark_there.0 left mark_there.2)
 
 pub bounds-marks-index : goal.bounds-marks-index

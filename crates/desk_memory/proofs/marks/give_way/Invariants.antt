@@ -1,5 +1,5 @@
 use Rattle.std.proofs.Common.{◌≡◌, ℕ, drop}
-use Rattle.desk_memory.specs.KeptMarks.{indexes_on}
+use Rattle.desk_memory.specs.HeldMarks.{indexes_on}
 use Rattle.desk_memory.proofs.MarkIndexes.{HaveMoved}
 use Rattle.desk_memory.proofs.marks.give_way.Given as goal
 

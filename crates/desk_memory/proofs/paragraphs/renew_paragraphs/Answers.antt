@@ -1,7 +1,7 @@
 use Rattle.std.proofs.Common.{◌≡◌, [], ◌∷◌, get_or, length, refl, subst, sym, ap, ◌∙◌, arith, MatchOption}
 use Rattle.std.proofs.lemmas.Option.{slice_get_read}
 use Rattle.std.specs.Vec.Iter.{into_iter_items}
-use Rattle.desk_memory.specs.Kept.{renewed_items, with_cells}
+use Rattle.desk_memory.specs.Held.{renewed_items, with_cells}
 use Rattle.desk_memory.proofs.Renewing.{drop_next, length-renewed_items, next_cases, reached-renewed, reached_all}
 use Rattle.desk_memory.proofs.paragraphs.renew_paragraphs.Goals as goal
 

@@ -1,6 +1,6 @@
 use Rattle.std.proofs.Common.{◌≡◌, drop}
 use Rattle.std.specs.Vec.Iter.{into_iter_items}
-use Rattle.desk_memory.specs.Kept.{renewed_items}
+use Rattle.desk_memory.specs.Held.{renewed_items}
 use Rattle.desk_memory.proofs.Renewing.{reached}
 use Rattle.desk_memory.proofs.paragraphs.renew_paragraphs.Given as goal
 

@@ -3,11 +3,11 @@ use Rattle.desk_model.specs.Rebuilding.{IsFaultOf}
 use Rattle.desk_parts.specs.Parts.{rows_in}
 use Rattle.desk_model.specs.Shows.{Shows}
 use Rattle.desk_rebuild.proofs.FirstTables.{IfErr-exit}
-use Rattle.desk_memory.specs.Kept.{IsKept, book_kept}
+use Rattle.desk_memory.specs.Held.{IsHeld, book_held}
 use Rattle.desk_rebuild.specs.Rows.{AreOf}
-use Rattle.desk_rebuild.specs.declared.book.KeptBook.{KeptBook}
+use Rattle.desk_rebuild.specs.declared.book.HeldBook.{HeldBook}
 use Rattle.desk_rebuild.proofs.CacheRows.{few-items}
-use Rattle.desk_rebuild.proofs.KeptRows.{order-permutes}
+use Rattle.desk_rebuild.proofs.HeldRows.{order-permutes}
 use Rattle.desk_rebuild.proofs.RebuiltBook.{cache-fault, entry-fault, made, mark-fault, of-with_cells, of-with_history, of-with_marks, para-fault, tab-fault, unmarked-with_history, version-read}
 use Rattle.desk_rebuild.proofs.book.rebuild.Goals as goal
 use Rattle.desk_rebuild.proofs.book.rebuild.Goals.{In_ok-give_histories, In_ok-marks}
@@ -84,25 +84,25 @@ returns-in_err-give_cells-clause-damaged c =
     (cache-fault c.args.parts within c.in_ok-tables.ensures.whole no_para (c.in_ok-give_histories.ensures.whole rows.paras of) (c.in_ok-marks.ensures.whole rows.paras with_history)
     c.in_err-give_cells.field-0.0 (c.in_err-give_cells.ensures.damaged rows.tabs rows.paras tables (marks_of at.In_ok-marks with_history) no_para))
 
-pub kept_book-requires-clause-order : goal.kept_book-requires-clause-order
-kept_book-requires-clause-order c =
-    let at = goal.at.kept_book-requires-clause-order c in
+pub held_book-requires-clause-order : goal.held_book-requires-clause-order
+held_book-requires-clause-order c =
+    let at = goal.at.held_book-requires-clause-order c in
     let rows = rows_in c.args.parts in
     let with_marks = marks_of at.In_ok-marks (history_of at.In_ok-give_histories) in
     let last = of-with_cells rows.paras c.read_marks.new.items.items c.give_cells.new.items.items c.in_ok-give_cells.ensures.same with_marks in
     order-permutes rows.paras c.give_cells.new.items.items c.in_ok-items.field-0.order.items last (c.in_ok-items.ensures.order rows.tabs c.in_ok-tables.ensures.tables)
 
-pub kept_book-requires-clause-few_paragraphs : goal.kept_book-requires-clause-few_paragraphs
-kept_book-requires-clause-few_paragraphs c =
-    let at = goal.at.kept_book-requires-clause-few_paragraphs c in
+pub held_book-requires-clause-few_paragraphs : goal.held_book-requires-clause-few_paragraphs
+held_book-requires-clause-few_paragraphs c =
+    let at = goal.at.held_book-requires-clause-few_paragraphs c in
     let rows = rows_in c.args.parts in
     let tables = c.in_ok-tables.ensures.tables in
     let with_marks = marks_of at.In_ok-marks (history_of at.In_ok-give_histories) in
     let last = of-with_cells rows.paras c.read_marks.new.items.items c.give_cells.new.items.items c.in_ok-give_cells.ensures.same with_marks in
     few-items rows.tabs rows.paras c.in_ok-tables.tables c.give_cells.new.items.items tables last (c.in_ok-items.ensures.whole rows.tabs tables)
 
-pub kept_book-requires-clause-few_marks : goal.kept_book-requires-clause-few_marks
-kept_book-requires-clause-few_marks c = c.in_ok-marks.ensures.few
+pub held_book-requires-clause-few_marks : goal.held_book-requires-clause-few_marks
+held_book-requires-clause-few_marks c = c.in_ok-marks.ensures.few
 
 pub returns-clause-made : goal.returns-clause-made
 returns-clause-made c =
@@ -114,8 +114,8 @@ returns-clause-made c =
     let of = c.in_ok-items.ensures.items rows.tabs tables in
     let with_history = history_of at.In_ok-give_histories in
     let with_marks = marks_of at.In_ok-marks with_history in
-    subst (λ (book : KeptBook). IsKept book.version book.tables book.paragraphs book.marks
-    × Shows rows (book_kept book.version book.tables book.paragraphs book.marks)) (sym c.in_ok-book.ensures)
+    subst (λ (book : HeldBook). IsHeld book.version book.tables book.paragraphs book.marks
+    × Shows rows (book_held book.version book.tables book.paragraphs book.marks)) (sym c.in_ok-book.ensures)
     (made c.args.parts version.0 c.in_ok-tables.ensures.whole no_para (c.in_ok-give_histories.ensures.whole rows.paras of) (c.in_ok-marks.ensures.whole rows.paras with_history)
     (c.in_ok-give_cells.ensures.whole rows.tabs rows.paras tables with_marks no_para) c.in-Some.version version.1 c.in_ok-tables.tables tables
     c.in_ok-items.field-0.items.items c.give_histories.new.items.items c.read_marks.new.items.items c.give_cells.new.items.items c.in_ok-items.field-0.order.items of

@@ -1,5 +1,5 @@
 use Rattle.std.proofs.Common.{◌≡◌, ◌<◌, ℕ, List, Some, length, slice_get}
-use Rattle.desk_memory.specs.declared.paragraphs.Paragraph.{Paragraph as KeptParagraph}
+use Rattle.desk_memory.specs.declared.paragraphs.Paragraph.{Paragraph as HeldParagraph}
 use Rattle.desk_rebuild.specs.Caches.{IsItsBraille}
 use Rattle.desk_rebuild.proofs.caches.cells_for.Given as goal
 
@@ -7,5 +7,5 @@ use Rattle.desk_rebuild.proofs.caches.cells_for.Given as goal
 abbrev pub invariant-loop-paragraph : goal.invariant-loop-paragraph
 invariant-loop-paragraph l =
     (length l.all.items ≡ l.paragraph-index)
-    × ((index : ℕ) (kept : KeptParagraph) → index < l.paragraph-index → slice_get l.paragraphs index ≡ Some kept
-    → (own : List ℕ) × (slice_get l.all.items index ≡ Some (Some own)) × IsItsBraille l.tables kept own)
+    × ((index : ℕ) (held : HeldParagraph) → index < l.paragraph-index → slice_get l.paragraphs index ≡ Some held
+    → (own : List ℕ) × (slice_get l.all.items index ≡ Some (Some own)) × IsItsBraille l.tables held own)

@@ -29,7 +29,7 @@ returns-then-row-id-2-clause-some c =
       before = c.loop-index.invariant;
       here = inr
           (inl (record {
-            kept = c.index-paragraphs-index.result;
+            held = c.index-paragraphs-index.result;
             at = slice_get_read c.args.paragraphs.now (length c.args.paragraphs.now) index c.index-paragraphs-index.result refl c.loop-index-test.true c.index-paragraphs-index.is;
             id_is = id;
             row = row;
@@ -55,7 +55,7 @@ loop-index-preserved c = λ index less.
     let own = to_z-of_z w64 c.row.inside.para fits ∙ ap (λ (row : ParaCells). row.para) c.row.view_is in
     let cells = ap (λ (row : ParaCells). row.cells) c.row.view_is in
     let here : IsRightAt c.args.tables.now c.args.paragraphs.now c.args.rows.now at = record {
-      kept = c.index-paragraphs-index.result;
+      held = c.index-paragraphs-index.result;
       at = slice_get_read c.args.paragraphs.now (length c.args.paragraphs.now) at c.index-paragraphs-index.result refl c.loop-index-test.true c.index-paragraphs-index.is;
       row = row;
       row_at = slice_get_read c.args.rows.now (length c.args.rows.now) at row refl c.in-Some.ensures.lookup.3.0 c.in-Some.ensures.lookup.1;

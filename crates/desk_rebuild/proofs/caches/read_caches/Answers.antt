@@ -1,6 +1,6 @@
 use Rattle.std.proofs.Common.{◌≤◌, List, length, map, subst, sym, ap, ◌∙◌, rules, w64, FitsSigned, All}
 use Rattle.std.proofs.lemmas.Int.{to_z-of_z}
-use Rattle.desk_memory.specs.declared.paragraphs.Paragraph.{Paragraph as KeptParagraph}
+use Rattle.desk_memory.specs.declared.paragraphs.Paragraph.{Paragraph as HeldParagraph}
 use Rattle.desk_model.specs.Damage.{IsDamagedCache}
 use Rattle.desk_rebuild.specs.Rows.{HasCells, IsFirstId, without_cells}
 use Rattle.desk_rebuild.specs.Caches.{AreAllRight, AreTheirCells, IsMisfit, IsTranslatable}
@@ -16,7 +16,7 @@ misfit-requires-clause-translatable c =
 pub misfit-requires-clause-few : goal.misfit-requires-clause-few
 misfit-requires-clause-few c =
     let of = c.requires.of in
-    subst (λ (items : List KeptParagraph). length items ≤ most_paragraphs) (sym c.deref.ensures.value) (few-items of.0 of.1 c.args.tables.now c.args.items.now.items of.2 of.3 of.4)
+    subst (λ (items : List HeldParagraph). length items ≤ most_paragraphs) (sym c.deref.ensures.value) (few-items of.0 of.1 c.args.tables.now c.args.items.now.items of.2 of.3 of.4)
 
 pub returns-in-Some-clause-damaged : goal.returns-in-Some-clause-damaged
 returns-in-Some-clause-damaged c = λ tabs paras are of whole.
@@ -39,7 +39,7 @@ returns-clause-cells c = λ tabs paras are of whole.
     let items = c.args.items.now.items in
     let right : AreAllRight c.args.tables.now items c.sorted-rows.result.items =
     rw (sym c.deref.ensures.value, sym c.deref-2.ensures.value) c.in_default.ensures.none in
-    subst (λ (all : List KeptParagraph). All (HasCells tabs all) paras) (sym c.give.ensures)
+    subst (λ (all : List HeldParagraph). All (HasCells tabs all) paras) (sym c.give.ensures)
     (has-cells tabs paras c.args.tables.now items are of whole c.in_ok-cells.cells.items
     (subst (AreTheirCells c.args.tables.now items) (sym c.in_ok-cells.ensures) (their-cells tabs paras c.args.tables.now items are of whole c.sorted-rows.result.items right)))
 

@@ -6,7 +6,7 @@ use Rattle.std.proofs.lemmas.List.Sorted.{answers_always, length_permutation}
 use Rattle.std.proofs.lemmas.Result.{err_from_is_err_and}
 use Rattle.desk_rebuild.specs.declared.damage.RowsFault.TheVariants.{Damaged}
 use Rattle.desk_model.specs.Damage.{history_of}
-use Rattle.desk_memory.specs.Histories.{HaveTaken, entries_kept}
+use Rattle.desk_memory.specs.Histories.{HaveTaken, entries_held}
 use Rattle.desk_rebuild.specs.History.{AreSoundRows, CanBeRead}
 use Rattle.desk_model.specs.Print.{corrected_print}
 use Rattle.desk_parts.specs.Rows.{NamedCorr}
@@ -63,7 +63,7 @@ returns-clause-read c =
       sorted = sorted;
       same = c.in_ok-sort_by_key.ensures.permutation;
       each = subst (λ (t : List ℕ). AreSoundRows t sorted) c.as_str-2.ensures c.in_ok-reading.ensures.read.0;
-      history = ap entries_kept c.in_ok-paragraph.ensures ∙ read.entries;
+      history = ap entries_held c.in_ok-paragraph.ensures ∙ read.entries;
       taken = subst (λ (t : List ℕ). HaveTaken t c.in_ok-paragraph.field-0) c.as_str-2.ensures (subst (HaveTaken (chars c.as_str-2.result.now)) (sym c.in_ok-paragraph.ensures) read.left.taken);
       print = sym made ∙ (sym c.as_slice-2.ensures.value ∙ (same ∙ c.as_slice-3.ensures));
     }

@@ -2,7 +2,7 @@ use Rattle.std.proofs.Common.{◌≡◌, pos, refl, sym, ap, ◌∙◌, rules, �
 use Rattle.std.proofs.lemmas.List.{nil_from_length}
 use Rattle.desk_model.specs.Book.{Replacement}
 use Rattle.desk_model.specs.Damage.{IsSoundUndo}
-use Rattle.desk_memory.specs.Histories.{entries_kept}
+use Rattle.desk_memory.specs.Histories.{entries_held}
 use Rattle.desk_parts.specs.Rows.{Corr, NamedCorr}
 use Rattle.desk_rebuild.proofs.ReadEntries.{IsNext-undo}
 use Rattle.desk_memory.proofs.Callers.{text-span}
@@ -21,7 +21,7 @@ returns-clause-sound c original left =
     nil_from_length _ (sym c.entry.inside.body.bytes.ok.0 ∙ eqb-true _ 0 (sym c.is_empty.ensures ∙ c.if-not-is_empty.false)) in
     let no_who : string_bytes c.row.inside.who ≡ [] =
     nil_from_length _ (sym c.row.inside.who.bytes.ok.0 ∙ eqb-true _ 0 (sym c.is_empty-else-not-is_empty.ensures ∙ c.if-not-is_empty-2.false)) in
-    let sound : IsSoundUndo (entries_kept c.args.history.now) c.args.row.now =
+    let sound : IsSoundUndo (entries_held c.args.history.now) c.args.row.now =
     record {
       kind = c.requires.kind;
       number = c.in-Some.number;

@@ -1,19 +1,19 @@
 use Rattle.std.proofs.Common.{◌≡◌, ℕ, ◌+◌, ◌-◌, ◌<◌, ◌≤◌, List, [], ◌∷◌, ◌++◌, map, get_or, length, set, take, Some, refl, sym, ap, subst, ◌∙◌, arith, All, slice_get}
 use Rattle.std.proofs.lemmas.Option.{slice_get-get_or}
-use Rattle.desk_memory.specs.declared.marks.KeptMark.{KeptMark}
-use Rattle.desk_memory.specs.declared.paragraphs.Paragraph.{Paragraph as KeptParagraph}
+use Rattle.desk_memory.specs.declared.marks.HeldMark.{HeldMark}
+use Rattle.desk_memory.specs.declared.paragraphs.Paragraph.{Paragraph as HeldParagraph}
 use Rattle.desk_rebuild.specs.Rows.{HaveMarks, without_marks}
 use Rattle.desk_rebuild.specs.Marks.{IsOnOne}
 use Rattle.desk_rebuild.proofs.MarkRows.{few-marks, shared, shared-same}
 use Rattle.desk_rebuild.proofs.marks.give_indexes.Goals as goal
 
-module _ (i : ℕ) (marks : List KeptMark) (old items : List KeptParagraph) (mark : KeptMark) (d : KeptParagraph) (less : i < length marks)
+module _ (i : ℕ) (marks : List HeldMark) (old items : List HeldParagraph) (mark : HeldMark) (d : HeldParagraph) (less : i < length marks)
     (is : mark ≡ get_or marks i mark) (on : All (IsOnOne (length old)) marks) (long : length items ≡ length old) (have : HaveMarks (take i marks) items) where
-  abbrev was : KeptParagraph
+  abbrev was : HeldParagraph
   was = get_or items (mark.paragraph - 1) d
 
   at : slice_get marks i ≡ Some mark
-  at = slice_get-get_or marks i mark less ∙ ap (λ (m : KeptMark). Some m) (sym is)
+  at = slice_get-get_or marks i mark less ∙ ap (λ (m : HeldMark). Some m) (sym is)
 
   one : IsOnOne (length items) mark
   one = subst (λ n. IsOnOne n mark) (sym long) (subst (IsOnOne (length old)) (sym is) (on i mark less))
@@ -24,7 +24,7 @@ module _ (i : ℕ) (marks : List KeptMark) (old items : List KeptParagraph) (mar
   few : length was.marks ≤ length marks
   few = few-marks marks i mark items was at one there have
 
-  next : (new : KeptParagraph) → new.marks ≡ was.marks ++ i ∷ [] → without_marks new ≡ without_marks was
+  next : (new : HeldParagraph) → new.marks ≡ was.marks ++ i ∷ [] → without_marks new ≡ without_marks was
       → HaveMarks (take (i + 1) marks) (set items (mark.paragraph - 1) new) × (map without_marks (set items (mark.paragraph - 1) new) ≡ map without_marks items)
   next new pushed same = (shared marks i mark items was at one there have new pushed, shared-same marks i mark items was at one there have new same)
 

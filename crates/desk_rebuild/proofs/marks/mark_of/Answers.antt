@@ -2,7 +2,7 @@ use Rattle.std.proofs.Common.{◌≡◌, ℕ, ℤ, pos, nat_abs, Bool, List, len
 use Rattle.std.proofs.lemmas.Int.{to_z-of_z}
 use Rattle.std.proofs.lemmas.Str.{IsUtf8-string_bytes}
 use Rattle.desk_model.specs.Damage.{IsFlag}
-use Rattle.desk_rebuild.specs.Marks.{HasId, IsKeptOf, IsMarkOn, IsNoteText, IsSpan}
+use Rattle.desk_rebuild.specs.Marks.{HasId, IsHeldOf, IsMarkOn, IsNoteText, IsSpan}
 use Rattle.desk_parts.specs.declared.file_table.FileTable.TheVariants as tables
 use Rattle.desk_parts.specs.FileRows.{HasUtf8Texts}
 use Rattle.desk_parts.specs.Rows.{Mark}
@@ -14,8 +14,8 @@ pub returns-in_err-paragraph : goal.returns-in_err-paragraph
 returns-in_err-paragraph c =
     let fits : SFits w64 c.row.inside.para = search rules in
     let para : to_z w64 (of_z w64 c.row.inside.para) ≡ c.args.row.para = to_z-of_z w64 c.row.inside.para fits ∙ ap (λ (r : Mark). r.para) c.row.view_is in
-    subst (λ r. MatchOption r (¬ IsMarkOn c.args.items.now c.args.row) (λ mark. IsMarkOn c.args.items.now c.args.row × HasUtf8Texts tables.Mark c.args.row × IsKeptOf c.args.row mark)) (sym c.from_residual.ensures)
-    (λ (s : IsMarkOn c.args.items.now c.args.row). c.in_err-paragraph.ensures s.kept (subst (λ z. HasId c.args.items.now z s.kept) (sym para) s.named))
+    subst (λ r. MatchOption r (¬ IsMarkOn c.args.items.now c.args.row) (λ mark. IsMarkOn c.args.items.now c.args.row × HasUtf8Texts tables.Mark c.args.row × IsHeldOf c.args.row mark)) (sym c.from_residual.ensures)
+    (λ (s : IsMarkOn c.args.items.now c.args.row). c.in_err-paragraph.ensures s.held (subst (λ z. HasId c.args.items.now z s.held) (sym para) s.named))
 
 -- a number of a row is a flag's where the flag was read from it
 is-flag : (flag : Bool) (z : ℤ) → SFits w64 z → flag_number flag ≡ to_z w64 (of_z w64 z) → IsFlag z
@@ -28,8 +28,8 @@ returns c =
     let fits_stop : SFits w64 c.row.inside.stop = search rules in
     let para = to_z-of_z w64 c.row.inside.para fits_para in
     let start = to_z-of_z w64 c.row.inside.start fits_start in
-    let kept = c.in_ok-paragraph.paragraph.now in
-    let found : HasId c.args.items.now c.row.inside.para kept = subst (λ z. HasId c.args.items.now z kept) para c.in_ok-paragraph.ensures in
+    let held = c.in_ok-paragraph.paragraph.now in
+    let found : HasId c.args.items.now c.row.inside.para held = subst (λ z. HasId c.args.items.now z held) para c.in_ok-paragraph.ensures in
     let given : IsSpan (length c.as_slice.result.now) (to_z w64 (of_z w64 c.row.inside.start)) (to_z w64 (of_z w64 c.row.inside.stop))
     × (pos c.in_ok-start.start ≡ to_z w64 (of_z w64 c.row.inside.start)) × (pos c.in_ok-start.end ≡ to_z w64 (of_z w64 c.row.inside.stop)) = c.in_ok-start.ensures in
     let span : IsSpan (length c.as_slice.result.now) c.row.inside.start c.row.inside.stop =
@@ -40,7 +40,7 @@ returns c =
     let note = c.from_string.ensures.text in
     rw (← c.row.view_is) (
       record {
-        kept = kept;
+        held = held;
         named = found;
         span = subst (λ (print : List ℕ). IsSpan (length print) c.row.inside.start c.row.inside.stop) c.as_slice.ensures span;
         note = text;

@@ -1,9 +1,9 @@
 use Rattle.std.proofs.Common.{◌≡◌, ◌+◌, ◌∷◌, ◌++◌, [], List, length, append_assoc, subst, sym, ap, ◌∙◌, rules, length-append}
 use Rattle.std.specs.Vec.Iter.{into_iter_items}
-use Rattle.desk_rebuild.specs.Marks.{IsKeptOf, mark_rule}
-use Rattle.desk_rebuild.specs.OrderedRows.{AreKeptUpTo, IsSoundAt}
+use Rattle.desk_rebuild.specs.Marks.{IsHeldOf, mark_rule}
+use Rattle.desk_rebuild.specs.OrderedRows.{AreHeldUpTo, IsSoundAt}
 use Rattle.desk_parts.specs.Rows.{Mark}
-use Rattle.desk_rebuild.proofs.OrderedRows.{kept-more, row-at}
+use Rattle.desk_rebuild.proofs.OrderedRows.{held-more, row-at}
 use Rattle.desk_rebuild.proofs.marks.marks_of.Goals as goal
 
 pub loop-row-preserved : goal.loop-row-preserved
@@ -16,9 +16,9 @@ loop-row-preserved c =
     let pushed : c.push.new.self.items ≡ c.loop-row.marks.items ++ c.in_ok-mark.mark ∷ [] = search rules in (
       tt,
       tt,
-      subst (λ n. AreKeptUpTo rule IsKeptOf n c.args.rows.items c.push.new.self.items) (sym (length-append c.loop-row.yielded (c.in-Some.row ∷ [])))
-          (subst (AreKeptUpTo rule IsKeptOf (length c.loop-row.yielded + 1) c.args.rows.items) (sym pushed)
-          (kept-more rule c.args.rows.items IsKeptOf (length c.loop-row.yielded) c.loop-row.marks.items c.in-Some.row c.in_ok-mark.mark c.loop-row.invariant.2 here
+      subst (λ n. AreHeldUpTo rule IsHeldOf n c.args.rows.items c.push.new.self.items) (sym (length-append c.loop-row.yielded (c.in-Some.row ∷ [])))
+          (subst (AreHeldUpTo rule IsHeldOf (length c.loop-row.yielded + 1) c.args.rows.items) (sym pushed)
+          (held-more rule c.args.rows.items IsHeldOf (length c.loop-row.yielded) c.loop-row.marks.items c.in-Some.row c.in_ok-mark.mark c.loop-row.invariant.2 here
           (subst (λ n. IsSoundAt rule n c.in-Some.row) count judged.0) judged.1 judged.2)),
       append_assoc c.loop-row.yielded (c.in-Some.row ∷ []) (into_iter_items c.next.new.self) ∙ are,
     )

@@ -2,11 +2,11 @@ use Rattle.std.proofs.Common.{◌≡◌, ℤ, Bool, true, false, SFits, w64, sub
 use Rattle.std.proofs.lemmas.Bool.{both_ways}
 use Rattle.std.proofs.lemmas.Int.{to_z-of_z}
 use Rattle.std.proofs.lemmas.Str.{IsUtf8-string_bytes, chars_from_encodes}
-use Rattle.desk_memory.specs.declared.paragraphs.Paragraph.{Paragraph as KeptParagraph}
+use Rattle.desk_memory.specs.declared.paragraphs.Paragraph.{Paragraph as HeldParagraph}
 use Rattle.desk_model.specs.declared.style.Style.{Style}
 use Rattle.desk_model.specs.declared.style.Style.TheVariants.{Body, Heading}
 use Rattle.desk_model.specs.Damage.{IsFlag, IsPrintText}
-use Rattle.desk_rebuild.specs.Paras.{AreDefinedBy, IsKeptOf, IsParaOn}
+use Rattle.desk_rebuild.specs.Paras.{AreDefinedBy, IsHeldOf, IsParaOn}
 use Rattle.desk_parts.specs.declared.file_table.FileTable.TheVariants as tables
 use Rattle.desk_parts.specs.FileRows.{HasUtf8Texts}
 use Rattle.desk_parts.specs.Rows.{Para}
@@ -46,7 +46,7 @@ returns c =
       volume = c.row.inside.volume;
       struck = c.row.inside.struck;
     } in
-    let kept : KeptParagraph = record {
+    let held : HeldParagraph = record {
       table = c.from_string.result;
       original = c.from_string-2.result;
       history = c.new.result;
@@ -63,17 +63,17 @@ returns c =
     (subst (λ text. AreDefinedBy c.args.tables.now (chars text) c.deref.result.now) c.as_str-3.ensures.value (c.are_defined_by.ensures.0 c.if-not-are_defined_by.false)) in
     let original : IsPrintText (chars row.original) = subst (λ text. IsPrintText (chars text)) c.as_str.ensures.value (c.is_print.ensures.0 c.if-not-is_print.false) in
     let print : IsPrintText (chars row.print) = subst (λ text. IsPrintText (chars text)) c.as_str-else-not-is_print.ensures.value (c.is_print-else-not-is_print.ensures.0 c.if-not-is_print-2.false) in
-    let style : style_number kept.style ≡ row.style = c.in-Some-Some-Some.ensures ∙ to_z-of_z w64 c.row.inside.style fits_style in
-    let volume : flag_number kept.begins_volume ≡ row.volume = c.in-Some-Some-Some.ensures' ∙ to_z-of_z w64 c.row.inside.volume fits_volume in
-    let struck : flag_number kept.struck ≡ row.struck = c.in-Some-Some-Some.ensures'' ∙ to_z-of_z w64 c.row.inside.struck fits_struck in
-    subst (λ (r : Para). IsParaOn c.args.tables.now r × HasUtf8Texts tables.Para r × IsKeptOf r kept) c.row.view_is (
+    let style : style_number held.style ≡ row.style = c.in-Some-Some-Some.ensures ∙ to_z-of_z w64 c.row.inside.style fits_style in
+    let volume : flag_number held.begins_volume ≡ row.volume = c.in-Some-Some-Some.ensures' ∙ to_z-of_z w64 c.row.inside.volume fits_volume in
+    let struck : flag_number held.struck ≡ row.struck = c.in-Some-Some-Some.ensures'' ∙ to_z-of_z w64 c.row.inside.struck fits_struck in
+    subst (λ (r : Para). IsParaOn c.args.tables.now r × HasUtf8Texts tables.Para r × IsHeldOf r held) c.row.view_is (
       record {
         original = original;
         print = print;
         table = defined;
-        style = is-style kept.style row.style style;
-        volume = is-flag kept.begins_volume row.volume volume;
-        struck = is-flag kept.struck row.struck struck;
+        style = is-style held.style row.style style;
+        volume = is-flag held.begins_volume row.volume volume;
+        struck = is-flag held.struck row.struck struck;
       },
       (IsUtf8-string_bytes c.row.inside.tab, IsUtf8-string_bytes c.row.inside.original, IsUtf8-string_bytes c.row.inside.print),
       record {

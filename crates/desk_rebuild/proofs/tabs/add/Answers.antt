@@ -6,7 +6,7 @@ use Rattle.std.proofs.lemmas.Result.{err_from_is_err_and}
 use Rattle.desk_parts.specs.declared.file_table.FileTable.TheVariants as tables
 use Rattle.desk_parts.specs.FileRows.{HasUtf8Texts}
 use Rattle.desk_rebuild.specs.Tabs.{AreRead, MayCome, TellsNoMeaning, TellsUnsoundTab}
-use Rattle.desk_memory.specs.Kept.{with_table}
+use Rattle.desk_memory.specs.Held.{with_table}
 use Rattle.desk_rebuild.proofs.ReadTabs.{count, may-come, more-read, number-after, untold}
 use Rattle.desk_rebuild.proofs.tabs.add.Goals as goal
 

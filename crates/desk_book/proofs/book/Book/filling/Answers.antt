@@ -1,16 +1,16 @@
 use Rattle.std.proofs.Common.{rules, subst, sym}
 use Rattle.desk_model.specs.FilledRows.{Fills}
-use Rattle.desk_book.proofs.RowPuts.FilledTables.{filled-both, filled-braille, filled-entries, few-kept}
+use Rattle.desk_book.proofs.RowPuts.FilledTables.{filled-both, filled-braille, filled-entries, few-held}
 use Rattle.desk_book.proofs.book.Book.filling.Goals as goal
 
 pub new-requires : goal.new-requires
-new-requires c = few-kept _ _ _ _ c.self.invariant
+new-requires c = few-held _ _ _ _ c.self.invariant
 
 pub new-requires-in-Entries : goal.new-requires-in-Entries
-new-requires-in-Entries c = few-kept _ _ _ _ c.self.invariant
+new-requires-in-Entries c = few-held _ _ _ _ c.self.invariant
 
 pub new-requires-in-Braille : goal.new-requires-in-Braille
-new-requires-in-Braille c = few-kept _ _ _ _ c.self.invariant
+new-requires-in-Braille c = few-held _ _ _ _ c.self.invariant
 
 pub returns-in-EntriesAndBraille : goal.returns-in-EntriesAndBraille
 returns-in-EntriesAndBraille c =

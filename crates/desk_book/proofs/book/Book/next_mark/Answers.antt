@@ -1,6 +1,6 @@
 use Rattle.std.proofs.Common.{length, ap, arith}
 use Rattle.desk_model.specs.Book.{Book}
-use Rattle.desk_book.proofs.Kept.KeptLookups.{sound}
+use Rattle.desk_book.proofs.Held.HeldLookups.{sound}
 use Rattle.desk_memory.proofs.Callers.{count-marks}
 use Rattle.desk_book.proofs.book.Book.next_mark.Goals as goal
 

@@ -1,5 +1,5 @@
 use Rattle.std.proofs.Common.{sym, ◌∙◌}
-use Rattle.desk_book.proofs.Kept.KeptLookups.{ids_of-book}
+use Rattle.desk_book.proofs.Held.HeldLookups.{ids_of-book}
 use Rattle.desk_book.proofs.book.Book.order.Goals as goal
 
 pub returns-clause-order : goal.returns-clause-order

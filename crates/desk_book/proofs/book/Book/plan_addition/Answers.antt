@@ -7,7 +7,7 @@ use Rattle.desk_model.specs.Name.{IsTableName}
 use Rattle.desk_model.specs.Ranks.{bad_table_rank, rank}
 use Rattle.desk_model.specs.declared.refusal.Refusal.TheVariants.{Full}
 use Rattle.desk_model.specs.declared.refusal.Limit.TheVariants.{Paragraphs}
-use Rattle.desk_book.proofs.Kept.KeptLookups.{count-tables, sound}
+use Rattle.desk_book.proofs.Held.HeldLookups.{count-tables, sound}
 use Rattle.desk_book.proofs.Plans.Planning.{exit, no_memory}
 use Rattle.desk_model.proofs.Commands.Ranks.{past_version}
 use Rattle.desk_book.proofs.Plans.TablePlanning.{past_reading, past_tables, past_users, unread, unused}

@@ -10,7 +10,7 @@ use Rattle.desk_book.proofs.book.Book.plan_strike.Goals as goal
 
 pub returns-clause-planned : goal.returns-clause-planned
 returns-clause-planned c =
-    let kept = c.in_ok-paragraph.ensures.found in
-    let named = to_rank c.args.self.now (Strike c.args.id) (rank NoTable) (rank Struck) refl (past_named c.args.self.now (Strike c.args.id) c.args.id _ kept refl refl) in
-    flags_planned c.args.self.now (Strike c.args.id) c.args.id _ kept (λ (p : Paragraph). record p { struck = true }) refl (tt, tt, tt) refl
-    (rank NotStruck) (past_struck c.args.self.now (Strike c.args.id) c.args.id _ kept named refl c.if-paragraph.false) refl refl c.in_ok-check_version.ensures.left _ _ _ refl
+    let held = c.in_ok-paragraph.ensures.found in
+    let named = to_rank c.args.self.now (Strike c.args.id) (rank NoTable) (rank Struck) refl (past_named c.args.self.now (Strike c.args.id) c.args.id _ held refl refl) in
+    flags_planned c.args.self.now (Strike c.args.id) c.args.id _ held (λ (p : Paragraph). record p { struck = true }) refl (tt, tt, tt) refl
+    (rank NotStruck) (past_struck c.args.self.now (Strike c.args.id) c.args.id _ held named refl c.if-paragraph.false) refl refl c.in_ok-check_version.ensures.left _ _ _ refl

@@ -1,12 +1,12 @@
 use Rattle.std.proofs.Common.{◌≡◌, ℕ, ◌+◌, ◌-◌, ◌≤◌, List, length, sym, ap, subst, ◌∙◌, refl, arith}
 use Rattle.desk_book.specs.Corrections.{HaltsEntry, TakesEntry}
 use Rattle.desk_memory.specs.Histories.{replaced_by}
-use Rattle.desk_memory.specs.Histories.{IsNewestInForce, entries_kept}
+use Rattle.desk_memory.specs.Histories.{IsNewestInForce, entries_held}
 use Rattle.desk_model.specs.Book.{Undoes}
 use Rattle.desk_model.specs.Print.{print_of, with_entry}
 use Rattle.desk_model.specs.Sound.{AreSoundEntries}
 use Rattle.std.proofs.lemmas.Result.{IfErr-weaker, IfOk-weaker}
-use Rattle.desk_book.proofs.Plans.UndoPlanning.{back, counted, halted_here, no_memory_here, planned_here, sound_kept, span_here, undefined_here}
+use Rattle.desk_book.proofs.Plans.UndoPlanning.{back, counted, halted_here, no_memory_here, planned_here, sound_held, span_here, undefined_here}
 use Rattle.desk_book.proofs.Plans.Planning.{exit}
 use Rattle.desk_book.proofs.book.Book.plan_undo.Goals as goal
 use Rattle.desk_book.proofs.book.Book.plan_undo.Goals.{After-as_slice-old, In_ok-undone}
@@ -38,7 +38,7 @@ printed_is c force =
 pub newest-requires : goal.newest-requires
 newest-requires c =
     let shown = c.in_ok-paragraph.ensures.found.0 in
-    (c.in_ok-paragraph.paragraph.now.original, subst (λ h. AreSoundEntries c.in_ok-paragraph.paragraph.now.original (entries_kept h)) (sym c.as_slice.ensures) (sound_kept c.args.self.now c.args.id _ _ shown c.in_ok-paragraph.ensures.found.1))
+    (c.in_ok-paragraph.paragraph.now.original, subst (λ h. AreSoundEntries c.in_ok-paragraph.paragraph.now.original (entries_held h)) (sym c.as_slice.ensures) (sound_held c.args.self.now c.args.id _ _ shown c.in_ok-paragraph.ensures.found.1))
 
 pub overflow_sub-old : goal.overflow_sub-old
 overflow_sub-old c =

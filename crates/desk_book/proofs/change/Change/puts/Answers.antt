@@ -8,7 +8,7 @@ use Rattle.desk_book.specs.ChangePuts.{effect_puts, version_put}
 use Rattle.desk_book.specs.Changes.{Carries, Change, change_by, change_puts, puts-change_by}
 use Rattle.desk_book.proofs.RowPuts.LentRows.{change-lent}
 use Rattle.desk_book.proofs.RowPuts.PutsLead.{change-leads}
-use Rattle.desk_book.proofs.Kept.Settled.{IsEffect-carried}
+use Rattle.desk_book.proofs.Held.Settled.{IsEffect-carried}
 use Rattle.desk_model.proofs.Commands.Expecting.{version-made}
 use Rattle.desk_book.proofs.change.Change.puts.Goals as goal
 

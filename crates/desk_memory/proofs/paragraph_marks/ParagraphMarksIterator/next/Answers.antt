@@ -1,7 +1,7 @@
 use Rattle.std.proofs.Common.{◌≡◌, ◌+◌, ◌<◌, [], ◌∷◌, Some, get_or, length, refl, sym, ap, ◌∙◌, rules, flat_map, slice_get}
 use Rattle.std.proofs.lemmas.Option.{slice_get-get_or}
-use Rattle.desk_memory.specs.declared.marks.KeptMark.{KeptMark}
-use Rattle.desk_memory.specs.Kept.{mark_kept}
+use Rattle.desk_memory.specs.declared.marks.HeldMark.{HeldMark}
+use Rattle.desk_memory.specs.Held.{mark_held}
 use Rattle.desk_memory.specs.ItemsLeft.{mark_at, marks_at}
 use Rattle.desk_model.proofs.Lists.Items.{All-slice_get, drop-past, drop-there}
 use Rattle.desk_memory.proofs.MarkIndexes.{marks-at_next}
@@ -23,8 +23,8 @@ there c = lent-there c.self.inside.indexes.now c.self.inside.at c.get.result c.g
 within : (c : In_ok-index) → c.in_ok-index.field-0.now < length c.self.inside.marks.now
 within c = All-slice_get (λ index. index < length c.self.inside.marks.now) c.self.inside.indexes.now c.self.inside.at c.in_ok-index.field-0.now c.self.invariant (there c)
 
-left : (c : In_ok-index) (d : KeptMark)
-    → c.args.self.now ≡ mark_kept (c.in_ok-index.field-0.now + 1, get_or c.self.inside.marks.now c.in_ok-index.field-0.now d)
+left : (c : In_ok-index) (d : HeldMark)
+    → c.args.self.now ≡ mark_held (c.in_ok-index.field-0.now + 1, get_or c.self.inside.marks.now c.in_ok-index.field-0.now d)
     ∷ marks_at (c.self.inside.at + 1) c.self.inside.indexes.now c.self.inside.marks.now
 left c d =
     let inside = c.self.inside in
@@ -47,7 +47,7 @@ overflow_add-self c =
 
 pub returns-clause-steps : goal.returns-clause-steps
 returns-clause-steps c = (
-  mark_kept (c.in_ok-index.field-0.now + 1, get_or c.self.inside.marks.now c.in_ok-index.field-0.now c.index-self-index.result),
+  mark_held (c.in_ok-index.field-0.now + 1, get_or c.self.inside.marks.now c.in_ok-index.field-0.now c.index-self-index.result),
   left (goal.at.returns-clause-steps c).In_ok-index c.index-self-index.result,
   record { id = refl; start = refl; end = refl; resolved = refl; touched = refl; note = c.as_str.ensures },
 )

@@ -1,6 +1,6 @@
 use Rattle.std.proofs.Common.{◌≡◌, ◌+◌, ◌∷◌, ◌++◌, [], length, subst, sym, ap, ap₂, ◌∙◌, arith, IsPermutation, length-append}
 use Rattle.std.specs.List.{flat_map, insert, range_with_len}
-use Rattle.desk_memory.specs.Kept.{ids, in_order_of, paragraph_with_id}
+use Rattle.desk_memory.specs.Held.{ids, in_order_of, paragraph_with_id}
 use Rattle.desk_memory.specs.Room.{Suffices}
 use Rattle.desk_memory.proofs.Arranging.{ids-shown, in_order_of-pushed, length-order, length-shown}
 use Rattle.desk_memory.proofs.paragraphs.Paragraphs.add.Goals as goal

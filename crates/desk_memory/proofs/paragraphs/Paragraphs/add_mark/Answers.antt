@@ -1,6 +1,6 @@
 use Rattle.std.proofs.Common.{sym, ap, ◌∙◌, arith}
 use Rattle.std.specs.Option.{option_copied_mut}
-use Rattle.desk_memory.specs.KeptPrints.{with_mark}
+use Rattle.desk_memory.specs.HeldPrints.{with_mark}
 use Rattle.desk_memory.proofs.paragraphs.Paragraphs.add_mark.Goals as goal
 
 pub push-requires-clause-few : goal.push-requires-clause-few

@@ -2,7 +2,7 @@ use Rattle.std.proofs.Common.{inr, nat_eq, sym, ap, ◌∙◌}
 use Rattle.std.specs.Map.{lookup}
 use Rattle.std.specs.Option.{ghost_name_of}
 use borrow.Follows.Closed.{read_of}
-use Rattle.desk_memory.proofs.Arranging.{with_kept_change-missing}
+use Rattle.desk_memory.proofs.Arranging.{with_held_change-missing}
 use Rattle.desk_memory.proofs.ReadParagraphs.{alone, looked-up, written}
 use Rattle.desk_memory.proofs.paragraphs.Paragraphs.get_mut.Goals as goal
 
@@ -11,7 +11,7 @@ returns-in_err-index c =
     let none = sym (ap (lookup (nat_eq c.args.id)) c.self.view_is) ∙ c.in_err-index.ensures.none in
     rw c.from_residual.ensures (
       ap inr c.self.view_is,
-      record { lends = tt; value = sym none; alone = λ change. sym (with_kept_change-missing c.args.id change c.args.self.now none) },
+      record { lends = tt; value = sym none; alone = λ change. sym (with_held_change-missing c.args.id change c.args.self.now none) },
     )
 
 pub returns : goal.returns

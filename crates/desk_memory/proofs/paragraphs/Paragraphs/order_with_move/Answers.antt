@@ -1,5 +1,5 @@
 use Rattle.std.proofs.Common.{◌≡◌, ◌==◌, cond, false, true, not, sym, ap, ◌∙◌, filter}
-use Rattle.desk_memory.specs.Kept.{ids, with_id}
+use Rattle.desk_memory.specs.Held.{ids, with_id}
 use Rattle.desk_model.specs.Step.{is_after}
 use Rattle.desk_memory.proofs.Arranging.{ids-shown}
 use Rattle.desk_memory.proofs.paragraphs.Paragraphs.order_with_move.Goals as goal

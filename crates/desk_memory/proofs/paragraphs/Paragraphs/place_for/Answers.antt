@@ -1,7 +1,7 @@
 use Rattle.std.proofs.Common.{◌≡◌, ◌+◌, [], length, Some, None, subst, sym, ap, ap₂, ◌∙◌, arith, Contains, insert, position, nat_eq}
 use Rattle.desk_model.specs.declared.command.Anchor.{Anchor}
 use Rattle.desk_model.specs.declared.command.Anchor.TheVariants.{End, Para}
-use Rattle.desk_memory.specs.Kept.{ids, with_id}
+use Rattle.desk_memory.specs.Held.{ids, with_id}
 use Rattle.desk_model.specs.Named.{paragraph_before}
 use Rattle.desk_memory.proofs.Arranging.{ids-shown, length-order, length-shown}
 use Rattle.desk_model.proofs.Lists.Members.{Contains-here}

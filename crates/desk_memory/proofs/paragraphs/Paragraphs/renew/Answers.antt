@@ -1,7 +1,7 @@
 use Rattle.std.proofs.Common.{◌≡◌, length, map, vec_len, sym, ap, ap₂, ◌∙◌, flat_map}
 use Rattle.std.proofs.lemmas.List.{with_items_is}
 use Rattle.desk_memory.specs.declared.paragraphs.Paragraphs.TheInside.{Inside}
-use Rattle.desk_memory.specs.Kept.{paragraph_with_id, renewed_items, with_new_cells}
+use Rattle.desk_memory.specs.Held.{paragraph_with_id, renewed_items, with_new_cells}
 use Rattle.desk_memory.proofs.Renewing.{length-renewed_items, with_new_cells-in_order}
 use Rattle.desk_memory.proofs.paragraphs.Paragraphs.renew.Goals as goal
 

@@ -1,6 +1,6 @@
 use Rattle.std.proofs.Common.{◌≡◌, length, subst, sym, ap, ◌∙◌, IsPermutation}
 use Rattle.std.specs.List.{flat_map, range_with_len}
-use Rattle.desk_memory.specs.Kept.{in_order_of, paragraph_with_id}
+use Rattle.desk_memory.specs.Held.{in_order_of, paragraph_with_id}
 use Rattle.desk_memory.proofs.Arranging.{AreUpTo-order, in_order_of-in_order, length-order, length-shown}
 use Rattle.desk_memory.proofs.paragraphs.Paragraphs.reorder.Goals as goal
 

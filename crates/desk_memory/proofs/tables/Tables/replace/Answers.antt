@@ -2,7 +2,7 @@ use Rattle.std.proofs.Common.{IsSome, chars, is_some, nat_eq, string_eq, sym, ap
 use Rattle.std.specs.Cmp.Lexicographic.{pointwise}
 use Rattle.std.specs.List.{IsDistinct}
 use Rattle.std.specs.Map.{keys_of, lookup}
-use Rattle.desk_memory.specs.Kept.{by_name, with_table}
+use Rattle.desk_memory.specs.Held.{by_name, with_table}
 use Rattle.desk_memory.proofs.ByName.{by_name-set_value, lookup-by_name}
 use Rattle.desk_memory.proofs.tables.Tables.replace.Goals as goal
 

@@ -4,7 +4,7 @@ use Rattle.std.proofs.lemmas.Int.{ints, to_z-of_z}
 use Rattle.desk_rebuild.specs.declared.history.Next.{Next}
 use Rattle.desk_parts.specs.declared.rows.NamedCorrRow.TheInside.{Inside}
 use Rattle.desk_rebuild.specs.declared.damage.RowsFault.TheVariants.{Damaged}
-use Rattle.desk_memory.specs.Histories.{entries_kept}
+use Rattle.desk_memory.specs.Histories.{entries_held}
 use Rattle.desk_rebuild.specs.History.{IsFit, IsNext}
 use Rattle.desk_parts.specs.Rows.{NamedCorr}
 use Rattle.desk_rebuild.proofs.ReadRows.{as-many, long-next, read-next, sound-next, unfit-next}
@@ -30,18 +30,18 @@ returns-then-count-ge-MOST_ENTRIES-clause-damaged c original rows is =
 
 pub returns-in_default-clause-damaged : goal.returns-in_default-clause-damaged
 returns-in_default-clause-damaged c original rows is =
-    let none = subst (λ (o : Option Next). IfNone o (¬ IsFit original (entries_kept c.args.self.now.entries.items) c.args.row)) c.in_default.is (c.in_ok-entry.ensures.unsound original is.left) in
+    let none = subst (λ (o : Option Next). IfNone o (¬ IsFit original (entries_held c.args.self.now.entries.items) c.args.row)) c.in_default.is (c.in_ok-entry.ensures.unsound original is.left) in
     inr (ap Damaged (to_z-of_z w64 c.args.id c.ranges.id), unfit-next original rows c.args.self.now is c.args.row none)
 
 pub returns-then-len-gt-MOST_PRINT-clause-damaged : goal.returns-then-len-gt-MOST_PRINT-clause-damaged
 returns-then-len-gt-MOST_PRINT-clause-damaged c original rows is =
-    let next = subst (λ (o : Option Next). IfSome o (IsNext original (entries_kept c.args.self.now.entries.items) c.args.row)) c.in-Some.is (c.in_ok-entry.ensures.sound original is.left) in
+    let next = subst (λ (o : Option Next). IfSome o (IsNext original (entries_held c.args.self.now.entries.items) c.args.row)) c.in-Some.is (c.in_ok-entry.ensures.sound original is.left) in
     let many = c.len.ensures ∙ c.in-Some.field-0.print.ok.0 in
     inr (ap Damaged (to_z-of_z w64 c.args.id c.ranges.id), long-next original rows c.args.self.now is c.args.row c.in-Some.field-0 next (omega (arith, c.if-len-gt-MOST_PRINT.true, many)))
 
 pub returns-clause-read : goal.returns-clause-read
 returns-clause-read c original rows is =
-    let next = subst (λ (o : Option Next). IfSome o (IsNext original (entries_kept c.args.self.now.entries.items) c.args.row)) c.in-Some.is (c.in_ok-entry.ensures.sound original is.left) in
+    let next = subst (λ (o : Option Next). IfSome o (IsNext original (entries_held c.args.self.now.entries.items) c.args.row)) c.in-Some.is (c.in_ok-entry.ensures.sound original is.left) in
     let count = c.len-count.ensures ∙ c.args.self.now.entries.ok.0 in
     let many = c.len.ensures ∙ c.in-Some.field-0.print.ok.0 in
     let few = c.if-count-ge-MOST_ENTRIES.false in

@@ -1,3 +1,3 @@
-pub mod KeptLookups
+pub mod HeldLookups
 pub mod Settled
 pub mod ShownEffects
