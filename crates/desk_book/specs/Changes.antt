@@ -150,7 +150,7 @@ pub record IsEffect (book : Book) (version : ℕ) (effect : Effect) (next : Book
   pub at : version ≡ next.version
   pub does : Does book command next effect
 
--- the effect is one on the book that these parts are held of
+-- the effect is one on the book that these held parts stand for
 abbrev pub IsEffectOn : (was : ℕ) → HeldTables → HeldParagraphs → List HeldMark → (at : ℕ) → Effect → Book → Type 0
 IsEffectOn was tables paragraphs marks at effect next =
     IsHeld was tables paragraphs marks × IsEffect (book_held was tables paragraphs marks) at effect next

@@ -17,7 +17,7 @@
 //! ```
 //!
 //! `desk_model` says what a book is, what each command makes of it and when it is refused.
-//! `desk_memory` keeps a book's tables, paragraphs and marks in memory, and `desk_rebuild` makes
+//! `desk_memory` holds a book's tables, paragraphs and marks in memory, and `desk_rebuild` makes
 //! them of the rows of a file. Files are left to `desk_store`, pages to `desk_brf`, and the lines
 //! of requests and replies to `desk_line`.
 #![tactic(auto)]

@@ -16,7 +16,7 @@ use desk_model::Refusal;
 use louis_translate::{RuleIndex, output_place, print_place};
 
 impl Book {
-    /// A paragraph as it is held.
+    /// A paragraph as it is held in memory.
     pub(crate) fn held_paragraph(&self, id: u64) -> Result<&Paragraph, Refusal>
         ensures found { IfOk result (λ held. IsHeldFor self.now id held.now) }
         ensures shown { IfOk result (λ held. (meaning : Meaning) × IsShown self.now id held.now meaning) }
@@ -25,7 +25,7 @@ impl Book {
         self.paragraphs.get(id).ok_or(Refusal::NoParagraph)
     }
 
-    /// A paragraph as it is held, and the rules of its table.
+    /// A paragraph as it is held in memory, and the rules of its table.
     pub(crate) fn paragraph_and_rules(&self, id: u64) -> Result<(&Paragraph, &RuleIndex), Refusal>
         ensures found { IfOk result (λ shown. IsShown self.now id shown.0.now shown.1.now) }
         ensures missing { IfErr result (λ why. (why ≡ Refusal.NoParagraph) × (paragraph_of self.now id ≡ None)) }

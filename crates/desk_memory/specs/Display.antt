@@ -1,5 +1,5 @@
--- What a book shows of a paragraph as it is held. Only private functions and proofs need these
--- words.
+-- What a book shows of a paragraph as it is held in memory. Only private functions and proofs need
+-- these words.
 use Rattle.std.specs.Prelude.{◌≡◌, ℕ, List, length, Some}
 use Rattle.louis_table.specs.Meaning.{Meaning}
 use Rattle.louis_translate.specs.declared.choices.Choice.{Choice}

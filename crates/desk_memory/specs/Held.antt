@@ -1,5 +1,5 @@
--- How a book is held: its tables with their rules, its paragraphs with their prints and cells, and
--- its marks.
+-- How a book is held in memory: its tables with their rules, its paragraphs with their prints and
+-- cells, and its marks.
 use Rattle.std.specs.Prelude.{◌≡◌, ℕ, ◌-◌, ◌≤◌, length, drop, nat_eq, not, ◌==◌, if◌then◌else◌, List, [], ◌∷◌, ◌++◌}
 use Rattle.std.specs.Prelude.{map, slice_get, Option, Some, option_to_list, option_map, chars, String, string_bytes}
 use Rattle.std.specs.List.{All, enumerate_from, filter, find, flat_map, fold}

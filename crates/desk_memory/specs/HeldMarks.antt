@@ -1,4 +1,4 @@
--- Marks as they are held.
+-- Marks as they are held in memory.
 use Rattle.std.specs.Prelude.{ℕ, ◌+◌, ◌≤◌, ◌==◌, true, if◌then◌else◌, zero, suc, List, [], ◌∷◌, map, Option, None}
 use Rattle.std.specs.Prelude.{slice_get, slice_set, All}
 use Rattle.std.specs.Option.{option_map_or}

@@ -1,4 +1,4 @@
--- Histories as they are held.
+-- Histories as they are held in memory.
 use Rattle.std.specs.Prelude.{◌≡◌, ℕ, ◌-◌, ◌<◌, List, length, map, take, drop, slice_get, Some}
 use Rattle.desk_memory.specs.declared.history.Correction.{Correction}
 use Rattle.desk_memory.specs.declared.history.HeldEntry.{HeldEntry}
@@ -50,7 +50,7 @@ abbrev pub replaced_by : (start count : ℕ) (text print : List ℕ) → List �
 replaced_by start count text print = with_replacement print (record { start = start; count = count; text = text })
 
 -- the correction puts this text in place of so many characters of the print from a place on, and
--- keeps those
+-- holds those
 pub record IsCorrection (print : List ℕ) (start count : ℕ) (text who : List ℕ) (c : Correction) : Type 0 where
   pub start_is : c.start ≡ start
   pub text_is : c.text ≡ text

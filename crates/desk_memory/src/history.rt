@@ -60,7 +60,7 @@ impl Correction {
     }
 }
 
-/// An entry of a history, as it is held.
+/// An entry of a history, as it is held in memory.
 #[derive(Drop)]
 pub enum HeldEntry {
     /// A correction.

@@ -9,7 +9,7 @@ ghost use Rattle.std.specs.Prelude.{option_copied, ◌≡◌, ◌+◌, ◌-◌, 
 use super::items::Items;
 use desk_model::{Span, Text};
 
-/// A mark, as it is held.
+/// A mark, as it is held in memory.
 pub struct HeldMark {
     /// The paragraph that it is put on.
     pub paragraph: u64,

@@ -38,7 +38,7 @@ fn read_rules(alloc: Global, text: &[u8]) -> Result<RuleIndex, ReadFault>
 }
 
 impl BookTable {
-    /// Reads the text of a table, of which it keeps a copy. The fault is the one that is reported
+    /// Reads the text of a table, of which it holds a copy. The fault is the one that is reported
     /// of the text, or that an allocation failed.
     pub fn read(alloc: Global, text: &[u8]) -> Result<Self, ReadFault>
         ensures text { IfOk result (λ table. table.text ≡ text.now) }

@@ -108,7 +108,7 @@ fn give_cells(
     of_table(FileTable::Cache, given)
 }
 
-/// What is held of a book: its version, its tables, its paragraphs and its marks.
+/// A book as it is held in memory: its version, its tables, its paragraphs and its marks.
 #[derive(Drop)]
 pub struct HeldBook {
     /// The version.
@@ -121,8 +121,8 @@ pub struct HeldBook {
     pub marks: Marks,
 }
 
-/// What is held of what was read of a book's tables: the paragraphs in the order of their ids, and
-/// these ids as they stand.
+/// The book whose tables were read, as it is held in memory. The paragraphs are given in the order
+/// of their ids, and these ids in the order of the book.
 fn held_book(
     version: u64,
     tables: Tables,
@@ -150,8 +150,8 @@ fn held_book(
     })
 }
 
-/// What is held of the book that the parts show. Its braille is that of the rows of `cache`, which
-/// has to be that of the prints; without these rows it is made.
+/// The book that the parts show, as it is held in memory. Its braille is that of the rows of
+/// `cache`, which has to be that of the prints; without these rows it is made.
 ///
 /// # Errors
 ///

@@ -14,7 +14,7 @@
 //! ```
 //!
 //! `desk_model` says which rows show a book, and what is damaged. `desk_rows` reads the rows from a
-//! file, and `desk_memory` keeps what is made of them.
+//! file, and `desk_memory` holds what is made of them.
 #![tactic(auto)]
 
 mod book;

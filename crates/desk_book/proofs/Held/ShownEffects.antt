@@ -1,4 +1,4 @@
--- What is so of an effect on a book, of what the book keeps.
+-- What is so of an effect on a book, of the parts that are held of it.
 use Rattle.std.proofs.Common.{◌≡◌, ℕ, List, None, subst, sym}
 use Rattle.desk_book.specs.declared.change.Effect.{Effect}
 use Rattle.desk_memory.specs.declared.marks.HeldMark.{HeldMark}
