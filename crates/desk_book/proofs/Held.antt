@@ -1,3 +1,4 @@
+pub mod Applied
 pub mod HeldLookups
 pub mod Settled
 pub mod ShownEffects

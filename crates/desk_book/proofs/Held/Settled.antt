@@ -170,6 +170,14 @@ pub some_effect : (book : Book) (version : ℕ) (number : Option ℕ) (held effe
 some_effect book version number held effect change shown is given =
     (given.1, IsEffect-carried book given.0 given.1 version number held effect change shown is given.2)
 
+-- the tables, the paragraphs and the marks of a book
+abbrev pub Parts : Type 0
+Parts = HeldTables × HeldParagraphs × List HeldMark
+
+-- the book, at this version, is held in these parts
+abbrev pub IsHeldIn : ℕ → Book → Parts → Type 0
+IsHeldIn version book (tables, paragraphs, marks) = IsHeld version tables paragraphs marks × (book_held version tables paragraphs marks ≡ book)
+
 abbrev plain : ℕ → List (List ℕ × List ℕ) → List Paragraph → List Mark → Book
 plain version tables paragraphs marks = record { version = version; tables = tables; paragraphs = paragraphs; marks = marks }
 
@@ -215,19 +223,22 @@ module _ (version : ℕ) (tables : HeldTables) (paragraphs : HeldParagraphs) (ma
             let both : Some old.text ≡ None = sym (lookup-map (pointwise nat_eq name) (λ (t : BookTable). t.text) tables ∙ ap (option_map (λ (t : BookTable). t.text)) e) ∙ puts.does.1 in
             absurd (cc)
 
-    pub next-added : book_held w (with_table name table tables) paragraphs marks ≡ next
+    next-added : book_held w (with_table name table tables) paragraphs marks ≡ next
     next-added = next-with_table next w name table paragraphs puts.at puts.does.0.1 refl
 
-    pub IsHeld-added : IsHeld version tables paragraphs marks → IsHeld w (with_table name table tables) paragraphs marks
-    IsHeld-added is = record {
-      sound = subst IsSound (sym next-added) (sound-next is next w (AddTable name table room) puts);
-      means = means-with_table name table tables puts.does.3 is.means;
-      translated = All-weaker (IsHeldParagraph tables) (IsHeldParagraph (with_table name table tables))
-          (λ entry held. IsHeldParagraph-other name table tables entry
-          (λ same. let both : Some held.table ≡ None = sym held.found ∙ (ap (λ (n : List ℕ). lookup (pointwise nat_eq n) tables) same ∙ new-added) in absurd (cc)) held)
-          paragraphs is.translated;
-      marked = is.marked;
-    }
+    pub IsHeldIn-added : IsHeld version tables paragraphs marks → IsHeldIn w next (with_table name table tables, paragraphs, marks)
+    IsHeldIn-added is = (
+      record {
+        sound = subst IsSound (sym next-added) (sound-next is next w (AddTable name table room) puts);
+        means = means-with_table name table tables puts.does.3 is.means;
+        translated = All-weaker (IsHeldParagraph tables) (IsHeldParagraph (with_table name table tables))
+            (λ entry held. IsHeldParagraph-other name table tables entry
+            (λ same. let both : Some held.table ≡ None = sym held.found ∙ (ap (λ (n : List ℕ). lookup (pointwise nat_eq n) tables) same ∙ new-added) in absurd (cc)) held)
+            paragraphs is.translated;
+        marked = is.marked;
+      },
+      next-added,
+    )
 
   -- ---- another text of a table
 
@@ -251,7 +262,7 @@ module _ (version : ℕ) (tables : HeldTables) (paragraphs : HeldParagraphs) (ma
     all-renewed [] = refl
     all-renewed (entry ∷ held) = λ i. held-renewed entry i ∷ all-renewed held i
 
-    pub next-replaced : book_held w (with_table name table tables) (map (with_new_cells cells) paragraphs) marks ≡ next
+    next-replaced : book_held w (with_table name table tables) (map (with_new_cells cells) paragraphs) marks ≡ next
     next-replaced = next-with_table next w name table (map (with_new_cells cells) paragraphs) at makes (all-renewed paragraphs)
 
     IsHeldParagraph-renewed : (entry : ℕ × HeldParagraph) → IsHeldParagraph tables entry
@@ -272,19 +283,21 @@ module _ (version : ℕ) (tables : HeldTables) (paragraphs : HeldParagraphs) (ma
           taken = k.taken;
         }
 
-    pub IsHeld-replaced : IsHeld version tables paragraphs marks → IsSound next → IsHeld w (with_table name table tables) (map (with_new_cells cells) paragraphs) marks
-    IsHeld-replaced is sound =
+    pub IsHeldIn-replaced : IsHeld version tables paragraphs marks → IsSound next → IsHeldIn w next (with_table name table tables, map (with_new_cells cells) paragraphs, marks)
+    IsHeldIn-replaced is sound =
         let Renews : Paragraph → Type 0 = λ p. MatchOption (new_cells cells p.id) (p.table ≢ name) (λ new. (p.table ≡ name) × AreCellsOf table.rules (print_of p) new) in
-        let each = All-from_map Renews paragraph_held paragraphs renews in
-        record {
-          sound = subst IsSound (sym next-replaced) sound;
-          means = means-with_table name table tables means is.means;
-          translated = All-map (IsHeldParagraph (with_table name table tables)) (with_new_cells cells) paragraphs
-              (All-weaker (Contains paragraphs) (λ entry. IsHeldParagraph (with_table name table tables) (with_new_cells cells entry))
-              (λ entry c. IsHeldParagraph-renewed entry (All-contains (IsHeldParagraph tables) paragraphs entry is.translated c) (All-contains (λ e. Renews (paragraph_held e)) paragraphs entry each c))
-              paragraphs (All-contains_itself paragraphs));
-          marked = All-map (HasMarks marks) (with_new_cells cells) paragraphs (All-weaker (HasMarks marks) (λ entry. HasMarks marks (with_new_cells cells entry)) (λ entry has. marks-renewed entry ∙ has) paragraphs is.marked);
-        }
+        let each = All-from_map Renews paragraph_held paragraphs renews in (
+          record {
+            sound = subst IsSound (sym next-replaced) sound;
+            means = means-with_table name table tables means is.means;
+            translated = All-map (IsHeldParagraph (with_table name table tables)) (with_new_cells cells) paragraphs
+                (All-weaker (Contains paragraphs) (λ entry. IsHeldParagraph (with_table name table tables) (with_new_cells cells entry))
+                (λ entry c. IsHeldParagraph-renewed entry (All-contains (IsHeldParagraph tables) paragraphs entry is.translated c) (All-contains (λ e. Renews (paragraph_held e)) paragraphs entry each c))
+                paragraphs (All-contains_itself paragraphs));
+            marked = All-map (HasMarks marks) (with_new_cells cells) paragraphs (All-weaker (HasMarks marks) (λ entry. HasMarks marks (with_new_cells cells entry)) (λ entry has. marks-renewed entry ∙ has) paragraphs is.marked);
+          },
+          next-replaced,
+        )
 
   -- the table of a text is there
   table_of-text : (name source : List ℕ) → text_of book name ≡ Some source → (table : BookTable) × (lookup (pointwise nat_eq name) tables ≡ Some table) × (table.text ≡ source)
@@ -388,26 +401,28 @@ module _ (version : ℕ) (tables : HeldTables) (paragraphs : HeldParagraphs) (ma
         subst (λ (n : ℕ). IsPermutation (range_with_len 1 n) order) (length-append paragraphs ((length paragraphs + 1, held) ∷ []))
         (order-permuted next all (before ++ new ∷ []) order held-typed moved-typed order_is sound)
 
-    pub next-typed : book_held w tables (in_order_of order all) marks ≡ next
+    next-typed : book_held w tables (in_order_of order all) marks ≡ next
     next-typed =
         next-with_paragraphs next w (with_paragraph anchor new before) (in_order_of order all) at makes
         (held-ordered next all (before ++ new ∷ []) order held-typed moved-typed order_is sound ∙ ap (λ (b : Book). b.paragraphs) makes)
 
-    pub IsHeld-typed : IsHeld w tables (in_order_of order all) marks
-    IsHeld-typed =
+    pub IsHeldIn-typed : IsHeldIn w next (tables, in_order_of order all, marks)
+    IsHeldIn-typed =
         let entry : ℕ × HeldParagraph = (length paragraphs + 1, held) in
         let print : held.print ≡ print_of (paragraph_held entry) = given.print ∙ sym (ap (λ (p : Paragraph). print_of p) given.held_is) in
         let count = count-before in
         let none : indexes_on (length paragraphs + 1) marks ≡ [] =
-        indexes-none (length paragraphs + 1) 0 marks (marks-elsewhere book (length paragraphs + 1) 1 marks is.sound (omega arith) (All-from_map (IsSoundMark book) mark_held (enumerate_from 1 marks) is.sound.marks)) in
-        record {
-          sound = subst IsSound (sym next-typed) sound;
-          means = is.means;
-          translated = All-arranged (IsHeldParagraph tables) order all
-              (All-push (IsHeldParagraph tables) paragraphs entry is.translated
-              (IsHeldParagraph-cells is entry given.source given.meaning print given.found given.means given.cells given.taken));
-          marked = All-arranged (HasMarks marks) order all (All-push (HasMarks marks) paragraphs entry is.marked (given.unmarked ∙ sym none));
-        }
+        indexes-none (length paragraphs + 1) 0 marks (marks-elsewhere book (length paragraphs + 1) 1 marks is.sound (omega arith) (All-from_map (IsSoundMark book) mark_held (enumerate_from 1 marks) is.sound.marks)) in (
+          record {
+            sound = subst IsSound (sym next-typed) sound;
+            means = is.means;
+            translated = All-arranged (IsHeldParagraph tables) order all
+                (All-push (IsHeldParagraph tables) paragraphs entry is.translated
+                (IsHeldParagraph-cells is entry given.source given.meaning print given.found given.means given.cells given.taken));
+            marked = All-arranged (HasMarks marks) order all (All-push (HasMarks marks) paragraphs entry is.marked (given.unmarked ∙ sym none));
+          },
+          next-typed,
+        )
 
   -- ---- a change of one paragraph
 
@@ -436,22 +451,25 @@ module _ (version : ℕ) (tables : HeldTables) (paragraphs : HeldParagraphs) (ma
 
   module _ (next : Book) (w id : ℕ) (style : Style) (begins struck : Bool) (at : w ≡ next.version)
       (makes : next ≡ next_with_paragraphs book (with_change id (λ p. record p { style = style; begins_volume = begins; struck = struck }) book.paragraphs)) where
-    pub next-flagged : book_held w tables (with_held_change id (flagged style begins struck) paragraphs) marks ≡ next
+    next-flagged : book_held w tables (with_held_change id (flagged style begins struck) paragraphs) marks ≡ next
     next-flagged =
         let to : Paragraph → Paragraph = λ p. record p { style = style; begins_volume = begins; struck = struck } in
         next-with_paragraphs next w (with_change id to before) (with_held_change id (flagged style begins struck) paragraphs) at makes
         (held-changed id (flagged style begins struck) to (λ n k. refl) paragraphs)
 
-    pub IsHeld-flagged : IsHeld version tables paragraphs marks → IsSound next → IsHeld w tables (with_held_change id (flagged style begins struck) paragraphs) marks
-    IsHeld-flagged is sound = record {
-      sound = subst IsSound (sym next-flagged) sound;
-      means = is.means;
-      translated =
-          let to : Paragraph → Paragraph = λ p. record p { style = style; begins_volume = begins; struck = struck } in
-          All-changed id (flagged style begins struck) to (λ n k. refl) (IsHeldParagraph tables) paragraphs
-          (λ n k c e held. record { print = held.print; table = held.table; found = held.found; choices = held.choices; tiles = held.tiles; cells = held.cells; taken = held.taken }) is.translated;
-      marked = All-changed id (flagged style begins struck) (λ p. record p { style = style; begins_volume = begins; struck = struck }) (λ n k. refl) (HasMarks marks) paragraphs (λ n k c e has. has) is.marked;
-    }
+    pub IsHeldIn-flagged : IsHeld version tables paragraphs marks → IsSound next → IsHeldIn w next (tables, with_held_change id (flagged style begins struck) paragraphs, marks)
+    IsHeldIn-flagged is sound = (
+      record {
+        sound = subst IsSound (sym next-flagged) sound;
+        means = is.means;
+        translated =
+            let to : Paragraph → Paragraph = λ p. record p { style = style; begins_volume = begins; struck = struck } in
+            All-changed id (flagged style begins struck) to (λ n k. refl) (IsHeldParagraph tables) paragraphs
+            (λ n k c e held. record { print = held.print; table = held.table; found = held.found; choices = held.choices; tiles = held.tiles; cells = held.cells; taken = held.taken }) is.translated;
+        marked = All-changed id (flagged style begins struck) (λ p. record p { style = style; begins_volume = begins; struck = struck }) (λ n k. refl) (HasMarks marks) paragraphs (λ n k c e has. has) is.marked;
+      },
+      next-flagged,
+    )
 
   -- ---- another table of a paragraph
 
@@ -460,29 +478,32 @@ module _ (version : ℕ) (tables : HeldTables) (paragraphs : HeldParagraphs) (ma
     abbrev retabled : HeldParagraph → HeldParagraph
     retabled k = record k { table = name; cells = cells }
 
-    pub next-retabled : book_held w tables (with_held_change id retabled paragraphs) marks ≡ next
+    next-retabled : book_held w tables (with_held_change id retabled paragraphs) marks ≡ next
     next-retabled =
         let to : Paragraph → Paragraph = λ p. record p { table = name } in
         next-with_paragraphs next w (with_change id to before) (with_held_change id retabled paragraphs) at makes
         (held-changed id retabled to (λ n k. refl) paragraphs)
 
-    pub IsHeld-retabled : IsHeld version tables paragraphs marks → IsSound next → IsHeld w tables (with_held_change id retabled paragraphs) marks
-    IsHeld-retabled is sound = record {
-      sound = subst IsSound (sym next-retabled) sound;
-      means = is.means;
-      translated =
-          let to : Paragraph → Paragraph = λ p. record p { table = name } in
-          All-changed id retabled to (λ n k. refl) (IsHeldParagraph tables) paragraphs
-          (λ n k c e held.
-          let p : Paragraph = paragraph_held (n, k) in
-          let own : found n before ≡ Some p = found-own before p (paragraphs-apart book is.sound) (Contains-map paragraph_held paragraphs (n, k) c) in
-          let both : Some p ≡ Some given.paragraph = sym own ∙ (ap (λ (m : ℕ). found m before) (eqb-true n id e) ∙ given.there) in
-          let one : given.paragraph ≡ p = cc in
-          let print : print_of given.paragraph ≡ k.print = ap (λ (q : Paragraph). print_of q) one ∙ sym held.print in
-          IsHeldParagraph-cells is (n, retabled k) given.source given.meaning held.print given.found given.means
-          (subst (λ (q : List ℕ). AreCellsOf given.meaning q cells) print given.cells_are) held.taken) is.translated;
-      marked = All-changed id retabled (λ p. record p { table = name }) (λ n k. refl) (HasMarks marks) paragraphs (λ n k c e has. has) is.marked;
-    }
+    pub IsHeldIn-retabled : IsHeld version tables paragraphs marks → IsSound next → IsHeldIn w next (tables, with_held_change id retabled paragraphs, marks)
+    IsHeldIn-retabled is sound = (
+      record {
+        sound = subst IsSound (sym next-retabled) sound;
+        means = is.means;
+        translated =
+            let to : Paragraph → Paragraph = λ p. record p { table = name } in
+            All-changed id retabled to (λ n k. refl) (IsHeldParagraph tables) paragraphs
+            (λ n k c e held.
+            let p : Paragraph = paragraph_held (n, k) in
+            let own : found n before ≡ Some p = found-own before p (paragraphs-apart book is.sound) (Contains-map paragraph_held paragraphs (n, k) c) in
+            let both : Some p ≡ Some given.paragraph = sym own ∙ (ap (λ (m : ℕ). found m before) (eqb-true n id e) ∙ given.there) in
+            let one : given.paragraph ≡ p = cc in
+            let print : print_of given.paragraph ≡ k.print = ap (λ (q : Paragraph). print_of q) one ∙ sym held.print in
+            IsHeldParagraph-cells is (n, retabled k) given.source given.meaning held.print given.found given.means
+            (subst (λ (q : List ℕ). AreCellsOf given.meaning q cells) print given.cells_are) held.taken) is.translated;
+        marked = All-changed id retabled (λ p. record p { table = name }) (λ n k. refl) (HasMarks marks) paragraphs (λ n k c e has. has) is.marked;
+      },
+      next-retabled,
+    )
 
   -- ---- another order
 
@@ -495,17 +516,20 @@ module _ (version : ℕ) (tables : HeldTables) (paragraphs : HeldParagraphs) (ma
     pub order-reordered : IsPermutation (range_with_len 1 (length paragraphs)) order
     order-reordered = order-permuted next paragraphs before order refl moved-reordered order_is sound
 
-    pub next-reordered : book_held w tables (in_order_of order paragraphs) marks ≡ next
+    next-reordered : book_held w tables (in_order_of order paragraphs) marks ≡ next
     next-reordered =
         next-with_paragraphs next w next.paragraphs (in_order_of order paragraphs) at makes (held-ordered next paragraphs before order refl moved-reordered order_is sound)
 
-    pub IsHeld-reordered : IsHeld w tables (in_order_of order paragraphs) marks
-    IsHeld-reordered = record {
-      sound = subst IsSound (sym next-reordered) sound;
-      means = is.means;
-      translated = All-arranged (IsHeldParagraph tables) order paragraphs is.translated;
-      marked = All-arranged (HasMarks marks) order paragraphs is.marked;
-    }
+    pub IsHeldIn-reordered : IsHeldIn w next (tables, in_order_of order paragraphs, marks)
+    IsHeldIn-reordered = (
+      record {
+        sound = subst IsSound (sym next-reordered) sound;
+        means = is.means;
+        translated = All-arranged (IsHeldParagraph tables) order paragraphs is.translated;
+        marked = All-arranged (HasMarks marks) order paragraphs is.marked;
+      },
+      next-reordered,
+    )
 
   -- ---- another print of a paragraph
 
@@ -516,7 +540,7 @@ module _ (version : ℕ) (tables : HeldTables) (paragraphs : HeldParagraphs) (ma
     one_more : (n : ℕ) (k : HeldParagraph) → paragraph_held (n, with_print_changed change k) ≡ more (paragraph_held (n, k))
     one_more n k = ap (λ (h : List Entry). let p : Paragraph = paragraph_held (n, k) in record p { history = h }) (map-append entry_held k.history (change.entry ∷ []))
 
-    pub next-print_changed : book_held w tables (with_held_change id (with_print_changed change) paragraphs) (with_held_moved id change.start change.removed change.added marks) ≡ next
+    next-print_changed : book_held w tables (with_held_change id (with_print_changed change) paragraphs) (with_held_moved id change.start change.removed change.added marks) ≡ next
     next-print_changed =
         same_book w (version + 1) (texts tables) (texts tables) (map paragraph_held (with_held_change id (with_print_changed change) paragraphs)) (with_change id more before)
         (marks_held (with_held_moved id change.start change.removed change.added marks)) (with_marks_moved id (mark_moved_by change.start change.removed change.added) (marks_held marks))
@@ -524,26 +548,29 @@ module _ (version : ℕ) (tables : HeldTables) (paragraphs : HeldParagraphs) (ma
         (marks-moved id change.start change.removed change.added 1 marks)
         ∙ sym given.next_is
 
-    pub IsHeld-print_changed : IsHeld version tables paragraphs marks → IsSound next
-        → IsHeld w tables (with_held_change id (with_print_changed change) paragraphs) (with_held_moved id change.start change.removed change.added marks)
-    IsHeld-print_changed is sound = record {
-      sound = subst IsSound (sym next-print_changed) sound;
-      means = is.means;
-      translated =
-          All-changed id (with_print_changed change) more one_more (IsHeldParagraph tables) paragraphs
-          (λ n k c e held.
-          let p : Paragraph = paragraph_held (n, k) in
-          let own : found n before ≡ Some p = found-own before p (paragraphs-apart book is.sound) (Contains-map paragraph_held paragraphs (n, k) c) in
-          let both : Some p ≡ Some given.paragraph = sym own ∙ (ap (λ (m : ℕ). found m before) (eqb-true n id e) ∙ given.there) in
-          let one : given.paragraph ≡ p = cc in
-          let print : change.print ≡ print_of (paragraph_held (n, with_print_changed change k)) = given.print ∙ (ap (λ (q : Paragraph). print_of (more q)) one ∙ ap (λ (q : Paragraph). print_of q) (sym (one_more n k))) in
-          IsHeldParagraph-cells is (n, with_print_changed change k) given.source given.meaning print (ap (λ (q : Paragraph). text_of book q.table) (sym one) ∙ given.found) given.means given.cells
-          (HaveTaken-push k.original k.history change.entry held.taken (subst (λ (q : Paragraph). TookFrom (print_of q) change.entry) one given.taken))) is.translated;
-      marked =
-          let moved : List HeldMark = with_held_moved id change.start change.removed change.added marks in
-          All-changed id (with_print_changed change) more one_more (HasMarks moved) paragraphs (λ n k c e has. has)
-          (All-weaker (HasMarks marks) (HasMarks moved) (λ entry has. has ∙ sym (indexes-moved id change.start change.removed change.added entry.0 marks)) paragraphs is.marked);
-    }
+    pub IsHeldIn-print_changed : IsHeld version tables paragraphs marks → IsSound next
+        → IsHeldIn w next (tables, with_held_change id (with_print_changed change) paragraphs, with_held_moved id change.start change.removed change.added marks)
+    IsHeldIn-print_changed is sound = (
+      record {
+        sound = subst IsSound (sym next-print_changed) sound;
+        means = is.means;
+        translated =
+            All-changed id (with_print_changed change) more one_more (IsHeldParagraph tables) paragraphs
+            (λ n k c e held.
+            let p : Paragraph = paragraph_held (n, k) in
+            let own : found n before ≡ Some p = found-own before p (paragraphs-apart book is.sound) (Contains-map paragraph_held paragraphs (n, k) c) in
+            let both : Some p ≡ Some given.paragraph = sym own ∙ (ap (λ (m : ℕ). found m before) (eqb-true n id e) ∙ given.there) in
+            let one : given.paragraph ≡ p = cc in
+            let print : change.print ≡ print_of (paragraph_held (n, with_print_changed change k)) = given.print ∙ (ap (λ (q : Paragraph). print_of (more q)) one ∙ ap (λ (q : Paragraph). print_of q) (sym (one_more n k))) in
+            IsHeldParagraph-cells is (n, with_print_changed change k) given.source given.meaning print (ap (λ (q : Paragraph). text_of book q.table) (sym one) ∙ given.found) given.means given.cells
+            (HaveTaken-push k.original k.history change.entry held.taken (subst (λ (q : Paragraph). TookFrom (print_of q) change.entry) one given.taken))) is.translated;
+        marked =
+            let moved : List HeldMark = with_held_moved id change.start change.removed change.added marks in
+            All-changed id (with_print_changed change) more one_more (HasMarks moved) paragraphs (λ n k c e has. has)
+            (All-weaker (HasMarks marks) (HasMarks moved) (λ entry has. has ∙ sym (indexes-moved id change.start change.removed change.added entry.0 marks)) paragraphs is.marked);
+      },
+      next-print_changed,
+    )
 
     pub HasRoomFor-print_changed : HasRoomFor paragraphs id change.room
     HasRoomFor-print_changed = by (lookup (nat_eq id) paragraphs) refl
@@ -574,17 +601,20 @@ module _ (version : ℕ) (tables : HeldTables) (paragraphs : HeldParagraphs) (ma
 
   -- a book with other marks, of which each paragraph has the same
   module _ (next : Book) (w : ℕ) (ms : List Mark) (held : List HeldMark) (at : w ≡ next.version) (makes : next ≡ next_with_marks book ms) (same : marks_held held ≡ ms) where
-    pub next-marked : book_held w tables paragraphs held ≡ next
+    next-marked : book_held w tables paragraphs held ≡ next
     next-marked =
         same_book w (version + 1) (texts tables) (texts tables) before before (marks_held held) ms (at ∙ ap (λ (b : Book). b.version) makes) refl refl same ∙ sym makes
 
-    pub IsHeld-marked : IsHeld version tables paragraphs marks → IsSound next → ((id : ℕ) → indexes_on id held ≡ indexes_on id marks) → IsHeld w tables paragraphs held
-    IsHeld-marked is sound stay = record {
-      sound = subst IsSound (sym next-marked) sound;
-      means = is.means;
-      translated = is.translated;
-      marked = All-weaker (HasMarks marks) (HasMarks held) (λ entry has. has ∙ sym (stay entry.0)) paragraphs is.marked;
-    }
+    pub IsHeldIn-marked : IsHeld version tables paragraphs marks → IsSound next → ((id : ℕ) → indexes_on id held ≡ indexes_on id marks) → IsHeldIn w next (tables, paragraphs, held)
+    IsHeldIn-marked is sound stay = (
+      record {
+        sound = subst IsSound (sym next-marked) sound;
+        means = is.means;
+        translated = is.translated;
+        marked = All-weaker (HasMarks marks) (HasMarks held) (λ entry has. has ∙ sym (stay entry.0)) paragraphs is.marked;
+      },
+      next-marked,
+    )
 
   -- a book with a mark more, of which its paragraph has the index
   module _ (next : Book) (w : ℕ) (m : HeldMark) (at : w ≡ next.version) (makes : next ≡ next_with_marks book (marks_held marks ++ mark_held (next_mark book, m) ∷ [])) where
@@ -599,28 +629,31 @@ module _ (version : ℕ) (tables : HeldTables) (paragraphs : HeldParagraphs) (ma
         by true = refl
         by false = refl
 
-    pub next-noted : book_held w tables noted (marks ++ m ∷ []) ≡ next
+    next-noted : book_held w tables noted (marks ++ m ∷ []) ≡ next
     next-noted =
         same_book w (version + 1) (texts tables) (texts tables) (map paragraph_held noted) before (marks_held (marks ++ m ∷ [])) (marks_held marks ++ mark_held (next_mark book, m) ∷ [])
         (at ∙ ap (λ (b : Book). b.version) makes) refl (held-noted paragraphs) (marks-push marks m) ∙ sym makes
 
-    pub IsHeld-noted : IsHeld version tables paragraphs marks → IsSound next → IsHeld w tables noted (marks ++ m ∷ [])
-    IsHeld-noted is sound = record {
-      sound = subst IsSound (sym next-noted) sound;
-      means = is.means;
-      translated = All-changed m.paragraph (with_mark (length marks)) (λ p. p) (λ n k. refl) (IsHeldParagraph tables) paragraphs
-          (λ n k c e held. record { print = held.print; table = held.table; found = held.found; choices = held.choices; tiles = held.tiles; cells = held.cells; taken = held.taken }) is.translated;
-      marked =
-          All-map (HasMarks (marks ++ m ∷ [])) (λ entry. cond (entry.0 == m.paragraph) (entry.0, with_mark (length marks) entry.1) entry) paragraphs
-          (All-weaker (HasMarks marks) (λ entry. HasMarks (marks ++ m ∷ []) (cond (entry.0 == m.paragraph) (entry.0, with_mark (length marks) entry.1) entry))
-          (λ entry has. cond_both (entry.0 == m.paragraph) (entry.0, with_mark (length marks) entry.1) entry (HasMarks (marks ++ m ∷ []))
-          (λ e.
-          let same : entry.0 ≡ m.paragraph = eqb-true entry.0 m.paragraph e in
-          ap (λ (t : List ℕ). t ++ length marks ∷ []) (has ∙ ap (λ (n : ℕ). indexes_on n marks) same)
-          ∙ (sym (indexes-push_on marks m) ∙ ap (λ (n : ℕ). indexes_on n (marks ++ m ∷ [])) (sym same)))
-          (λ e. has ∙ sym (indexes-push_other entry.0 marks m (ne_eqb m.paragraph entry.0 (λ same. eqb-false entry.0 m.paragraph e (sym same))))))
-          paragraphs is.marked);
-    }
+    pub IsHeldIn-noted : IsHeld version tables paragraphs marks → IsSound next → IsHeldIn w next (tables, noted, marks ++ m ∷ [])
+    IsHeldIn-noted is sound = (
+      record {
+        sound = subst IsSound (sym next-noted) sound;
+        means = is.means;
+        translated = All-changed m.paragraph (with_mark (length marks)) (λ p. p) (λ n k. refl) (IsHeldParagraph tables) paragraphs
+            (λ n k c e held. record { print = held.print; table = held.table; found = held.found; choices = held.choices; tiles = held.tiles; cells = held.cells; taken = held.taken }) is.translated;
+        marked =
+            All-map (HasMarks (marks ++ m ∷ [])) (λ entry. cond (entry.0 == m.paragraph) (entry.0, with_mark (length marks) entry.1) entry) paragraphs
+            (All-weaker (HasMarks marks) (λ entry. HasMarks (marks ++ m ∷ []) (cond (entry.0 == m.paragraph) (entry.0, with_mark (length marks) entry.1) entry))
+            (λ entry has. cond_both (entry.0 == m.paragraph) (entry.0, with_mark (length marks) entry.1) entry (HasMarks (marks ++ m ∷ []))
+            (λ e.
+            let same : entry.0 ≡ m.paragraph = eqb-true entry.0 m.paragraph e in
+            ap (λ (t : List ℕ). t ++ length marks ∷ []) (has ∙ ap (λ (n : ℕ). indexes_on n marks) same)
+            ∙ (sym (indexes-push_on marks m) ∙ ap (λ (n : ℕ). indexes_on n (marks ++ m ∷ [])) (sym same)))
+            (λ e. has ∙ sym (indexes-push_other entry.0 marks m (ne_eqb m.paragraph entry.0 (λ same. eqb-false entry.0 m.paragraph e (sym same))))))
+            paragraphs is.marked);
+      },
+      next-noted,
+    )
 
     pub HasRoomForMark-noted : IsHeld version tables paragraphs marks → (room : Option ℕ) → length book.marks < most_marks
         → Suffices (length (marks_on m.paragraph book.marks)) room → HasRoomForMark paragraphs m.paragraph room

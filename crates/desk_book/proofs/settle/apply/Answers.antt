@@ -1,4 +1,4 @@
-use Rattle.std.proofs.Common.{◌≡◌, ℕ, ◌+◌, List, [], ◌∷◌, ◌++◌, length, map, sym, ap, subst, ◌∙◌, arith}
+use Rattle.std.proofs.Common.{◌≡◌, ℕ, ◌+◌, List, length, sym, ap, subst, ◌∙◌, arith}
 use Rattle.std.specs.Cmp.Lexicographic.{pointwise}
 use Rattle.std.specs.List.{insert}
 use Rattle.std.specs.Map.{lookup}
@@ -6,25 +6,27 @@ use Rattle.std.specs.Prelude.{IsSome, nat_eq}
 use Rattle.desk_book.specs.declared.change.Effect.{Effect}
 use Rattle.desk_book.specs.Changes.{IsEffect, IsEffectOn}
 use Rattle.desk_memory.specs.declared.marks.HeldMark.{HeldMark}
-use Rattle.desk_memory.specs.Held.{HeldParagraphs, HeldTables, IsHeld, book_held, ids, with_held_change, with_new_cells, with_table}
-use Rattle.desk_memory.specs.HeldMarks.{with_held_resolved}
-use Rattle.desk_memory.specs.HeldPrints.{with_mark, with_print_changed}
+use Rattle.desk_memory.specs.Held.{HeldParagraphs, HeldTables, book_held, ids, with_held_change, with_table}
+use Rattle.desk_memory.specs.HeldPrints.{with_mark}
 use Rattle.desk_memory.specs.Room.{Suffices}
-use Rattle.desk_memory.proofs.Callers.{count-marks, indexes-resolved, marks-resolved}
+use Rattle.desk_memory.proofs.Callers.{count-marks}
 use Rattle.desk_model.specs.Book.{Book}
+use Rattle.desk_book.proofs.Held.Applied.{IsHeldIn-applied, applied}
 use Rattle.desk_book.proofs.Held.Settled as settled
-use Rattle.desk_book.proofs.Held.Settled.{sound-next}
+use Rattle.desk_book.proofs.Held.Settled.{IsHeldIn, Parts, sound-next}
 use Rattle.desk_book.proofs.Held.ShownEffects.{accepted-by, makes-by}
 use Rattle.desk_book.proofs.settle.apply.Goals as goal
 
--- the effect on these parts, where it is this one
-on : {was at : ℕ} {tables : HeldTables} {paragraphs : HeldParagraphs} {marks : List HeldMark} {effect this : Effect} {next : Book}
-    → effect ≡ this → IsEffectOn was tables paragraphs marks at effect next → IsEffect (book_held was tables paragraphs marks) at this next
-on {was} {at} {tables} {paragraphs} {marks} {effect} {this} {next} is it = subst (λ e. IsEffect (book_held was tables paragraphs marks) at e next) is it.1
+module _ {was at : ℕ} {tables : HeldTables} {paragraphs : HeldParagraphs} {marks : List HeldMark} {effect this : Effect} {next : Book}
+    (is : effect ≡ this) (it : IsEffectOn was tables paragraphs marks at effect next) where
+  -- the effect on these parts, where it is this one
+  on : IsEffect (book_held was tables paragraphs marks) at this next
+  on = subst (λ e. IsEffect (book_held was tables paragraphs marks) at e next) is it.1
 
--- the parts are those of the next book
-abbrev AreOf : ℕ → HeldTables → HeldParagraphs → List HeldMark → Book → Type 0
-AreOf at tables paragraphs marks next = IsHeld at tables paragraphs marks × (book_held at tables paragraphs marks ≡ next)
+  -- the next book is held in what is left, where that is what this effect makes of them
+  left : {ts : HeldTables} {ps : HeldParagraphs} {ms : List HeldMark} → ◌≡◌ {A = Parts} (ts, ps, ms) (applied this (tables, paragraphs, marks))
+      → IsHeldIn at next (ts, ps, ms)
+  left same = subst (IsHeldIn at next) (sym same) (IsHeldIn-applied was at tables paragraphs marks next this (it.0, on))
 
 -- ---- tables
 
@@ -35,14 +37,7 @@ add-requires-clause-new c =
 
 pub returns-in-AddTable : goal.returns-in-AddTable
 returns-in-AddTable c = λ was at next it.
-    let tables = c.args.tables.now in
-    let paragraphs = c.args.paragraphs.now in
-    let marks = c.args.marks.now in
-    let name = c.in-AddTable.name in
-    let table = c.in-AddTable.table in
-    let here = on c.in-AddTable.is it in
-    subst (λ new. AreOf at new paragraphs marks next) (sym c.add.ensures)
-    (settled.IsHeld-added was tables paragraphs marks next at name table c.in-AddTable.room here it.0, settled.next-added was tables paragraphs marks next at name table c.in-AddTable.room here)
+    left c.in-AddTable.is it (λ i. (c.add.ensures i, c.args.paragraphs.now, c.args.marks.now))
 
 pub replace-requires : goal.replace-requires
 replace-requires c =
@@ -54,19 +49,8 @@ replace-requires c =
 
 pub returns-in-ReplaceTable : goal.returns-in-ReplaceTable
 returns-in-ReplaceTable c = λ was at next it.
-    let tables = c.args.tables.now in
-    let paragraphs = c.args.paragraphs.now in
-    let marks = c.args.marks.now in
-    let name = c.in-ReplaceTable.name in
-    let table = c.in-ReplaceTable.table in
-    let cells = c.in-ReplaceTable.cells.items in
-    let here = on c.in-ReplaceTable.is it in
-    let replaced : c.replace.new.self ≡ with_table name table tables = c.replace.ensures ∙ ap (λ (name : List ℕ). with_table name table tables) c.as_str.ensures in
-    subst (λ new. AreOf at c.replace.new.self new marks next) (sym c.renew.ensures)
-    (subst (λ new. AreOf at new (map (with_new_cells cells) paragraphs) marks next) (sym replaced) (
-      settled.IsHeld-replaced was tables paragraphs marks next at name table cells here.at here.does.0.1 here.does.2 here.does.3 it.0 (sound-next _ _ _ _ it.0 _ _ _ here),
-      settled.next-replaced was tables paragraphs marks next at name table cells here.at here.does.0.1 here.does.2 here.does.3,
-    ))
+    let replaced = c.replace.ensures ∙ ap (λ (name : List ℕ). with_table name c.in-ReplaceTable.table c.args.tables.now) c.as_str.ensures in
+    left c.in-ReplaceTable.is it (λ i. (replaced i, c.renew.ensures i, c.args.marks.now))
 
 -- ---- paragraphs
 
@@ -84,21 +68,7 @@ add-requires-in-AddParagraph-clause-order c =
 
 pub returns-in-AddParagraph : goal.returns-in-AddParagraph
 returns-in-AddParagraph c = λ was at next it.
-    let tables = c.args.tables.now in
-    let paragraphs = c.args.paragraphs.now in
-    let marks = c.args.marks.now in
-    let place = c.in-AddParagraph.place in
-    let paragraph = c.in-AddParagraph.paragraph in
-    let here = on c.in-AddParagraph.is it in
-    let ordered = insert (ids paragraphs) place (length paragraphs + 1) in
-    let order = settled.order-placed was tables paragraphs marks next place here.does.order in
-    let accepted = accepted-by here here.does.command_is in
-    let makes = makes-by here here.does.command_is in
-    let sound = sound-next _ _ _ _ it.0 _ _ _ here in
-    subst (λ new. AreOf at tables new marks next) (sym c.add-in-AddParagraph.ensures) (
-      settled.IsHeld-typed was tables paragraphs marks next at here.does.anchor here.does.text ordered paragraph here.at accepted makes here.does.typed_is order it.0 sound,
-      settled.next-typed was tables paragraphs marks next at here.does.anchor here.does.text ordered paragraph here.at accepted makes here.does.typed_is order it.0 sound,
-    )
+    left c.in-AddParagraph.is it (λ i. (c.args.tables.now, c.add-in-AddParagraph.ensures i, c.args.marks.now))
 
 pub give_way-requires-clause-indexes : goal.give_way-requires-clause-indexes
 give_way-requires-clause-indexes c =
@@ -120,42 +90,19 @@ change_print-requires c =
 
 pub returns-in-ChangePrint : goal.returns-in-ChangePrint
 returns-in-ChangePrint c = λ was at next it.
-    let tables = c.args.tables.now in
-    let paragraphs = c.args.paragraphs.now in
-    let marks = c.args.marks.now in
     let id = c.in-ChangePrint.id in
-    let change = c.in-ChangePrint.change in
     let here = on c.in-ChangePrint.is it in
-    let indexes = settled.indexes-print_changed was tables paragraphs marks next at id change here.at here.does.1 it.0 c.marks_of-indexes.result.now c.marks_of-indexes.ensures in
-    subst (λ new. AreOf at tables new c.give_way.new.self next) (sym c.change_print.ensures)
-    (subst (λ new. AreOf at tables (with_held_change id (with_print_changed change) paragraphs) new next) (sym (c.give_way.ensures id indexes)) (
-      settled.IsHeld-print_changed was tables paragraphs marks next at id change here.at here.does.1 it.0 (sound-next _ _ _ _ it.0 _ _ _ here),
-      settled.next-print_changed was tables paragraphs marks next at id change here.at here.does.1,
-    ))
+    let indexes = settled.indexes-print_changed was c.args.tables.now c.args.paragraphs.now c.args.marks.now next at id c.in-ChangePrint.change here.at here.does.1 it.0
+    c.marks_of-indexes.result.now c.marks_of-indexes.ensures in
+    left c.in-ChangePrint.is it (λ i. (c.args.tables.now, c.change_print.ensures i, c.give_way.ensures id indexes i))
 
 pub returns-in-SetFlags : goal.returns-in-SetFlags
 returns-in-SetFlags c = λ was at next it.
-    let tables = c.args.tables.now in
-    let paragraphs = c.args.paragraphs.now in
-    let marks = c.args.marks.now in
-    let set = c.in-SetFlags in
-    let here = on set.is it in
-    subst (λ new. AreOf at tables new marks next) (sym c.set_flags.ensures) (
-      settled.IsHeld-flagged was tables paragraphs marks next at set.id set.style set.begins_volume set.struck here.at here.does.1 it.0 (sound-next _ _ _ _ it.0 _ _ _ here),
-      settled.next-flagged was tables paragraphs marks next at set.id set.style set.begins_volume set.struck here.at here.does.1,
-    )
+    left c.in-SetFlags.is it (λ i. (c.args.tables.now, c.set_flags.ensures i, c.args.marks.now))
 
 pub returns-in-ChangeTable : goal.returns-in-ChangeTable
 returns-in-ChangeTable c = λ was at next it.
-    let tables = c.args.tables.now in
-    let paragraphs = c.args.paragraphs.now in
-    let marks = c.args.marks.now in
-    let set = c.in-ChangeTable in
-    let here = on set.is it in
-    subst (λ new. AreOf at tables new marks next) (sym c.set_table.ensures) (
-      settled.IsHeld-retabled was tables paragraphs marks next at set.id set.table set.cells here.at here.does.0.1 here.does.1 it.0 (sound-next _ _ _ _ it.0 _ _ _ here),
-      settled.next-retabled was tables paragraphs marks next at set.id set.table set.cells here.at here.does.0.1 here.does.1,
-    )
+    left c.in-ChangeTable.is it (λ i. (c.args.tables.now, c.set_table.ensures i, c.args.marks.now))
 
 pub reorder-requires : goal.reorder-requires
 reorder-requires c =
@@ -165,15 +112,7 @@ reorder-requires c =
 
 pub returns-in-Reorder : goal.returns-in-Reorder
 returns-in-Reorder c = λ was at next it.
-    let tables = c.args.tables.now in
-    let paragraphs = c.args.paragraphs.now in
-    let marks = c.args.marks.now in
-    let here = on c.in-Reorder.is it in
-    let sound = sound-next _ _ _ _ it.0 _ _ _ here in
-    subst (λ new. AreOf at tables new marks next) (sym c.reorder.ensures) (
-      settled.IsHeld-reordered was tables paragraphs marks next at c.in-Reorder.order here.at here.does.0.1 here.does.0.2 here.does.1 it.0 sound,
-      settled.next-reordered was tables paragraphs marks next at c.in-Reorder.order here.at here.does.0.1 here.does.0.2 here.does.1 it.0 sound,
-    )
+    left c.in-Reorder.is it (λ i. (c.args.tables.now, c.reorder.ensures i, c.args.marks.now))
 
 -- ---- marks
 
@@ -197,28 +136,9 @@ push-requires-clause-room c =
 
 pub returns-in-AddMark : goal.returns-in-AddMark
 returns-in-AddMark c = λ was at next it.
-    let tables = c.args.tables.now in
-    let paragraphs = c.args.paragraphs.now in
-    let marks = c.args.marks.now in
-    let mark = c.in-AddMark.mark in
-    let here = on c.in-AddMark.is it in
-    let noted = c.add_mark.ensures ∙ ap (λ (n : ℕ). with_held_change mark.paragraph (with_mark n) paragraphs) c.len.ensures in
-    subst (λ new. AreOf at tables c.add_mark.new.self new next) (sym c.push.ensures)
-    (subst (λ new. AreOf at tables new (marks ++ mark ∷ []) next) (sym noted) (
-      settled.IsHeld-noted was tables paragraphs marks next at mark here.at here.does.0 it.0 (sound-next _ _ _ _ it.0 _ _ _ here),
-      settled.next-noted was tables paragraphs marks next at mark here.at here.does.0,
-    ))
+    let noted = c.add_mark.ensures ∙ ap (λ (n : ℕ). with_held_change c.in-AddMark.mark.paragraph (with_mark n) c.args.paragraphs.now) c.len.ensures in
+    left c.in-AddMark.is it (λ i. (c.args.tables.now, noted i, c.push.ensures i))
 
 pub returns-in-ResolveMark : goal.returns-in-ResolveMark
 returns-in-ResolveMark c = λ was at next it.
-    let tables = c.args.tables.now in
-    let paragraphs = c.args.paragraphs.now in
-    let marks = c.args.marks.now in
-    let id = c.in-ResolveMark.id in
-    let resolved = with_held_resolved id marks in
-    let here = on c.in-ResolveMark.is it in
-    let same = marks-resolved id marks in
-    subst (λ new. AreOf at tables paragraphs new next) (sym c.resolve.ensures) (
-      settled.IsHeld-marked was tables paragraphs marks next at _ resolved here.at here.does.1 same it.0 (sound-next _ _ _ _ it.0 _ _ _ here) (λ other. indexes-resolved id other marks),
-      settled.next-marked was tables paragraphs marks next at _ resolved here.at here.does.1 same,
-    )
+    left c.in-ResolveMark.is it (λ i. (c.args.tables.now, c.args.paragraphs.now, c.resolve.ensures i))
