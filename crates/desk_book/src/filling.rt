@@ -61,7 +61,11 @@ impl<'a> EntryPuts<'a> {
     fn next(&mut self) -> Option<Put<'a>>
         ensures { LendsFirst self.old result self.new }
     {
-        let (place, at, put) = first_entry(self.paragraphs, self.place, self.at)?;
+        let Some((place, at, put)) = first_entry(self.paragraphs, self.place, self.at) else {
+            // a later call begins here, and looks at no paragraph again
+            self.place = self.paragraphs.len();
+            return None;
+        };
         self.place = place;
         self.at = at;
         Some(put)
