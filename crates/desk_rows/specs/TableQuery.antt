@@ -43,8 +43,8 @@ abbrev pub given : FileTable → Row → Row
 given t = (query_of t).columns
 
 -- what is read are the rows that the statement showed, in turn
-abbrev pub Gives : {X : Type 0} → TableQuery → (X → Row) → State → State → List X → Type 0
-Gives query written before after xs =
+abbrev pub AreShownBy : {X : Type 0} → TableQuery → (X → Row) → State → State → List X → Type 0
+AreShownBy query written before after xs =
     (rows : List Row) × Shown query.text [] before after rows × (map query.columns rows ≡ map written xs)
 
 -- From this place on the values are of these kinds.
@@ -72,7 +72,7 @@ pub data FailsAs {X : Type 0} (query : TableQuery) (written : X → Row) (Apart 
   unreadable : (rows : List Row) → Shown query.text [] before after rows
       → ¬ AllByRecursion (HasKinds query.kinds) rows
       → fault ≡ Refused → FailsAs query written Apart before after fault
-  together : (xs : List X) → Gives query written before after xs → ¬ Apart xs → fault ≡ Refused
+  together : (xs : List X) → AreShownBy query written before after xs → ¬ Apart xs → fault ≡ Refused
       → FailsAs query written Apart before after fault
   no_memory : (row : Row) (rows : List Row) → Shown query.text [] before after (row ∷ rows)
       → Begins 0 query.kinds row → fault ≡ NoMemory
@@ -99,7 +99,7 @@ AnyRows xs = ⊤
 pub record AnswersRows {V X : Type 0} (result : Result V DatabaseFault) (items : V → List X) (t : FileTable)
     (view : X → ShownOf t) (Apart : List X → Type 0) (old new : State) : Type 0 where
   -- what the statement shows in any file
-  pub gives : IfOk result (λ xs. Gives (query_of t) (λ x. shown_columns t (view x)) old new (items xs))
+  pub gives : IfOk result (λ xs. AreShownBy (query_of t) (λ x. shown_columns t (view x)) old new (items xs))
   pub apart : IfOk result (λ xs. Apart (items xs))
   pub utf8 : IfOk result (λ xs. AllByRecursion (λ x. HasUtf8Texts t (own t (view x))) (items xs))
   -- where the table is declared as in a new file, its rows as they stand, in order
@@ -123,5 +123,5 @@ pub record AnswersRows {V X : Type 0} (result : Result V DatabaseFault) (items :
   pub answered : HasAnswer (query_of t).text old → old.step_limit ≡ None
       → ((rows : List Row) → Shown (query_of t).text [] old new rows
       → AllByRecursion (HasKinds (query_of t).kinds) rows)
-      → ((xs : List X) → Gives (query_of t) (λ x. shown_columns t (view x)) old new xs → Apart xs)
+      → ((xs : List X) → AreShownBy (query_of t) (λ x. shown_columns t (view x)) old new xs → Apart xs)
       → IfErr result (λ fault. fault ≢ Refused)

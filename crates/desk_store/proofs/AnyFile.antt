@@ -15,7 +15,7 @@ use Rattle.desk_parts.specs.declared.file_table.FileTable.{FileTable}
 use Rattle.desk_parts.specs.declared.file_table.FileTable.TheVariants as tables
 use Rattle.desk_parts.specs.FileRows.{EntryRows, HasUtf8Texts, Named, Unnamed}
 use Rattle.desk_parts.specs.Rows.{ParaCells}
-use Rattle.desk_rows.specs.TableQuery.{Gives, query_of}
+use Rattle.desk_rows.specs.TableQuery.{AreShownBy, query_of}
 use Rattle.desk_rows.specs.Contents.{Contents}
 use Rattle.desk_store.specs.Formats.{Format, IsOfFormat, named, presence, unnamed}
 use Rattle.desk_store.specs.Found.{AreCellsIn, AreEntriesIn, CanAllAnswer, CanAnswer, IsReadAs}
@@ -58,7 +58,7 @@ module _ (text : List ℕ) (is_read : reads (first text) ≡ true) (s a : State)
 -- ---- a table
 
 module _ (s a : State) (same : Stays s a) where
-  pub gives_before : (t : FileTable) (b : State) (rows : List (ShownOf t)) → Gives (query_of t) (shown_columns t) a b rows → Gives (query_of t) (shown_columns t) s s rows
+  pub gives_before : (t : FileTable) (b : State) (rows : List (ShownOf t)) → AreShownBy (query_of t) (shown_columns t) a b rows → AreShownBy (query_of t) (shown_columns t) s s rows
   gives_before t b rows h = (h.0, shown_before (query_of t).text (reads_only t) s a same b h.0 h.1, h.2)
 
   pub entries_before : (entries : EntryRows) → AreEntriesIn a entries → AreEntriesIn s entries

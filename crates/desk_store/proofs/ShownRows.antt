@@ -22,7 +22,7 @@ use Rattle.desk_parts.specs.declared.file_table.FileTable.{FileTable}
 use Rattle.desk_parts.specs.declared.file_table.FileTable.TheVariants as tables
 use Rattle.desk_parts.specs.FileRows.{EntryRows, FileRows, HasUtf8Texts, Named, Unnamed, format_of}
 use Rattle.desk_parts.specs.Rows.{ParaCells, StoredTab, RowOf}
-use Rattle.desk_rows.specs.TableQuery.{Gives, given, query_of}
+use Rattle.desk_rows.specs.TableQuery.{AreShownBy, given, query_of}
 use Rattle.desk_rows.specs.Contents.{Contents}
 use Rattle.desk_rows.specs.Descriptions.{description_of, shows_rowid, table_of}
 use Rattle.desk_rows.specs.Layout.{Layout}
@@ -98,7 +98,7 @@ module _ (l : Layout) (c : Contents) (s : State) (is_open : IsTrue s.is_open) (s
         (columns_at (description_of t).shown) (columns_are (description_of t).shown) is_open
 
     -- there are rows that its statement gives
-    gives : (xs : List (ShownOf t)) × Gives (query_of t) (shown_columns t) s s xs
+    gives : (xs : List (ShownOf t)) × AreShownBy (query_of t) (shown_columns t) s s xs
     gives =
         let all = all_shown_rows t tree (rowids l c s.now.trees shows.is t there) owns in
         let shown_all = all-permutation (λ v. (x : ShownOf t) × (given t v ≡ shown_columns t x)) _ _ answer.2
@@ -106,16 +106,16 @@ module _ (l : Layout) (c : Contents) (s : State) (is_open : IsTrue s.is_open) (s
         let xs = collected (given t) (shown_columns t) answer.0 shown_all in
         (xs.0, (answer.0, answer.1, xs.1))
 
-    listed : (xs : List (ShownOf t)) → Gives (query_of t) (shown_columns t) s s xs → Lists (shown_columns t) (columns_at (description_of t).shown) xs tree
+    listed : (xs : List (ShownOf t)) → AreShownBy (query_of t) (shown_columns t) s s xs → Lists (shown_columns t) (columns_at (description_of t).shown) xs tree
     listed xs (rows, seen, is) =
         (table_read t s.now.schema (l.tree t) has.declared s s refl has.sound (shown_columns t) (λ a b. rows_cmp t (shown_columns t a) (shown_columns t b)) (λ a b. refl) rows xs seen is).0
 
     -- what it gives are the table's rows
-    same_rows : (xs : List (ShownOf t)) → Gives (query_of t) (shown_columns t) s s xs → IsPermutation (c.rows t) (map (own t) xs)
+    same_rows : (xs : List (ShownOf t)) → AreShownBy (query_of t) (shown_columns t) s s xs → IsPermutation (c.rows t) (map (own t) xs)
     same_rows xs gives_xs =
         one_list t (columns_at (description_of t).own) (c.rows t) (map (own t) xs) tree (shows.is.tables t there) (own_listed t xs tree (listed xs gives_xs))
 
-  apart : (t : FileTable) → l.has t ≡ true → (xs : List (ShownOf t)) → Gives (query_of t) (shown_columns t) s s xs → AreToldApart t xs
+  apart : (t : FileTable) → l.has t ≡ true → (xs : List (ShownOf t)) → AreShownBy (query_of t) (shown_columns t) s s xs → AreToldApart t xs
   apart t there xs gives_xs = told_apart t l c s shows there xs (listed t there xs gives_xs)
 
   can : (t : FileTable) → l.has t ≡ true → AllByRecursion (HasUtf8Texts t) (c.rows t) → CanAnswer s t

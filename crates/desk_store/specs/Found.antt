@@ -13,7 +13,7 @@ use Rattle.desk_parts.specs.declared.file_table.FileTable.TheVariants as tables
 use Rattle.desk_parts.specs.FileRows.{EntryRows, FileRows, Named, Unnamed}
 use Rattle.desk_parts.specs.Rows.{ParaCells, StoredTab}
 use Rattle.desk_model.specs.Shows.{Shows as RowsShow}
-use Rattle.desk_rows.specs.TableQuery.{Gives, query_of}
+use Rattle.desk_rows.specs.TableQuery.{AreShownBy, query_of}
 use Rattle.desk_store.specs.Formats.{Format, Presence, needed, optional, foreign, unread, unnamed, named, presence}
 use Rattle.desk_store.specs.Opening.{has_tables}
 use Rattle.desk_rows.specs.Rows.{ShownOf, shown_columns}
@@ -42,7 +42,7 @@ AreToldApart tables.NamedCorr rows = ⊤
 
 -- in this state the statement that reads the table gives these rows
 abbrev pub AreRowsIn : State → (t : FileTable) → List (ShownOf t) → Type 0
-AreRowsIn s t rows = Gives (query_of t) (shown_columns t) s s rows × AreToldApart t rows
+AreRowsIn s t rows = AreShownBy (query_of t) (shown_columns t) s s rows × AreToldApart t rows
 
 -- the format that keeps entries so
 abbrev pub format_kept : EntryRows → Format
@@ -87,7 +87,7 @@ pub record CanAnswer (s : State) (t : FileTable) : Type 0 where
   pub has : HasAnswer (query_of t).text s
   pub kinds : (rows : List Row) → Shown (query_of t).text [] s s rows
       → AllByRecursion (HasKinds (query_of t).kinds) rows
-  pub apart : (rows : List (ShownOf t)) → Gives (query_of t) (shown_columns t) s s rows → AreToldApart t rows
+  pub apart : (rows : List (ShownOf t)) → AreShownBy (query_of t) (shown_columns t) s s rows → AreToldApart t rows
 
 -- whether a table is read, of which something is there by its name
 abbrev pub IsReadAs : Presence → (there : Bool) → Type 0

@@ -23,7 +23,7 @@ use Rattle.desk_rows.specs.declared.fault.DatabaseFault.{DatabaseFault}
 use Rattle.desk_rows.specs.declared.fault.DatabaseFault.TheVariants.{NoMemory, Lost, Refused}
 use Rattle.desk_rows.proofs.TableReads.OneList.{one_list}
 use Rattle.sql_tables.proofs.Quiet.{answered_fails, on_ok, on_err, shown_quietly, reads, refused_quietly}
-use Rattle.desk_rows.specs.TableQuery.{AnswersRows, AnyRows, BeginWith, FailsAs, Gives, failed, given, no_memory, query_of, together, unreadable, TableQuery}
+use Rattle.desk_rows.specs.TableQuery.{AnswersRows, AnyRows, BeginWith, FailsAs, AreShownBy, failed, given, no_memory, query_of, together, unreadable, TableQuery}
 use Rattle.desk_rows.specs.Descriptions.{description_of, table_of}
 use Rattle.sql_tables.specs.Rows.{Lists, columns_at}
 use Rattle.desk_rows.specs.Layout.{Layout}
@@ -105,7 +105,7 @@ maps_shown t view (x ∷ xs) = rw (owned t (view x), maps_shown t view xs)
 
 -- what a query gives of a table that is declared are its rows, in order
 gives_rows : {X : Type 0} (t : FileTable) (view : X → ShownOf t) (old new : State) (tree : ℕ) → HasTable (table_of t tree) old
-    → (xs : List X) → Gives (query_of t) (λ x. shown_columns t (view x)) old new xs
+    → (xs : List X) → AreShownBy (query_of t) (λ x. shown_columns t (view x)) old new xs
     → Lists (λ x. shown_columns t (view x)) (columns_at (description_of t).shown) xs (old.now.trees tree) × IsSortedBy (λ a b. is_lt (order t (view a) (view b))) xs
 gives_rows t view old new tree has xs gives =
     table_read t old.now.schema tree has.declared old new refl has.sound (λ x. shown_columns t (view x)) (λ a b. order t (view a) (view b))
@@ -116,7 +116,7 @@ gives_rows t view old new tree has xs gives =
 module _ {V X : Type 0} (items : V → List X) (t : FileTable) (view : X → ShownOf t) (Apart : List X → Type 0) (old new : State) (fault : DatabaseFault) where
   not_read : FailsAs (query_of t) (λ x. shown_columns t (view x)) Apart old new fault → (fault ≡ Refused → IsUnchanged old new)
       → (HasAnswer (query_of t).text old → old.step_limit ≡ None → ((rows : List Row) → Shown (query_of t).text [] old new rows → AllByRecursion (HasKinds (query_of t).kinds) rows)
-      → ((xs : List X) → Gives (query_of t) (λ x. shown_columns t (view x)) old new xs → Apart xs) → fault ≢ Refused)
+      → ((xs : List X) → AreShownBy (query_of t) (λ x. shown_columns t (view x)) old new xs → Apart xs) → fault ≢ Refused)
       → AnswersRows (Err fault) items t view Apart old new
   not_read told refused answered = record {
     gives = tt;
