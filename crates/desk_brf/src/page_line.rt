@@ -1,5 +1,4 @@
 //! A line as it is laid.
-ghost use Rattle.cell_core.specs.Ascii.{ascii_cell};
 ghost use Rattle.desk_brf.specs.Placing.{IsAscii};
 ghost use Rattle.desk_brf.specs.Volume.{IsSixDot};
 ghost use Rattle.std.specs.Prelude.{◌≡◌, ◌+◌, ◌<◌, ◌≤◌, ℕ, List, [], ◌∷◌, ◌++◌, All, length, replicate, take};

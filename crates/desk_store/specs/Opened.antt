@@ -1,6 +1,6 @@
 -- What opening a book's file reports, what it writes, and what the connection shows then.
 use Rattle.std.specs.Prelude.{not, ◌≡◌, ◌⊎◌, ℤ, Bool, true, false, IsTrue, List, [], ◌∷◌, ◌++◌, filter, map}
-use Rattle.std.specs.Prelude.{Option, Some, None, MatchOption, IfErr, IfOk, OnOk, Result, Err, ⊤}
+use Rattle.std.specs.Prelude.{Option, Some, None, MatchOption, IfErr, IfOk, OnOk, Result, ⊤}
 use Rattle.sqlite_catalog.specs.Change.{KeepsRows}
 use Rattle.sqlite_catalog.specs.Listing.{IsSound}
 use Rattle.sqlite_schema.specs.declared.schema.Schema.{Schema}

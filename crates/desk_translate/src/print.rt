@@ -2,7 +2,7 @@
 ghost use Rattle.desk_translate.specs.NoBraille.{FindsUndefined, TakesCharacters};
 ghost use Rattle.louis_translate.specs.Position.{AreDefined};
 ghost use Rattle.std.specs.Bool.{OnTrue};
-ghost use Rattle.std.specs.Prelude.{IfOk, List, [], ◌++◌, ◌≡◌, ◌∷◌, ℕ, IsAscii, chars};
+ghost use Rattle.std.specs.Prelude.{IfOk, List, [], ◌≡◌, ℕ, IsAscii, chars};
 
 use louis_translate::{RuleBook, is_defined};
 use std::marker::Model;
