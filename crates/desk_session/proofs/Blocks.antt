@@ -15,10 +15,10 @@ use Rattle.desk_session.proofs.BlockLines.{long-before}
 
 -- ---- a text with a line more
 
--- a fault stays one
-pub fault-stays : (fault : NoRequest) (bytes more : List ℕ) → AreFed bytes → HoldsText (Err fault) bytes → HoldsText (Err fault) (bytes ++ more)
-fault-stays Syntax bytes more fed long = long-before bytes more fed long
-fault-stays NoMemory bytes more fed some = λ none. some (no-parts bytes more none).0
+-- bytes that make no request make none with more of them
+pub no-request-stays : (fault : NoRequest) (bytes more : List ℕ) → AreFed bytes → HoldsText (Err fault) bytes → HoldsText (Err fault) (bytes ++ more)
+no-request-stays Syntax bytes more fed long = long-before bytes more fed long
+no-request-stays NoMemory bytes more fed some = λ none. some (no-parts bytes more none).0
 
 -- ---- a block
 

@@ -27,7 +27,7 @@ use Rattle.desk_line.proofs.HeadLaws.{head-found}
 use Rattle.desk_line.proofs.HeadLines.{head-of-long}
 use Rattle.desk_line.proofs.RequestLaws.{asks-for-memory, takes-none, unsaid-none}
 use Rattle.desk_session.specs.Reading.{AreFed, AreLines, BeginsWithNone, HoldsText, ReadsBlock, ReadsRequest}
-use Rattle.desk_session.specs.Requests.{IsFaultOf, IsNext}
+use Rattle.desk_session.specs.Requests.{GiveNoRequest, IsNext}
 use Rattle.desk_session.proofs.Blocks.{block-some}
 use Rattle.desk_session.proofs.BlockLines.{not-short}
 
@@ -54,7 +54,7 @@ takes-long line long =
 -- ---- what is read of bytes
 
 -- a request, or the fault of bytes that are none
-found-of : (bytes : List ℕ) (found : Option Request) → MatchOption found (IsNoRequest bytes) (Reads bytes) → MatchResult (ok_or found Syntax) (Reads bytes) (IsFaultOf bytes)
+found-of : (bytes : List ℕ) (found : Option Request) → MatchOption found (IsNoRequest bytes) (Reads bytes) → MatchResult (ok_or found Syntax) (Reads bytes) (GiveNoRequest bytes)
 found-of bytes (Some request) reads = reads
 found-of bytes None none = none
 
@@ -134,10 +134,10 @@ module _ (head block : List ℕ) (some : head ≢ []) where
         let all = feeds-append head block in
         none-whole (head ++ block) (without_ending head) (lines_of block) count (block-lines (inl fed_)) takes (omega arith)
 
-    block-fault : (fault : NoRequest) → MayBeFollowed head block → HoldsText (Err fault) block → (block ≢ [] → 0 < count) → IsFaultOf (head ++ block) fault
-    block-fault Syntax may long more =
+    block-gives-none : (fault : NoRequest) → MayBeFollowed head block → HoldsText (Err fault) block → (block ≢ [] → 0 < count) → GiveNoRequest (head ++ block) fault
+    block-gives-none Syntax may long more =
         none-long (head ++ block) (λ all. long (subst (AllByRecursion IsShort) (block-lines may) all).1)
-    block-fault NoMemory may empty more =
+    block-gives-none NoMemory may empty more =
         asks-for-memory (head ++ block) (without_ending head) (lines_of block) count (block-lines may) takes (more empty)
 
 -- ---- what was read
@@ -247,7 +247,7 @@ module _ (F : Type 0) (a b : Option (List ℕ)) (old mid : Input) where
               used = UsesInput-then a b c old mid new head block.block head-used block.used;
               found = (
                 next-block block.block ends block.ends.1,
-                block-fault head block.block some count takes fault (may-be block.block ends) block.ends.0 (block-some F new count block.block (Err fault) block.ends),
+                block-gives-none head block.block some count takes fault (may-be block.block ends) block.ends.0 (block-some F new count block.block (Err fault) block.ends),
               );
             }
 

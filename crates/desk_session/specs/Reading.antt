@@ -13,7 +13,7 @@ use Rattle.desk_session.specs.declared.no_request.NoRequest.TheVariants.{Syntax,
 use Rattle.desk_line.specs.declared.request.Request.{Request}
 use Rattle.desk_line.specs.Lines.{IsShort}
 use Rattle.desk_line.specs.Request.{IsWhole, Reads}
-use Rattle.desk_session.specs.Requests.{IsFaultOf, IsNext}
+use Rattle.desk_session.specs.Requests.{GiveNoRequest, IsNext}
 
 -- ---- a block
 
@@ -58,7 +58,7 @@ BeginsWithNone bytes = (request later : List ℕ) → bytes ≡ request ++ later
 abbrev pub Finds : Type 0 → Input → List ℕ → Result (Option (Result Request NoRequest)) Failure → Type 0
 Finds CanFail new bytes (Ok None) = (bytes ≡ []) × (new.is_over ≡ true) × (new.waiting ≡ [])
 Finds CanFail new bytes (Ok (Some found)) =
-    IsNext (new.is_over ≡ true) new.waiting bytes × MatchResult found (Reads bytes) (IsFaultOf bytes)
+    IsNext (new.is_over ≡ true) new.waiting bytes × MatchResult found (Reads bytes) (GiveNoRequest bytes)
 Finds CanFail new bytes (Err failed) =
     BeginsWithNone bytes × (new.waiting ≡ []) × (new.is_over ≡ false) × IsStopped CanFail new
 

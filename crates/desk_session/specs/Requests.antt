@@ -18,6 +18,6 @@ FirstRequests AtEnd bytes (request ∷ requests) =
 
 -- why no request was read of the bytes: they are none, or an allocation for the lines after the
 -- head line failed
-abbrev pub IsFaultOf : List ℕ → NoRequest → Type 0
-IsFaultOf bytes Syntax = IsNoRequest bytes
-IsFaultOf bytes NoMemory = AsksForMemory bytes
+abbrev pub GiveNoRequest : List ℕ → NoRequest → Type 0
+GiveNoRequest bytes Syntax = IsNoRequest bytes
+GiveNoRequest bytes NoMemory = AsksForMemory bytes

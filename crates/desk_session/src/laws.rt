@@ -16,7 +16,7 @@ ghost use Rattle.sqlite.specs.State.{Opens};
 ghost use Rattle.desk_session.specs.Session.{AllButOne, GivenCommand, IsGivenBy, IsHeld, IsLife, IsSession};
 ghost use Rattle.desk_session.specs.Session.{SessionRecord, Turn, commands_of, kept_commands};
 ghost use Rattle.std.specs.Prelude.{[], ◌≡◌, ◌++◌, ◌∷◌, ℕ, Bool, List, Ok, Option, true};
-ghost use Rattle.std.specs.List.{All, Contains};
+ghost use Rattle.std.specs.List.{Contains};
 
 use desk_store::Store;
 use sqlite::{Alter, Connection};

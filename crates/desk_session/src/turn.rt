@@ -1,6 +1,6 @@
 //! One request to a book and its file, from its bytes to its reply.
 ghost use Rattle.desk_line.specs.Request.{Reads};
-ghost use Rattle.desk_session.specs.Requests.{IsFaultOf};
+ghost use Rattle.desk_session.specs.Requests.{GiveNoRequest};
 ghost use Rattle.desk_session.specs.Turns.{LosesChange, SendsReply, TakesTurn};
 ghost use Rattle.sqlite.specs.State.{HasCleanDisk};
 ghost use Rattle.desk_store.specs.Books.{shown_by};
@@ -22,7 +22,7 @@ pub(crate) fn answer_found<S: Alter>(
     book: Book,
     found: Result<Request<'_>, NoRequest>,
 ) -> (Answer, Book)
-    ensures taken { (bytes : List ℕ) → MatchResult found.entry (Reads bytes) (IsFaultOf bytes)
+    ensures taken { (bytes : List ℕ) → MatchResult found.entry (Reads bytes) (GiveNoRequest bytes)
         → TakesTurn bytes book result.1 result.0
         (shown_by S.Store store.old) (shown_by S.Store store.new) }
     ensures lost { result.0 ≡ Answer.Lost → store.new.lost ≡ true }
