@@ -29,25 +29,25 @@ module _ {D : Type 0} (at : Place D) (make : Bool) where
   none-unconnected (Err stop) P fault of is = FindsNone.unconnected fault of is
 
 module _ {D K : Type 0} (at : Place D) (sink : Sink K) (old : K) (stop : Stop) where
-  pub Makes-none : (outcome : Outcome) → FindsNone at true stop → IsErrAnd outcome (λ told. told ≡ stop)
+  pub Makes-none : (outcome : Outcome) → FindsNone at true stop → IsErrAnd outcome (λ reported. reported ≡ stop)
       → Makes at sink old old outcome
   Makes-none (Ok unit) none is = absurd is
-  Makes-none (Err told) none is = Makes.none stop none refl (ap Err is)
+  Makes-none (Err reported) none is = Makes.none stop none refl (ap Err is)
 
-  pub Checks-none : (outcome : Outcome) → FindsNone at false stop → IsErrAnd outcome (λ told. told ≡ stop)
+  pub Checks-none : (outcome : Outcome) → FindsNone at false stop → IsErrAnd outcome (λ reported. reported ≡ stop)
       → Checks at sink old old outcome
   Checks-none (Ok unit) none is = absurd is
-  Checks-none (Err told) none is = Checks.none stop none refl (ap Err is)
+  Checks-none (Err reported) none is = Checks.none stop none refl (ap Err is)
 
   pub ExportsFrom-none : (layout : Layout) (number : ℕ) (outcome : Outcome) → FindsNone at false stop
-      → IsErrAnd outcome (λ told. told ≡ stop) → ExportsFrom at sink old old layout number outcome
+      → IsErrAnd outcome (λ reported. reported ≡ stop) → ExportsFrom at sink old old layout number outcome
   ExportsFrom-none layout number (Ok unit) none is = absurd is
-  ExportsFrom-none layout number (Err told) none is = ExportsFrom.none stop none refl (ap Err is)
+  ExportsFrom-none layout number (Err reported) none is = ExportsFrom.none stop none refl (ap Err is)
 
   pub Holds-none : {S : Type 0} (source : Source S) (old_source : S) (outcome : Outcome) → FindsNone at false stop
-      → IsErrAnd outcome (λ told. told ≡ stop) → Holds at source old_source old_source sink old old outcome
+      → IsErrAnd outcome (λ reported. reported ≡ stop) → Holds at source old_source old_source sink old old outcome
   Holds-none source old_source (Ok unit) none is = absurd is
-  Holds-none source old_source (Err told) none is = Holds.none stop none refl refl (ap Err is)
+  Holds-none source old_source (Err reported) none is = Holds.none stop none refl refl (ap Err is)
 
 -- a connection that was handed back, whose database was closed
 pub closed-as : {D : Type 0} (at : Place D) (held last : Held D) (left : D) → held ≡ last → at.Closes left

@@ -18,17 +18,17 @@ use Rattle.desk_program.specs.Shelf.{FileState, unknown, missing, holds, IsRead,
 -- ---- the fault of a text
 
 -- a text is refused as a table by its own line and cause, or by a failed allocation
-abbrev pub IsFaultOf : List ℕ → ProgramFault → Type 0
-IsFaultOf text (faults.Table fault) = Bad text fault.line fault.cause
-IsFaultOf text faults.NoMemory = Unit {0}
-IsFaultOf text faults.NotABook = ⊥
-IsFaultOf text (faults.Damaged table id) = ⊥
-IsFaultOf text faults.NewerFormat = ⊥
-IsFaultOf text (faults.NotSixDots paragraph cell) = ⊥
-IsFaultOf text faults.NoVolume = ⊥
-IsFaultOf text faults.BadLayout = ⊥
-IsFaultOf text faults.File = ⊥
-IsFaultOf text (faults.Taken version) = ⊥
+abbrev pub IsFaultOfText : List ℕ → ProgramFault → Type 0
+IsFaultOfText text (faults.Table fault) = Bad text fault.line fault.cause
+IsFaultOfText text faults.NoMemory = Unit {0}
+IsFaultOfText text faults.NotABook = ⊥
+IsFaultOfText text (faults.Damaged table id) = ⊥
+IsFaultOfText text faults.NewerFormat = ⊥
+IsFaultOfText text (faults.NotSixDots paragraph cell) = ⊥
+IsFaultOfText text faults.NoVolume = ⊥
+IsFaultOfText text faults.BadLayout = ⊥
+IsFaultOfText text faults.File = ⊥
+IsFaultOfText text (faults.Taken version) = ⊥
 
 -- how the fault of a text is reported
 abbrev pub read_as : ReadFault → ProgramFault
@@ -93,7 +93,7 @@ pub data TextAt (shelf : List ℕ → FileState) (path text : List ℕ) : Type 0
 -- the fault of the table that the word names
 pub data FaultAt (CanFail : Type 0) (shelf : List ℕ → FileState) (path : List ℕ) (fault : ProgramFault)
     : Type 0 where
-  of_text : (text : List ℕ) → TextAt shelf path text → IsFaultOf text fault
+  of_text : (text : List ℕ) → TextAt shelf path text → IsFaultOfText text fault
       → FaultAt CanFail shelf path fault
   of_file : path ≢ codes "@en" → IsOfFile CanFail (shelf path) fault
       → FaultAt CanFail shelf path fault

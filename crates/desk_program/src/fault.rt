@@ -84,7 +84,7 @@ impl From<ReadFault> for ProgramFault {
     ghost use Rattle.desk_program.specs.Fault.{read_as};
     ghost use Rattle.std.specs.Prelude.{◌≡◌};
 
-    ghost from_gives = { λ fault told. told ≡ read_as fault };
+    ghost from_gives = { λ fault reported. reported ≡ read_as fault };
 
     fn from(fault: ReadFault) -> Self {
         match fault {

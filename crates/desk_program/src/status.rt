@@ -148,7 +148,7 @@ fn end<E: Sink>(errors: &mut E, outcome: Result<(), Stop>) -> u8
 /// Says why words are refused. A failure to say it changes nothing.
 pub fn refuse_words<E: Sink>(errors: &mut E, text: &str) -> u8
     ensures status { result ≡ OTHER_WORDS }
-    ensures told { ReportsText E.Sink errors.old errors.new text.now }
+    ensures reported { ReportsText E.Sink errors.old errors.new text.now }
 {
     let _ = send(errors, text.as_bytes());
     OTHER_WORDS
@@ -157,32 +157,34 @@ pub fn refuse_words<E: Sink>(errors: &mut E, text: &str) -> u8
 /// Reports why something is refused. A failure to report it changes nothing.
 pub fn refuse<E: Sink>(errors: &mut E, fault: &ProgramFault) -> u8
     ensures status { result ≡ REFUSED }
-    ensures told { ReportsText E.Sink errors.old errors.new (fault_line fault.now) }
+    ensures reported { ReportsText E.Sink errors.old errors.new (fault_line fault.now) }
 {
-    let _ = tell(errors, fault);
+    let _ = report_fault(errors, fault);
     REFUSED
 }
 
 /// Sends the line of a fault.
-fn tell<E: Sink>(errors: &mut E, fault: &ProgramFault) -> Sent
+fn report_fault<E: Sink>(errors: &mut E, fault: &ProgramFault) -> Sent
     ensures { Sends E.Sink errors.old errors.new (fault_line fault.now) (is_ok result) }
 {
     match fault {
-        ProgramFault::Table(fault) => tell_two(errors, b"8", fault.line, fault.cause),
+        ProgramFault::Table(fault) => report_details(errors, b"8", fault.line, fault.cause),
         ProgramFault::NoMemory => send(errors, b"braildesk: no 90\n"),
         ProgramFault::NotABook => send(errors, b"braildesk: no 92\n"),
-        ProgramFault::Damaged { table, id } => tell_two(errors, b"93", table.number(), *id),
+        ProgramFault::Damaged { table, id } => report_details(errors, b"93", table.number(), *id),
         ProgramFault::NewerFormat => send(errors, b"braildesk: no 94\n"),
-        ProgramFault::NotSixDots { paragraph, cell } => tell_two(errors, b"95", *paragraph, *cell),
+        ProgramFault::NotSixDots { paragraph, cell } => report_details(
+            errors, b"95", *paragraph, *cell,
+        ),
         ProgramFault::NoVolume => send(errors, b"braildesk: no 96\n"),
         ProgramFault::BadLayout => send(errors, b"braildesk: no 97\n"),
         ProgramFault::File => send(errors, b"braildesk: no 98\n"),
-        ProgramFault::Taken { version } => tell_one(errors, b"99", *version),
+        ProgramFault::Taken { version } => report_detail(errors, b"99", *version),
     }
 }
 
 /// Sends the line of a fault with one detail.
-fn tell_one<E: Sink, I: Integer>(errors: &mut E, code: &[u8], detail: I) -> Sent
+fn report_detail<E: Sink, I: Integer>(errors: &mut E, code: &[u8], detail: I) -> Sent
     ensures { Sends E.Sink errors.old errors.new
         (codes "braildesk: no " ++ code.now ++ 32 ∷ I.text detail ++ 10 ∷ []) (is_ok result) }
 {
@@ -192,7 +194,7 @@ fn tell_one<E: Sink, I: Integer>(errors: &mut E, code: &[u8], detail: I) -> Sent
 }
 
 /// Sends the line of a fault with two details.
-fn tell_two<E: Sink, I: Integer, J: Integer>(
+fn report_details<E: Sink, I: Integer, J: Integer>(
     errors: &mut E,
     code: &[u8],
     first: I,

@@ -1,5 +1,5 @@
 //! Tables in files, and the supplied one.
-ghost use Rattle.desk_program.specs.Fault.{FaultAt, IsFaultOf, IsOfFile, TextAt};
+ghost use Rattle.desk_program.specs.Fault.{FaultAt, IsFaultOfText, IsOfFile, TextAt};
 ghost use Rattle.desk_program.specs.Shelf.{IsRead, left_in};
 ghost use Rattle.louis_table.specs.Table.{Means};
 ghost use Rattle.std.specs.Prelude.{◌⊎◌, ℕ, List, MatchResult};
@@ -36,7 +36,7 @@ pub fn read_table<F: Shelf + AllocGlobal>(rt: &F, path: &str) -> Result<RuleInde
 
 /// The index of the rules of the table in a text.
 fn index_text(alloc: Global, text: &[u8]) -> Result<RuleIndex, ProgramFault>
-    ensures { MatchResult result (Means text.now) (IsFaultOf text.now) }
+    ensures { MatchResult result (Means text.now) (IsFaultOfText text.now) }
 {
     let table = Table::read(alloc, text)?;
     Ok(RuleIndex::new(alloc, table)?)

@@ -36,4 +36,4 @@ returns-in-Help-clause-failed g c status =
     (stopped.0, stopped.1, Does.help c.in-Help.ensures.0 _ (rw c.as_str.ensures.value c.in-Help.ensures.1) (rw stopped.2 at c.show.ensures) refl)
 
 pub returns-in-NoMemory-clause-refused : goal.returns-in-NoMemory-clause-refused
-returns-in-NoMemory-clause-refused g c status = (NoMemory, inl refl, c.refuse.ensures.told)
+returns-in-NoMemory-clause-refused g c status = (NoMemory, inl refl, c.refuse.ensures.reported)

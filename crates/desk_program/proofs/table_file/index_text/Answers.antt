@@ -3,17 +3,17 @@ use Rattle.std.specs.Result.{IsErrAnd}
 use Rattle.louis_table.specs.ReportedFault.{IsReportedOf}
 use Rattle.louis_table.specs.declared.fault.ReadFault.{ReadFault}
 use Rattle.louis_table.specs.declared.fault.ReadFault.TheVariants as reading
-use Rattle.desk_program.specs.Fault.{IsFaultOf, read_as}
+use Rattle.desk_program.specs.Fault.{IsFaultOfText, read_as}
 use Rattle.desk_program.specs.declared.fault.ProgramFault.{ProgramFault}
 use Rattle.desk_program.proofs.table_file.index_text.Goals as goal
 
-tells : (text : List ℕ) (fault : ReadFault) → IsReportedOf text fault → IsFaultOf text (read_as fault)
-tells text (reading.Table fault) bad = bad
-tells text reading.NoMemory told = tt
+is-reported : (text : List ℕ) (fault : ReadFault) → IsReportedOf text fault → IsFaultOfText text (read_as fault)
+is-reported text (reading.Table fault) bad = bad
+is-reported text reading.NoMemory reported = tt
 
-carried : {T : Type 0} (text : List ℕ) (P : T → Type 0) (fault : ReadFault) (r : Result T ProgramFault) → IsReportedOf text fault → IsErrAnd r (λ told. told ≡ read_as fault) → MatchResult r P (IsFaultOf text)
+carried : {T : Type 0} (text : List ℕ) (P : T → Type 0) (fault : ReadFault) (r : Result T ProgramFault) → IsReportedOf text fault → IsErrAnd r (λ reported. reported ≡ read_as fault) → MatchResult r P (IsFaultOfText text)
 carried text P fault (Ok x) bad is = absurd is
-carried text P fault (Err told) bad is = subst (IsFaultOf text) (sym is) (tells text fault bad)
+carried text P fault (Err reported) bad is = subst (IsFaultOfText text) (sym is) (is-reported text fault bad)
 
 pub returns-in_err-table : goal.returns-in_err-table
 returns-in_err-table c = carried c.args.text.now _ c.in_err-table.field-0.0 c.from_residual.result c.in_err-table.ensures.err c.from_residual.ensures.1
