@@ -11,11 +11,7 @@ import pytest
 
 import braildesk
 from braildesk import Session
-from braildesk.desk.intake import Intake
-from braildesk.desk.manuscript import passages
-from braildesk.desk.typist import type_all
 
-from scribe.words.status import Stop, in_sentences
 from tool import Ran, scribe
 
 TEXT = "The moon\nis far away.\n\nTides\n\n\tTwice a day.\n"
@@ -465,15 +461,3 @@ def test_an_import_that_is_cut_short_says_what_is_in_the_book(
     words = ("import", book, "text.txt", "--continue")
     assert scribe(*words, folder=book.parent).status == 0
     assert prints(book) == ["front", *lines, "end"]
-
-
-def test_nothing_is_typed_into_a_book_that_was_changed_meanwhile(book: Path) -> None:
-    table = braildesk.read_tables(book)[0]
-    found = passages(TEXT.encode(), by_lines=False)
-    intake = Intake(0, 0, found, "end", table)
-    with (
-        pytest.raises(Stop, match="Somebody else changed the book"),
-        in_sentences(),
-    ):
-        type_all(braildesk.Session(book), intake, lambda done: None)
-    assert version(book) == 1

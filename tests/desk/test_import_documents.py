@@ -2,6 +2,7 @@
 
 import hashlib
 import signal
+from collections.abc import Callable
 from io import BytesIO, StringIO
 from pathlib import Path
 
@@ -157,6 +158,61 @@ def test_a_report_has_all_places_and_the_terminal_a_few(book: Path) -> None:
         "The report can't be written to none/lost.txt: No such file or directory. Nothing was"
         " typed.\n",
     )
+
+
+class Reader(StringIO):
+    """One who has others work on the book before each line is read."""
+
+    def __init__(self, work: Callable[[], object]) -> None:
+        super().__init__()
+        self.work = work
+
+    def write(self, line: str) -> int:
+        self.work()
+        return super().write(line)
+
+
+@pytest.mark.parametrize("words", [(), ("--dry-run",), ("--report", "lost.txt")])
+def test_others_have_the_book_while_what_is_lost_is_read(
+    book: Path, words: tuple[str, ...]
+) -> None:
+    versions: list[int] = []
+
+    def work() -> None:
+        with Session(book) as session:
+            versions.append(
+                session.add_paragraph("end", "en", "Typed meanwhile").version
+            )
+
+    reader = Reader(work)
+    console = Console(BytesIO(), reader, reader)
+    job = ["import", str(book), "moon.md", "--volumes", "1"]
+    assert run_words([*job, *words], console) == 0
+    assert len(versions) > 1
+    typed = [] if words == ("--dry-run",) else PARTS
+    meanwhile = [("Typed meanwhile", "")]
+    read = len(parts(book)) - len(typed)
+    # what is said at the end comes after all that was typed
+    assert parts(book) == [*meanwhile * (read - 1), *typed, *meanwhile]
+
+
+def test_a_text_that_another_imports_while_what_is_lost_is_read_is_typed_once(
+    book: Path,
+) -> None:
+    others: list[int] = []
+
+    def work() -> None:
+        if not others:
+            others.append(put(book, "--volumes", "1").status)
+
+    console = Console(BytesIO(), StringIO(), said := Reader(work))
+    assert run_words(["import", str(book), "moon.md"], console) == 2
+    assert others == [0]
+    assert said.getvalue().endswith(
+        "moon.md stands there in the book already, from paragraph 1 to paragraph 8.\n"
+        "--again types it once more. Nothing was typed.\n"
+    )
+    assert parts(book) == PARTS
 
 
 def test_each_word_of_a_file_is_in_the_book_or_in_the_report(book: Path) -> None:

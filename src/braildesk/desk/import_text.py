@@ -162,7 +162,8 @@ class Faulty(NotImported):
 class Importer:
     """Imports a text step by step: `prepare` judges all of it, and then `type_text` types it.
 
-    From the judging on nobody else has the book, until the end of the `with` block or of the typing.
+    From the judging on nobody else has the book, until the end of the `with` block or of the typing,
+    or until it is let go; then `hold_again` comes before the typing.
     It is noted until it is done. If that can't be, this is reported, and the import goes on.
     """
 
@@ -178,6 +179,7 @@ class Importer:
         self.taken: Taken | None = None
         self._data = b""
         self._open = ExitStack()
+        self._is_let_go = False
 
     def __enter__(self) -> Self:
         return self
@@ -203,11 +205,29 @@ class Importer:
             if _is_surely_read(self.job, data):
                 opened = stack.enter_context(self.job.opened_beside())
             whole = self.taken = _taken(self.job, data)
-            parts = _parted(self.job, whole.passages)
+            self._parts = _parted(self.job, whole.passages)
             self._session = self._open.enter_context(opened())
+        return self._judged(whole.data)
+
+    def let_go(self) -> None:
+        """Lets others have the book, as while a person reads what is lost of the text."""
+        self._open.close()
+        self._is_let_go = True
+
+    def hold_again(self, intake: Intake) -> Intake:
+        """What is to be typed, judged anew if somebody changed the book since it was let go."""
+        if not self._is_let_go:
+            return intake
+        self._session = self._open.enter_context(self.job.opened())
+        self._is_let_go = False
+        if self.taken is None or self._session.last_version == intake.version:
+            return intake
+        return self._judged(self.taken.data)
+
+    def _judged(self, data: bytes) -> Intake:
         # beside the program, which takes as long for the characters
         beside: Callable[[], object] = lambda: self._digest
-        return _intake(self.job, self._session, *parts, whole.data, beside)
+        return _intake(self.job, self._session, *self._parts, data, beside)
 
     @cached_property
     def _digest(self) -> str:
@@ -217,7 +237,7 @@ class Importer:
     def type_text(
         self, intake: Intake, progress: Callable[[int, int], None]
     ) -> TypedText:
-        """Types all paragraphs; raises `CutShort`, and `NotImported` if the book isn't as it was."""
+        """Types all paragraphs; raises `CutShort`."""
         job, count = self.job, len(intake.passages)
         whole = os.path.abspath(job.text)
         note = intake.noted(whole, self._digest, job.by_lines, job.how)

@@ -5,16 +5,8 @@ from pathlib import Path
 
 from braildesk import DeskError, Displaced, Session, Typed
 from braildesk.desk import Problem
-from braildesk.desk.intake import Intake, NotImported, settings
+from braildesk.desk.intake import Intake, settings
 from braildesk.desk.readings import answers
-
-
-class ChangedMeanwhile(NotImported):
-    """Somebody else changed the book, which is at another version now."""
-
-    def __init__(self, version: int) -> None:
-        super().__init__(version)
-        self.version = version
 
 
 class CutShort(Problem):
@@ -49,16 +41,10 @@ def type_all(
     report: Callable[[int], None],
     begin: Callable[[], None] = lambda: None,
 ) -> None:
-    """Types all paragraphs, or raises `CutShort`; `ChangedMeanwhile` if the book isn't as it was.
-
-    What has to be done before the first one is typed is done once nobody else can type. The session
-    is closed by that.
-    """
+    """Types all paragraphs, or raises `CutShort`; the session is closed by that."""
     done = 0
     try:
         with session:
-            if session.last_version != intake.version:
-                raise ChangedMeanwhile(session.last_version)
             begin()
             for answer in answers(session, intake.requests(), lambda _: report(done)):
                 done += isinstance(answer, Typed)

@@ -1,6 +1,7 @@
 """An import in words: what keeps a text from being typed, and what became of one that was begun."""
 
 from collections.abc import Callable, Iterable, Iterator, Sequence
+from contextlib import contextmanager
 from dataclasses import replace
 from pathlib import Path
 from typing import TYPE_CHECKING
@@ -50,7 +51,7 @@ from braildesk.desk.manuscript import (
     UnreadableText,
 )
 from braildesk.desk.replacements import BadReplacements
-from braildesk.desk.typist import ChangedMeanwhile, CutShort
+from braildesk.desk.typist import CutShort
 from braildesk.desk.unfinished import NotSeen, Unfinished
 from braildesk.desk.whole_file import write_whole
 from braildesk.named_files import is_same_file
@@ -83,6 +84,8 @@ def import_in_words(
     """
     with _importer(job, console) as importer:
         intake = prepared(importer, console, console.say, report)
+        with _stopped_before_typing(console):
+            intake = importer.hold_again(intake)
         try:
             typed = importer.type_text(intake, console.progress("paragraphs typed"))
         except CutShort as cut:
@@ -124,17 +127,28 @@ def prepared(
     show: Callable[..., None],
     report: Path | None,
 ) -> Intake:
-    """What is to be typed, unless that is stopped. What is lost is reported with what is at fault."""
+    """What is to be typed, unless that is stopped. What is lost is reported with what is at fault.
+
+    Others may have the book while that is reported, which waits for who reads it.
+    """
+    with _stopped_before_typing(console):
+        try:
+            intake = importer.prepare()
+        except Faulty:
+            _report(importer, show, report)
+            raise
+    _report(importer, show, report)
+    return intake
+
+
+@contextmanager
+def _stopped_before_typing(console: Console) -> Iterator[None]:
+    """Says that nothing was typed if that is stopped."""
     try:
-        intake = importer.prepare()
+        yield
     except KeyboardInterrupt as cause:
         console.say(f"{stopped_by(cause)} Nothing was typed.")
         raise Interrupted.after(cause) from cause
-    except Faulty:
-        _report(importer, show, report)
-        raise
-    _report(importer, show, report)
-    return intake
 
 
 def _report(importer: Importer, show: Callable[..., None], report: Path | None) -> None:
@@ -148,6 +162,7 @@ def _report(importer: Importer, show: Callable[..., None], report: Path | None) 
         taken = replace(taken, replaced=used)
     if report is None and taken.document is None and not taken.replaced:
         return
+    importer.let_go()
     # imported here, since of a text nothing is lost
     from scribe.words.losses import FEW, report_lines
 
@@ -257,11 +272,6 @@ def not_imported(problem: NotImported) -> Stop:
         case BookHasNoTable():
             return Stop(
                 "The book has no table, so nothing was typed. Put one into it by scribe table."
-            )
-        case ChangedMeanwhile(version=version):
-            return Stop(
-                f"Somebody else changed the book meanwhile: it is at version {version:,}. Nothing"
-                " was typed. Import the text again."
             )
         case NoText(path=path, cause=None):
             return Stop(f"{path} has no paragraph, so nothing was typed.")
