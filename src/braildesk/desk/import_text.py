@@ -215,13 +215,11 @@ class Importer:
         self._is_let_go = True
 
     def hold_again(self, intake: Intake) -> Intake:
-        """What is to be typed, judged anew if somebody changed the book since it was let go."""
-        if not self._is_let_go:
+        """What is to be typed, judged anew if the book was let go, since it may be another now."""
+        if self.taken is None or not self._is_let_go:
             return intake
         self._session = self._open.enter_context(self.job.opened())
         self._is_let_go = False
-        if self.taken is None or self._session.last_version == intake.version:
-            return intake
         return self._judged(self.taken.data)
 
     def _judged(self, data: bytes) -> Intake:
