@@ -115,6 +115,16 @@ class OpenFile:
             return self._is_log_foreign
         return not self.is_log_lent and _log_state(self._log, noted.last) != noted
 
+    @property
+    def moved_to(self) -> str | None:
+        """Where the file stands with its log by now, as in a folder that was renamed, if that is seen."""
+        try:
+            path = os.readlink(f"/proc/self/fd/{self._descriptor}")
+        except OSError:
+            return None
+        is_whole = _is_at(path, self._descriptor) and _is_at(f"{path}-wal", self._log)
+        return path if is_whole else None
+
     def note_log(self, kept: int = 0) -> None:
         """Notes the log, unless it is noted, while the program waits and writes nothing there.
 

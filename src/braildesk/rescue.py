@@ -76,13 +76,20 @@ class Rescue:
             return True
 
     def all_saved(self, version: int) -> tuple[str | None, str]:
-        """The new file of a book whose own isn't at its path, if there is one, and what is said of it.
+        """The file that has all of a book whose own isn't at its path, and what is said of it.
 
+        That is a new one; or its own, if no new one can be made and that was moved with its folder.
         The version is the least that the book has.
         """
         try:
             saved = self._file.save(self._program, version)
         except DeskError as failed:
+            moved = self._file.moved_to
+            if moved is not None and self._is_whole(moved, version):
+                return moved, (
+                    f"It is at {_shown(moved)} now, and has all of the book, with what was kept"
+                    " last. Go on there."
+                )
             return None, (
                 "What was kept last isn't at that path, and it could not be saved in a new file:"
                 f" {failed.sentence} Copy what you typed last."
@@ -91,6 +98,13 @@ class Rescue:
             f"All of the book, with what was kept last, is in the new file {_shown(saved)}. Go on"
             " with that one, or look first what is at the old path by now."
         )
+
+    def _is_whole(self, path: str, version: int) -> bool:
+        """Whether the file, which is at another path by now, has a version."""
+        try:
+            return programs.check(path, self._program) >= version
+        except DeskError as failed:
+            return isinstance(failed, Refused) and says_nothing(failed)
 
     def print_saved(self, all_print: Callable[[], str]) -> str:
         """Saves the print of a book whose file was written into, and says where it is.

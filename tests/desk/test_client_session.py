@@ -766,6 +766,50 @@ def test_a_book_that_is_gone_with_its_folder_says_that_it_is_not_saved(
     )
 
 
+@pytest.mark.parametrize("moment", ["before a command", "before the end"])
+def test_a_book_whose_folder_is_renamed_is_said_to_be_there_with_all_that_was_kept(
+    book: Path, tmp_path: Path, moment: str
+) -> None:
+    folder, renamed = tmp_path / "folder", tmp_path / "renamed"
+    folder.mkdir()
+    book = book.rename(folder / "book")
+    with pytest.raises(Displaced) as caught:
+        with Session(book) as session:
+            session.add_paragraph("end", "en", "One.")
+            if moment == "before a command":
+                folder.rename(renamed)
+            session.add_paragraph("end", "en", "Two.")
+            assert moment == "before the end"
+            folder.rename(renamed)
+    assert caught.value.sentence == (
+        f"The file of the book is no longer at “{book}”: it was removed or moved while it was"
+        f" open. It is at “{renamed / 'book'}” now, and has all of the book, with what was kept last."
+        " Go on there."
+    )
+    assert caught.value.saved == str(renamed / "book")
+    with Session(renamed / "book") as session:
+        assert [session.print_of(1), session.print_of(2)] == ["One.", "Two."]
+    assert sorted(os.listdir(renamed)) == ["book", "book-wal"]
+
+
+def test_a_book_that_is_moved_without_its_log_is_not_said_to_be_whole_there(
+    book: Path, tmp_path: Path
+) -> None:
+    folder, renamed = tmp_path / "folder", tmp_path / "renamed"
+    folder.mkdir()
+    book = book.rename(folder / "book")
+    with pytest.raises(Displaced) as caught:
+        with Session(book) as session:
+            session.add_paragraph("end", "en", "One.")
+            folder.rename(renamed)
+            (renamed / "book-wal").unlink()
+            session.add_paragraph("end", "en", "Two.")
+    assert caught.value.saved is None
+    assert caught.value.sentence.endswith(
+        "it could not be saved in a new file: No such file or directory. Copy what you typed last."
+    )
+
+
 @pytest.mark.parametrize("moment", ["before a command", "among many", "before the end"])
 @pytest.mark.parametrize("how", ["emptied", "overwritten", "cut", "copied over"])
 def test_the_print_of_a_book_that_was_written_into_is_saved(
