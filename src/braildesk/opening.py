@@ -55,10 +55,14 @@ def is_file_or_free(path: str) -> bool:
     return stat.S_ISREG(mode) or stat.S_ISDIR(mode)
 
 
+#: What a disk may be the cause of.
+_OF_DISK = (Why.UNKNOWN, Why.DENIED, Why.LOG_DENIED)
+
+
 def why(asked: AskedOfFile) -> Why:
     """Why the file can't be opened."""
     found = _why(asked)
-    if found in (Why.UNKNOWN, Why.DENIED) and not isinstance(asked, TableFile):
+    if found in _OF_DISK and not isinstance(asked, TableFile):
         return _why_by_disk(asked.path) or found
     return found
 
@@ -129,9 +133,7 @@ def _why_regular(asked: AskedOfFile) -> Why:
         return Why.NO_LOG
     if has_journal(asked.path):
         return Why.JOURNAL
-    if found is not Why.UNKNOWN or _may_write(asked.path):
-        return found
-    return Why.DENIED
+    return _why_denied(asked.path) or found if found is Why.UNKNOWN else found
 
 
 def why_contents(file: BinaryIO) -> Why:
@@ -161,13 +163,17 @@ def _size_in(header: bytes) -> int:
     return (65_536 if page == 1 else page) * int.from_bytes(header[28:32], "big")
 
 
-def _may_write(path: str) -> bool:
-    """Whether the file, the log beside it and its folder may be read and written."""
+def _why_denied(path: str) -> Why | None:
+    """Which of the file, its folder and the log beside it may not be read and written, if any."""
     log = log_path(path)
-    files = [path, log] if os.path.exists(log) else [path]
-    return os.access(os.path.dirname(log), os.R_OK | os.W_OK | os.X_OK) and all(
-        os.access(f, os.R_OK | os.W_OK) for f in files
-    )
+    folder = os.path.dirname(log)
+    if not (
+        os.access(folder, os.R_OK | os.W_OK | os.X_OK)
+        and os.access(path, os.R_OK | os.W_OK)
+    ):
+        return Why.DENIED
+    is_free = os.access(log, os.R_OK | os.W_OK) or not os.path.exists(log)
+    return None if is_free else Why.LOG_DENIED
 
 
 def is_log(log: str) -> bool:

@@ -18,7 +18,9 @@ NOT_ALL_THERE = (
     " them while the book was open. Copy what you typed last, and look at the book before you go on."
 )
 #: Why a copy of a book's files isn't opened, whatever is in them.
-_UNTOLD = frozenset({Why.DENIED, Why.READ_ONLY, Why.NO_ROOM, Why.IN_USE, Why.UNKNOWN})
+_UNTOLD = frozenset(
+    {Why.DENIED, Why.LOG_DENIED, Why.READ_ONLY, Why.NO_ROOM, Why.IN_USE, Why.UNKNOWN}
+)
 
 
 class Rescue:

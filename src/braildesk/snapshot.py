@@ -96,7 +96,7 @@ def _is_copied(book: BookFile, file: BinaryIO, copied: Path) -> bool:
         before = _state(file, log)
     except PermissionError as error:
         # the newest work is there
-        raise cannot_open(book, Why.DENIED) from error
+        raise cannot_open(book, Why.LOG_DENIED) from error
     time.sleep(_TICK)
     if _state(file, log) != before:
         return False

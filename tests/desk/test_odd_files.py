@@ -314,14 +314,19 @@ def test_who_may_only_read_a_book_may_look_at_it_and_export_it(
     assert "A moon is far away." in found[0].shown
 
 
+@pytest.mark.parametrize("words", [["show"], ["strike", "1"]])
 def test_a_log_that_may_not_be_read_is_said_to_be_denied(
-    locked: Path, installed: Path
+    locked: Path, installed: Path, words: list[str]
 ) -> None:
     left_in_log(locked)
-    (locked / "moon.braildesk-wal").chmod(0)
-    (found,) = ran_by_another(installed, [["show", str(locked / "moon.braildesk")]])
+    book, log = locked / "moon.braildesk", locked / "moon.braildesk-wal"
+    for each in (locked, book):
+        each.chmod(0o777)
+    log.chmod(0)
+    name, *rest = words
+    (found,) = ran_by_another(installed, [[name, str(book), *rest]])
     assert found.status == 2
     assert " ".join(found.said.split()) == (
-        f"You aren't permitted to open “{locked}/moon.braildesk”. Nothing was changed. Ask who owns"
-        " it for leave to read and write it and to write in its folder."
+        f"You aren't permitted to read and write “{log}”, in which the newest work of “{book}” is"
+        f" looked for. Nothing was changed. Ask who owns “{log}” for leave to do so."
     )

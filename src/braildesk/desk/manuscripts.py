@@ -138,7 +138,7 @@ def _of_book(path: Path, wait: float) -> "Manuscript":
     try:
         session = Session(path, timeout=wait)
     except CannotOpen as refusal:
-        if refusal.why not in (Why.IN_USE, Why.DENIED, Why.READ_ONLY):
+        if refusal.why not in (Why.IN_USE, Why.DENIED, Why.LOG_DENIED, Why.READ_ONLY):
             raise
         # imported here, since few books are such
         from braildesk.snapshot import copied_session

@@ -20,6 +20,7 @@ class Why(StrEnum):
     FOLDER = "a folder"
     NO_FILE = "no file"
     DENIED = "not permitted"
+    LOG_DENIED = "log not permitted"
     NO_DATABASE = "no database"
     READ_ONLY = "read-only"
     NO_ROOM = "no room"
@@ -150,6 +151,8 @@ UNOPENED = MappingProxyType(
         " the path of a file.",
         Why.DENIED: "You aren't permitted to open {path}. {nothing} Ask who owns it"
         " for leave to read and write it and to write in its folder.",
+        Why.LOG_DENIED: "You aren't permitted to read and write {log}, in which the newest work of"
+        " {path} is looked for. {nothing} Ask who owns {log} for leave to do so.",
         Why.READ_ONLY: "{path} is on a disk that can only be read, and a book is opened where it can"
         " be written. {nothing} Copy the book to another disk.",
         Why.NO_ROOM: "There is no room on the disk of {path}. {nothing} Make room there,"

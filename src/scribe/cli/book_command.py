@@ -153,7 +153,7 @@ def looked_at(arguments: Namespace, console: Console) -> Iterator[tuple[Session,
     try:
         session = open_session(arguments, console)
     except CannotOpen as refusal:
-        if refusal.why not in (Why.IN_USE, Why.DENIED, Why.READ_ONLY):
+        if refusal.why not in (Why.IN_USE, Why.DENIED, Why.LOG_DENIED, Why.READ_ONLY):
             raise
         # imported here, since few commands meet a book that they can't open
         from braildesk.snapshot import copied_session

@@ -80,7 +80,7 @@ def run(arguments: Namespace, console: Console) -> Status:
     try:
         return _exported(job, volume, wanted, console)
     except CannotOpen as refusal:
-        if refusal.why not in (Why.DENIED, Why.READ_ONLY):
+        if refusal.why not in (Why.DENIED, Why.LOG_DENIED, Why.READ_ONLY):
             raise
     # imported here, since few books may only be read
     from braildesk.snapshot import copied
