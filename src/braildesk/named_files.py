@@ -47,6 +47,16 @@ class TooLarge(OSError):
         return type(self), (self.most,)
 
 
+class Changing(OSError):
+    """A file was changed while it was read, so that what was read may be a part of it."""
+
+    def __init__(self) -> None:
+        super().__init__(errno.EBUSY, "it was changed while it was read")
+
+    def __reduce__(self) -> tuple[type[Self], tuple[()]]:
+        return type(self), ()
+
+
 def is_same_file(path: StrPath, other: StrPath) -> bool:
     """Whether two names lead to one file."""
     try:
@@ -76,16 +86,29 @@ def open_file(path: StrPath) -> BinaryIO:
 
 
 def read_file(path: StrPath, most: int) -> bytes:
-    """The bytes of a file, or of what the shell hands over; ``TooLarge`` if they are too many."""
+    """The bytes of a file, or of what the shell hands over; ``TooLarge`` if they are too many.
+
+    ``Changing`` if another program writes into the file meanwhile.
+    """
     with open(path, "rb") if is_handed_over(path) else open_file(path) as file:
         if file.isatty():
             # its keys may be those of a screen, on which nothing ends a text
             raise _named(NoFile("it is a terminal and no file"), path)
-        size = os.fstat(file.fileno()).st_size
+        before = _state(file)
+        size, _ = before
         data = file.read(most + 1) if size <= most else b""
+        is_changed = _state(file) != before
+    if is_changed and not is_handed_over(path):
+        raise _named(Changing(), path)
     if max(size, len(data)) > most:
         raise _named(TooLarge(most), path)
     return data
+
+
+def _state(file: BinaryIO) -> tuple[int, int]:
+    """What is another one once a file was written into: its size, and when that was."""
+    found = os.fstat(file.fileno())
+    return found.st_size, found.st_mtime_ns
 
 
 def _judge(mode: int, path: StrPath) -> None:

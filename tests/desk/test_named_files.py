@@ -1,5 +1,6 @@
 """What stands at a path that a person names, and is no file, or more than a machine holds."""
 
+import io
 import os
 import signal
 import socket
@@ -17,6 +18,8 @@ from braildesk.named_files import NoFile, TooLarge, open_file, read_file
 from braildesk.opening import has_journal
 from braildesk.protocol.asked import AskedOfFile, BookFile, TableFile
 from braildesk.tables import text_at
+from scribe.cli import run_words
+from scribe.words.console import Console
 from strangers import NEEDS_ROOT, in_time
 from tool import Ran, environment, scribe
 
@@ -46,6 +49,36 @@ def test_a_file_with_holes_is_refused_by_its_size(tmp_path: Path) -> None:
         made.truncate(1 << 40)
     with pytest.raises(TooLarge):
         read_file(file, 1 << 27)
+
+
+class Growing(io.BufferedReader):
+    """A file to which another program adds a line as its last bytes are read."""
+
+    def read(self, size: int | None = -1) -> bytes:
+        data = super().read(size)
+        with open(self.raw.name, "ab") as file:
+            file.write(b"The tides\n")
+        return data
+
+
+def test_a_text_that_is_written_while_it_is_read_is_not_imported(
+    book: Path, monkeypatch: pytest.MonkeyPatch
+) -> None:
+    text = book.with_name("text.txt")
+    text.write_text("The moon\n")
+    with monkeypatch.context() as patched:
+        patched.setattr(
+            "braildesk.named_files.open_file",
+            lambda path: Growing(io.FileIO(os.fspath(path))),
+        )
+        console = Console(io.BytesIO(), shown := io.StringIO(), said := io.StringIO())
+        assert run_words(["import", str(book), str(text)], console) == 2
+    assert (shown.getvalue(), said.getvalue()) == (
+        "",
+        f"{text} can't be read: it was changed while it was read. Nothing was typed.\n",
+    )
+    assert braildesk.check(book) == 1
+    assert read_file(text, 99) == b"The moon\nThe tides\n"
 
 
 def test_a_pipe_is_refused_and_not_waited_for(pipe: Path) -> None:
