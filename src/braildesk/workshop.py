@@ -25,6 +25,8 @@ _NO_REPLACE = 1
 #: What a system says of that, and of bringing a folder to the disk, if it, or the file system, as one
 #: of a network may, doesn't have it.
 _NOT_KNOWN = (errno.EINVAL, errno.ENOSYS, errno.EOPNOTSUPP)
+#: What is said where a file system has no hard links.
+_NO_LINKS = (errno.EPERM, *_NOT_KNOWN)
 _CHUNK = 1 << 20
 _FOLDER = os.O_PATH | os.O_DIRECTORY | os.O_NOFOLLOW | os.O_CLOEXEC
 
@@ -149,9 +151,7 @@ def put(made: Path, target: Place) -> None:
         except OSError as error:
             if error.errno not in _NOT_KNOWN:
                 raise
-            names = made.name, target.name
-            os.link(*names, src_dir_fd=folder, dst_dir_fd=target.folder)
-            os.unlink(made.name, dir_fd=folder)
+            _link(folder, made.name, target)
     _sync_folder(target)
 
 
@@ -303,6 +303,33 @@ def _rename(folder: int, name: str, target: Place) -> None:
     if rename(folder, words[0], target.folder, words[1], _NO_REPLACE):
         number = ctypes.get_errno()
         raise OSError(number, os.strerror(number), target.name)
+
+
+def _link(folder: int, name: str, target: Place) -> None:
+    """Renames a file of an open folder as that does, by a link, where nothing else renames so."""
+    names = name, target.name
+    try:
+        os.link(*names, src_dir_fd=folder, dst_dir_fd=target.folder)
+        os.unlink(name, dir_fd=folder)
+    except OSError as error:
+        if error.errno not in _NO_LINKS:
+            raise
+        _rename_over_empty(folder, name, target)
+
+
+def _rename_over_empty(folder: int, name: str, target: Place) -> None:
+    """Does the same on a file system without links, as of a stick: over a file that is made for it."""
+    flags = os.O_RDONLY | os.O_CREAT | os.O_EXCL | os.O_NOFOLLOW | os.O_CLOEXEC
+    with open(os.open(target.name, flags, 0o600, dir_fd=target.folder), "rb") as empty:
+        try:
+            if not target.has(empty):
+                raise FileExistsError(errno.EEXIST, os.strerror(errno.EEXIST))
+            names = name, target.name
+            os.replace(*names, src_dir_fd=folder, dst_dir_fd=target.folder)
+        except BaseException:
+            if target.has(empty):
+                os.unlink(target.name, dir_fd=target.folder)
+            raise
 
 
 def _sync_folder(place: Place) -> None:

@@ -709,6 +709,33 @@ def test_where_a_file_system_has_no_such_renaming_a_copy_is_linked(
     assert other.read_text() == "my notes"
 
 
+@pytest.mark.parametrize("number", [errno.EPERM, errno.ENOSYS, errno.EOPNOTSUPP])
+def test_where_a_file_system_has_no_links_either_a_copy_is_made_and_replaces_nothing(
+    book: Path, tmp_path: Path, monkeypatch: pytest.MonkeyPatch, number: int
+) -> None:
+    def renamed(*_: object) -> None:
+        raise OSError(errno.EINVAL, "Invalid argument")
+
+    def linked(*_: object, **__: object) -> None:
+        raise OSError(number, os.strerror(number))
+
+    monkeypatch.setattr(workshop, "_rename", renamed)
+    monkeypatch.setattr(os, "link", linked)
+    to, other = tmp_path / "copied", tmp_path / "other"
+    assert braildesk.copy(book, to) == 1
+    assert names(tmp_path) == {book.name, "copied"}
+    meanwhile(monkeypatch, lambda: other.write_text("my notes"))
+    with pytest.raises(NotCopied):
+        braildesk.copy(book, other)
+    assert other.read_text() == "my notes"
+    # if it fails after all, nothing is left there
+    monkeypatch.setattr(os, "replace", linked)
+    with pytest.raises(DeskError) as caught:
+        braildesk.copy(book, tmp_path / "third")
+    assert os.strerror(number) in caught.value.sentence
+    assert names(tmp_path) == {book.name, "copied", "other"}
+
+
 def test_what_a_killed_copy_left_is_cleared_away_by_the_next_one(
     book: Path, tmp_path: Path
 ) -> None:
