@@ -54,9 +54,13 @@ def test_a_file_with_holes_is_refused_by_its_size(tmp_path: Path) -> None:
 class Growing(io.BufferedReader):
     """A file to which another program adds a line as its last bytes are read."""
 
+    def __init__(self, path: str | os.PathLike[str]) -> None:
+        super().__init__(io.FileIO(os.fspath(path)))
+        self.path = path
+
     def read(self, size: int | None = -1) -> bytes:
         data = super().read(size)
-        with open(self.raw.name, "ab") as file:
+        with open(self.path, "ab") as file:
             file.write(b"The tides\n")
         return data
 
@@ -67,10 +71,7 @@ def test_a_text_that_is_written_while_it_is_read_is_not_imported(
     text = book.with_name("text.txt")
     text.write_text("The moon\n")
     with monkeypatch.context() as patched:
-        patched.setattr(
-            "braildesk.named_files.open_file",
-            lambda path: Growing(io.FileIO(os.fspath(path))),
-        )
+        patched.setattr("braildesk.named_files.open_file", Growing)
         console = Console(io.BytesIO(), shown := io.StringIO(), said := io.StringIO())
         assert run_words(["import", str(book), str(text)], console) == 2
     assert (shown.getvalue(), said.getvalue()) == (
