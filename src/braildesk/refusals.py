@@ -174,7 +174,8 @@ class Displaced(Lost):
     saved, or of a file that was overwritten the print.
     """
 
-    #: The path of the new file that has all of the book, if there is one.
+    #: The path of the file that has all of the book, if there is one: a new one, or, if its folder
+    #: was renamed, its own.
     saved: str | None = None
 
 
