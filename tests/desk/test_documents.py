@@ -1128,9 +1128,10 @@ def test_a_program_that_takes_too_long_is_given_up(
         patched.setattr(pandoc, "_SECONDS", 0.3)
         with pytest.raises(BrokenOff):
             read_document(b"a", ManuscriptKind.MARKDOWN)
-    program(programs, "pandoc", "kill -KILL $$")
-    with pytest.raises(BrokenOff):
-        read_document(b"a", ManuscriptKind.MARKDOWN)
+    for end in ("kill -KILL $$", "echo pandoc: out of memory >&2; exit 251"):
+        program(programs, "pandoc", end)
+        with pytest.raises(BrokenOff):
+            read_document(b"a", ManuscriptKind.MARKDOWN)
     program(programs, "pandoc", "echo none")
     with pytest.raises(NotConverted):
         read_document(b"a", ManuscriptKind.MARKDOWN)

@@ -43,6 +43,8 @@ _OFFICE = ("soffice", "libreoffice")
 _LEFT_OUT = re.compile(
     r"(?:Note with key|Duplicate note reference) '(.+?)' (?:defined )?at "
 )
+#: The status by which programs made by GHC, as pandoc is, end where they get no more memory.
+_NO_MEMORY = 251
 #: How much of what a program says beside its answer is read.
 _SAID_BYTES = 1 << 20
 
@@ -135,7 +137,7 @@ def _wait(name: str, process: subprocess.Popen[bytes]) -> None:
 
 def _failure(name: str, status: int, errors: bytes) -> UnreadableText:
     """Why a program failed: by a limit, or by what it said, in one line."""
-    if status in (-signal.SIGXCPU, -signal.SIGKILL):
+    if status in (-signal.SIGXCPU, -signal.SIGKILL, _NO_MEMORY):
         return BrokenOff(name)
     if status == -signal.SIGXFSZ:
         return NoDocument(WhyNot.TOO_LARGE)
