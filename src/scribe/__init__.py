@@ -5,3 +5,23 @@ of the parsed words and a `Console` that returns a `Status`. What a person asked
 standard output, sentences go to standard error. Everything done to a book is done by its requests,
 through the client `braildesk`, which knows nothing of these tools.
 """
+
+import sys
+from importlib import import_module
+from types import ModuleType
+from typing import Any
+
+
+class _Later(ModuleType):
+    """Stands for a module until something of it is asked for, by which that is imported."""
+
+    def __getattr__(self, name: str) -> Any:
+        if sys.modules.get(self.__name__) is self:
+            del sys.modules[self.__name__]
+        return getattr(import_module(self.__name__), name)
+
+
+# `dataclasses` imports it for classes without a sentence, of which there are none here, and with all
+# that it imports it takes a tenth of a short command
+if "inspect" not in sys.modules:
+    sys.modules["inspect"] = _Later("inspect")
