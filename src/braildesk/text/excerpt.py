@@ -1,6 +1,6 @@
 """Some words of a text, and as many of those around them as a line has room for."""
 
-from collections.abc import Callable, Sequence
+from collections.abc import Callable, Iterable, Sequence
 
 from braildesk.text.cells import BLANKS, EMPTY_CELL
 from braildesk.text.characters import visible
@@ -30,28 +30,52 @@ class Excerpts:
         room = width - (stop - start) - _BRACKETS
         if not self._is_plain or room < 0:
             return _in_brackets(self._text, start, stop, width)
-        return self._plain_line("", start, stop, room)
+        return self._plain_lines([""], [(start, stop)], [room])[0]
 
-    def _plain_line(self, head: str, start: int, stop: int, room: int) -> str:
-        """A head and such a line of a text that is plain, with so much room beside the words."""
-        text, spaced = self._text, self._spaced
-        half, rest = room // 2, len(text) - stop
-        before = room - rest if room - rest > half else half
-        # a blank is found on both sides nearly always, so that it is looked for here already
-        if start <= before:
-            front = text[:start]
-        elif (blank := spaced.find(" ", start - before, start - 1)) >= 0:
-            front = _CUT + text[blank + 1 : start]
-        else:
-            front = _ending(text, spaced, start, before)
-        left = room - len(front)
-        if rest <= left:
-            after = text[stop:]
-        elif (blank := spaced.rfind(" ", stop + 1, stop + left)) >= 0:
-            after = text[stop:blank] + _CUT
-        else:
-            after = _opening(text, spaced, stop, left)
-        return f"{head}{front}[{text[start:stop]}]{after}"
+    def _plain_lines(
+        self,
+        heads: Iterable[str],
+        places: Iterable[tuple[int, int]],
+        rooms: Iterable[int],
+    ) -> list[str]:
+        """Heads with such lines of a text that is plain, each with so much room beside the words."""
+        text, spaced, size = self._text, self._spaced, len(self._text)
+        lines = []
+        # a loop without calls, since a search gives a hundred thousand of them
+        for head, (start, stop), room in zip(heads, places, rooms):
+            before, rest = room // 2, size - stop
+            if room - rest > before:
+                before = room - rest
+            # a blank is found on both sides nearly always, so that it is looked for here already
+            if start <= before:
+                front = text[:start]
+            elif (blank := spaced.find(" ", start - before, start - 1)) >= 0:
+                front = _CUT + text[blank + 1 : start]
+            else:
+                front = _ending(text, spaced, start, before)
+            left = room - len(front)
+            if rest <= left:
+                after = text[stop:]
+            elif (blank := spaced.rfind(" ", stop + 1, stop + left)) >= 0:
+                after = text[stop:blank] + _CUT
+            else:
+                after = _opening(text, spaced, stop, left)
+            lines.append(f"{head}{front}[{text[start:stop]}]{after}")
+        return lines
+
+    def lines_of_all(
+        self, heads: Sequence[str], places: Sequence[tuple[int, int]], width: int
+    ) -> list[str]:
+        """The lines for each of many places, one after the other, of which each has a head."""
+        rooms = [
+            width - len(head) - (stop - start) - _BRACKETS
+            for head, (start, stop) in zip(heads, places)
+        ]
+        is_short = min(rooms, default=0) >= _BESIDE and "".join(heads).isascii()
+        if self._is_plain and is_short:
+            return self._plain_lines(heads, places, rooms)
+        found = (self.lines(h, *place, width) for h, place in zip(heads, places))
+        return [line for its in found for line in its]
 
     def lines(self, head: str, start: int, stop: int, width: int) -> list[str]:
         """A head and an excerpt after it, in as few lines of the width as have all of the words.
@@ -63,7 +87,7 @@ class Excerpts:
         room = width - (len(head) if head.isascii() else columns(head))
         text, size = self._text, stop - start + _BRACKETS
         if self._is_plain and size + _BESIDE <= room:
-            return [self._plain_line(head, start, stop, room - size)]
+            return self._plain_lines([head], [(start, stop)], [room - size])
         if not self._is_plain:
             size = columns(f"[{visible(text[start:stop])}]")
         others = len(text) - (stop - start)

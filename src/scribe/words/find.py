@@ -35,18 +35,18 @@ def instead(sought: str, text: str) -> str:
 
 
 def word_lines(
-    hit: Hit, width: int, where: Callable[[int], str] = lambda _: ""
+    hit: Hit, width: int, where: Callable[[int], str] | None = None
 ) -> list[str]:
     """A line for each place of a print, or more if the words need them.
 
     It is said where that is on the pages, if this was asked for.
     """
-    title, excerpts = _title(hit), Excerpts(hit.text)
-    lines: list[str] = []
-    for start, stop in hit.places:
-        head = f"{title}{where(start)}, character {start + 1}: "
-        lines += excerpts.lines(head, start, stop, width)
-    return lines
+    title, its = _title(hit), hit.places
+    if where is None:
+        heads = [f"{title}, character {start + 1}: " for start, _ in its]
+    else:
+        heads = [f"{title}{where(n)}, character {n + 1}: " for n, _ in its]
+    return Excerpts(hit.text).lines_of_all(heads, its, width)
 
 
 def cell_lines(

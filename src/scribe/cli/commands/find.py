@@ -89,10 +89,10 @@ def answer(session: Session, arguments: Namespace, console: Console) -> None:
     console.say(found_summary(text, tally, others, _OFFER))
 
 
-def _of_words(pages: "PageMap | None", hit: Hit) -> Callable[[int], str]:
-    """What is said of where a character stands on the pages: nothing if none were asked for."""
+def _of_words(pages: "PageMap | None", hit: Hit) -> Callable[[int], str] | None:
+    """What is said of where a character stands on the pages, if this was asked for."""
     if pages is None:
-        return lambda _: ""
+        return None
     # imported here, since it is seldom asked for
     from scribe.words.pages import page_place
 
