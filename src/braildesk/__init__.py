@@ -26,8 +26,8 @@ tries again while it is in use. ``workshop`` makes files whole before they get t
 ``held`` keeps a closed book from being opened. ``program`` finds and runs the program, ``files``
 reads tables and versions of books, and ``pipe`` moves bytes to and from a session of the program.
 ``watch`` tells that another program had a file open for writing, ``openfile`` sees to the file of a
-session, ``rescue`` says what became of that and saves the book from it, ``asking`` has a method for
-each request, and ``session`` is the session. ``making`` makes new books and copies, and ``snapshot``
+session, ``beginning`` starts its program, ``rescue`` says what became of the file and saves the book
+from it, ``asking`` has a method for each request, and ``session`` is the session. ``making`` makes new books and copies, and ``snapshot``
 copies a book that another program has open.
 """
 

@@ -9,6 +9,7 @@ from contextlib import contextmanager, nullcontext
 from os import PathLike, fspath
 from pathlib import Path
 from subprocess import DEVNULL, PIPE, Popen
+from typing import TYPE_CHECKING
 
 from braildesk import opening
 from braildesk.held import copy_held, held
@@ -26,9 +27,7 @@ from braildesk.protocol.asked import (
     real_path,
 )
 from braildesk.protocol.codes import Code
-from braildesk.protocol.sentences import ENDED_BY, Why
-from braildesk.protocol.values import Table
-from braildesk.protocol.wording import said_of_room
+from braildesk.protocol.sentences import ENDED_BY, Why, said_of_room
 from braildesk.refusals import (
     CannotOpen,
     DeskError,
@@ -40,6 +39,9 @@ from braildesk.refusals import (
 )
 from braildesk.text import limits
 from braildesk.workshop import made_for_a_while
+
+if TYPE_CHECKING:
+    from braildesk.protocol.values import Table
 
 StrPath = str | PathLike[str]
 
@@ -164,7 +166,7 @@ def _of_export(
 
 
 def translate(
-    table: StrPath | Table,
+    table: "StrPath | Table",
     lines: Iterable[str],
     program: StrPath | None = None,
     *,
@@ -179,7 +181,7 @@ def translate(
 
 
 def translate_beside(
-    table: StrPath | Table,
+    table: "StrPath | Table",
     lines: Iterable[str],
     beside: Callable[[], object],
     program: StrPath | None = None,
@@ -191,11 +193,11 @@ def translate_beside(
     sent = b"".join(
         line.text.encode() + b"\r\n" for line in judged if isinstance(line, PrintLine)
     )
-    if isinstance(table, Table):
-        output = _by_text(program, asked, sent, beside, while_waiting)
-    else:
+    if isinstance(table, (str, PathLike)):
         words = ["translate", "--", _word(asked)]
         output = _run(program, words, asked, sent, (), beside, while_waiting)
+    else:
+        output = _by_text(program, asked, sent, beside, while_waiting)
     answers = iter(output.decode().split("\n"))
     return [_answered(line, answers) for line in judged]
 
@@ -308,9 +310,9 @@ def _failure(status: int, errors: str, asked: AskedOfFile) -> str:
     return f"braildesk ended with status {status}: {errors.strip()}"
 
 
-def _table_asked(table: StrPath | Table) -> TableFile:
+def _table_asked(table: "StrPath | Table") -> TableFile:
     """What is asked of: a table by its file, or by its name and its text."""
-    if isinstance(table, Table):
+    if not isinstance(table, (str, PathLike)):
         return TableFile(table.name, table.text)
     is_file_of_that_name = isinstance(table, PathLike) and fspath(table) == "@en"
     return TableFile("./@en" if is_file_of_that_name else fspath(table))

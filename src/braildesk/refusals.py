@@ -3,13 +3,14 @@
 from collections.abc import Mapping, Sequence
 from dataclasses import replace
 from functools import cached_property
-from typing import Any
+from typing import TYPE_CHECKING, Any
 
 from braildesk.protocol.asked import Asked, AskedOfFile, Refusal
 from braildesk.protocol.codes import NUMBERS, Code, code_of
-from braildesk.protocol.requests import Request
 from braildesk.protocol.sentences import Why
-from braildesk.protocol.wording import reason, worded
+
+if TYPE_CHECKING:
+    from braildesk.protocol.requests import Request
 
 
 class DeskError(Exception):
@@ -62,11 +63,16 @@ class Refused(DeskError):
     @cached_property
     def sentence(self) -> str:
         """What a person reads: what happened, what it means for the book, what to do."""
+        # imported here, since most of what is asked isn't refused
+        from braildesk.protocol.wording import worded
+
         return worded(self.refusal)
 
     @property
     def reason(self) -> str:
         """The sentence without what the refusal means for the book."""
+        from braildesk.protocol.wording import reason  # as above
+
         return reason(self.refusal)
 
 
@@ -144,10 +150,10 @@ class Lost(Failed):
         self,
         cause: str,
         kept: str,
-        acknowledged: Request[Any] | None,
+        acknowledged: "Request[Any] | None",
         answered: int,
         version: int,
-        unanswered: tuple[Request[Any], ...] = (),
+        unanswered: "tuple[Request[Any], ...]" = (),
     ) -> None:
         super().__init__(cause, kept, acknowledged, answered, version, unanswered)
         self.cause = cause

@@ -5,7 +5,7 @@ import threading
 import warnings
 from collections import deque
 from collections.abc import Callable, Generator, Iterable, Iterator, Sequence
-from contextlib import contextmanager, suppress
+from contextlib import contextmanager
 from dataclasses import replace
 from itertools import zip_longest
 from os import fspath
@@ -14,6 +14,7 @@ from typing import TYPE_CHECKING, Any, Self, TypeVar
 
 from braildesk import opening, program as programs
 from braildesk.asking import Asking
+from braildesk.beginning import Beginning, begun
 from braildesk.openfile import OpenFile
 from braildesk.opening import waited
 from braildesk.pipe import Ending, Pipe
@@ -261,7 +262,7 @@ class Session(Asking):
 
     def _begin(self) -> tuple[Pipe, OpenFile]:
         """The pipes to the program, which begins to open the book, and the file."""
-        return _begun(self._book, self._program, self._while_waiting)
+        return begun(self._book, self._program, self._while_waiting)
 
     def _judge_free(self) -> None:
         """Whether the session can take a request."""
@@ -576,18 +577,18 @@ def _here() -> tuple[int, int]:
 class _Session(Session):
     """A session whose program was begun before it."""
 
-    def __init__(
-        self,
-        path: StrPath,
-        begun: list[tuple[Pipe, OpenFile]],
-        timeout: float,
-        while_waiting: Callable[[], None],
-    ) -> None:
-        self._begun = begun
-        super().__init__(path, timeout=timeout, while_waiting=while_waiting)
+    def __init__(self, beginning: Beginning, timeout: float) -> None:
+        self._beginning = beginning
+        its = beginning.while_waiting
+        super().__init__(beginning.path, timeout=timeout, while_waiting=its)
 
     def _begin(self) -> tuple[Pipe, OpenFile]:
-        return self._begun.pop() if self._begun else super()._begin()
+        return self._beginning.take() or super()._begin()
+
+
+def session_of(beginning: Beginning, timeout: float = 0.0) -> Session:
+    """A session whose program was begun, which is waited for as ``Session`` does."""
+    return _Session(beginning, timeout)
 
 
 @contextmanager
@@ -601,36 +602,8 @@ def session_beside(
 
     What keeps it from being opened is raised by that. If nothing waited for it, it is ended.
     """
-    begun: list[tuple[Pipe, OpenFile]] = []
-    with suppress(DeskError):
-        begun.append(_begun(BookFile(fspath(path)), None, while_waiting))
-    try:
-        yield lambda: _Session(path, begun, timeout, while_waiting)
-    except KeyboardInterrupt:
-        # the file may be one at which the program looks for ever
-        for pipe, _ in begun:
-            pipe.kill()
-        raise
-    finally:
-        for pipe, file in begun:
-            pipe.close()
-            file.close()
-
-
-def _begun(
-    book: BookFile, program: StrPath | None, while_waiting: Callable[[], None]
-) -> tuple[Pipe, OpenFile]:
-    """The pipes to the program, which begins to open a book, and the file that is held beside it."""
-    words = programs.session_words(book.path, program)
-    programs.judge(book, words[0])
-    file = OpenFile(book.path)
-    try:
-        return Pipe(words, while_waiting), file
-    except BaseException as error:
-        file.close()
-        if isinstance(error, OSError):
-            raise programs.cannot_run(words[0], error) from error
-        raise
+    with Beginning(path, while_waiting) as beginning:
+        yield lambda: session_of(beginning, timeout)
 
 
 def _first_version(pipe: Pipe, book: BookFile) -> int:

@@ -25,14 +25,15 @@ COUNT = 600
 WORDS = "far away"
 #: How many of our modules are imported, and how many in all, at most.
 MODULES = {
-    "--help": (20, 116),
-    "show": (51, 163),
-    "marks": (50, 163),
-    "find": (51, 163),
-    "import": (67, 187),
+    "--help": (20, 101),
+    "show": (54, 150),
+    "marks": (51, 148),
+    "find": (52, 149),
+    "import": (68, 174),
 }
 #: Modules that take as long as all of a short command, and are needed by few.
 DEAR = {
+    "ast",
     "braildesk.desk.drafts",
     "braildesk.files",
     "braildesk.making",
@@ -57,6 +58,26 @@ sys.argv[0] = "scribe"
 main()
 print(*sorted(sys.modules), file=sys.stderr)
 """
+
+
+#: Runs a command, and names the modules that are imported when the program is started.
+BEGUN = """
+import subprocess, sys
+popen = subprocess.Popen
+def begun(*words, **more):
+    print(*sys.modules, file=sys.stderr)
+    return popen(*words, **more)
+subprocess.Popen = begun
+from scribe.cli import main
+main()
+"""
+#: What a session needs, and what answers, which are imported while the program opens the book.
+BESIDE = {
+    "braildesk.protocol.requests",
+    "braildesk.session",
+    "scribe.cli.answers",
+    "scribe.cli.opened_book",
+}
 
 
 @dataclass
@@ -122,8 +143,13 @@ def run(*words: str | int | Path) -> list[str]:
 
 def imported(moon: Path, *words: str) -> set[str]:
     """The modules that a command imports."""
+    return said(moon, IMPORTED, *words)
+
+
+def said(moon: Path, script: str, *words: str) -> set[str]:
+    """The names in the last line that a command writes as an error, run by a script."""
     done = subprocess.run(
-        [sys.executable, "-c", IMPORTED, *words],
+        [sys.executable, "-c", script, *words],
         # nothing that other tests left there is asked about
         env=environment(XDG_STATE_HOME=str(moon.parent / "state")),
         capture_output=True,
@@ -143,6 +169,29 @@ def test_a_short_command_imports_what_it_needs(moon: Path, words: list[str]) -> 
     assert len(own) <= most_own and len(found) <= most, sorted(found)
     modules = {f"scribe.cli.commands.{module}" for module, _ in COMMANDS.values()}
     assert modules & found <= {f"scribe.cli.commands.{command}"}
+
+
+@pytest.mark.parametrize("words", [["show"], ["heading", "1"]])
+def test_the_program_opens_the_book_while_most_is_imported(
+    moon: Path, words: list[str]
+) -> None:
+    command, *others = words
+    found = said(moon, BEGUN, command, str(moon), *others, "--width", "400")
+    assert "braildesk.beginning" in found
+    assert not BESIDE & found
+
+
+def test_what_stands_for_a_module_gives_all_that_it_has() -> None:
+    lines = (
+        "import scribe.cli, inspect, sys",
+        "assert 'ast' not in sys.modules",
+        "from inspect import unwrap",
+        "assert inspect.unwrap is unwrap is sys.modules['inspect'].unwrap",
+        "assert not hasattr(inspect, 'none')",
+    )
+    subprocess.run(
+        [sys.executable, "-c", "\n".join(lines)], env=environment(), check=True
+    )
 
 
 def test_an_import_of_a_text_imports_nothing_that_reads_documents(moon: Path) -> None:
@@ -194,7 +243,7 @@ def test_a_command_opens_the_book_once_and_asks_each_thing_once(
     assert work.names == wanted
 
 
-@pytest.mark.parametrize("command", ["heading", "strike"])
+@pytest.mark.parametrize("command", ["heading", "show", "strike"])
 def test_a_command_on_a_paragraph_reads_no_other_line_of_the_list(
     long: Path, command: str, monkeypatch: pytest.MonkeyPatch
 ) -> None:

@@ -1,6 +1,6 @@
 """Ranges of paragraphs, in the order of the book, and of pages: those from one to another."""
 
-from collections.abc import Sequence
+from collections.abc import Callable, Sequence
 from dataclasses import dataclass
 from typing import TYPE_CHECKING
 
@@ -38,14 +38,26 @@ class ParagraphRange:
     def of(self, book: Sequence["Paragraph"]) -> Sequence["Paragraph"]:
         """The paragraphs of the range; raises `NoParagraph` and `BackwardRange`."""
         places = {paragraph.id: place for place, paragraph in enumerate(book)}
-        for end in (self.first, self.last):
-            if end is not None and end not in places:
-                raise NoParagraph(end, len(book))
-        start = 0 if self.first is None else places[self.first]
-        stop = len(book) if self.last is None else places[self.last] + 1
-        if start >= stop and book:
+        return book[self.among(places.get, len(book))]
+
+    def among(self, place_of: Callable[[int], int | None], count: int) -> slice:
+        """Where the range is in a book of so many paragraphs, each of which has a place by its number."""
+        start, stop = 0, count
+        if self.first is not None:
+            start = _found(self.first, place_of, count)
+        if self.last is not None:
+            stop = _found(self.last, place_of, count) + 1
+        if start >= stop and count:
             raise BackwardRange(self.first, self.last)
-        return book[start:stop]
+        return slice(start, stop)
+
+
+def _found(number: int, place_of: Callable[[int], int | None], count: int) -> int:
+    """The place of a paragraph; raises `NoParagraph`."""
+    place = place_of(number)
+    if place is None:
+        raise NoParagraph(number, count)
+    return place
 
 
 def chosen(

@@ -33,13 +33,41 @@ def answers(
         yield answer
 
 
+class ListedBook:
+    """The paragraphs of a book as its list has them, of which no line is read before it is needed."""
+
+    def __init__(self, session: Session) -> None:
+        self._lines = session.reply(List()).lines
+
+    def __len__(self) -> int:
+        return len(self._lines)
+
+    @property
+    def tables(self) -> set[str]:
+        """The names of the tables that paragraphs have."""
+        return {line.split(" ", 2)[1] for line in self._lines}
+
+    def place_of(self, number: int) -> int | None:
+        """Where the paragraph of a number is, if it is there."""
+        front, lines = f"{number} ", self._lines
+        if number and any(
+            line.startswith(front) for line in lines[number - 1 : number]
+        ):
+            # nobody moved it, nor one before it
+            return number - 1
+        places = (n for n, line in enumerate(lines) if line.startswith(front))
+        return next(places, None)
+
+    def among(self, places: slice = slice(None)) -> list[Paragraph]:
+        """The paragraphs at some places."""
+        return [read_paragraph(line) for line in self._lines[places]]
+
+
 def paragraph_of(session: Session, number: int) -> Paragraph | None:
-    """The paragraph of a number, if it is there. No other line of the list is read."""
-    front = f"{number} "
-    lines = session.reply(List()).lines
-    return next(
-        (read_paragraph(line) for line in lines if line.startswith(front)), None
-    )
+    """The paragraph of a number, if it is there."""
+    book = ListedBook(session)
+    place = book.place_of(number)
+    return None if place is None else book.among(slice(place, place + 1))[0]
 
 
 def prints(session: Session, paragraphs: Sequence[Paragraph]) -> Iterator[str]:

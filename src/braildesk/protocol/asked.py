@@ -5,10 +5,12 @@ Where the program finds the file of a book, its log and another program's journa
 
 import os
 from dataclasses import dataclass
-from typing import Any
+from typing import TYPE_CHECKING, Any, TypeAlias
 
-from braildesk.protocol.requests import Request
 from braildesk.protocol.sentences import Why
+
+if TYPE_CHECKING:
+    from braildesk.protocol.requests import Request
 
 
 @dataclass(frozen=True)
@@ -51,7 +53,7 @@ class Pages(AskedOfFile):
 
 
 #: Anything that may be refused.
-Asked = Request[Any] | PrintLine | AskedOfFile
+Asked: TypeAlias = "Request[Any] | PrintLine | AskedOfFile"
 
 
 @dataclass(frozen=True, slots=True)

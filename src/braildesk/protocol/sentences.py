@@ -194,3 +194,13 @@ UNOPENED = MappingProxyType(
         " and that no other program has the file open.",
     }
 )
+
+
+def said_of_room(room: int | None) -> str:
+    """That there is little room on a disk, to stand after what is said of it.
+
+    It isn't said for how many bytes: the program has emptied its log since something was too many.
+    """
+    if room is None:
+        return ""
+    return f": there is {'little' if room else 'no'} room on it"

@@ -18,7 +18,14 @@ from braildesk.protocol.asked import (
 )
 from braildesk.protocol.codes import Code
 from braildesk.protocol.fields import plain
-from braildesk.protocol.sentences import CAUSES, LIMITS, PARTS, SENTENCES, UNOPENED
+from braildesk.protocol.sentences import (
+    CAUSES,
+    LIMITS,
+    PARTS,
+    SENTENCES,
+    UNOPENED,
+    said_of_room,
+)
 from braildesk.text import limits
 from braildesk.text.characters import around, code_point, named, shortened
 
@@ -42,16 +49,6 @@ def _form(refusal: Refusal) -> str:
 
 def _alone(form: str) -> str:
     return form.replace(" {nothing}", "")
-
-
-def said_of_room(room: int | None) -> str:
-    """That there is little room on a disk, to stand after what is said of it.
-
-    It isn't said for how many bytes: the program has emptied its log since something was too many.
-    """
-    if room is None:
-        return ""
-    return f": there is {'little' if room else 'no'} room on it"
 
 
 #: What was asked with a number, and what a sentence has if it wasn't.

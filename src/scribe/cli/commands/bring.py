@@ -24,7 +24,7 @@ from braildesk.tables.convert.source import NoTable
 from braildesk.tables.convert.tailoring import Manuscript, tailor
 from braildesk.workshop import MayNotLast
 
-from scribe.cli.book_command import as_kept
+from scribe.cli.opened_book import as_kept
 from scribe.cli.parser import Subparsers, command_parser, readable
 from scribe.words.console import Console
 from scribe.words.import_text import unreadable

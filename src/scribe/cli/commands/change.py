@@ -49,4 +49,4 @@ def answer(session: Session, arguments: Namespace, console: Console) -> None:
     console.show(*change_lines(change, console.columns))
 
 
-COMMAND = BookCommand("change", EXAMPLE, add_words, answer, MORE)
+COMMAND = BookCommand("change", EXAMPLE, add_words, lambda: answer, MORE)

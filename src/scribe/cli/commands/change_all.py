@@ -16,7 +16,8 @@ from braildesk.desk.change_all import (
     proposals,
 )
 
-from scribe.cli.book_command import BookCommand, said_where_stopped
+from scribe.cli.book_command import BookCommand
+from scribe.cli.opened_book import said_where_stopped
 from scribe.cli.parser import Parser, add_ranges, add_width, argument
 from scribe.prompt.conversation import Ended
 from scribe.prompt.typed_lines import GivenUp, Lines, PipedLines, TypedLines, are_typed
@@ -173,4 +174,4 @@ def _lines(console: Console) -> AbstractContextManager[Lines]:
     return TypedLines() if are_typed() else nullcontext[Lines](PipedLines(console))
 
 
-COMMAND = BookCommand("change-all", EXAMPLE, add_words, answer, MORE)
+COMMAND = BookCommand("change-all", EXAMPLE, add_words, lambda: answer, MORE)

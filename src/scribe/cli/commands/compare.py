@@ -9,7 +9,8 @@ from braildesk.desk.manuscript import UnreadableText
 from braildesk.desk.manuscripts import read_manuscript
 from braildesk.named_files import is_same_file
 
-from scribe.cli.book_command import BookCommand, as_kept
+from scribe.cli.book_command import BookCommand
+from scribe.cli.opened_book import as_kept
 from scribe.cli.parser import Parser, add_width
 from scribe.words.compare import Count, left_out
 from scribe.words.console import Console
@@ -55,4 +56,4 @@ def answer(session: Session, arguments: Namespace, console: Console) -> None:
     console.say(*count.sentences(), *left_out(manuscript))
 
 
-COMMAND = BookCommand("compare", EXAMPLE, add_words, answer, MORE, looks=True)
+COMMAND = BookCommand("compare", EXAMPLE, add_words, lambda: answer, MORE, looks=True)

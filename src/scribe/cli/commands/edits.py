@@ -1,55 +1,27 @@
 """The commands that send one request each, and show what it changed."""
 
-import shlex
-from argparse import Namespace
 from collections.abc import Callable
-from typing import Any
 
-from braildesk import Code, NotFound, Session, Style, requests
-from braildesk.protocol.requests import Command
-
-from scribe.cli.book_command import BookCommand
+from scribe.cli.book_command import Answer, BookCommand
 from scribe.cli.parser import Parser, add_paragraph, add_width
-from scribe.words.changes import carried_out
-from scribe.words.console import Console
-from scribe.words.paragraph import no_mark
-from scribe.words.status import Stop
 from scribe.words.typed import after, number, switch, words
 
 
 def edit(
-    name: str,
-    example: str,
-    add_words: Callable[[Parser], None],
-    request: Callable[[Namespace], Command[Any]],
-    more: str = "",
+    name: str, example: str, add_words: Callable[[Parser], None], more: str = ""
 ) -> BookCommand:
-    """A command of the command line that is one request of a book."""
+    """A command of the command line that is one request of a book, which `answers.edits` has."""
 
     def add_all(parser: Parser) -> None:
         add_words(parser)
         add_width(parser)
 
-    def answer(session: Session, arguments: Namespace, console: Console) -> None:
-        try:
-            lines = carried_out(
-                session, request(arguments), console.columns, console.cells
-            )
-        except NotFound as missing:
-            if missing.code == Code.NO_MARK:
-                raise Stop(_no_mark(arguments)) from missing
-            raise
-        console.show(*lines)
+    def answering() -> Answer:
+        from scribe.cli.answers.edits import answer_of
 
-    return BookCommand(name, example, add_all, answer, more)
+        return answer_of(name)
 
-
-def _no_mark(arguments: Namespace) -> str:
-    if "wait" not in arguments:
-        # at the prompt of talk, which has the book open
-        return no_mark(arguments.mark)
-    command = shlex.join(["scribe", "marks", str(arguments.file)])
-    return no_mark(arguments.mark, command)
+    return BookCommand(name, example, add_all, answering, more)
 
 
 def _add_mark(parser: Parser) -> None:
@@ -102,60 +74,51 @@ _EDITS = (
         "undo",
         "scribe undo moon.braildesk 1",
         add_paragraph,
-        lambda words: requests.Undo(words.paragraph),
         "Nothing is erased: the history keeps the correction and that it was taken back.",
     ),
     edit(
         "resolve",
         "scribe resolve moon.braildesk 1",
         _add_mark,
-        lambda words: requests.Resolve(words.mark),
         "scribe marks shows the numbers of marks.",
     ),
     edit(
         "strike",
         "scribe strike moon.braildesk 2",
         add_paragraph,
-        lambda words: requests.Strike(words.paragraph),
         "It stays in the book, and scribe restore puts it back.",
     ),
     edit(
         "restore",
         "scribe strike moon.braildesk 2\nscribe restore moon.braildesk 2",
         add_paragraph,
-        lambda words: requests.Restore(words.paragraph),
     ),
     edit(
         "heading",
         "scribe heading moon.braildesk 2",
         add_paragraph,
-        lambda words: requests.Style(words.paragraph, Style.HEADING),
     ),
     edit(
         "body",
         "scribe body moon.braildesk 2",
         add_paragraph,
-        lambda words: requests.Style(words.paragraph, Style.BODY),
     ),
     edit(
         "volume",
         "scribe volume moon.braildesk 2 on",
         _add_switch,
-        lambda words: requests.Volume(words.paragraph, words.begins),
         "The first paragraph that isn't struck begins volume 1 in any case.",
     ),
     edit(
         "move",
         "scribe move moon.braildesk 2 front",
         _add_after,
-        lambda words: requests.Move(words.paragraph, words.after),
         "It keeps its number.",
     ),
     edit(
         "retable",
         "scribe retable moon.braildesk 2 plain",
         _add_table,
-        lambda words: requests.Retable(words.paragraph, words.table),
         "The table has to be in the book: scribe table puts it there.",
     ),
 )

@@ -122,4 +122,4 @@ def cells(arguments: Namespace) -> str:
         ) from fault
 
 
-COMMAND = BookCommand("find", EXAMPLE, add_words, answer, MORE, looks=True)
+COMMAND = BookCommand("find", EXAMPLE, add_words, lambda: answer, MORE, looks=True)

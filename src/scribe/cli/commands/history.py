@@ -50,4 +50,4 @@ def answer(session: Session, arguments: Namespace, console: Console) -> None:
         console.say(nothing_found(by, names))
 
 
-COMMAND = BookCommand("history", EXAMPLE, add_words, answer, MORE, looks=True)
+COMMAND = BookCommand("history", EXAMPLE, add_words, lambda: answer, MORE, looks=True)

@@ -44,4 +44,4 @@ def answer(session: Session, arguments: Namespace, console: Console) -> None:
         console.say("The book has no paragraphs.")
 
 
-COMMAND = BookCommand("list", EXAMPLE, add_words, answer, MORE, looks=True)
+COMMAND = BookCommand("list", EXAMPLE, add_words, lambda: answer, MORE, looks=True)

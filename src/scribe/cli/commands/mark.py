@@ -53,4 +53,4 @@ def answer(session: Session, arguments: Namespace, console: Console) -> None:
         console.say(wider(marked))
 
 
-COMMAND = BookCommand("mark", EXAMPLE, add_words, answer, MORE)
+COMMAND = BookCommand("mark", EXAMPLE, add_words, lambda: answer, MORE)

@@ -60,4 +60,4 @@ def _page(pages: "PageMap", its: MarkOfBook) -> str:
     return page_place(pages.of_character(its.paragraph, its.mark.start, its.text))
 
 
-COMMAND = BookCommand("marks", EXAMPLE, add_words, answer, MORE, looks=True)
+COMMAND = BookCommand("marks", EXAMPLE, add_words, lambda: answer, MORE, looks=True)

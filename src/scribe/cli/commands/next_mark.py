@@ -48,4 +48,4 @@ def answer(
     return its
 
 
-COMMAND = BookCommand("next", EXAMPLE, add_words, answer, MORE, looks=True)
+COMMAND = BookCommand("next", EXAMPLE, add_words, lambda: answer, MORE, looks=True)

@@ -214,5 +214,11 @@ def _detailed(
 
 
 COMMAND = BookCommand(
-    "pages", EXAMPLE, add_words, answer, MORE, looks=True, beside=exported_beside
+    "pages",
+    EXAMPLE,
+    add_words,
+    lambda: answer,
+    MORE,
+    looks=True,
+    beside=exported_beside,
 )

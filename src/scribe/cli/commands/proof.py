@@ -9,7 +9,7 @@ from braildesk.desk.proof import ProofPage, open_marks, proof_pages
 from braildesk.desk.whole_file import Access, write_whole
 from braildesk.workshop import MayNotLast
 
-from scribe.cli.book_command import looked_at
+from scribe.cli.opened_book import looked_at
 from scribe.cli.page_size import add_page_size, page_size_of
 from scribe.cli.parser import Subparsers, add_file, command_parser
 from scribe.words.console import Console

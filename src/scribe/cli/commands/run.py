@@ -8,7 +8,7 @@ from braildesk import Refused, Session, limits
 from braildesk.protocol.requests import Request, TableHead
 from braildesk.text.characters import control_refused
 
-from scribe.cli.book_command import open_session
+from scribe.cli.opened_book import open_session
 from scribe.cli.parser import Subparsers, add_file, command_parser
 from scribe.prompt.grammar import NotARequest, read_head
 from scribe.words.console import Console

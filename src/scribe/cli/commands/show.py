@@ -1,19 +1,7 @@
 """`scribe show`: the book as a person reads it."""
 
-from argparse import Namespace
-from collections.abc import Iterator, Sequence
-from pathlib import Path
-
-from braildesk import Paragraph, Session
-from braildesk.desk.own_folder import may_have
-from braildesk.desk.ranges import chosen
-from braildesk.desk.readings import answers, readings
-from braildesk.protocol.requests import Whence, Where
-
-from scribe.cli.book_command import BookCommand
-from scribe.cli.parser import Parser, add_cells, add_paragraphs, add_width, asked_ranges
-from scribe.words.console import Console
-from scribe.words.view import Shown, View
+from scribe.cli.book_command import Answer, BookCommand
+from scribe.cli.parser import Parser, add_cells, add_paragraphs, add_width
 
 MORE = """\
 Print and braille stand under one another, and after them the marks with their notes.
@@ -22,8 +10,6 @@ own order; 3- goes on to its end, -9 begins at its front, and 3-9,12 shows both.
 that was cut short, so that the book has a part of its text, is named at the end, unless
 another program has the book open."""
 EXAMPLE = "scribe show moon.braildesk 1-2"
-# how many paragraphs are asked for at once
-_BATCH = 256
 
 
 def add_words(parser: Parser) -> None:
@@ -35,69 +21,10 @@ def add_words(parser: Parser) -> None:
     add_width(parser)
 
 
-def answer(session: Session, arguments: Namespace, console: Console) -> None:
-    """Shows the paragraphs, and names imports that were cut short."""
-    book = session.paragraphs()
-    its = chosen(book, asked_ranges(arguments))
-    view = View(
-        width=console.columns,
-        has_print=arguments.print or not arguments.braille,
-        has_braille=arguments.braille or not arguments.print,
-        notation=console.cells,
-        has_table=len({paragraph.table for paragraph in book}) > 1,
-    )
-    for count, lines in enumerate(_shown(session, its, view)):
-        console.show(*([""] if count else []), *lines)
-    if not book:
-        console.say("The book has no paragraphs.")
-    if arguments.read_at == arguments.file:
-        # another program that has the book open may still be at an import
-        console.say(*_cut_short(session, book, arguments.file))
+def _answering() -> Answer:
+    from scribe.cli.answers.show import answer
+
+    return answer
 
 
-def _shown(
-    session: Session, paragraphs: Sequence[Paragraph], view: View
-) -> Iterator[list[str]]:
-    """The lines of each paragraph: its braille under its print where the book has it there."""
-    for start in range(0, len(paragraphs), _BATCH):
-        batch = readings(session, paragraphs[start : start + _BATCH])
-        found = [view.of(reading) for reading in batch]
-        own = iter(_are_paired(session, found))
-        for each in found:
-            yield each.lines(all([next(own) for _ in each.begun]))
-
-
-def _are_paired(session: Session, found: Sequence[Shown]) -> list[bool]:
-    """Whether the characters and the cells at which lines begin belong together, line by line.
-
-    They do if they are of one sign, or of signs that begin there.
-    """
-    begun = [(each.reading.paragraph.id, *at) for each in found for at in each.begun]
-    cells = [*answers(session, [Where(number, place) for number, place, _ in begun])]
-    # a sign that begins at the cell has its first character at the place or before it
-    earlier = [at for at, first in zip(begun, cells) if first < at[2]]
-    places = iter(
-        [*answers(session, [Whence(number, cell) for number, _, cell in earlier])]
-    )
-    return [
-        first == cell or first < cell and next(places) <= place
-        for (_, place, cell), first in zip(begun, cells)
-    ]
-
-
-def _cut_short(
-    session: Session, book: Sequence[Paragraph], file: Path
-) -> tuple[str, ...]:
-    """What is said of imports into the book that were cut short."""
-    if not may_have("imports"):
-        return ()
-    # what few books need isn't imported for the others
-    from braildesk.desk.drafts import Drafts
-    from braildesk.desk.earlier import to_go_on
-    from scribe.words.import_text import reminders
-
-    found = to_go_on(Drafts(file), session, book)
-    return tuple(sentence for each in found for sentence in reminders(each, file))
-
-
-COMMAND = BookCommand("show", EXAMPLE, add_words, answer, MORE, looks=True)
+COMMAND = BookCommand("show", EXAMPLE, add_words, _answering, MORE, looks=True)

@@ -42,4 +42,4 @@ def answer(session: Session, arguments: Namespace, console: Console) -> None:
     console.show(*carried_out(session, request, console.columns, console.cells))
 
 
-COMMAND = BookCommand("table", EXAMPLE, add_words, answer, MORE)
+COMMAND = BookCommand("table", EXAMPLE, add_words, lambda: answer, MORE)

@@ -10,7 +10,7 @@ from braildesk.protocol.requests import BY_NAME
 from braildesk.text.characters import visible
 
 from scribe.cli import prompt_words
-from scribe.cli.book_command import open_session
+from scribe.cli.opened_book import open_session
 from scribe.cli.commands import AT_PROMPT
 from scribe.cli.parser import (
     Subparsers,

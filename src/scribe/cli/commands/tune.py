@@ -15,7 +15,7 @@ from braildesk.tables.convert.source import NoTable
 from braildesk.tables.convert.tuning import Tuned, tune
 from braildesk.text.wrapping import wrap
 
-from scribe.cli.book_command import open_session
+from scribe.cli.opened_book import open_session
 from scribe.cli.parser import Subparsers, add_file, add_width, command_parser, readable
 from scribe.words.changes import at_version
 from scribe.words.console import Console

@@ -14,7 +14,8 @@ from braildesk.desk.volume_plan import (
     to_be_set,
 )
 
-from scribe.cli.book_command import BookCommand, said_where_stopped
+from scribe.cli.book_command import BookCommand
+from scribe.cli.opened_book import said_where_stopped
 from scribe.cli.page_size import add_page_size, page_size_of
 from scribe.cli.parser import Parser, WordsRefused, number
 from scribe.words.console import Console
@@ -119,7 +120,7 @@ COMMAND = BookCommand(
     "volumes",
     EXAMPLE,
     add_words,
-    answer,
+    lambda: answer,
     MORE,
     looks=True,
     changes=lambda arguments: bool(arguments.set),

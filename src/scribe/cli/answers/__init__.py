@@ -1,0 +1,1 @@
+"""What commands of a book do. Each is imported while the program opens the book, and its words before."""

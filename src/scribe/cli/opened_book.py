@@ -1,0 +1,186 @@
+"""The book of a command: its session, and what is said where it can't be opened or the work is stopped."""
+
+from argparse import Namespace
+from collections.abc import Callable, Iterator
+from contextlib import contextmanager, suppress
+from pathlib import Path
+
+from braildesk import (
+    CannotOpen,
+    DeskError,
+    Displaced,
+    Lost,
+    Session,
+    Why,
+    check,
+)
+from braildesk.beginning import Beginning
+from braildesk.desk import USUAL_WAIT
+from braildesk.desk.places import ManyPlaces
+from braildesk.session import session_of
+from braildesk.text.excerpt import excerpt_lines
+from braildesk.text.spans import Span
+
+from scribe.cli.book_command import BookCommand
+from scribe.words.console import Console
+from scribe.words.paragraph import quoted
+from scribe.words.status import Interrupted, Status, Stop, stopped_by
+
+
+def answered(
+    command: BookCommand,
+    beginning: Beginning,
+    arguments: Namespace,
+    console: Console,
+) -> Status:
+    """Does what the words of a command ask for, on the book that a program has begun to open."""
+    answer = command.answering()
+    with places_shown(console.columns):
+        with _opened(command, beginning, arguments, console) as session:
+            outcome = answer(session, arguments, console)
+    return outcome if isinstance(outcome, Status) else Status.DONE
+
+
+@contextmanager
+def _opened(
+    command: BookCommand,
+    beginning: Beginning,
+    arguments: Namespace,
+    console: Console,
+) -> Iterator[Session]:
+    """The session of a command."""
+    may_change = command.may_change(arguments)
+    if may_change and command.looks:
+        # what looks at a book doesn't wait, and this isn't just a look
+        arguments.wait = arguments.wait or USUAL_WAIT
+
+    def opened() -> Session:
+        return session_of(beginning, arguments.wait)
+
+    if may_change:
+        with opened() as session:
+            yield session
+    else:
+        with looked_at(arguments, console, opened) as (session, arguments.read_at):
+            yield session
+
+
+def open_session(arguments: Namespace, console: Console) -> Session:
+    """A session with the book that the words name, which says where it waits for the program."""
+    return Session(
+        arguments.file, timeout=arguments.wait, while_waiting=console.waiting()
+    )
+
+
+@contextmanager
+def said_where_stopped(
+    session: Session,
+    arguments: Namespace,
+    console: Console,
+    so_far: Callable[[int, int], str],
+) -> Iterator[None]:
+    """Says what is in the book if many changes are stopped among them, or their session ends.
+
+    This is said by how many were made, each of which is a version, and the version of the book.
+    """
+    first = session.last_version
+    try:
+        yield
+    except KeyboardInterrupt as cause:
+        try:
+            session.close()
+            now: int | None = session.last_version
+            lost_as = ""
+        except Lost as lost:
+            # what the session was just doing is in the book or isn't
+            now, lost_as = _version_after(lost, arguments, first), lost.sentence
+        what = lost_as if now is None else so_far(now - first, now)
+        console.say(f"{stopped_by(cause)} {what}")
+        raise Interrupted.after(cause) from cause
+    except Lost as lost:
+        now = _version_after(lost, arguments, first)
+        if now is not None and now > first:
+            console.say(so_far(now - first, now))
+        raise
+
+
+def _version_after(lost: Lost, arguments: Namespace, first: int) -> int | None:
+    """The version to which the changes of a lost session brought the book, if that is seen."""
+    if isinstance(lost, Displaced):
+        # another file may stand at the path, which doesn't say what was changed
+        return None
+    with suppress(DeskError):
+        now = check(arguments.file, timeout=getattr(arguments, "wait", USUAL_WAIT))
+        # others may have changed the book since
+        if first <= now <= lost.version + len(lost.unanswered):
+            return now
+    return None
+
+
+@contextmanager
+def looked_at(
+    arguments: Namespace,
+    console: Console,
+    opened: Callable[[], Session] | None = None,
+) -> Iterator[tuple[Session, Path]]:
+    """A session with the book, which something opens, and the path at which it is read.
+
+    While another program has the book open that is a copy, of which the version is said, and where
+    nothing may be written a copy as well.
+    """
+    try:
+        session = opened() if opened else open_session(arguments, console)
+    except CannotOpen as refusal:
+        if refusal.why not in (Why.IN_USE, Why.DENIED, Why.LOG_DENIED, Why.READ_ONLY):
+            raise
+        # imported here, since few commands meet a book that they can't open
+        from braildesk.snapshot import copied_session
+
+        with copied_session(arguments.file) as (session, copied):
+            if refusal.why is Why.IN_USE:
+                console.say(as_kept(arguments.file, session.last_version))
+            yield session, copied
+        return
+    with session:
+        yield session, arguments.file
+
+
+def as_kept(book: Path, version: int) -> str:
+    """What is said of a book that is looked at while another program has it open."""
+    return (
+        f"Another program has {book} open. This is what it had kept a moment ago, at version"
+        f" {version:,}."
+    )
+
+
+@contextmanager
+def places_shown(width: int) -> Iterator[None]:
+    """Stops with the places in which words stand, if it isn't clear which of them is meant."""
+    try:
+        yield
+    except ManyPlaces as many:
+        found = enumerate(many.places, 1)
+        lines = [
+            line
+            for nth, place in found
+            for line in _place_lines(many.text, place, nth, width)
+        ]
+        raise Stop(_of_many(many), more=lines) from many
+
+
+def _of_many(many: ManyPlaces) -> str:
+    count = len(many.places)
+    times = "once" if count == 1 else f"{count:,} times"
+    wanted = (
+        "Say which by --nth" if many.nth is None else f"There is no place {many.nth}"
+    )
+    return (
+        f"Paragraph {many.paragraph} has {quoted(many.sought)} {times}. {wanted}."
+        " Nothing was changed."
+    )
+
+
+def _place_lines(text: str, place: Span, nth: int, width: int) -> list[str]:
+    """A place with the words around it."""
+    head = f"--nth {nth}, character {place.start + 1}: "
+    return excerpt_lines(head, text, place.start, place.stop, width)
