@@ -63,11 +63,11 @@ print(*sorted(sys.modules), file=sys.stderr)
 #: Runs a command, and names the modules that are imported when the program is started.
 BEGUN = """
 import subprocess, sys
-popen = subprocess.Popen
-def begun(*words, **more):
-    print(*sys.modules, file=sys.stderr)
-    return popen(*words, **more)
-subprocess.Popen = begun
+class Begun(subprocess.Popen):
+    def __init__(self, *words, **more):
+        print(*sys.modules, file=sys.stderr)
+        super().__init__(*words, **more)
+subprocess.Popen = Begun
 from scribe.cli import main
 main()
 """
