@@ -185,14 +185,17 @@ def test_a_command_that_was_under_way_is_found_in_the_book_or_still_typed(
     assert sat.state.kept == kept
 
 
-@pytest.mark.parametrize("far", [KEPT, ANSWERED])
+@pytest.mark.parametrize("far, keys", [(KEPT, "y y"), (ANSWERED, "y")])
 def test_lines_that_were_cut_short_go_on_where_the_book_ends(
-    moon: Path, sit: Sit, monkeypatch: pytest.MonkeyPatch, far: str
+    moon: Path, sit: Sit, monkeypatch: pytest.MonkeyPatch, far: str, keys: str
 ) -> None:
     sat = stopped_once(moon, sit, monkeypatch, 2, far)
     sat.press("o")
     sat.state = sat.desk.paste(sat.state, "One.\nTwo.\nThree.\nFour.")
-    sat.press("y", "y")
+    # what wasn't answered is looked for in the book, and the rest is offered
+    sat.press(*keys.split())
+    waits = sat.desk.drafts.waiting()
+    assert waits and waits.text == "Three.\nFour."
     assert sat.state.question and sat.state.question.lines == ("Three.", "Four.")
     sat.press("y")
     found = ["The moon is far away.", "One.", "Two.", "Three.", "Four."]

@@ -11,6 +11,8 @@ import braildesk
 from braildesk import Session
 from braildesk.desk.drafts import Drafts
 from braildesk.desk.layout import PageSize
+from braildesk.desk.own_folder import OwnFolder
+from braildesk.pipe import Pipe
 
 from scribe.screen import whole_book
 from scribe.screen.field import Field, Purpose
@@ -307,6 +309,46 @@ def test_many_pasted_lines_are_typed_beside_the_screen_up_to_a_signal(
     sat.desk.close()
     with Session(tides) as session:
         assert [session.print_of(number) for number in range(5, 35)] == lines
+
+
+def test_pasted_lines_take_time_that_grows_with_them_and_not_with_the_square(
+    tides: Path, sit: Sit, monkeypatch: pytest.MonkeyPatch
+) -> None:
+    sent, kept = list[bytes](), list[int]()
+    send, write = Pipe.send, OwnFolder.write
+
+    def counted(pipe: Pipe, data: bytes) -> None:
+        sent.append(data)
+        send(pipe, data)
+
+    def measured(folder: OwnFolder, name: str, data: bytes) -> None:
+        kept.append(len(data))
+        write(folder, name, data)
+
+    sat = sit(tides)
+    lines = [f"Line {number}." for number in range(1, 401)]
+    sat.press("o")
+    sat.state = sat.desk.paste(sat.state, "\n".join(lines))
+    sat.press("y")
+    monkeypatch.setattr(Pipe, "send", counted)
+    monkeypatch.setattr(OwnFolder, "write", measured)
+    sat.state = sat.desk.away(sat.state, lambda line: None)
+    typed = [data for data in sent if b"type " in data]
+    assert len(typed) == 400
+    # what is listed and drawn after the first of them, and after the last one
+    assert len(sent) - 400 < 80
+    assert sent.count(b"list\n") == 2
+    # what waits is kept in steps, each of which is by an eighth smaller than the one before
+    assert 20 < len(kept) < 60
+    assert sum(kept) < 12 * kept[0]
+    assert sat.state.typed == Field(Purpose.AFTER) and sat.state.question is None
+    assert [len(deed.back) for deed in sat.state.deeds] == [400]
+    assert sat.desk.drafts.waiting() is None
+    sat.desk.close()
+    with Session(tides) as session:
+        numbers = [each.id for each in session.paragraphs()]
+        assert numbers == [1, *range(5, 405), 2, 3, 4]
+        assert [session.print_of(number) for number in numbers[1:-3]] == lines
 
 
 @pytest.mark.parametrize("is_ended", [False, True])

@@ -21,8 +21,8 @@ keeps it from being typed, ``intake`` and ``typist`` type it, ``import_text`` is
 made before.
 ``compare`` finds the words in which a book differs from a manuscript, and ``contracted`` has what a
 table is made with for one. What a person typed is a ``draft``; ``drafts`` keeps them, as
-``record``s in an ``own_folder``, ``kept_lines`` finds which lines of one a book has by now, and
-``whole_file`` writes any file whole or not at all.
+``record``s in an ``own_folder``, ``kept_lines`` says which lines of one wait, and finds those that
+a book has by now, and ``whole_file`` writes any file whole or not at all.
 """
 
 #: How many seconds a book is waited for that another program has open, if nothing else is said.

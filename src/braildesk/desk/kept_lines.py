@@ -1,6 +1,7 @@
 """Lines that wait while they are typed, of which the first ones may be in the book already."""
 
 from collections.abc import Sequence
+from dataclasses import replace
 
 from braildesk import Session
 from braildesk.desk.draft import Draft
@@ -12,12 +13,37 @@ from braildesk.text.sequences import composed
 _PART = 8
 
 
-def is_to_be_kept(typed: int, count: int) -> bool:
-    """Whether so many lines are kept anew of which some were typed since they were kept last.
+class LinesLeft:
+    """Lines that wait as they were last kept, of which one after the other is typed.
 
-    If they were kept after each line, the time would grow as the square of their number.
+    They are kept anew each time that a part of them was typed. If they were kept after each line, the
+    time would grow as the square of their number.
     """
-    return typed * _PART >= count
+
+    def __init__(self, kept: Draft | None) -> None:
+        self._kept = kept
+        self._count = kept.text.count("\n") + 1 if kept else 0
+        self._typed = self._newest = 0
+
+    def left(self) -> Draft | None:
+        """Those that weren't typed."""
+        if self._kept is None or not self._typed:
+            return self._kept
+        return self._kept.after_lines(self._typed, self._newest)
+
+    def one_typed(self, newest: int, version: int) -> Draft | None:
+        """Those that are to be kept anew now that the first is the newest paragraph; else none.
+
+        The version is that of the book with it.
+        """
+        self._typed, self._newest = self._typed + 1, newest
+        left = self.left() if self._typed * _PART >= self._count else None
+        if left is None:
+            return None
+        left = replace(left, version=version)
+        self._kept, self._count = left, self._count - self._typed
+        self._typed = 0
+        return left
 
 
 def lines_kept(

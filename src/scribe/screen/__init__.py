@@ -3,7 +3,8 @@
 `state` is what the screen knows, `drawing` makes lines of it, and `keys` says what each key asks
 for: a state, and a command or one of the `actions` that goes with it. While a text is typed
 `typing_keys` says it, while something is asked `question_keys`, and for text that comes all at once
-`pasted_lines`; `field` is a text that is typed, and `moves` has the keys of the cursor.
+`pasted_lines`, whose lines `lines_typed` types one after the other; `field` is a text that is
+typed, and `moves` has the keys of the cursor.
 
 `desk` sends commands and actions to the session with the book and gives the state after them.
 `drawn` asks for what is drawn of it, `finding` and `in_hand` put the cursor at what was found,

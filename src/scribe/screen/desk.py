@@ -71,6 +71,7 @@ from scribe.screen.background import ActionResult, done_in_background
 from scribe.screen.drawn import refreshed
 from scribe.screen.field import Field, Purpose
 from scribe.screen.in_hand import asked_for_note, left_here, with_mark_in_hand
+from scribe.screen.lines_typed import LinesTyped
 from scribe.screen.state import (
     Pages,
     Pane,
@@ -100,9 +101,9 @@ _TYPE_ON = "What is typed is still here: type on."
 
 
 class _Interrupted(Exception):
-    """The session failed in the middle of a step, with the state in which it did."""
+    """The session failed in the middle of a step, or scribe is to end, with the state then."""
 
-    def __init__(self, state: State, cause: Lost | Refused) -> None:
+    def __init__(self, state: State, cause: Lost | Refused | Interrupted) -> None:
         super().__init__()
         self.state = state
         self.cause = cause
@@ -442,6 +443,9 @@ class Desk:
             with in_sentences():
                 state = self._done(state, step.asked, tell)
         except _Interrupted as interrupted:
+            if isinstance(interrupted.cause, Interrupted):
+                # the book is asked for nothing more, and nothing is drawn
+                return interrupted.state
             state = self._after_failure(interrupted.state, interrupted.cause)
             if _is_gone_on_from(step.asked):
                 state = self._begun_where_typed(state)
@@ -894,34 +898,61 @@ class Desk:
         self, state: State, action: TypeAll, tell: whole_book.Report
     ) -> State:
         """Types paragraphs until one is refused, which stays typed; U brings back those after it."""
-        before, sent = len(state.deeds), 0
-        for count, line in enumerate(action.lines):
-            lines = action.lines[count:]
-            rest = " ".join(lines)
-            field = Field(Purpose.AFTER if count else action.purpose, rest, len(rest))
-            asked = typing_keys.entered(state, replace(field, text=line)).asked
-            if not isinstance(asked, Command):
-                # the first line leaves the paragraph as it is
-                continue
-            about = pasted_lines.about_lines(field.purpose, lines)
-            waiting = replace(state, typed=field, question=about)
-            try:
-                tell(sent, len(action.lines))
-                state = replace(self._sent(waiting, asked), question=None)
-                sent += 1
-            except Interrupted:
-                # the others wait
-                return done_by_one_key(waiting, before)
-            except _Interrupted as interrupted:
-                if isinstance(interrupted.cause, Lost) or not interrupted.state.typed:
-                    raise
-                said = f"{sent} typed. {interrupted.cause.sentence}"
-                state = self._refused_among(interrupted.state.saying(said), lines)
-                return done_by_one_key(state, before)
+        before = len(state.deeds)
+        try:
+            for count, line in enumerate(action.lines):
+                purpose = Purpose.AFTER if count else action.purpose
+                field = Field(purpose, line, len(line))
+                asked = typing_keys.entered(state, field).asked
+                # a first line may leave its paragraph as it is
+                if isinstance(asked, Command):
+                    lines = action.lines[count:]
+                    state = self._lines_sent(state, purpose, lines, asked, tell)
+                    break
+        except _Interrupted as interrupted:
+            state = done_by_one_key(interrupted.state, before)
+            if not isinstance(interrupted.cause, Refused) or state.typed is None:
+                interrupted.state = state
+                raise
+            left = state.question.lines if state.question else ()
+            said = f"{len(lines) - len(left)} typed. {interrupted.cause.sentence}"
+            return self._refused_among(state.saying(said), left)
         state = replace(state, typed=None, preview=None)
         return done_by_one_key(
             self._begun(state) if _is_gone_on_from(action) else state, before
         )
+
+    def _lines_sent(
+        self,
+        state: State,
+        purpose: Purpose,
+        lines: Sequence[str],
+        first: Command[Any],
+        tell: whole_book.Report,
+    ) -> State:
+        """Types lines, the first of them by a command; all others are listed and drawn at once."""
+        waiting = pasted_lines.waiting(state, purpose, lines)
+        try:
+            tell(0, len(lines))
+            state = replace(self._sent(waiting, first), question=None)
+        except Interrupted as stop:
+            raise _Interrupted(waiting, stop) from stop
+        typed = LinesTyped(self._session, self._unsent, state, lines[1:])
+        refusal: Refused | None = None
+        try:
+            try:
+                typed.go_on(tell, 1)
+            except Refused as refused:
+                refusal = refused
+            found = typed.state
+            if typed.newest is not None:
+                found = self._changed(found, typed.newest, state)
+        except (Lost, Interrupted) as stop:
+            # those that are left wait
+            raise _Interrupted(typed.state, stop) from stop
+        if refusal is not None:
+            raise _Interrupted(found, refusal) from refusal
+        return found
 
     def _refused_among(self, state: State, lines: Sequence[str]) -> State:
         """The state in which the first of some lines is typed further, and the others are set aside."""

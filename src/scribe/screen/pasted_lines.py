@@ -67,6 +67,13 @@ def about_lines(purpose: Purpose, lines: Sequence[str]) -> Question:
     return Question(f"The pasted text has {count} lines. {asked}", tuple(lines))
 
 
+def waiting(state: State, purpose: Purpose, lines: Sequence[str]) -> State:
+    """The state in which such lines wait until the book has them."""
+    rest = " ".join(lines)
+    field = Field(purpose, rest, len(rest))
+    return replace(state, typed=field, question=about_lines(purpose, lines))
+
+
 def about_ended(state: State) -> Question | None:
     """Whether what is typed on is another line: Enter came with the keys before it, all at once."""
     typed = state.typed

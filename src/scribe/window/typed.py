@@ -9,7 +9,7 @@ from typing import Any
 from braildesk import After, Refused, requests
 from braildesk.desk.draft import Aim, Draft
 from braildesk.desk.drafts import NotKept
-from braildesk.desk.kept_lines import is_to_be_kept
+from braildesk.desk.kept_lines import LinesLeft
 from braildesk.protocol.requests import Command
 from braildesk.text import limits
 from braildesk.text.sequences import composed, parted
@@ -30,7 +30,7 @@ class Typed:
     def __init__(self, desk: Desk, noted: Callable[[Span, str], None]) -> None:
         self.desk = desk
         self._noted = noted
-        self._lines = _Lines(None)
+        self._lines = LinesLeft(None)
 
     def take_back(self) -> None:
         """Takes back what was typed last, or else what was done last."""
@@ -215,7 +215,7 @@ class Typed:
         """Has lines wait until the book has them, which lacks them as it is now."""
         desk, version = self.desk, self.desk.contents.version
         desk.have_wait(lines and replace(lines, version=version))
-        self._lines = _Lines(desk.beside)
+        self._lines = LinesLeft(desk.beside)
         desk.wait_for_draft()
 
     def _corrected_first(
@@ -272,31 +272,12 @@ class Typed:
 
         It is in the thread of the session, while the window keeps nothing else.
         """
-        desk, lines = self.desk, self._lines
-        lines.typed, lines.newest = lines.typed + 1, newest
-        if not is_to_be_kept(lines.typed, lines.count):
-            return
-        left = lines.left()
+        desk = self.desk
+        left = self._lines.one_typed(newest, desk.book.session.last_version)
         if left is not None:
-            desk.beside = replace(left, version=desk.book.session.last_version)
-            self._lines = _Lines(desk.beside)
+            desk.beside = left
             with suppress(NotKept):
-                desk.unsent.keep(desk.beside)
-
-
-class _Lines:
-    """Lines as they were last kept, how many were typed since, and which paragraph is the newest."""
-
-    def __init__(self, kept: Draft | None) -> None:
-        self._kept = kept
-        self.count = kept.text.count("\n") + 1 if kept else 0
-        self.typed = self.newest = 0
-
-    def left(self) -> Draft | None:
-        """Those that weren't typed."""
-        if self._kept is None or not self.typed:
-            return self._kept
-        return self._kept.after_lines(self.typed, self.newest)
+                desk.unsent.keep(left)
 
 
 def _typed_after(
