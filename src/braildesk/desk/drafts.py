@@ -8,7 +8,7 @@ path; they say that path, and the device and the inode of the book's file.
 import hashlib
 import json
 import os
-from collections.abc import Callable
+from collections.abc import Callable, Mapping
 from contextlib import suppress
 from dataclasses import asdict, dataclass
 from enum import Enum
@@ -47,6 +47,7 @@ class Begun(Enum):
     CUT = "cut"
     UNREAD = "unread"
     WORDS = "words"
+    ANSWERS = "answers"
 
 
 @dataclass(frozen=True)
@@ -224,6 +225,19 @@ class Drafts:
             self._write(Begun.WORDS, {"old": written(old), "new": written(new)})
         else:
             self._remove(Begun.WORDS)
+
+    def answers(self) -> dict[str, str]:
+        """What was last typed where something is asked, by its name; what can't be read is no fault."""
+        try:
+            data = self._folder.read(self._name(Begun.ANSWERS))
+            return {} if data is None else Record.of(data).texts("answers")
+        except (NotSuch, OSError):
+            return {}
+
+    def keep_answers(self, answers: Mapping[str, str]) -> None:
+        """Keeps what was last typed where something is asked."""
+        values = {name: written(text) for name, text in answers.items()}
+        self._write(Begun.ANSWERS, {"answers": values})
 
     def begin_import(self, note: ImportNote) -> None:
         """Notes an import before its first paragraph is typed, in place of others of its text."""

@@ -51,6 +51,11 @@ class Record:
         """A text, or null."""
         return self.text(name) if self.has(name) else None
 
+    def texts(self, name: str) -> dict[str, str]:
+        """Texts by their names."""
+        its = self.record(name)
+        return {each: its.text(each) for each in its._values}
+
     def path(self, name: str) -> str:
         """The path of a file, whose bytes needn't be UTF-8."""
         value = self._values.get(name)

@@ -12,7 +12,7 @@ from scribe.screen.actions import ImportFrom
 from scribe.screen.background import question_about
 from scribe.screen.field import Cut, Field, Purpose
 from scribe.screen.state import Pane, State
-from scribe.words.drafts import Unsent, not_kept
+from scribe.words.drafts import Unsent, not_kept, words_wait
 from scribe.words.import_text import came_to, not_seen
 from scribe.words.paragraph import quoted
 
@@ -43,6 +43,22 @@ def with_cut(unsent: Unsent, state: State) -> State:
     if unsent.waiting:
         return state
     said = f"{quoted(text)} was cut out of what was typed. Ctrl-Y puts it in while you type."
+    return state.saying(f"{said} {state.message}".rstrip())
+
+
+def with_answers(unsent: Unsent, state: State) -> State:
+    """The state with what was typed last where something is asked, and words for c."""
+    names = Purpose.__members__
+    answers = {
+        names[name]: text for name, text in unsent.answers.items() if name in names
+    }
+    state = replace(state, answers=answers, unchanged=unsent.words)
+    old, new = unsent.words
+    if not old:
+        return state
+    both = {Purpose.OLD: old, **({Purpose.NEW: new} if new else {})}
+    said = f"{words_wait(unsent.words)} Up after c brings back what was typed."
+    state = replace(state, answers={**answers, **both})
     return state.saying(f"{said} {state.message}".rstrip())
 
 

@@ -66,7 +66,13 @@ from scribe.screen.actions import (
     ToPage,
     TypeAll,
 )
-from scribe.screen.at_opening import SHOWS_KEYS, reminded, where_left, with_cut
+from scribe.screen.at_opening import (
+    SHOWS_KEYS,
+    reminded,
+    where_left,
+    with_answers,
+    with_cut,
+)
 from scribe.screen.background import ActionResult, done_in_background
 from scribe.screen.drawn import refreshed
 from scribe.screen.field import Field, Purpose
@@ -78,12 +84,14 @@ from scribe.screen.state import (
     Size,
     State,
     Step,
+    answered_with,
     at_paragraph,
     done_by_one_key,
     draft_of,
     saying_first,
     so_far,
     with_imported,
+    words_of,
 )
 from scribe.screen.waiting import asked_about, unkept, where_kept, with_text
 from scribe.words import deeds, pagelook
@@ -183,6 +191,7 @@ class Desk:
             message=self._greeting(),
         )
         state = with_cut(self._unsent, where_left(self.drafts, state))
+        state = with_answers(self._unsent, state)
         state = self._offered(state, self._unsent.waiting)
         state = reminded(self.drafts, self._session, state)
         return refreshed(self._session, state)
@@ -273,6 +282,9 @@ class Desk:
         try:
             try:
                 self._unsent.keep_cut(state.cut.text if state.cut else "")
+                answers = answered_with(state, state.typed).answers
+                names = {each.name: text for each, text in answers.items()}
+                self._unsent.keep_answers(names, words_of(state))
             finally:
                 self._unsent.keep(draft_of(state))
         except NotKept as fault:

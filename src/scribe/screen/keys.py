@@ -38,6 +38,7 @@ from scribe.screen.pasted_lines import is_cut
 from scribe.screen.question_keys import answered
 from scribe.screen.state import Pages, Pane, Question, State, Step, prompted
 from scribe.screen.typing_keys import (
+    KEYS_OF_ANSWER,
     KEYS_OF_LINE,
     KEYS_OF_PRINT,
     OF_OLD,
@@ -147,8 +148,12 @@ def keys_of(state: State) -> tuple[str, tuple[str, ...]]:
     if pages:
         return "while looking", KEYS_OF_LIST if pages.targets else KEYS_OF_PAGES
     if state.typed is not None:
-        is_print = state.typed.purpose.is_print
-        return "while typing", (*(KEYS_OF_PRINT if is_print else ()), *KEYS_OF_LINE)
+        purpose = state.typed.purpose
+        first = KEYS_OF_PRINT if purpose.is_print else KEYS_OF_ANSWER
+        return "while typing", (
+            *(first if purpose is not Purpose.NOTE else ()),
+            *KEYS_OF_LINE,
+        )
     if state.anchor is not None and state.pane is Pane.CELLS:
         return "while choosing cells", KEYS_OF_CHOICE
     seen: dict[str, list[str]] = {}

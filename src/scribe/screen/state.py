@@ -199,6 +199,10 @@ class State:
     finds_alike: bool = False
     #: The words that go, while those are typed that come in their place.
     gone: str = ""
+    #: What was last typed for each purpose that isn't for the book, which Up brings back.
+    answers: Mapping[Purpose, str] = field(default_factory=dict)
+    #: Words that were to be changed, and those in their place, when scribe last ended.
+    unchanged: tuple[str, str] = ("", "")
     #: The table of a new paragraph if no paragraph is chosen.
     table: str | None = None
     #: What keys did in this session and didn't take back, the newest last.
@@ -429,6 +433,23 @@ def draft_of(state: State) -> Draft | None:
     cells = state.chosen_cells if typed.purpose is Purpose.NOTE else None
     aim = Aim[typed.purpose.name]
     return Draft(aim, number, state.table, before, text, cells, state.version)
+
+
+def answered_with(state: State, typed: Field | None) -> State:
+    """The state in which Up brings back what is typed, if it isn't for the book."""
+    if typed is None or typed.purpose.is_for_book or not typed.text:
+        return state
+    return replace(state, answers={**state.answers, typed.purpose: typed.text})
+
+
+def words_of(state: State) -> tuple[str, str]:
+    """Words that are typed to be changed and to come in their place, or were before; or none."""
+    typed = state.typed
+    if typed is not None and typed.purpose is Purpose.NEW:
+        return state.gone, typed.text
+    if typed is not None and typed.purpose is Purpose.OLD and typed.text:
+        return typed.text, ""
+    return state.unchanged
 
 
 def draft_of_pasted(state: State, text: str) -> Draft:

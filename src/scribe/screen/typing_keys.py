@@ -23,7 +23,7 @@ from scribe.screen.field import Cut, Field, Purpose
 from scribe.screen.lines import beside
 from scribe.screen.moves import no_line
 from scribe.screen.pasted_lines import about_ended, typed_on
-from scribe.screen.state import Question, State, Step, draft_of
+from scribe.screen.state import Question, State, Step, answered_with, draft_of
 from scribe.words.pagelook import wanted_line
 from scribe.words.pages import NoSize, described, typed_page_size
 from scribe.words.paragraph import quoted
@@ -41,6 +41,7 @@ KEYS_OF_PRINT = (
     "Escape: leaves the book as it was; U brings the text back",
     "Up, Down: to the line before, after",
 )
+KEYS_OF_ANSWER = ("Up: what was typed for this before, and back again",)
 KEYS_OF_LINE = (
     "Left, Right: to the character before, after",
     "Ctrl-Left, Ctrl-Right: to the word before, after",
@@ -62,9 +63,11 @@ def while_typing(state: State, typed: Field, key: str) -> Step:
         return Step(state, GiveUp())
     if key == "escape":
         said = _NOT_ADDED if typed.purpose.is_new else _AS_IT_WAS
-        return Step(replace(state, typed=None, preview=None).saying(said))
+        return Step(_left(state, typed).saying(said))
     if key in ("up", "down") and typed.purpose.is_print:
         return Step(_on_other_line(state, typed, -1 if key == "up" else 1))
+    if key == "up" and not typed.purpose.is_for_book:
+        return Step(_brought_back(state, typed))
     if key == "enter":
         refused = control_refused(typed.text.encode())
         if refused:
@@ -114,6 +117,23 @@ def about_length(state: State, typed: Field) -> Question | None:
     return Question(sentence, parts=(first, rest))
 
 
+def _brought_back(state: State, typed: Field) -> State:
+    """The state with what was typed for this before, in whose place what is typed now comes."""
+    text = state.answers.get(typed.purpose, "")
+    if text in ("", typed.text):
+        return state.saying("Nothing else was typed for this before.")
+    field = replace(typed, text=text, place=len(text))
+    return replace(answered_with(state, typed), typed=field)
+
+
+def _left(state: State, typed: Field) -> State:
+    """The state in which nothing is typed any more; what was is brought back by Up."""
+    state = answered_with(state, typed)
+    if typed.purpose in (Purpose.OLD, Purpose.NEW):
+        state = replace(state, unchanged=("", ""))
+    return replace(state, typed=None, preview=None)
+
+
 def _cut_out(state: State, cut: Cut) -> State:
     """The state with words cut out; those cut one after the other are put back together."""
     if not cut.text:
@@ -142,7 +162,7 @@ def entered(state: State, typed: Field) -> Step:
             return Step(state, replace(command, expect=state.version))
         case Purpose.NOTE:
             return _marked(state, typed.text)
-    state = replace(state, typed=None, preview=None)
+    state = _left(state, typed)
     if typed.purpose.is_new:
         return Step(state.saying(_NOT_ADDED))
     # blanks may be looked for

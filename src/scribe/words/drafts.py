@@ -24,6 +24,7 @@ _BEGUN = {
     Begun.CUT: "What is cut out of it",
     Begun.UNREAD: "What is typed meanwhile",
     Begun.WORDS: "What is typed to change words",
+    Begun.ANSWERS: "What is typed as an answer",
 }
 
 
@@ -52,7 +53,8 @@ def came_last(text: str) -> str:
 def words_wait(words: tuple[str, str]) -> str:
     """That words which were typed to take the place of others aren't in the book."""
     old, new = words
-    return f"{quoted(old)} was to be changed to {quoted(new)}, which wasn't done."
+    what = f" to {quoted(new)}" if new else ""
+    return f"{quoted(old)} was to be changed{what}, which wasn't done."
 
 
 def where_typed(book: Path | None) -> str:
@@ -102,6 +104,9 @@ class Unsent:
         self.typed_at: Path | None = None
         #: What was last cut out of a text that was typed, which is put in again by a key.
         self.cut = ""
+        #: What was last typed where something is asked, by its name, and words that were to be changed.
+        self.answers: dict[str, str] = {}
+        self.words: tuple[str, str] = ("", "")
         #: What came before the last end while nothing could be done with it, and is given up now.
         self.came_last = ""
         self._unread: Unread | None = None
@@ -115,6 +120,8 @@ class Unsent:
     def read(self) -> None:
         """Reads what waits from before, or raises `NotKept`."""
         self.cut = self._drafts.cut()
+        self.answers = self._drafts.answers()
+        self.words = self._drafts.words() or ("", "")
         self.waiting = self._drafts.waiting()
         self.typed_at = self._drafts.typed_at()
         self._unread = self._drafts.unread()
@@ -177,6 +184,18 @@ class Unsent:
         if text != self.cut:
             self._drafts.keep_cut(text)
             self.cut = text
+
+    def keep_answers(self, answers: dict[str, str], words: tuple[str, str]) -> None:
+        """Keeps what was typed where something is asked, and words that are to be changed.
+
+        May raise `NotKept`.
+        """
+        if answers != self.answers:
+            self._drafts.keep_answers(answers)
+            self.answers = answers
+        if words != self.words:
+            self._drafts.keep_words(*words)
+            self.words = words
 
     def put_by(self, draft: Draft) -> str:
         """Keeps a text as the newest of those given up, and says what is in the way of that."""

@@ -1,0 +1,130 @@
+"""What is typed where the screen asks for words, numbers and names: it is kept, and Up brings it back."""
+
+import signal
+import time
+from pathlib import Path
+
+import pytest
+
+from braildesk.desk.drafts import Drafts
+
+from scribe.screen.field import Field, Purpose
+from scribe.screen.keys import step
+from scribe.screen.state import Size, State
+from sitting import Sat, Sit
+from terminal import WAIT_SECONDS, Open
+
+#: The keys that have each of them be typed.
+ASKS = {
+    Purpose.NUMBER: "g",
+    Purpose.TABLE: "t",
+    Purpose.WORDS: "/",
+    Purpose.SIZE: "w",
+    Purpose.FOLDER: "x",
+    Purpose.TEXT_FILE: "i",
+    Purpose.OLD: "c",
+    Purpose.PAGES: "V v",
+}
+
+
+def a_second_goes_by(sat: Sat) -> None:
+    """What is typed is kept, as each second."""
+    sat.state = sat.desk.save_draft(sat.state)
+
+
+def test_what_is_typed_as_an_answer_is_kept_before_enter_and_comes_back_by_up(
+    moon: Path, sit: Sit
+) -> None:
+    sat = sit(moon)
+    for purpose, keys in ASKS.items():
+        sat.press(*keys.split(), "c-u")
+        assert sat.state.typed and sat.state.typed.purpose is purpose
+        sat.write(f"{purpose.name} typed")
+        a_second_goes_by(sat)
+        assert Drafts(moon).answers()[purpose.name] == f"{purpose.name} typed"
+        sat.press("escape", *(["escape"] if purpose is Purpose.PAGES else []))
+    sat.desk.close()
+    # nothing else is kept at an end by SIGKILL
+    sat = sit(moon)
+    for purpose, keys in ASKS.items():
+        sat.press(*keys.split(), "c-u", "up")
+        assert sat.state.typed and sat.state.typed.text == f"{purpose.name} typed"
+        sat.press("escape", *(["escape"] if purpose is Purpose.PAGES else []))
+
+
+@pytest.mark.parametrize(
+    "keys, words, said",
+    [
+        ("", ("mon", ""), "“mon” was to be changed, which wasn't done."),
+        (
+            "enter m o o n",
+            ("mon", "moon"),
+            "“mon” was to be changed to “moon”, which wasn't done.",
+        ),
+    ],
+)
+def test_words_that_were_to_be_changed_are_offered_at_the_next_opening(
+    moon: Path, sit: Sit, keys: str, words: tuple[str, str], said: str
+) -> None:
+    sat = sit(moon)
+    sat.press("c", *"mon", *keys.split())
+    a_second_goes_by(sat)
+    assert Drafts(moon).words() == words
+    sat.desk.close()
+    sat = sit(moon)
+    assert sat.state.message.startswith(
+        f"{said} Up after c brings back what was typed."
+    )
+    # they wait until c has them
+    sat.press("down", "up", "c", "up")
+    assert sat.state.typed and sat.state.typed.text == "mon"
+    sat.press("enter", "up")
+    assert sat.state.typed and sat.state.typed.text == words[1]
+    sat.press("escape")
+    assert Drafts(moon).words() is None
+    assert Drafts(moon).answers()["OLD"] == "mon"
+
+
+def test_up_puts_back_what_it_took_the_place_of(moon: Path, sit: Sit) -> None:
+    sat = sit(moon)
+    sat.press("/", "up")
+    assert sat.state.message == "Nothing else was typed for this before."
+    sat.press(*"sea", "enter", "/", *"tide", "up")
+    assert sat.state.typed == Field(Purpose.WORDS, "sea", 3)
+    sat.press("up")
+    assert sat.state.typed == Field(Purpose.WORDS, "tide", 4)
+
+
+def test_in_a_note_up_brings_nothing_back(moon: Path, sit: Sit) -> None:
+    sat = sit(moon)
+    sat.press("/", *"moon", "enter", "m", "up")
+    assert sat.state.message.startswith("That key does nothing here.")
+    assert sat.state.typed and sat.state.typed.text == ""
+
+
+def test_the_keys_of_an_answer_name_up() -> None:
+    state = State(
+        "moon.braildesk", 1, (), ("en",), Size(80, 24), typed=Field(Purpose.WORDS)
+    )
+    shown = step(state, "f1").state
+    assert shown.pages and shown.pages.lines[0].startswith("Up: what was typed")
+
+
+def test_words_that_are_looked_for_outlive_a_terminal_that_is_killed(
+    moon: Path, at: Open
+) -> None:
+    terminal = at(moon)
+    terminal.wait("? shows the keys.")
+    terminal.keys("/", "far away")
+    end = time.monotonic() + WAIT_SECONDS
+    while Drafts(moon).answers().get("WORDS") != "far away":
+        assert time.monotonic() < end
+        time.sleep(0.01)
+    terminal.send_signal(signal.SIGKILL)
+    assert terminal.ended() == -signal.SIGKILL
+    again = at(moon)
+    again.wait("? shows the keys.")
+    again.keys("/", "up")
+    again.wait("far away")
+    again.keys("escape", "q")
+    assert again.ended() == 0
