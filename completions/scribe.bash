@@ -29,10 +29,10 @@ _scribe() {
             next | undo | resolve | strike | restore | heading | body | volume | move | retable) words='--width' ;;
             volumes) words='--pages --set --width --lines' ;;
             pages) words='--width --lines --page --line --paragraph' ;;
-            bring) words='--list --words --for --add --anyway' ;;
+            bring) words='--list --words --for --add --anyway --overwrite' ;;
             tune) words='--table --words --apply --width' ;;
             export) words='--width --lines --only-changed --page --volume' ;;
-            proof) words='--width --lines --print-first --ascii --marks-only --speak-cells --language' ;;
+            proof) words='--width --lines --print-first --ascii --marks-only --speak-cells --language --overwrite' ;;
             copy) words='--overwrite' ;;
         esac
         # those that open a book

@@ -8,8 +8,12 @@ from pathlib import Path
 import pytest
 
 import braildesk
+from braildesk.tables.convert import report
 from braildesk.tables.convert.conversion import Converted, Options, convert
-from braildesk.tables.convert.source import find_table
+from braildesk.tables.convert.draft import comment_lines
+from braildesk.tables.convert.oracle import Liblouis
+from braildesk.tables.convert.source import find_table, read_source
+from braildesk.tables.convert.subject import read_subject
 from tool import scribe
 
 EACH = 4
@@ -183,6 +187,38 @@ def test_a_table_takes_the_place_of_no_file_that_it_is_made_from(
     )
     assert (tmp_path / "small.utb").read_text() == SMALL
     assert (tmp_path / "text").read_text() == "Ax.\n"
+
+
+def test_a_table_replaces_one_that_was_brought_and_no_other_file_unless_that_is_asked(
+    tmp_path: Path,
+) -> None:
+    small(tmp_path)
+    (tmp_path / "out.utb").write_text("# My own table.\nletter a 1\n")
+    assert refused(tmp_path, "small.utb", "out.utb") == (
+        "out.utb is there already and is no table that scribe bring wrote, so it was left as it is;"
+        " --overwrite replaces it."
+    )
+    assert (tmp_path / "out.utb").read_text() == "# My own table.\nletter a 1\n"
+    for more in (["--overwrite"], []):
+        ran = scribe("bring", "small.utb", "out.utb", *more, folder=tmp_path)
+        assert (ran.status, ran.shown) == (0, "")
+        assert "out.utb was written, " in ran.said
+
+
+@pytest.mark.parametrize("name", ["a.utb", "a-table-with-a-long-name.utb"])
+@pytest.mark.parametrize("title", ["", "Title of a table"])
+def test_a_table_that_was_brought_is_known_by_its_first_comment(
+    tmp_path: Path, name: str, title: str
+) -> None:
+    path = tmp_path / name
+    path.write_text(f"#-display-name: {title}\n{SMALL}" if title else SMALL)
+    with Liblouis(path) as liblouis:
+        said = report.origin(read_subject(read_source(path), liblouis))
+    lines = [line for one in said for line in comment_lines(one)]
+    text = "\n".join(lines).encode()
+    assert report.is_brought(text)
+    assert not report.is_brought(text.replace(b"brought", b"taken"))
+    assert not report.is_brought(b"# Mine.\n" + text)
 
 
 def refused(folder: Path, *words: str | Path) -> str:

@@ -349,6 +349,35 @@ def test_a_proof_that_cannot_be_written_leaves_the_older_one(moon: Path) -> None
     assert ran.said.startswith("nowhere/moon.html could not be written: ")
 
 
+def test_a_proof_replaces_an_older_one_and_no_other_file_unless_that_is_asked(
+    moon: Path,
+) -> None:
+    page = moon.with_name("page.html")
+    words = ("proof", moon.name, page.name)
+    mine = b"<!DOCTYPE html>\n<html>\n<head>\n<title>Proof of mine</title>\n"
+    for already in (mine, b""):
+        page.write_bytes(already)
+        ran = scribe(*words, folder=moon.parent)
+        assert (ran.status, ran.shown, ran.said) == (
+            2,
+            "",
+            "page.html is there already and is no proof that scribe wrote, so it was left as it is;"
+            " --overwrite replaces it.\n",
+        )
+        assert page.read_bytes() == already
+    ran = scribe(*words, "--overwrite", folder=moon.parent)
+    assert (ran.status, ran.shown) == (0, "page.html: 1 page.\n")
+    for more in ([], ["--language", "en"], ["--print-first", "--ascii"], []):
+        page.write_bytes(page.read_bytes() + b"<!-- older -->")
+        assert scribe(*words, *more, folder=moon.parent).status == 0
+        assert not page.read_bytes().endswith(b"<!-- older -->")
+    # a name that leads elsewhere is no proof either
+    page.rename(moon.with_name("elsewhere.html"))
+    page.symlink_to("elsewhere.html")
+    assert scribe(*words, folder=moon.parent).status == 2
+    assert page.is_symlink()
+
+
 @pytest.mark.parametrize(
     "code", ["", "caf\udce9", 'en"><script>', "en\n", "English text"]
 )

@@ -5,10 +5,12 @@ import os
 import re
 import stat
 import time
+from collections.abc import Callable
 from contextlib import suppress
 from dataclasses import dataclass
 from pathlib import Path
 
+from braildesk.desk import Problem
 from braildesk.opening import MAGIC
 from braildesk.workshop import sync_names
 
@@ -20,10 +22,18 @@ _BESIDE = re.compile(r"\.scribe-[0-9a-f]{16}")
 _ANOTHER = (errno.ENOENT, errno.ELOOP, errno.ENXIO)
 # what a writer that was killed left is taken away after this time
 _LEFT_SECONDS = 3_600
+#: How many bytes at the front of a file say what it is.
+_HEAD_BYTES = 4_096
+#: Whether a file with these bytes at its front may be replaced.
+Replaces = Callable[[bytes], bool]
 
 
 class NoPlaceForAFile(OSError):
     """What stands at a path, or what a link there leads to, isn't replaced by a file."""
+
+
+class AnotherIsThere(Problem):
+    """A file of another kind is there, and nobody said that it is to be replaced."""
 
 
 @dataclass(frozen=True)
@@ -41,7 +51,12 @@ class Access:
         return cls(found.st_mode & ANYONE, found.st_gid)
 
 
-def write_whole(path: Path, data: bytes, access: Access = Access()) -> None:
+def write_whole(
+    path: Path,
+    data: bytes,
+    access: Access = Access(),
+    replaces: Replaces | None = None,
+) -> None:
     """Gives a name these bytes, in place of the file that it named.
 
     They are written beside it, in a file whose name begins with a full stop, and are on the disk
@@ -49,17 +64,31 @@ def write_whole(path: Path, data: bytes, access: Access = Access()) -> None:
     `MayNotLast` comes after it. The name alone is replaced: a link there is gone and the file that
     it led to stays as it was, and a pipe of that name isn't opened. A file of one's own keeps its
     permissions to read and write. Any other gets what is said here and the umask allows. A book is
-    never replaced.
+    never replaced, nor, with `AnotherIsThere`, what may not be by its front, if that is asked.
     """
     path = path if path.name else path.resolve()
     folder = os.open(path.parent, os.O_RDONLY | os.O_DIRECTORY | os.O_CLOEXEC)
     try:
         for left in filter(_BESIDE.fullmatch, os.listdir(folder)):
             remove_left(folder, left)
-        kept = _kept_permissions(path.name, folder)
+        kept = _kept_permissions(path.name, folder, replaces)
         replace_in(folder, path.name, data, access, kept)
     finally:
         os.close(folder)
+
+
+def judge_place(path: Path, replaces: Replaces) -> None:
+    """Raises `AnotherIsThere` as `write_whole` would, before there is anything to write."""
+    path = path if path.name else path.resolve()
+    try:
+        folder = os.open(path.parent, os.O_RDONLY | os.O_DIRECTORY | os.O_CLOEXEC)
+        try:
+            _kept_permissions(path.name, folder, replaces)
+        finally:
+            os.close(folder)
+    except OSError:
+        # it is said where the file is written
+        pass
 
 
 def replace_in(
@@ -96,7 +125,7 @@ def remove_from(folder: int, name: str) -> None:
         pass
 
 
-def _kept_permissions(name: str, folder: int) -> int | None:
+def _kept_permissions(name: str, folder: int, replaces: Replaces | None) -> int | None:
     """The permissions of a file of one's own that is to be replaced, else none."""
     try:
         older = os.stat(name, dir_fd=folder, follow_symlinks=False)
@@ -106,22 +135,27 @@ def _kept_permissions(name: str, folder: int) -> int | None:
         raise IsADirectoryError(errno.EISDIR, os.strerror(errno.EISDIR))
     if _is_device(name, folder, older.st_mode):
         raise NoPlaceForAFile(errno.EINVAL, "a device, a terminal or a pipe is there")
-    if not stat.S_ISREG(older.st_mode):
-        return None
-    if _is_book(name, folder):
+    is_file = stat.S_ISREG(older.st_mode)
+    head = _head(name, folder) if is_file else b""
+    if head.startswith(MAGIC):
+        # which nobody means when pages or a table are written
         raise NoPlaceForAFile(errno.EINVAL, "a book is there, which was left as it is")
+    if replaces is not None and not (is_file and replaces(head)):
+        raise AnotherIsThere(name)
+    if not is_file:
+        return None
     return older.st_mode & ANYONE if older.st_uid == os.geteuid() else None
 
 
-def _is_book(name: str, folder: int) -> bool:
-    """Whether a name is that of a book, which nobody means when pages or a table are written."""
+def _head(name: str, folder: int) -> bytes:
+    """What stands at the front of a file; nothing if it is gone by now."""
     flags = os.O_RDONLY | os.O_NOFOLLOW | os.O_NONBLOCK | os.O_CLOEXEC
     try:
         with open(os.open(name, flags, dir_fd=folder), "rb") as file:
-            return file.read(len(MAGIC)) == MAGIC
+            return file.read(_HEAD_BYTES)
     except OSError as error:
         if error.errno in _ANOTHER:
-            return False
+            return b""
         why = f"what is there can't be read ({error.strerror}), and may be a book"
         raise NoPlaceForAFile(errno.EINVAL, why) from error
 

@@ -1,5 +1,6 @@
 """A proof of a book as one page of HTML, without script and without other files."""
 
+import re
 from collections.abc import Iterable, Iterator
 from dataclasses import dataclass
 from html import escape
@@ -21,6 +22,11 @@ _CHARACTER, _BOLD_CHARACTER = 0.62, 0.7
 _GAP = 0.25
 #: How many cells at most the print of a word stands to the right of its cells.
 _SHIFT = 1.5
+#: The front of a proof up to its style.
+_FRONT = re.compile(
+    r'<!DOCTYPE html>\n<html( lang="[^"\n]*")?>\n<head>\n<meta charset="utf-8">\n'
+    r"<title>Proof of [^<\n]*</title>\n<style>\n"
+)
 
 
 @dataclass(frozen=True, slots=True)
@@ -105,6 +111,13 @@ def _shifted(line: ProofLine, width: int) -> tuple[int, list[float]]:
         if max(shifts, default=0.0) <= _SHIFT and end <= width + 1:
             return number, shifts
     return len(_SIZES) - 1, shifts
+
+
+def is_proof(head: bytes) -> bool:
+    """Whether a file that begins so is a proof that was written here."""
+    text = head.decode(errors="replace")
+    found = _FRONT.match(text)
+    return found is not None and text.startswith(_STYLE.split("{")[0], found.end())
 
 
 def _note(mark: Mark, text: str) -> str:

@@ -37,6 +37,19 @@ _NO_BRAILLE: Final = (
 )
 
 
+_BROUGHT: Final = "brought over to the profile of braildesk by scribe bring."
+
+
+def is_brought(head: bytes) -> bool:
+    """Whether a text that begins so was made by `scribe bring`, as its first comment says."""
+    sentence = ""
+    for line in head.decode(errors="replace").splitlines():
+        if not line.startswith("#") or sentence and not line.startswith("#  "):
+            break
+        sentence += f" {line[1:].strip()}"
+    return " of liblouis " in sentence and sentence.endswith(f", {_BROUGHT}")
+
+
 def origin(subject: Subject) -> list[str]:
     """Sentences that say where a table comes from, and under whose licence it is."""
     title = shipped_table(subject.source.path).title
@@ -44,8 +57,7 @@ def origin(subject: Subject) -> list[str]:
     licence = head_of(subject.source.path).get("license")
     stated = f" Its head names the licence {licence}." if licence else ""
     return [
-        f"{title}{subject.source.path.name} of liblouis {subject.liblouis.version}, brought over"
-        " to the profile of braildesk by scribe bring.",
+        f"{title}{subject.source.path.name} of liblouis {subject.liblouis.version}, {_BROUGHT}",
         f"It was made from {', '.join(subject.source.files)}. This text is derived from those files"
         f" and is under the licence that they state.{stated}",
     ]

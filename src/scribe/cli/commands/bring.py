@@ -6,7 +6,7 @@ from pathlib import Path
 from braildesk.desk.contracted import means_for
 from braildesk.desk.manuscript import UnreadableText
 from braildesk.desk.manuscripts import read_manuscript
-from braildesk.desk.whole_file import write_whole
+from braildesk.desk.whole_file import AnotherIsThere, judge_place, write_whole
 from braildesk.named_files import is_same_file
 from braildesk.tables.convert import manuscript_report, report
 from braildesk.tables.convert.addition import BadAddition
@@ -42,7 +42,8 @@ is under the licence of the table that it was made from.
 With --for MANUSCRIPT rules are learned besides, by asking liblouis, from a list of words
 and from the words of a text, a document or a book, so that a contracted table writes it
 as liblouis does. What differs still is said with its causes: such a table is to be proofread.
-docs/contracted.md makes a book so."""
+docs/contracted.md makes a book so.
+A FILE that bring wrote before is replaced, and any other only with --overwrite."""
 EXAMPLE = """\
 scribe bring --list
 scribe bring --list Spanish
@@ -93,6 +94,11 @@ def add_parser(subparsers: Subparsers) -> ArgumentParser:
         "--anyway",
         action="store_true",
         help="write the text however few lines agree",
+    )
+    parser.add_argument(
+        "--overwrite",
+        action="store_true",
+        help="replace a FILE that bring didn't write, unless it is a book",
     )
     return parser
 
@@ -146,7 +152,7 @@ def run(arguments: Namespace, console: Console) -> Status:
     console.say(*said_of(brought))
     if not brought.is_good and not arguments.anyway:
         raise Stop(_why_not(brought))
-    return _written(brought.text, arguments.file, console)
+    return _written(brought.text, arguments, console)
 
 
 def _judge_file(table: Path, arguments: Namespace) -> None:
@@ -158,6 +164,18 @@ def _judge_file(table: Path, arguments: Namespace) -> None:
         raise Stop(
             f"The table would take the place of {file}, from which it is made. Nothing was written."
         )
+    if file is not None and not arguments.overwrite:
+        try:
+            judge_place(file, report.is_brought)
+        except AnotherIsThere as taken:
+            raise _not_replaced(file) from taken
+
+
+def _not_replaced(file: Path) -> Stop:
+    return Stop(
+        f"{file} is there already and is no table that scribe bring wrote, so it was left as it is;"
+        " --overwrite replaces it."
+    )
 
 
 def _for_manuscript(table: Path, arguments: Namespace, console: Console) -> Status:
@@ -170,7 +188,7 @@ def _for_manuscript(table: Path, arguments: Namespace, console: Console) -> Stat
         raise Stop(FEW_WORDS)
     text, warned = manuscript_report.text_of(tailored)
     console.say(*warned)
-    return _written(text, arguments.file, console)
+    return _written(text, arguments, console)
 
 
 def _manuscript(path: Path, console: Console) -> Manuscript:
@@ -243,12 +261,16 @@ def _why_not(brought: Converted) -> str:
     return FEW_LINES if brought.unseen.share >= LIMIT else NOT_WRITTEN
 
 
-def _written(text: str, file: Path | None, console: Console) -> Status:
+def _written(text: str, arguments: Namespace, console: Console) -> Status:
+    file = arguments.file
+    replaces = None if arguments.overwrite else report.is_brought
     if file is None:
         console.pass_on(*text.removesuffix("\n").split("\n"))
         return Status.DONE
     try:
-        write_whole(file, text.encode())
+        write_whole(file, text.encode(), replaces=replaces)
+    except AnotherIsThere as taken:
+        raise _not_replaced(file) from taken
     except MayNotLast as error:
         raise Stop(may_not_last(file, error), Status.FAILED) from error
     except OSError as error:

@@ -6,7 +6,13 @@ from collections.abc import Iterable, Iterator
 from pathlib import Path
 
 from braildesk.desk.proof import ProofPage, open_marks, proof_pages
-from braildesk.desk.whole_file import Access, write_whole
+from braildesk.desk.whole_file import (
+    Access,
+    AnotherIsThere,
+    Replaces,
+    judge_place,
+    write_whole,
+)
 from braildesk.workshop import MayNotLast
 
 from scribe.cli.opened_book import looked_at
@@ -14,7 +20,7 @@ from scribe.cli.page_size import add_page_size, page_size_of
 from scribe.cli.parser import Subparsers, add_file, command_parser
 from scribe.words.console import Console
 from scribe.words.pages import not_exported
-from scribe.words.proof_html import Proof, elsewhere
+from scribe.words.proof_html import Proof, elsewhere, is_proof
 from scribe.words.status import Status, Stop, may_not_last
 
 MORE = """\
@@ -22,7 +28,8 @@ PROOF is one file of HTML for any browser: each page as it will be embossed, the
 word by word under the cells, and the marks with their notes beside the lines. A browser
 prints one page on each sheet. --print-first puts the print above the cells, --ascii shows
 the cells in Braille ASCII, --marks-only shows only pages with open marks, and a screen
-reader reads the print alone unless --speak-cells is given."""
+reader reads the print alone unless --speak-cells is given. An older proof is replaced, and
+any other file only with --overwrite."""
 # the form of the codes by which HTML names a language
 _LANGUAGE = re.compile("[A-Za-z]{1,8}(-[A-Za-z0-9]{1,8})*")
 EXAMPLE = "scribe proof moon.braildesk moon.html --width 30 --lines 10"
@@ -39,6 +46,7 @@ def add_parser(subparsers: Subparsers) -> ArgumentParser:
         ("--ascii", "the cells in Braille ASCII"),
         ("--marks-only", "only the pages with open marks"),
         ("--speak-cells", "have screen readers read the cells too"),
+        ("--overwrite", "replace a file that is no proof, unless it is a book"),
     ):
         parser.add_argument(word, action="store_true", help=does)
     parser.add_argument(
@@ -60,6 +68,21 @@ def _language(word: str) -> str:
 
 def run(arguments: Namespace, console: Console) -> Status:
     """Writes the proof."""
+    replaces = None if arguments.overwrite else is_proof
+    try:
+        if replaces is not None:
+            judge_place(arguments.proof, replaces)
+        return _written(arguments, console, replaces)
+    except AnotherIsThere as taken:
+        raise Stop(
+            f"{arguments.proof} is there already and is no proof that scribe wrote, so it was left as"
+            " it is; --overwrite replaces it."
+        ) from taken
+
+
+def _written(
+    arguments: Namespace, console: Console, replaces: Replaces | None
+) -> Status:
     page_size = page_size_of(arguments)
     shown = Proof(
         title=arguments.file.name.removesuffix(".braildesk"),
@@ -78,7 +101,7 @@ def run(arguments: Namespace, console: Console) -> Status:
         raise Stop(_nothing(arguments.marks_only), more=others)
     text = "".join(shown.html(pages)).encode()
     try:
-        write_whole(arguments.proof, text, Access.of(arguments.file))
+        write_whole(arguments.proof, text, Access.of(arguments.file), replaces)
     except MayNotLast as error:
         raise Stop(may_not_last(arguments.proof, error), Status.FAILED) from error
     except OSError as error:
