@@ -60,7 +60,7 @@ def at() -> Iterator[Open]:
     readers: list[Reader] = []
 
     def opened(
-        book: Path,
+        book: Path | None,
         *words: str,
         is_waited_for: bool = True,
         under: Sequence[str] = (),

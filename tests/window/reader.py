@@ -54,10 +54,15 @@ class Reader:
     """A window of scribe, its tree on the accessibility bus, and a keyboard."""
 
     def __init__(
-        self, book: Path, *words: str, under: Sequence[str] = (), **settings: str
+        self,
+        book: Path | None,
+        *words: str,
+        under: Sequence[str] = (),
+        **settings: str,
     ) -> None:
+        its = [] if book is None else [str(book)]
         self.program = subprocess.Popen(
-            [*under, sys.executable, "-m", "scribe", "window", str(book), *words],
+            [*under, sys.executable, "-m", "scribe", "window", *its, *words],
             env={**os.environ, **settings},
             stdout=subprocess.PIPE,
             stderr=subprocess.PIPE,

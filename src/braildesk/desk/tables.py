@@ -13,6 +13,7 @@ from braildesk.text import limits
 
 
 SUPPLIED = "en"
+EVERYDAY = "ueb"
 
 
 class NoSuchTable(Problem):
@@ -48,6 +49,12 @@ def table_request(name: str, path: Path | None) -> requests.Table | requests.Sup
         return requests.Table(name, read_file(found, limits.TABLE_BYTES))
     except OSError as cause:
         raise UnreadableTable(found, cause) from cause
+
+
+def first_table() -> requests.Table | requests.Supply:
+    """The request for the table that a new book has."""
+    name = EVERYDAY if table_file(EVERYDAY) else SUPPLIED
+    return table_request(name, None)
 
 
 #: Beside what reads tables, which takes long to import and isn't needed for their names.

@@ -158,12 +158,19 @@ def command_parser(
     return cast(Parser, parser)
 
 
-def add_file(parser: argparse.ArgumentParser, wait: float = USUAL_WAIT) -> None:
+def add_file(
+    parser: argparse.ArgumentParser, wait: float = USUAL_WAIT, without: str = ""
+) -> None:
     """Adds the word FILE: the file of a book, as the path `arguments.file`.
 
-    `arguments.wait` is how many seconds it is waited for.
+    `arguments.wait` is how many seconds it is waited for. The path is None if FILE may be left out,
+    and was; then it is said what is done without.
     """
-    parser.add_argument("file", metavar="FILE", type=Path, help="the file of the book")
+    says = f"the file of the book{without}"
+    if without:
+        parser.add_argument("file", metavar="FILE", type=Path, nargs="?", help=says)
+    else:
+        parser.add_argument("file", metavar="FILE", type=Path, help=says)
     parser.add_argument(
         "--wait",
         metavar="SECONDS",

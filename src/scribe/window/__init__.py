@@ -8,5 +8,6 @@ characters there alone. `menus` has all actions with their keys, `dialogs` what 
 back. What the actions do stands by what it is about: `typed` has what is typed, `offers` what waits
 from before, `structure` whole paragraphs, `marking` the marks, `finding` words that are looked for,
 `files` what comes in and goes out, and `view` what is seen. `actions` names them all, and
-`application` starts and ends it, in the colours that `contrast` gives it.
+`application` starts and ends it, in the colours that `contrast` gives it; `choosing` asks for a book
+where none is named.
 """

@@ -5,8 +5,8 @@ import re
 import signal
 import socket
 import sys
-from collections.abc import Callable
-from contextlib import suppress
+from collections.abc import Callable, Iterator
+from contextlib import contextmanager, suppress
 from pathlib import Path
 from types import TracebackType
 
@@ -26,6 +26,7 @@ from braildesk.desk.layout import PageSize
 from braildesk.text.characters import visible
 
 from scribe.window.actions import Actions
+from scribe.window.choosing import chosen_book
 from scribe.window.contrast import Contrast
 from scribe.window.desk import Desk
 from scribe.window.dialogs import choice
@@ -44,12 +45,19 @@ _SCREEN_GONE = (
 _SIGNALS = (signal.SIGHUP, signal.SIGTERM, signal.SIGINT, signal.SIGXCPU)
 
 
+class NoBook(Exception):
+    """No book was named, and none was chosen."""
+
+
 class Application:
-    """A book in a window, until the person closes it or a signal ends it."""
+    """A book in a window, until the person closes it or a signal ends it.
+
+    If no path is given, it is asked for a book; raises `NoBook` where that is given up.
+    """
 
     def __init__(
         self,
-        path: Path,
+        path: Path | None,
         by: str | None,
         wait: float,
         page_size: PageSize,
@@ -63,13 +71,19 @@ class Application:
         self._qt.setApplicationName("braildesk")
         self._qt.setDesktopFileName("braildesk-desktop")
         self._contrast = Contrast(self._qt)
+        self._contrast.follow()
         self._fault: BaseException | None = None
         self._ended_by: signal.Signals | None = None
-        self._desk = Desk(path, by, wait, page_size)
+        self._desk = Desk(path or _chosen(), by, wait, page_size)
         actions = Actions(self._desk)
         self._desk.acts = actions.by_name
         self._offer = actions.offer
         self._is_begun = True
+
+    @property
+    def name(self) -> str:
+        """The name of the book's file."""
+        return self._desk.path.name
 
     @property
     def version(self) -> int:
@@ -102,7 +116,6 @@ class Application:
     def begin(self) -> None:
         """Opens the book; raises what the client raises."""
         desk = self._desk
-        self._contrast.follow()
         try:
             desk.begin()
         except BaseException:
@@ -112,11 +125,8 @@ class Application:
 
     def tell(self, sentence: str) -> None:
         """Shows a sentence in the place of a book that isn't open, until it is closed."""
-        for number in _SIGNALS:
-            # nothing is at stake, and Python does nothing while Qt waits
-            if signal.getsignal(number) is not signal.SIG_IGN:
-                signal.signal(number, signal.SIG_DFL)
-        choice(self._desk.window, self._desk.path.name, visible(sentence), ["&Close"])
+        with _ended_by_signals():
+            choice(self._desk.window, self.name, visible(sentence), ["&Close"])
 
     def run(self) -> None:
         """Shows the book until its window is closed; raises what ends it otherwise."""
@@ -187,3 +197,24 @@ class Application:
             if signal.getsignal(number) is not signal.SIG_IGN:
                 signal.signal(number, ended)
         return ends, notifier
+
+
+def _chosen() -> Path:
+    """The book that is chosen where none was named."""
+    with _ended_by_signals():
+        path = chosen_book()
+    if path is None:
+        raise NoBook
+    return path
+
+
+@contextmanager
+def _ended_by_signals() -> Iterator[None]:
+    """Has signals end the process at once: nothing is at stake, and Python does nothing while Qt waits."""
+    before = {number: signal.getsignal(number) for number in _SIGNALS}
+    heard = [each for each in before if before[each] is not signal.SIG_IGN]
+    for number in heard:
+        signal.signal(number, signal.SIG_DFL)
+    yield
+    for number in heard:
+        signal.signal(number, before[number])

@@ -38,8 +38,8 @@ _PACE_MILLISECONDS = 100
 
 
 @contextmanager
-def _back_to(over: QWidget, dialog: QDialog | None = None) -> Iterator[None]:
-    """Has the keyboard go back to a window, also where no window manager sees to that.
+def _back_to(over: QWidget | None, dialog: QDialog | None = None) -> Iterator[None]:
+    """Has the keyboard go back to a window, if there is one, also where no window manager sees to that.
 
     The dialog over it is of no use any more, and isn't kept as a part of it.
     """
@@ -48,10 +48,13 @@ def _back_to(over: QWidget, dialog: QDialog | None = None) -> Iterator[None]:
     finally:
         if dialog is not None:
             dialog.setParent(None)  # type: ignore[call-overload]
-        over.activateWindow()
+        if over is not None:
+            over.activateWindow()
 
 
-def choice(over: QWidget, title: str, sentence: str, answers: Sequence[str]) -> int:
+def choice(
+    over: QWidget | None, title: str, sentence: str, answers: Sequence[str]
+) -> int:
     """Asks, and gives the place of the answer among those; the last one is also Escape's."""
     box = QMessageBox(over)
     box.setWindowTitle(title)
@@ -166,7 +169,9 @@ def font(over: QWidget, title: str, now: QFont) -> QFont | None:
     return found if is_given else None
 
 
-def file_to_read(over: QWidget, title: str, beside: Path, kinds: str) -> Path | None:
+def file_to_read(
+    over: QWidget | None, title: str, beside: Path, kinds: str
+) -> Path | None:
     """Asks for a file that is there, beside another one to begin with."""
     folder = str(beside.absolute().parent)
     with _back_to(over):
@@ -208,6 +213,16 @@ def file_to_write(over: QWidget, title: str, first: Path) -> Path | None:
     """Asks for a file that is written; that an older one goes is asked there."""
     with _back_to(over):
         name, _ = QFileDialog.getSaveFileName(over, title, str(first))
+    return Path(name) if name else None
+
+
+def new_file(over: QWidget | None, title: str, first: Path) -> Path | None:
+    """Asks for a file that isn't there yet; of one that is nothing is asked there."""
+    with _back_to(over):
+        name, _ = QFileDialog.getSaveFileName(
+            *(over, title, str(first)),
+            options=QFileDialog.Option.DontConfirmOverwrite,
+        )
     return Path(name) if name else None
 
 

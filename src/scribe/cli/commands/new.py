@@ -2,14 +2,13 @@
 
 from argparse import ArgumentParser, Namespace
 
-from braildesk import new_book, requests
-from braildesk.desk.tables import SUPPLIED, table_file, table_request
+from braildesk import new_book
+from braildesk.desk.tables import first_table
 
 from scribe.cli.parser import Subparsers, add_file, command_parser
 from scribe.words.console import Console
 from scribe.words.status import Status
 
-EVERYDAY = "ueb"
 MORE = """\
 Its table is ueb if that is installed with scribe, else en, the one that the program
 supplies. A file that has a book already is left as it is, and if anything fails no
@@ -34,9 +33,3 @@ def run(arguments: Namespace, console: Console) -> Status:
     new_book(arguments.file, holding=[request], timeout=arguments.wait)
     console.show(f"{arguments.file} is a new book with the table {request.table}.")
     return Status.DONE
-
-
-def first_table() -> requests.Table | requests.Supply:
-    """The table that a new book has."""
-    name = EVERYDAY if table_file(EVERYDAY) else SUPPLIED
-    return table_request(name, None)

@@ -23,7 +23,9 @@ _SCREENS = ("DISPLAY", "WAYLAND_DISPLAY", "QT_QPA_PLATFORM")
 def add_parser(subparsers: Subparsers) -> ArgumentParser:
     """Adds the words of `window`."""
     parser = command_parser(subparsers, "window", EXAMPLE, MORE)
-    add_file(parser, wait=0)
+    add_file(
+        parser, wait=0, without="; without it the window asks for one, or a new one"
+    )
     parser.add_argument(
         "--by",
         metavar="WHO",
@@ -43,7 +45,7 @@ def run(arguments: Namespace, console: Console) -> Status:
         )
     try:
         # imported here, since only this command needs PyQt6
-        from scribe.window.application import Application
+        from scribe.window.application import Application, NoBook
     except ImportError:
         raise Stop(
             "scribe window needs PyQt6, which is not installed. Debian has it as python3-pyqt6."
@@ -54,7 +56,10 @@ def run(arguments: Namespace, console: Console) -> Status:
 
     size = page_size_of(arguments)
     words = arguments.file, arguments.by, arguments.wait, size
-    application = Application(*words, _left)
+    try:
+        application = Application(*words, _left)
+    except NoBook:
+        return Status.DONE
     try:
         application.begin()
     except DeskError as failed:
@@ -66,8 +71,7 @@ def run(arguments: Namespace, console: Console) -> Status:
     if application.loss:
         console.say(application.loss)
         return Status.FAILED
-    name, version = arguments.file.name, application.version
-    tell_end(console, name, version, application.strayed)
+    tell_end(console, application.name, application.version, application.strayed)
     return Status.DONE
 
 

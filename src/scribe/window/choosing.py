@@ -1,0 +1,41 @@
+"""The book of a window for which none was named, as where it is started from a menu."""
+
+from pathlib import Path
+
+from braildesk import DeskError, new_book
+from braildesk.desk.tables import first_table
+from braildesk.text.characters import visible
+
+from scribe.window import dialogs
+from scribe.words.status import Stop, in_sentences
+
+_TITLE = "braildesk"
+_ENDING = ".braildesk"
+_BOOKS = f"Books (*{_ENDING});;All files (*)"
+
+
+def chosen_book() -> Path | None:
+    """Asks which book is opened, or makes a new one; none where that is given up."""
+    asked = "Which book shall be opened?"
+    answers = ("&Open a book…", "&New book…", "&Cancel")
+    answer = dialogs.choice(None, _TITLE, asked, answers)
+    if answer == 0:
+        return dialogs.file_to_read(None, "Open a book", Path("book"), _BOOKS)
+    return _new_book() if answer == 1 else None
+
+
+def _new_book() -> Path | None:
+    """Asks for the file of a new book, until one can be made there; none where that is given up."""
+    first = Path(f"book{_ENDING}").absolute()
+    while True:
+        path = dialogs.new_file(None, "New book", first)
+        if path is None:
+            return None
+        first = path if path.suffix else path.with_name(path.name + _ENDING)
+        try:
+            with in_sentences():
+                new_book(first, holding=[first_table()])
+            return first
+        except (DeskError, Stop) as failed:
+            said = visible(failed.sentence)
+            dialogs.choice(None, _TITLE, said, ("&Close",))

@@ -1,0 +1,82 @@
+"""A window for which no book was named, as where it is started from a menu: it asks for one."""
+
+from pathlib import Path
+
+import pytest
+
+from braildesk import Session
+
+from scribe.window import choosing, dialogs
+
+from conftest import Open
+from reader import Reader
+
+
+def asked(at: Open) -> Reader:
+    """A window that was started without a book, once it asks for one."""
+    window = at(None, is_waited_for=False)
+    dialog = window.dialog("braildesk")
+    window.part("label", "Which book shall be opened?", dialog)
+    return window
+
+
+def test_a_book_is_asked_for_and_opened(at: Open, moon: Path) -> None:
+    window = asked(at)
+    window.press("Return")
+    dialog = window.dialog("Open a book")
+    window.insert_in(window.first("text", dialog), str(moon))
+    window.press("Return")
+    window.no_dialog()
+    window.opened().lists(0, "1 body: The Moon")
+    window.press("Ctrl+q")
+    assert window.end() == 0
+
+
+def test_a_new_book_is_made_where_one_is_asked_for(at: Open, tmp_path: Path) -> None:
+    window = asked(at)
+    window.press("Alt+n")
+    dialog = window.dialog("New book")
+    window.insert_in(window.first("text", dialog), str(tmp_path / "tides"))
+    window.press("Return")
+    window.no_dialog()
+    window.opened().press("Ctrl+q")
+    assert window.end() == 0
+    with Session(tmp_path / "tides.braildesk") as session:
+        assert [each.name for each in session.tables()] == ["ueb"]
+
+
+@pytest.mark.parametrize("keys", [("Escape",), ("Return", "Escape")])
+def test_where_no_book_is_chosen_it_ends_without_noise(
+    at: Open, keys: tuple[str, ...]
+) -> None:
+    window = asked(at)
+    titles = {"Return": "Open a book"}
+    for key in keys:
+        window.press(key)
+        if key in titles:
+            window.dialog(titles[key])
+    shown, said = window.program.communicate()
+    assert (window.program.returncode, shown, said) == (0, b"", b"")
+
+
+def test_a_new_book_takes_no_name_that_is_there_and_is_asked_for_again(
+    moon: Path, tmp_path: Path, monkeypatch: pytest.MonkeyPatch
+) -> None:
+    names, said = iter([moon, None]), list[str]()
+    firsts = list[Path]()
+
+    def choice(over: None, title: str, sentence: str, answers: tuple[str, ...]) -> int:
+        said.append(sentence)
+        return 1 if len(answers) > 1 else 0
+
+    def new_file(over: None, title: str, first: Path) -> Path | None:
+        firsts.append(first)
+        return next(names)
+
+    before = moon.read_bytes()
+    monkeypatch.setattr(dialogs, "choice", choice)
+    monkeypatch.setattr(dialogs, "new_file", new_file)
+    assert choosing.chosen_book() is None
+    assert firsts[1] == moon and moon.read_bytes() == before
+    assert said[0] == "Which book shall be opened?"
+    assert str(moon) in said[1] and len(said) == 2
