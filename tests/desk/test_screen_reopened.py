@@ -14,6 +14,9 @@ from sitting import Sat, Sit
 from stand_in import ANSWERED, HALF, KEPT, KILL_PROGRAM, READ, REPLY, SEND
 from terminal import Open, once_free, standing_in
 
+STAYS_NOTE = "What is typed is still here: type on."
+STAYS = "What is typed is still here. Enter sends it again, and what is typed on is another line."
+
 
 def killed(sat: Sat) -> None:
     """Kills the session, and lets the screen see it."""
@@ -82,6 +85,49 @@ def test_who_types_on_after_pasted_lines_where_the_session_ends_gives_no_command
     sat.press("enter", "y")
     assert prints(sat)[1:3] == ["It rose.", "It set: no sun, my last hymn."]
     assert len(sat.desk.drafts.given_up()) == 0
+
+
+@pytest.mark.parametrize("is_at_once", [False, True])
+@pytest.mark.parametrize("keys", ["", "home right right"])
+def test_what_is_typed_on_after_enter_failed_is_another_line(
+    moon: Path, sit: Sit, monkeypatch: pytest.MonkeyPatch, is_at_once: bool, keys: str
+) -> None:
+    sat = stopped_once(moon, sit, monkeypatch, 1, READ)
+    sat.press("o", *"It rose.", *keys.split(), "enter")
+    assert sat.state.message.endswith(STAYS)
+    if is_at_once:
+        sat.state = sat.desk.paste(sat.state, "It set.\n", True)
+    else:
+        sat.press(*"It set.", "enter")
+    assert sat.state.question and sat.state.question.lines[:2] == (
+        "It rose.",
+        "It set.",
+    )
+    sat.press("y")
+    assert sat.state.typed and sat.state.typed.text == ""
+    assert prints(sat)[1:3] == ["It rose.", "It set."]
+
+
+@pytest.mark.parametrize("is_at_once", [False, True])
+def test_what_is_typed_on_after_a_note_failed_is_parted_by_a_blank(
+    moon: Path, sit: Sit, monkeypatch: pytest.MonkeyPatch, is_at_once: bool
+) -> None:
+    sat = stopped_once(moon, sit, monkeypatch, 1, READ)
+    sat.press("m", *"why?", "enter")
+    if is_at_once:
+        sat.state = sat.desk.paste(sat.state, "no sun", True)
+    else:
+        sat.press(*"no sun")
+    assert sat.state.typed and sat.state.typed.text == "why? no sun"
+
+
+def test_what_enter_could_not_send_is_changed_before_it_is_sent_again(
+    moon: Path, sit: Sit, monkeypatch: pytest.MonkeyPatch
+) -> None:
+    sat = stopped_once(moon, sit, monkeypatch, 1, READ)
+    sat.press("o", *"It rose.", "enter", "left", *" up", "enter")
+    assert sat.state.kept == "kept: paragraph 4"
+    assert prints(sat)[1] == "It rose up."
 
 
 @pytest.mark.parametrize("far", [KEPT, ANSWERED])
@@ -176,7 +222,7 @@ def test_a_command_that_was_under_way_is_found_in_the_book_or_still_typed(
         return
     assert sat.state.message == (
         "The session was ended by signal 9. The book was opened again: it is at version 7, as"
-        " before, and what was asked last is not in it. What is typed is still here: type on."
+        f" before, and what was asked last is not in it. {STAYS_NOTE if typed == 'why?' else STAYS}"
     )
     # the stand-in is still there once more
     for _ in range(2):
@@ -224,7 +270,7 @@ def test_a_session_that_fails_or_answers_nonsense_is_left_in_words(
         sat.press("enter", "O", "h", ",", "enter")
     assert sat.state.message == (
         f"{said} The book was opened again: it is at version 7, as before, and what was asked last is"
-        " not in it. What is typed is still here: type on."
+        f" not in it. {STAYS}"
     )
     # the stand-in is still there once more
     for _ in range(2):
@@ -306,7 +352,7 @@ def test_who_types_goes_on_where_the_log_of_the_book_was_removed(
     assert sat.state.message == (
         f"The log of the book, “{log}”, was removed or replaced while it was open. So the session was"
         " ended, by which what was in the log came into the book's file. The book was opened again:"
-        " it is at version 8, as before. What is typed is still here: type on."
+        f" it is at version 8, as before. {STAYS}"
     )
     sat.press("enter")
     assert sat.state.kept == "kept: paragraph 4"

@@ -301,10 +301,42 @@ def test_what_is_said_after_the_waiting_is_not_taken_away_by_keys_that_came_befo
         time.sleep(0.06)
     terminal.await_read()
     os.kill(program, signal.SIGKILL)
-    terminal.wait("It rose.It set.")
+    terminal.wait("It rose. It set.")
     terminal.settle()
     terminal.wait("The session was ended by signal 9.")
     # the next key takes it away
     terminal.keys("left")
     terminal.settle()
     assert "was ended" not in " ".join(terminal.lines)
+
+
+def test_what_is_typed_on_while_enter_fails_is_another_line(
+    moon: Path, at: Open
+) -> None:
+    terminal = at(moon)
+    terminal.wait("? shows the keys.")
+    terminal.keys("o", *"It rose.")
+    terminal.settle()
+    program = terminal.program()
+    os.kill(program, signal.SIGSTOP)
+    terminal.keys("enter")
+    terminal.wait(WAITING)
+    for letter in "It set.":
+        terminal.send(letter)
+        time.sleep(0.06)
+    drafts = Drafts(moon)
+    while (kept := drafts.unread()) is None or kept.lines != "It set.":
+        time.sleep(0.05)
+    os.kill(program, signal.SIGKILL)
+    terminal.wait("Are they 2 paragraphs?")
+    terminal.keys("enter")
+    terminal.settle()
+    terminal.answer("y")
+    terminal.wait("last kept: paragraph 5")
+    terminal.keys("escape", "q")
+    assert terminal.ended() == 0
+    with once_free(moon) as session:
+        assert [session.print_of(number) for number in (4, 5)] == [
+            "It rose.",
+            "It set.",
+        ]

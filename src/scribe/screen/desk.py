@@ -106,6 +106,7 @@ from scribe.words.status import Interrupted, Stop, in_sentences, of_system
 _OPEN_AGAIN = "The book is open again."
 _OPEN_INSTEAD = "The file that is at the path now is open."
 _TYPE_ON = "What is typed is still here: type on."
+_ENDED = "What is typed is still here. Enter sends it again, and what is typed on is another line."
 
 
 class _Interrupted(Exception):
@@ -458,7 +459,7 @@ class Desk:
             if isinstance(interrupted.cause, Interrupted):
                 # the book is asked for nothing more, and nothing is drawn
                 return interrupted.state
-            state = self._after_failure(interrupted.state, interrupted.cause)
+            state = self._after_failure(interrupted.state, interrupted.cause, True)
             if _is_gone_on_from(step.asked):
                 state = self._begun_where_typed(state)
         except Stop as stop:
@@ -523,9 +524,11 @@ class Desk:
         except (Lost, Refused) as failed:
             return self._after_failure(state, failed)
 
-    def _after_failure(self, state: State, failed: Lost | Refused) -> State:
+    def _after_failure(
+        self, state: State, failed: Lost | Refused, is_sent: bool = False
+    ) -> State:
         if isinstance(failed, Lost):
-            return self._after_loss(state, failed)
+            return self._after_loss(state, failed, is_sent=is_sent)
         if isinstance(failed, VersionConflict):
             said = "Another program changed the book, so it was opened again."
             return self._opened_anew(state, said)
@@ -555,10 +558,17 @@ class Desk:
         except OSError as failure:
             return _closed(state, of_system(failure))
 
-    def _after_loss(self, state: State, lost: Lost, begun: int | None = None) -> State:
+    def _after_loss(
+        self,
+        state: State,
+        lost: Lost,
+        begun: int | None = None,
+        is_sent: bool = False,
+    ) -> State:
         """The book opened again after its session ended by itself, and what it has is said.
 
-        Work of many commands, of which the state knows none, began at a version.
+        Work of many commands, of which the state knows none, began at a version. What is typed was
+        sent, if a command was.
         """
         state = self.saved(state.saying(""))
         if begun is not None and begun != lost.version:
@@ -578,7 +588,9 @@ class Desk:
             is_about_lines = state.question is None or bool(state.question.lines)
             if is_same and state.typed is not None and is_about_lines:
                 # who types on meanwhile types into the same text, and gives no commands
-                if state.typed.text:
+                if is_sent and state.question is None:
+                    found = _with_end(found, state.typed)
+                elif state.typed.text:
                     found = found.saying_too(_TYPE_ON)
                 return refreshed(self._session, found)
             found = replace(found, typed=None, preview=None, question=None)
@@ -998,6 +1010,13 @@ def _is_gone_on_from(asked: Command[Any] | Action | None) -> bool:
     """Whether another new paragraph is typed after what a key asked for."""
     is_of_new = isinstance(asked, TypeAll) and asked.purpose.is_new
     return is_of_new or isinstance(asked, requests.Type)
+
+
+def _with_end(state: State, typed: Field) -> State:
+    """The state in which Enter ended what is still typed: hands that type on don't go on in it."""
+    ended = replace(typed, place=len(typed.text))
+    said = _ENDED if typed.purpose.is_print else _TYPE_ON
+    return replace(state, typed=ended, ended=ended).saying_too(said)
 
 
 def _with_report(state: State, ending: ActionResult) -> State:

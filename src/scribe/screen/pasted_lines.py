@@ -28,6 +28,7 @@ def pasted(state: State, text: str, is_keys: bool = False) -> Step:
         state, question = replace(state, question=None), None
     if typed is None or question or not state.is_typing or state.is_lost:
         return Step(state, PutBy(text) if text.strip() else None)
+    typed = parted_from(state, typed)
     lines = text.replace("\r", "\n").replace("\t", " ").split("\n")
     is_ended = is_keys and typed.purpose.is_print and not lines[-1]
     if len(lines) > 1:
@@ -77,9 +78,15 @@ def waiting(state: State, purpose: Purpose, lines: Sequence[str]) -> State:
 def about_ended(state: State) -> Question | None:
     """Whether what is typed on is another line: Enter came with the keys before it, all at once."""
     typed = state.typed
-    if typed is None or state.ended != typed:
+    if typed is None or state.ended != typed or not typed.purpose.is_print:
         return None
     return replace(about_lines(typed.purpose, (typed.text,)), joint="\n")
+
+
+def parted_from(state: State, typed: Field) -> Field:
+    """What is typed, with a blank before what is typed on if Enter ended it and no line comes after it."""
+    is_ended = state.ended == typed and bool(typed.text)
+    return typed.inserted(" ") if is_ended and not typed.purpose.is_print else typed
 
 
 def typed_on(state: State, typed: Field, question: Question, text: str) -> State:

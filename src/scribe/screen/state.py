@@ -189,7 +189,8 @@ class State:
     hinted: frozenset[Purpose] = frozenset()
     #: What was last cut out of a text that is typed.
     cut: Cut | None = None
-    #: A text to whose end Enter came among keys that came all at once, while nothing else is done.
+    #: A text that Enter ended, while nothing else is done: it came among keys that came all at once, or
+    #: the book didn't get the text.
     ended: Field | None = None
     preview: Preview | None = None
     question: Question | None = None

@@ -22,7 +22,7 @@ from scribe.screen.actions import (
 from scribe.screen.field import Cut, Field, Purpose
 from scribe.screen.lines import beside
 from scribe.screen.moves import no_line
-from scribe.screen.pasted_lines import about_ended, typed_on
+from scribe.screen.pasted_lines import about_ended, parted_from, typed_on
 from scribe.screen.state import Question, State, Step, answered_with, draft_of
 from scribe.words.pagelook import wanted_line
 from scribe.words.pages import NoSize, described, typed_page_size
@@ -88,7 +88,7 @@ def while_typing(state: State, typed: Field, key: str) -> Step:
         ended = about_ended(state)
         if ended is not None:
             return Step(typed_on(state, typed, ended, key))
-        return Step(replace(state, typed=typed.inserted(key)))
+        return Step(replace(state, typed=parted_from(state, typed).inserted(key)))
     return Step(state.saying(_NOTHING_WHILE_TYPING))
 
 
