@@ -199,8 +199,8 @@ def test_a_table_replaces_one_that_was_brought_and_no_other_file_unless_that_is_
         " --overwrite replaces it."
     )
     assert (tmp_path / "out.utb").read_text() == "# My own table.\nletter a 1\n"
-    for more in (["--overwrite"], []):
-        ran = scribe("bring", "small.utb", "out.utb", *more, folder=tmp_path)
+    for words in ("small.utb out.utb --overwrite", "small.utb out.utb"):
+        ran = scribe("bring", *words.split(), folder=tmp_path)
         assert (ran.status, ran.shown) == (0, "")
         assert "out.utb was written, " in ran.said
 

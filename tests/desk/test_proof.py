@@ -367,7 +367,8 @@ def test_a_proof_replaces_an_older_one_and_no_other_file_unless_that_is_asked(
         assert page.read_bytes() == already
     ran = scribe(*words, "--overwrite", folder=moon.parent)
     assert (ran.status, ran.shown) == (0, "page.html: 1 page.\n")
-    for more in ([], ["--language", "en"], ["--print-first", "--ascii"], []):
+    options = ("", "--language en", "--print-first --ascii", "")
+    for more in map(str.split, options):
         page.write_bytes(page.read_bytes() + b"<!-- older -->")
         assert scribe(*words, *more, folder=moon.parent).status == 0
         assert not page.read_bytes().endswith(b"<!-- older -->")
