@@ -375,7 +375,8 @@ def test_what_is_typed_while_pasted_lines_are_typed_is_kept(
         assert terminal.ended() == -signal.SIGTERM
     else:
         terminal.wait("New paragraph after paragraph 34")
-        terminal.wait("Go")
+        shown = terminal.wait("Go")
+        assert not any("Please wait." in line for line in shown)
         terminal.keys("enter", "escape", "q")
         assert terminal.ended() == 0
     with once_free(tides) as session:

@@ -480,7 +480,10 @@ class Screen:
             self._timer = asyncio.get_running_loop().call_later(wait, self._let_go)
 
     def _become(self, state: State) -> None:
-        if state.message and state.message != self._said:
+        if state.away:
+            # that it has to be waited for isn't so any more once that is done
+            self._said, self._said_at = "", 0.0
+        elif state.message and state.message != self._said:
             self._said, self._said_at = state.message, math.inf
         self.state = state
         if state.is_over:
