@@ -82,6 +82,14 @@ _SAID = {
         "1 table is typed row by row, with semicolons between the cells",
         "{} tables are typed row by row, with semicolons between the cells",
     ),
+    LossKind.SPAN: (
+        "1 cell of a table goes on over several rows, and is typed in the first of them",
+        "{} cells of tables go on over several rows, and are typed in the first of these",
+    ),
+    LossKind.BOX: (
+        "1 box of a form is typed as a sign",
+        "{} boxes of forms are typed as signs",
+    ),
     LossKind.LINK: (
         "1 link has lost its address",
         "{} links have lost their addresses",

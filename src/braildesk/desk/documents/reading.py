@@ -30,6 +30,8 @@ class LossKind(Enum):
     SUPERSCRIPT = auto()
     MATHEMATICS = auto()
     TABLE = auto()
+    SPAN = auto()
+    BOX = auto()
     PICTURE = auto()
     NUMBER = auto()
     LIST = auto()

@@ -5,7 +5,7 @@ print of a book can't hold is noted, each time with the words around it.
 """
 
 import re
-from collections.abc import Iterable, Iterator, Sequence
+from collections.abc import Iterable, Iterator, Mapping, Sequence
 from dataclasses import dataclass, field, replace
 from typing import Any
 
@@ -251,10 +251,10 @@ class _Reader:
         _, (_, title), _, (_, head), bodies, (_, foot) = content
         if not self._has_titles_below:
             self.blocks(title, before)
-        rows = [*head]
-        for _, _, heads, body in bodies:
-            rows += [*heads, *body]
-        texts = [self._row(row) for row in (*rows, *foot)]
+        texts: list[str] = []
+        # a cell goes on no further than the part of the table in which it begins
+        for rows in (head, *(rows for body in bodies for rows in body[2:]), foot):
+            texts += self._rows(rows)
         for text in texts:
             self._put(text)
         if self._has_titles_below:
@@ -264,9 +264,28 @@ class _Reader:
         first = next((text for text in texts if text), "")
         self.losses.append(Loss(LossKind.TABLE, first, first))
 
-    def _row(self, row: Sequence[Any]) -> str:
-        cells = [" ".join(self._texts_of(cell[4])) for cell in row[1]]
-        return "; ".join(cells) if any(cells) else ""
+    def _rows(self, rows: Sequence[Any]) -> Iterator[str]:
+        """The text of each row, in which a cell that goes on from the rows above has an empty place."""
+        # how many rows more the cell at a column has, and of how many columns it is
+        going_on: dict[int, tuple[int, int]] = {}
+        for row in rows:
+            cells: list[str] = []
+            column = 0
+            for _, _, height, width, content in row[1]:
+                column = _passed(going_on, column, cells)
+                text = " ".join(self._texts_of(content))
+                cells.append(text)
+                if height > 1:
+                    going_on[column] = (height, width)
+                    self.losses += [Loss(LossKind.SPAN, text, text)] if text else []
+                column += width
+            _passed(going_on, column, cells)
+            going_on = {
+                n: (left - 1, width)
+                for n, (left, width) in going_on.items()
+                if left > 1
+            }
+            yield "; ".join(cells) if any(cells) else ""
 
     def _texts_of(self, nodes: Sequence[Node]) -> list[str]:
         """The paragraphs of some blocks, which aren't put; what they lose and their notes are kept."""
@@ -381,6 +400,16 @@ _LOST_AROUND = {
     UNKNOWN_NOTE: LossKind.NOTE,
 }
 _QUOTES = {"SingleQuote": ("\u2018", "\u2019"), "DoubleQuote": ("\u201c", "\u201d")}
+
+
+def _passed(
+    going_on: Mapping[int, tuple[int, int]], column: int, cells: list[str]
+) -> int:
+    """The column after those of cells that go on from the rows above, each with an empty place."""
+    while column in going_on:
+        cells.append("")
+        column += going_on[column][1]
+    return column
 
 
 def _around(text: str, start: int, stop: int) -> str:
