@@ -297,13 +297,7 @@ def test_print_within_what_pandoc_does_not_know_is_typed(
     assert (found.texts, found.missing) == (texts, ())
 
 
-def test_readings_of_characters_and_choices_of_forms_are_words_that_are_missing(
-    tmp_path: Path,
-) -> None:
-    ruby = (
-        f"<w:r><w:ruby><w:rt>{run('kan')}</w:rt><w:rubyBase>{run('漢')}</w:rubyBase>"
-        "</w:ruby></w:r>"
-    )
+def test_choices_of_forms_are_words_that_are_missing(tmp_path: Path) -> None:
     choices = (
         '<w:ffData><w:ddList><w:result w:val="1"/><w:listEntry w:val="Apple"/>'
         '<w:listEntry w:val="Pear"/></w:ddList></w:ffData>'
@@ -312,9 +306,9 @@ def test_readings_of_characters_and_choices_of_forms_are_words_that_are_missing(
         f'<w:r><w:fldChar w:fldCharType="begin">{choices}</w:fldChar></w:r>'
         '<w:r><w:fldChar w:fldCharType="end"/></w:r>'
     )
-    body = paragraph(run("One "), ruby) + paragraph(run("Two "), form)
+    body = paragraph(run("Two "), form)
     found = read_manuscript(docx(tmp_path / "a.docx", body))
-    assert [each.words for each in found.missing] == ["kan 漢", "Pear"]
+    assert [each.words for each in found.missing] == ["Pear"]
 
 
 def captioned(number: int, style: str = "Caption") -> str:

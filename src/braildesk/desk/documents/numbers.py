@@ -5,7 +5,7 @@ has a form, such as “§ %1 (%2)”. pandoc knows few of these forms, and drops
 """
 
 import re
-from collections.abc import Callable, Collection, Iterator, Mapping, Sequence
+from collections.abc import Callable, Iterator, Mapping, Sequence
 from dataclasses import dataclass, field
 from io import BytesIO
 from xml.etree import ElementTree
@@ -13,6 +13,7 @@ from xml.etree.ElementTree import Element, ParseError
 from xml.sax.saxutils import escape
 from zipfile import ZipFile
 
+from braildesk.desk.documents import word_print
 from braildesk.desk.documents.kinds import is_media, part_of, unpacked
 from braildesk.desk.documents.reading import Loss, LossKind, plain, whole
 from braildesk.desk.documents.tree import roman
@@ -22,6 +23,20 @@ _W = "{http://schemas.openxmlformats.org/wordprocessingml/2006/main}"
 _MC = "{http://schemas.openxmlformats.org/markup-compatibility/2006}"
 _FALLBACK = f"{_MC}Fallback"
 _MATH = "{http://schemas.openxmlformats.org/officeDocument/2006/math}"
+_OOXML, _DRAWING = "http://schemas.openxmlformats.org", "drawingml/2006"
+#: The prefixes by which pandoc knows elements and attributes, whichever a document has.
+_PREFIXES = {
+    _W[1:-1]: "w",
+    _MC[1:-1]: "mc",
+    _MATH[1:-1]: "m",
+    f"{_OOXML}/officeDocument/2006/relationships": "r",
+    f"{_OOXML}/{_DRAWING}/main": "a",
+    f"{_OOXML}/{_DRAWING}/chart": "c",
+    f"{_OOXML}/{_DRAWING}/diagram": "dgm",
+    f"{_OOXML}/{_DRAWING}/picture": "pic",
+    f"{_OOXML}/{_DRAWING}/wordprocessingDrawing": "wp",
+    "urn:schemas-microsoft-com:vml": "v",
+}
 #: What stands around print, and where pandoc leaves that out.
 _AROUND = frozenset(
     {f"{_W}{name}" for name in ("fldSimple", "customXml", "smartTag", "ins", "moveTo")}
@@ -69,7 +84,8 @@ _FORMS: Mapping[str, Callable[[int], str]] = {
 
 
 def with_numbers(data: bytes, bullet: str) -> tuple[bytes, list[Loss]]:
-    """A document without lists, whose paragraphs begin with their numbers; and those not as in print.
+    """A document without lists, whose paragraphs begin with their numbers; and those not as in print,
+    and the signs of boxes.
 
     Its texts have nothing around or in them of which pandoc knows nothing. It has no pictures any more,
     which aren't looked at. One whose lists can't be read, or whose tags aren't Word's, is left as it is.
@@ -86,18 +102,24 @@ def with_numbers(data: bytes, bullet: str) -> tuple[bytes, list[Loss]]:
             lists = _Lists(numbering or b"<none/>", parts.get(_STYLES), bullet)
         except ParseError:
             return data, []
+        signs: list[Loss] = []
         for name, part in parts.items():
             if _TEXTS.fullmatch(name):
                 root = ElementTree.fromstring(part)
                 if not root.tag.startswith(_W):
                     return data, []
-                part = _numbered(part, iter(lists.labels(root)), _in_codes(root))
+                part = _numbered(part, root, iter(lists.labels(root)))
+                signs += word_print.signs(root)
+            elif name == _STYLES:
+                part = rewritten(part, Rewriting(prefixes=_PREFIXES))
             other.writestr(name, part)
-    return made.getvalue(), lists.losses
+    return made.getvalue(), [*lists.losses, *signs]
 
 
-def _numbered(part: bytes, labels: Iterator[str], unseen: Collection[int]) -> bytes:
-    """A part with what stands at the front of each paragraph, and without the elements at some places."""
+def _numbered(part: bytes, root: Element, labels: Iterator[str]) -> bytes:
+    """A part with what stands at the front of each paragraph, and what Word shows beside its text."""
+    unseen = _in_codes(root) | word_print.replaced(root)
+    ahead = word_print.texts_ahead(root)
     place = -1
 
     def front_of(name: str) -> str:
@@ -110,7 +132,14 @@ def _numbered(part: bytes, labels: Iterator[str], unseen: Collection[int]) -> by
     def is_left_out(name: str, attributes: Sequence[str]) -> bool:
         return place in unseen or _is_left_out(name, attributes)
 
-    how = Rewriting(front_of, _AROUND, is_left_out, _RENAMED, {_W[1:-1]: "w"})
+    how = Rewriting(
+        front_of,
+        lambda name: ahead.get(place, ""),
+        _AROUND,
+        is_left_out,
+        _RENAMED,
+        _PREFIXES,
+    )
     return rewritten(part, how)
 
 

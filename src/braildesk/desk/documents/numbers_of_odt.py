@@ -78,7 +78,7 @@ def with_odt_numbers(data: bytes, bullet: str) -> tuple[bytes, list[Loss]]:
 
         for name, part in parts.items():
             if name == _CONTENT:
-                part = rewritten(part, Rewriting(front_of, _AROUND))
+                part = rewritten(part, Rewriting(front_of, unwrapped=_AROUND))
             other.writestr(name, part)
     return made.getvalue(), numbering.losses
 

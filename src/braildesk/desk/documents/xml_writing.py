@@ -28,6 +28,8 @@ class Rewriting:
 
     #: What is put at the front of an element, asked once for each, in their order.
     front_of: Callable[[str], str] = _nothing_at
+    #: What is put ahead of an element, asked after that, also of one that is left out.
+    ahead_of: Callable[[str], str] = _nothing_at
     #: The elements of which what they have is left alone.
     unwrapped: Collection[str] = ()
     #: Whether an element with names and values of attributes is left out, with all that it has.
@@ -76,13 +78,15 @@ class _Writer:
 
     def declare(self, prefix: str | None, address: str | None) -> None:
         """Notes the prefix that the next element gives to an address."""
-        name = self._how.prefixes.get(address or "", prefix or "")
+        name = self._prefix(address or "", prefix or "")
         self._declared[f"xmlns:{name}" if name else "xmlns"] = address or ""
 
     def begin(self, name: str, attributes: list[str]) -> None:
         """Writes the tag with which an element begins, and what is put at its front."""
         found = _found(name)
         front = self._how.front_of(found)
+        if not self._left_out:
+            self.pieces.append(self._how.ahead_of(found))
         if self._left_out or self._how.is_left_out(found, attributes):
             self._left_out += 1
             self._declared = {}
@@ -122,8 +126,13 @@ class _Writer:
         address, *rest = name.split(_PARTS)
         if not rest:
             return name
-        prefix = self._how.prefixes.get(address, "".join(rest[1:]))
+        prefix = self._prefix(address, "".join(rest[1:]))
         return f"{prefix}:{rest[0]}" if prefix else rest[0]
+
+    def _prefix(self, address: str, own: str) -> str:
+        """The prefix of an address: its own, unless pandoc knows that by another, or as another one's."""
+        taken = own in self._how.prefixes.values()
+        return self._how.prefixes.get(address, f"{own}_" if taken else own)
 
 
 def _found(name: str) -> str:

@@ -1,0 +1,103 @@
+"""What Word shows in print that isn't text of a document in DOCX, as pandoc reads it, written as text.
+
+These are the readings of characters, which stand above them, and the boxes of older forms.
+"""
+
+from collections.abc import Iterator
+from xml.etree.ElementTree import Element
+from xml.sax.saxutils import escape
+
+from braildesk.desk.documents.reading import Loss, LossKind, plain
+
+_W = "{http://schemas.openxmlformats.org/wordprocessingml/2006/main}"
+_RUN, _RUBY = f"{_W}r", f"{_W}ruby"
+_OFF = ("0", "false", "off")
+#: What was deleted, or is for older programs.
+_GONE = (
+    f"{_W}del",
+    f"{_W}moveFrom",
+    "{http://schemas.openxmlformats.org/markup-compatibility/2006}Fallback",
+)
+#: The boxes of forms, empty and crossed.
+_EMPTY, _CROSSED = "\u2610", "\u2612"
+_PROPERTIES = (f"{_W}rubyPr", f"{_W}rPr")
+#: What stands in characters and their readings that can be written as text, beside their properties.
+_TEXTS = frozenset(
+    f"{_W}{name}"
+    for name in ("r", "t", "lastRenderedPageBreak", "proofErr", "bookmarkStart")
+) | {f"{_W}bookmarkEnd"}
+#: How many characters are shown of the paragraph of a box.
+_SHOWN = 60
+
+
+def texts_ahead(root: Element) -> dict[int, str]:
+    """What stands in XML ahead of elements of a part, by their places in it; and see `replaced`."""
+    found: dict[int, str] = {}
+    for place, element in enumerate(root.iter()):
+        if element.tag == _RUN:
+            signs = "".join(map(_sign, _boxes(element)))
+            if signs:
+                found[place] = f"<w:r>{_text(signs)}</w:r>"
+        elif element.tag == _RUBY and _is_replaced(element):
+            base, reading = (_print(element, name) for name in ("rubyBase", "rt"))
+            found[place] = _text(f"{base}({reading})" if reading else base)
+    return found
+
+
+def replaced(root: Element) -> frozenset[int]:
+    """The places of elements that are left out, since a text ahead of them is all that they have."""
+    return frozenset(
+        place
+        for place, element in enumerate(root.iter())
+        if element.tag == _RUBY and _is_replaced(element)
+    )
+
+
+def signs(root: Element) -> Iterator[Loss]:
+    """The boxes of a part, each by its sign and the first words of its paragraph."""
+    # of paragraphs within others, as in text boxes, the inner ones come later
+    around = {
+        id(run): paragraph
+        for paragraph in root.iter(f"{_W}p")
+        for run in paragraph.iter(_RUN)
+    }
+    gone = {id(run) for tag in _GONE for each in root.iter(tag) for run in each.iter()}
+    for run in root.iter(_RUN):
+        if id(run) in around and id(run) not in gone:
+            texts = [each.text or "" for each in around[id(run)].iter(f"{_W}t")]
+            words = plain("".join(texts))[:_SHOWN]
+            yield from (Loss(LossKind.BOX, _sign(each), words) for each in _boxes(run))
+
+
+def _boxes(run: Element) -> Iterator[Element]:
+    """The boxes of a form that begin in a run."""
+    return run.iterfind(f"{_W}fldChar/{_W}ffData/{_W}checkBox")
+
+
+def _sign(box: Element) -> str:
+    """The sign of a box, crossed or not."""
+    said = (box.find(f"{_W}{name}") for name in ("checked", "default"))
+    found = next((each for each in said if each is not None), None)
+    is_crossed = found is not None and found.get(f"{_W}val") not in _OFF
+    return _CROSSED if is_crossed else _EMPTY
+
+
+def _is_replaced(ruby: Element) -> bool:
+    """Whether characters and their readings are nothing but text."""
+    waiting = [each for name in ("rubyBase", "rt") for each in ruby.iterfind(_W + name)]
+    while waiting:
+        for child in waiting.pop():
+            if child.tag in _TEXTS:
+                waiting.append(child)
+            elif child.tag not in _PROPERTIES:
+                return False
+    return True
+
+
+def _print(ruby: Element, name: str) -> str:
+    texts = ruby.iterfind(f"{_W}{name}//{_W}t")
+    return "".join(each.text or "" for each in texts)
+
+
+def _text(text: str) -> str:
+    return f'<w:t xml:space="preserve">{escape(text)}</w:t>'

@@ -1,0 +1,150 @@
+"""What Word has in a DOCX beside plain paragraphs: other prefixes, merged cells, boxes and readings."""
+
+import re
+import zipfile
+from pathlib import Path
+
+import pytest
+
+from braildesk.desk.documents.reading import Loss, LossKind, Missing
+from braildesk.desk.manuscripts import read_manuscript
+
+from handmade import docx, in_list, level, lists, note, paragraph, run, symbol, table
+
+_W = "http://schemas.openxmlformats.org/wordprocessingml/2006/main"
+#: Prefixes in place of Word's: another one, none, and those that Word has for other names.
+PREFIXES = [{"w": "x"}, {"w": ""}, {"w": "v", "v": "w", "mc": "a", "a": "mc"}]
+
+
+def renamed(text: str, prefixes: dict[str, str]) -> str:
+    """A part with other prefixes; names of attributes always have one."""
+    usual = "|".join(prefixes)
+    text = re.sub(
+        rf"(?<=xmlns:)({usual})(?==)", lambda name: prefixes[name[1]] or "y", text
+    )
+    text = re.sub(
+        rf"(</?)({usual}):",
+        lambda name: name[1] + (prefixes[name[2]] and f"{prefixes[name[2]]}:"),
+        text,
+    )
+    text = re.sub(
+        rf"(\s)({usual}):", lambda name: f"{name[1]}{prefixes[name[2]] or 'y'}:", text
+    )
+    return text.replace("xmlns:y=", f'xmlns="{_W}" xmlns:y=')
+
+
+@pytest.mark.parametrize("prefixes", PREFIXES, ids=["other", "none", "swapped"])
+def test_a_document_is_read_whichever_prefixes_its_parts_have(
+    tmp_path: Path, prefixes: dict[str, str]
+) -> None:
+    body = paragraph(run("Tides"), style="Heading1")
+    body += paragraph(run("One"), note(1), properties=in_list(1))
+    numbering = lists(level(0, "decimal", "%1."))
+    path = docx(tmp_path / "a.docx", body, [(1, "A note.")], numbering=numbering)
+    with zipfile.ZipFile(path) as container:
+        parts = {name: container.read(name).decode() for name in container.namelist()}
+    with zipfile.ZipFile(path, "w") as container:
+        for name, part in parts.items():
+            is_text = name.startswith("word/") and name.endswith(".xml")
+            container.writestr(name, renamed(part, prefixes) if is_text else part)
+    found = read_manuscript(path)
+    shown = [(part.text, part.level) for part in found.parts]
+    assert shown == [("Tides", 1), ("1. One[1]", None), ("[1: A note.]", None)]
+    assert found.missing == ()
+
+
+def cell(text: str, properties: str = "") -> str:
+    """A cell of a table with properties."""
+    return f"<w:tcPr>{properties}</w:tcPr>{paragraph(run(text))}"
+
+
+def test_a_cell_that_goes_on_over_rows_has_an_empty_place_in_those_below(
+    tmp_path: Path,
+) -> None:
+    first, more = '<w:vMerge w:val="restart"/>', "<w:vMerge/>"
+    wide = '<w:gridSpan w:val="2"/>'
+    body = table(
+        (cell("a"), cell("b", first + wide), cell("c")),
+        (cell("d"), cell("", more + wide), cell("e")),
+        (cell("f", first), cell("g"), cell("h"), cell("i")),
+        (cell("", more), cell("j"), cell("k"), cell("l")),
+    )
+    found = read_manuscript(docx(tmp_path / "a.docx", body))
+    assert found.texts == ["a; b; c", "d; ; e", "f; g; h; i", "; j; k; l"]
+    assert (found.losses, found.missing) == (
+        (
+            Loss(LossKind.SPAN, "b", "b"),
+            Loss(LossKind.SPAN, "f", "f"),
+            Loss(LossKind.TABLE, "a; b; c", "a; b; c"),
+        ),
+        (),
+    )
+
+
+def box(*properties: str) -> str:
+    """A box of an older form."""
+    data = f"<w:ffData><w:checkBox>{''.join(properties)}</w:checkBox></w:ffData>"
+    return (
+        f'<w:r><w:fldChar w:fldCharType="begin">{data}</w:fldChar></w:r>'
+        "<w:r><w:instrText> FORMCHECKBOX </w:instrText></w:r>"
+        '<w:r><w:fldChar w:fldCharType="separate"/></w:r>'
+        '<w:r><w:fldChar w:fldCharType="end"/></w:r>'
+    )
+
+
+@pytest.mark.parametrize(
+    "properties, sign",
+    [
+        ((), "\u2610"),
+        (('<w:default w:val="0"/>',), "\u2610"),
+        (('<w:default w:val="1"/>',), "\u2612"),
+        (('<w:default w:val="1"/>', '<w:checked w:val="0"/>'), "\u2610"),
+        (('<w:default w:val="0"/>', "<w:checked/>"), "\u2612"),
+    ],
+)
+def test_a_box_of_a_form_is_typed_as_a_sign(
+    tmp_path: Path, properties: tuple[str, ...], sign: str
+) -> None:
+    gone = f'<w:del w:id="1">{box()}</w:del>'
+    body = paragraph(run("Tides "), box(*properties), run(" yes"), gone)
+    found = read_manuscript(docx(tmp_path / "a.docx", body))
+    assert found.texts == [f"Tides {sign} yes"]
+    boxes = [loss for loss in found.losses if loss.what is LossKind.BOX]
+    assert boxes == [Loss(LossKind.BOX, sign, "Tides yes")]
+
+
+def test_a_newer_box_is_its_sign_or_a_symbol_that_is_missing(tmp_path: Path) -> None:
+    properties = (
+        '<w14:checkbox xmlns:w14="http://schemas.microsoft.com/office/word/2010/wordml">'
+        '<w14:checked w14:val="1"/></w14:checkbox>'
+    )
+    body = "".join(
+        paragraph(
+            f"<w:sdt><w:sdtPr>{properties}</w:sdtPr><w:sdtContent>{sign}</w:sdtContent></w:sdt>",
+            run(" yes"),
+        )
+        for sign in (run("\u2612"), symbol("Wingdings", "F0FE"))
+    )
+    found = read_manuscript(docx(tmp_path / "a.docx", body))
+    assert found.texts == ["\u2612 yes", "yes"]
+    assert found.missing == (Missing("Wingdings_F0FE", "", "yes"),)
+
+
+def ruby(base: str, reading: str) -> str:
+    """Characters with their reading, which stands first in the file."""
+    return (
+        f"<w:r><w:rPr/><w:ruby><w:rubyPr/><w:rt>{reading}</w:rt>"
+        f"<w:rubyBase>{base}</w:rubyBase></w:ruby></w:r>"
+    )
+
+
+def test_the_reading_of_characters_stands_in_brackets_after_them(
+    tmp_path: Path,
+) -> None:
+    body = paragraph(
+        run("One "), ruby(run("漢", "<w:b/>"), run("kan")), ruby(run("字"), ""), run(".")
+    )
+    body += paragraph(ruby(symbol("Wingdings", "F04A"), run("sun")), run("two"))
+    found = read_manuscript(docx(tmp_path / "a.docx", body))
+    assert found.texts == ["One 漢(kan)字.", "two"]
+    assert found.missing == (Missing("sun Wingdings_F04A", "", "two"),)
