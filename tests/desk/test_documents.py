@@ -1196,3 +1196,42 @@ def test_a_table_is_made_for_the_words_of_a_document(tmp_path: Path) -> None:
         tmp_path / "moon.docx", paragraph(run("The moon")) + paragraph(run("far"))
     )
     assert read_manuscript(path).texts == ["The moon", "far"]
+
+
+@pytest.mark.parametrize(
+    "page, text",
+    [
+        (
+            "One <ruby>漢<rt>kan</rt>字<rt><b>j</b>i</rt></ruby>two",
+            "One 漢(kan)字(ji)two",
+        ),
+        ("<ruby>漢<RT>kan<rt>zwei</ruby>two", "漢(kan)(zwei)two"),
+        ("<ruby>漢<rp>[</rp><rt>kan</rt><rp>]</rp></ruby>two", "漢[kan]two"),
+        ("<ruby>漢<rt></rt>字</ruby>two<ruby>a</ruby>b", "漢字twoab"),
+    ],
+)
+def test_readings_on_a_page_stand_in_brackets(page: str, text: str) -> None:
+    data = f"<html><p>{page}</p></html>".encode()
+    found = read_document(data, ManuscriptKind.HTML)
+    assert (found.texts, found.missing) == ([text], ())
+
+
+def test_templates_on_a_page_are_no_print() -> None:
+    page = (
+        "<html><p id=a>One</p><template><aside><template>inner</template>Not <b>seen</b></aside>"
+        "</template ><p>two</p><template>left open</html>"
+    )
+    found = read_document(page.encode(), ManuscriptKind.HTML)
+    assert found.texts == ["One", "two", "left open"]
+    assert (found.missing, found.losses) == ((), ())
+
+
+def test_pictures_without_an_address_are_described_too() -> None:
+    page = (
+        "<html><p>One <img alt='A crater'> two <img data-src=x alt=Sea /> three <img>"
+        " <img srcset=y alt=''> <img src=z alt=End></p></html>"
+    )
+    found = read_document(page.encode(), ManuscriptKind.HTML)
+    assert found.texts == ["One [A crater] two [Sea] three [End]"]
+    assert found.missing == ()
+    assert len(lost(found, LossKind.PICTURE)) == 1

@@ -504,6 +504,8 @@ class _Html(Tags):
         self._open_lists: list[_List] = []
         self._silent = 0
         self._in_list = False
+        #: Whether the reading of characters is open, and has something: "", "begun" or "read".
+        self._reading = ""
         #: The element that leads back from a note, and how many of its name are open in it.
         self._back, self._open = "", 0
 
@@ -538,6 +540,10 @@ class _Html(Tags):
             self._back, self._open = tag, 1
         self._describe(tag, attrs)
         self._part(tag)
+        if tag in ("rt", "rp", "rb", "rtc"):
+            self._end_reading()
+            is_within = any(each.tag == "ruby" for each in self._path)
+            self._reading = "begun" if tag == "rt" and is_within else ""
 
     def handle_startendtag(self, tag: str, attrs: list[tuple[str, str | None]]) -> None:
         # an element that ends at once has nothing to be silent about
@@ -555,12 +561,18 @@ class _Html(Tags):
         if not self._open:
             self._back = ""
         self._part(tag)
+        if tag in ("rt", "ruby"):
+            self._end_reading()
 
     def handle_data(self, data: str) -> None:
         if self._path and self._path[-1].tag == "style":
             self._sheet.add(rules_of(data))
         if not self._silent and not self._back:
             texts = self.lists if self._in_list else self.texts
+            if self._reading == "begun" and data.strip():
+                # it is parted from the characters by a bracket
+                texts[-1] += " "
+                self._reading = "read"
             texts[-1] += data
 
     def _enter(self, tag: str, attributes: dict[str, str | None]) -> None:
@@ -615,6 +627,12 @@ class _Html(Tags):
         """Takes the description of a picture for print."""
         if tag == "img":
             self.handle_data(f" {dict(attrs).get('alt') or ''} ")
+
+    def _end_reading(self) -> None:
+        """Parts the reading of characters from what is after it, if there is one."""
+        is_read, self._reading = self._reading == "read", ""
+        if is_read:
+            self.handle_data(" ")
 
     def _part(self, tag: str) -> None:
         if tag in self._BLOCKS:

@@ -1,9 +1,10 @@
 """Pages of HTML written so that pandoc keeps the names to which their links lead.
 
-pandoc drops the names of paragraphs and terms, and the description of a picture that has a caption. It
-doesn't know where an aside ends, nor that a link leads to another folder of a book in EPUB, and leaves
-out the title pages of one, and each CR, also where no LF follows. A page of a book that isn't UTF-8 is
-written so.
+pandoc drops the names of paragraphs and terms, and the description of a picture that has a caption or
+no address. It doesn't know where an aside ends, nor that a link leads to another folder of a book in
+EPUB, and leaves out the title pages of one, and each CR, also where no LF follows. It takes templates
+for print, and parts no characters from their reading: that gets the brackets that print doesn't need. A
+page of a book that isn't UTF-8 is written so.
 """
 
 import re
@@ -26,6 +27,14 @@ _TITLE_PAGE = re.compile(r"""(epub:type\s*=\s*["'][^"']*)titlepage""")
 #: The folders in a link to another page of the same book.
 _FOLDERS = re.compile(r"""(\shref\s*=\s*["'])[^"'#:?<>]*/(([^"'#:?<>/]+)#)""")
 _DIVISIONS = frozenset({"aside", "figure", "figcaption"})
+#: Characters with a reading, and what ends one that isn't ended itself.
+_RUBY, _READING = "ruby", "rt"
+_AFTER_READING = frozenset({"rt", "rp", "rb", "rtc"})
+_BRACKET = re.compile("<rp[\\s>]", re.IGNORECASE)
+_RUBY_END = re.compile("</ruby", re.IGNORECASE)
+_TAG_END = re.compile(r"\s*</")
+#: What print doesn't show, with all that it has.
+_TEMPLATE = "template"
 
 
 def with_line_feeds(text: str) -> str:
@@ -73,6 +82,10 @@ class _Rewriting(Tags):
         self._fronts = [0, *(end.end() for end in re.finditer("\n", page))]
         self._pieces: list[str] = []
         self._done = 0
+        #: Whether the characters that are open have no brackets around their reading, and it is open.
+        self._is_bare = self._is_in_reading = False
+        #: Where the templates begin that are open.
+        self._templates: list[int] = []
 
     def whole(self) -> str:
         """The page as it is written anew."""
@@ -81,18 +94,45 @@ class _Rewriting(Tags):
         return "".join((*self._pieces, self._page[self._done :]))
 
     def handle_starttag(self, tag: str, attrs: list[tuple[str, str | None]]) -> None:
+        if tag == _TEMPLATE:
+            self._templates.append(self._start())
         after = ""
         if tag in ("p", "dt") and (name := dict(attrs).get("id")):
             after = f'<span id="{escape(name)}"></span>'
-        self._rewrite(tag, attrs, after)
+        self._rewrite(tag, attrs, after + self._before_reading(tag))
 
     def handle_startendtag(self, tag: str, attrs: list[tuple[str, str | None]]) -> None:
         self._rewrite(tag, attrs, "")
 
     def handle_endtag(self, tag: str) -> None:
+        start = self._start()
+        if tag in (_READING, _RUBY):
+            self._end_reading()
+            self._is_bare &= tag != _RUBY
         if tag in _DIVISIONS:
-            start = self._start() + len("</")
-            self._put(start, start + len(tag), "div")
+            self._put(start + len("</"), start + len("</") + len(tag), "div")
+        if tag == _TEMPLATE and self._templates:
+            front, stop = self._templates.pop(), self._page.find(">", start) + 1
+            self._put(front, stop or len(self._page), "")
+
+    def _before_reading(self, tag: str) -> str:
+        """What parts characters from their reading that begins with a tag, if it is one without brackets."""
+        stop = self._start() + len(self.get_starttag_text() or "")
+        if tag == _RUBY:
+            end = _RUBY_END.search(self._page, stop)
+            last = end.start() if end else len(self._page)
+            self._is_bare = not _BRACKET.search(self._page, stop, last)
+        elif tag in _AFTER_READING:
+            self._end_reading()
+            is_empty = _TAG_END.match(self._page, stop)
+            self._is_in_reading = self._is_bare and tag == _READING and not is_empty
+            return "(" if self._is_in_reading else ""
+        return ""
+
+    def _end_reading(self) -> None:
+        if self._is_in_reading:
+            self._put(self._start(), self._start(), ")")
+            self._is_in_reading = False
 
     def _rewrite(
         self, tag: str, attrs: list[tuple[str, str | None]], after: str
@@ -100,6 +140,10 @@ class _Rewriting(Tags):
         found = written = self.get_starttag_text() or ""
         if tag in _DIVISIONS:
             written = f"<div{written[1 + len(tag) :]}"
+        if tag == "img" and "src" not in dict(attrs):
+            # it has its address elsewhere, or shows its description, or nothing
+            is_shown = any(map(dict(attrs).get, ("alt", "srcset", "data-src")))
+            written = f'<img src=""{written[1 + len(tag) :]}' if is_shown else ""
         if self._counts is not None:
             if "titlepage" in (dict(attrs).get("epub:type") or ""):
                 written = _TITLE_PAGE.sub(r"\1front", written)
@@ -122,5 +166,7 @@ class _Rewriting(Tags):
         return self._fronts[line - 1] + offset
 
     def _put(self, start: int, stop: int, written: str) -> None:
+        if self._templates:
+            return
         self._pieces += (self._page[self._done : start], written)
         self._done = stop
