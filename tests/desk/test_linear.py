@@ -3,6 +3,7 @@
 import time
 import unicodedata
 from collections.abc import (
+    Callable,
     ItemsView,
     Iterable,
     Iterator,
@@ -16,9 +17,12 @@ from typing import Any, cast
 import pytest
 
 from braildesk import Mark, Paragraph, Session, Style, Table
-from braildesk.desk.documents.contents import contents_of
+from braildesk.desk.documents import contents
+from braildesk.desk.documents.contents import contents_of, missing
 from braildesk.desk.documents.kinds import ManuscriptKind
+from braildesk.desk.documents.reading import Missing
 from braildesk.desk.find import Hit
+from braildesk.desk.kept_lines import overlap
 from braildesk.desk.layout import PageSize
 from braildesk.desk.manuscript import Position, passages
 from braildesk.desk.proof import proof_pages
@@ -62,6 +66,74 @@ def test_what_style_sheets_say_of_a_page_is_found_in_one_walk(page: str) -> None
     started = time.process_time()
     assert contents_of(page.encode(), ManuscriptKind.HTML).losses == []
     assert time.process_time() - started < SECONDS
+
+
+class Compared(str):
+    """A text that counts how often one is compared with another."""
+
+    count = 0
+
+    def __eq__(self, other: object) -> bool:
+        Compared.count += 1
+        return str(self) == str(other)
+
+    def __ne__(self, other: object) -> bool:
+        return not self == other
+
+    def __hash__(self) -> int:
+        return hash(str(self))
+
+
+def comparisons(run: Callable[[], object]) -> int:
+    """How many texts are compared while something runs."""
+    before = Compared.count
+    run()
+    return Compared.count - before
+
+
+@pytest.mark.parametrize("end", ["{} is", "is {}", "is", "is {} or"])
+def test_passages_that_begin_alike_are_found_in_one_walk(
+    monkeypatch: pytest.MonkeyPatch, end: str
+) -> None:
+    monkeypatch.setattr(contents, "_words", lambda text: [*map(Compared, text.split())])
+
+    def steps(count: int) -> int:
+        passages = [f"This moon {end.format(n)}" for n in range(count)]
+        # each text has a word more than the passage, so that none of them is one
+        texts = [f"[1] {passage}" for passage in passages]
+        return comparisons(lambda: missing([*passages, "This moon"], texts))
+
+    assert steps(800) < 3 * steps(400)
+    assert missing(["a b c", "a b d", "b c"], ["x a b d", "a b c b"]) == [
+        Missing("c", "b", "")
+    ]
+
+
+@pytest.mark.parametrize(
+    "last, first, count",
+    [
+        ("a b a b", "a b c", 2),
+        ("a a b", "a a b a a c", 3),
+        ("a a b a a", "a a b a a c", 5),
+        ("a a b a a b", "a a b a a c", 3),
+        ("a b", "b", 1),
+        ("a b b", "b", 1),
+        ("a", "b", 0),
+        ("", "b", 0),
+    ],
+)
+def test_texts_that_end_one_list_and_begin_another_are_counted(
+    last: str, first: str, count: int
+) -> None:
+    assert overlap(last.split(), first.split()) == count
+
+
+def test_texts_that_end_one_list_and_begin_another_are_found_in_one_walk() -> None:
+    def steps(count: int) -> int:
+        texts = [Compared("a") for _ in range(count)]
+        return comparisons(lambda: overlap([*texts, Compared("b")], [*texts]))
+
+    assert steps(800) < 3 * steps(400)
 
 
 def test_places_are_found_in_combining_sequences_over_lines() -> None:

@@ -60,7 +60,22 @@ def lines_kept(
     newest = sorted(numbers)[-min(version - draft.version, len(lines)) :]
     asked = [Print(number) for number in newest]
     prints = [composed(text) for text in answers(session, asked)]
-    for count in range(len(prints), 0, -1):
-        if prints[-count:] == lines[:count]:
-            return count
-    return 0
+    return overlap(prints, lines)
+
+
+def overlap(earlier: Sequence[str], later: Sequence[str]) -> int:
+    """How many texts at most are both the last ones of some and the first ones of others."""
+    # for each count of the first ones, how many fewer of them are the last ones of these too
+    shorter = [0]
+
+    def longer(count: int, text: str) -> int:
+        while count and (count == len(later) or later[count] != text):
+            count = shorter[count - 1]
+        return count + (count < len(later) and later[count] == text)
+
+    for text in later[1:]:
+        shorter.append(longer(shorter[-1], text))
+    count = 0
+    for text in earlier:
+        count = longer(count, text)
+    return count

@@ -6,7 +6,7 @@ They are read from the container itself, so that what a converter leaves out wit
 import re
 import unicodedata
 import zipfile
-from collections import Counter
+from collections import Counter, deque
 from collections.abc import Callable, Collection, Iterable, Iterator, Sequence
 from dataclasses import dataclass, field
 from functools import cache, partial
@@ -193,19 +193,39 @@ class _Rest:
         for words in texts.elements():
             self.words += (*words, None)
         # two words together stand in far fewer places than one
-        self._places: dict[tuple[str | None, ...], list[int]] = {}
+        self._places: dict[tuple[str | None, ...], deque[int]] = {}
         for place in range(len(self.words)):
             for count in (1, 2):
                 pair = tuple(self.words[place : place + count])
-                self._places.setdefault(pair, []).append(place)
+                self._places.setdefault(pair, deque()).append(place)
 
     def take(self, words: Sequence[str]) -> bool:
         """Uses up words that stand there one after another, if they do."""
-        for place in self._places.get(tuple(words[:2]), ()) if words else ():
-            if self.words[place : place + len(words)] == list(words):
-                self.words[place : place + len(words)] = [None] * len(words)
+        if not words:
+            return True
+        offset, places = self._rarest(words)
+        wanted = list(words)
+        for place in places:
+            front = place - offset
+            if front >= 0 and self.words[front : front + len(words)] == wanted:
+                self.words[front : front + len(words)] = [None] * len(words)
                 return True
-        return not words
+        return False
+
+    def _rarest(self, words: Sequence[str]) -> tuple[int, Collection[int]]:
+        """The place among some words of the pair that stands in the fewest places, and these."""
+        found: tuple[int, deque[int]] | None = None
+        for offset in range(max(len(words) - 1, 1)):
+            places = self._places.get(tuple(words[offset : offset + 2]), deque())
+            # what was used up is mostly at the front
+            while places and self.words[places[0]] is None:
+                places.popleft()
+            if found is None or len(places) < len(found[1]):
+                found = offset, places
+            if not places:
+                break
+        assert found is not None
+        return found
 
 
 def _parted(words: Iterable[str], there: Counter[str]) -> list[str]:
