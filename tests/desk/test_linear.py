@@ -71,10 +71,10 @@ def test_what_style_sheets_say_of_a_page_is_found_in_one_walk(page: str) -> None
 class Compared(str):
     """A text that counts how often one is compared with another."""
 
-    count = 0
+    compared = 0
 
     def __eq__(self, other: object) -> bool:
-        Compared.count += 1
+        Compared.compared += 1
         return str(self) == str(other)
 
     def __ne__(self, other: object) -> bool:
@@ -86,9 +86,9 @@ class Compared(str):
 
 def comparisons(run: Callable[[], object]) -> int:
     """How many texts are compared while something runs."""
-    before = Compared.count
+    before = Compared.compared
     run()
-    return Compared.count - before
+    return Compared.compared - before
 
 
 @pytest.mark.parametrize("end", ["{} is", "is {}", "is", "is {} or"])
