@@ -6,6 +6,7 @@ import subprocess
 import sys
 import time
 import zipfile
+from collections.abc import Callable
 from pathlib import Path
 
 import pytest
@@ -1235,3 +1236,56 @@ def test_pictures_without_an_address_are_described_too() -> None:
     assert found.texts == ["One [A crater] two [Sea] three [End]"]
     assert found.missing == ()
     assert len(lost(found, LossKind.PICTURE)) == 1
+
+
+@pytest.mark.parametrize(
+    "renamed",
+    [
+        "book/{}".format,
+        "./{}".format,
+        lambda name: name.replace("/", "\\"),
+        lambda name: f"a/b/{name.replace('/', chr(92))}",
+    ],
+    ids=["folder", "dots", "strokes", "both"],
+)
+def test_a_book_is_read_that_is_packed_otherwise(
+    tmp_path: Path, renamed: Callable[[str], str]
+) -> None:
+    pages = {"a": PAGE.format("<p>The moon</p>").encode()}
+    path = book_of(tmp_path / "moon.epub", "a", pages)
+    with zipfile.ZipFile(path) as container:
+        parts = {name: container.read(name) for name in container.namelist()}
+    with zipfile.ZipFile(path, "w") as container:
+        container.writestr("book/", "")
+        for name, part in reversed(parts.items()):
+            entry = zipfile.ZipInfo("x")
+            entry.filename = renamed(name)
+            container.writestr(entry, part)
+    found = read_manuscript(path)
+    assert (found.kind, found.texts) == (ManuscriptKind.EPUB, ["The moon"])
+
+
+def test_a_book_is_read_whose_names_are_not_said_to_be_in_utf_8(tmp_path: Path) -> None:
+    pages = {"größe": PAGE.format("<p>The moon</p>").encode()}
+    path = book_of(tmp_path / "moon.epub", "größe", pages)
+    said, name = b"\x14\x00\x00\x08", "größe".encode()
+    data = path.read_bytes()
+    assert said in data and name in data
+    # in the heads of parts and in the list of them
+    data = data.replace(b"PK\x03\x04" + said, b"PK\x03\x04\x14\x00\x00\x00")
+    data = data.replace(
+        b"PK\x01\x02\x14\x03" + said, b"PK\x01\x02\x14\x03\x14\x00\x00\x00"
+    )
+    path.write_bytes(data)
+    found = read_manuscript(path)
+    assert (found.texts, found.missing) == (["The moon"], ())
+
+
+def test_a_known_part_of_a_container_within_it_is_no_sign_of_a_folder(
+    tmp_path: Path,
+) -> None:
+    pages = {"a": PAGE.format("<p>The moon</p>").encode()}
+    path = book_of(tmp_path / "moon.epub", "a", pages)
+    with zipfile.ZipFile(path, "a") as container:
+        container.writestr("in/[Content_Types].xml", "<Types/>")
+    assert read_manuscript(path).texts == ["The moon"]

@@ -13,7 +13,7 @@ from dataclasses import replace
 
 from braildesk.desk.documents import contents, pages, pandoc
 from braildesk.desk.documents.contents import Contents
-from braildesk.desk.documents.kinds import ManuscriptKind, NotRead
+from braildesk.desk.documents.kinds import ManuscriptKind, NotRead, repacked
 from braildesk.desk.documents.markup import characters_of_page, characters_of_text
 from braildesk.desk.documents.notes import with_notes
 from braildesk.desk.documents.numbers import with_numbers
@@ -30,6 +30,8 @@ from braildesk.desk.documents.tree import FAULTS, document
 from braildesk.desk.manuscript import UnreadableText
 from braildesk.text import limits
 
+#: The kinds that are containers.
+_PACKED = (ManuscriptKind.DOCX, ManuscriptKind.ODT, ManuscriptKind.EPUB)
 #: The kinds whose title, and what else is said about the whole, is a part of the print.
 _WITH_FRONT = (ManuscriptKind.DOCX, ManuscriptKind.ODT, ManuscriptKind.MARKDOWN)
 
@@ -38,6 +40,8 @@ def read_document(
     data: bytes, kind: ManuscriptKind, reading: ReadingOptions = ReadingOptions()
 ) -> Manuscript:
     """The manuscript that the bytes of a document are; raises `UnreadableText`."""
+    if kind in _PACKED:
+        data = repacked(data)
     if kind in (ManuscriptKind.RTF, ManuscriptKind.DOC):
         return replace(_read_docx(pandoc.as_docx(data, kind), reading), kind=kind)
     if kind is ManuscriptKind.DOCX:

@@ -1,11 +1,12 @@
 """Which kind of manuscript a file is, by what it begins with and what it contains."""
 
 import zlib
-from collections.abc import Iterator
-from contextlib import contextmanager
+from collections.abc import Iterator, Sequence
+from contextlib import contextmanager, suppress
 from enum import Enum, auto
 from io import BytesIO
 from pathlib import PurePath
+from posixpath import normpath
 from typing import TYPE_CHECKING
 
 from braildesk.desk.manuscript import UnreadableText
@@ -117,7 +118,9 @@ _BY_NAME = {
 _HIDDEN_FONTS = frozenset(
     {"http://www.idpf.org/2008/embedding", "http://ns.adobe.com/pdf/enc#RC"}
 )
-_ENCRYPTED_FLAG = 1
+_ENCRYPTED_FLAG, _UTF8_FLAG = 1, 0x800
+#: The parts by which a container is known, of which a folder around all others is found.
+_KNOWN = ("mimetype", "META-INF/container.xml", "[Content_Types].xml")
 
 #: What is raised for containers that are damaged, or made to do damage.
 _FAULTS = (
@@ -178,6 +181,49 @@ def unpacked(data: bytes) -> Iterator["ZipFile"]:
         raise NoDocument(WhyNot.DAMAGED) from fault
 
 
+def repacked(data: bytes) -> bytes:
+    """A container whose parts have the names that its standard wants, if it can be read; else `NoDocument`.
+
+    Some are packed with a folder around all of them, with names in UTF-8 that aren't said to be, or with
+    strokes of another system. One that is packed anew has no pictures any more, which aren't looked at.
+    """
+    # imported here, since a text needs none of it
+    from zipfile import ZipFile
+
+    with unpacked(data) as container:
+        entries = [each for each in container.infolist() if not each.is_dir()]
+        named = [_usual_name(each.filename, each.flag_bits) for each in entries]
+        folder = _folder_around(named)
+        names = [each.removeprefix(folder) for each in named]
+        is_encrypted = any(each.flag_bits & _ENCRYPTED_FLAG for each in entries)
+        if is_encrypted or names == [each.filename for each in entries]:
+            return data
+        made = BytesIO()
+        with ZipFile(made, "w") as other:
+            for name, entry in zip(names, entries):
+                part = b"" if is_media(name) else part_of(container, entry.filename)
+                other.writestr(name, part)
+    return made.getvalue()
+
+
+def _usual_name(name: str, flags: int) -> str:
+    """The name of a part, with plain strokes and all its characters."""
+    if not flags & _UTF8_FLAG:
+        with suppress(UnicodeError):
+            name = name.encode("cp437").decode("utf-8")
+    return normpath(name.replace("\\", "/")).lstrip("/")
+
+
+def _folder_around(names: Sequence[str]) -> str:
+    """The folder in which all is that a container is known by, with a stroke, if there is one."""
+    if not any(known in names for known in _KNOWN):
+        for known in _KNOWN:
+            found = [each for each in names if each.endswith(f"/{known}")]
+            if found:
+                return found[0].removesuffix(known) if len(found) == 1 else ""
+    return ""
+
+
 def is_media(name: str) -> bool:
     """Whether a part of a container is a picture, a sound or a font."""
     return PurePath(name).suffix.lower() in _MEDIA
@@ -190,14 +236,14 @@ def part_of(container: "ZipFile", name: str) -> bytes:
 
 
 def _kind_of_zip(data: bytes) -> ManuscriptKind:
-    with unpacked(data) as container:
+    with unpacked(repacked(data)) as container:
         names = frozenset(container.namelist())
         if any(each.flag_bits & _ENCRYPTED_FLAG for each in container.infolist()):
             raise NoDocument(WhyNot.ENCRYPTED)
         kind = None
         if "mimetype" in names:
             with container.open("mimetype") as part:
-                kind = _MIME.get(part.read(_FRONT).strip())
+                kind = _MIME.get(part.read(_FRONT).removeprefix(_MARK).strip())
         elif "[Content_Types].xml" in names:
             if any(name.startswith("word/document") for name in names):
                 kind = ManuscriptKind.DOCX
