@@ -388,6 +388,33 @@ def test_numbers_of_odt_are_those_that_libreoffice_shows(
     assert not [loss for loss in found.losses if loss.what is LossKind.NUMBER]
 
 
+def noted(text: str) -> str:
+    """A paragraph with a note."""
+    inner = f"<text:note-citation>1</text:note-citation><text:note-body>{text}</text:note-body>"
+    return (
+        f'<text:p>x<text:note text:note-class="footnote">{inner}</text:note></text:p>'
+    )
+
+
+def test_no_list_of_a_text_in_odt_goes_on_with_one_in_a_note(tmp_path: Path) -> None:
+    text = noted(listed("L", "n")) + listed("L", "a", **GOING_ON)
+    text += noted(listed("L", "m", **GOING_ON)) + listed("L", "b", **GOING_ON)
+    found = read_manuscript(odt(tmp_path / "lists.odt", text, STYLES_OF_LISTS, OUTLINE))
+    assert found.texts == ["x[1]", "[1: 1. n]", "1. a", "x[2]", "[2: 2. m]", "2. b"]
+
+
+@pytest.mark.parametrize("joined", ["", ' text:consecutive-numbering="true"'])
+def test_a_heading_of_odt_may_begin_its_numbers_anew(
+    tmp_path: Path, joined: str
+) -> None:
+    outline = OUTLINE.replace("<text:outline-style", f"<text:outline-style{joined}")
+    text = headed(1, "a") + headed(1, "b", 'text:restart-numbering="true"')
+    found = read_manuscript(
+        odt(tmp_path / "a.odt", text + headed(1, "c"), styles=outline)
+    )
+    assert found.texts == ["I. a", "I. b", "II. c"]
+
+
 def test_numbers_of_odt_that_are_otherwise_in_print_are_noted(tmp_path: Path) -> None:
     path = odt(tmp_path / "lists.odt", listed("U", "Tides"), STYLES_OF_LISTS)
     found = read_manuscript(path)

@@ -37,6 +37,7 @@ from braildesk.desk.documents.reading import (
 from braildesk.desk.documents.tree import Node, document
 from braildesk.desk.manuscripts import read_manuscript
 from braildesk.desk.replacements import Replacer
+from scribe.words.import_text import unreadable
 
 from handmade import (
     deleted,
@@ -1289,3 +1290,23 @@ def test_a_known_part_of_a_container_within_it_is_no_sign_of_a_folder(
     with zipfile.ZipFile(path, "a") as container:
         container.writestr("in/[Content_Types].xml", "<Types/>")
     assert read_manuscript(path).texts == ["The moon"]
+
+
+def test_what_is_nested_too_deeply_is_refused_for_that(tmp_path: Path) -> None:
+    front, end = "<text:list><text:list-item>", "</text:list-item></text:list>"
+    text = odt(tmp_path / "a.odt", front * 700 + "<text:p>x</text:p>" + end * 700)
+    tree: Node = {"t": "Plain", "c": []}
+    for _ in range(700):
+        tree = {"t": "BulletList", "c": [[tree]]}
+
+    def read_text() -> object:
+        return read_document(text.read_bytes(), ManuscriptKind.ODT)
+
+    def read_tree() -> object:
+        return document({"blocks": [tree]})
+
+    for read in (read_text, read_tree):
+        with pytest.raises(NoDocument) as found:
+            read()
+        assert found.value.why is WhyNot.TOO_DEEP
+        assert "nested" in unreadable(found.value)

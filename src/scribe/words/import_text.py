@@ -497,6 +497,8 @@ _NO_DOCUMENT = {
     " was made",
     WhyNot.DAMAGED: "is damaged: it begins as a document does, and its parts can't be read",
     WhyNot.TOO_LARGE: "unpacks to more than any book has",
+    WhyNot.TOO_DEEP: "is nested too deeply: some of it, as an item of a list, stands within hundreds of"
+    " others",
     WhyNot.ENCRYPTED: "is encrypted. Save it without a password, and import it again",
     WhyNot.COPY_PROTECTED: "is protected against copying. Ask the publisher for a file that isn't",
     WhyNot.BOOK: "is a book of braildesk, and no manuscript",

@@ -13,7 +13,13 @@ from dataclasses import replace
 
 from braildesk.desk.documents import contents, pages, pandoc
 from braildesk.desk.documents.contents import Contents
-from braildesk.desk.documents.kinds import ManuscriptKind, NotRead, repacked
+from braildesk.desk.documents.kinds import (
+    ManuscriptKind,
+    NoDocument,
+    NotRead,
+    WhyNot,
+    repacked,
+)
 from braildesk.desk.documents.markup import characters_of_page, characters_of_text
 from braildesk.desk.documents.notes import with_notes
 from braildesk.desk.documents.numbers import with_numbers
@@ -102,6 +108,8 @@ def _read(
     tree, left_out = pandoc.tree(_readable(data, kind), kind)
     try:
         noted = with_notes(tree)
+    except RecursionError as fault:
+        raise NoDocument(WhyNot.TOO_DEEP) from fault
     except FAULTS as fault:
         raise NotRead from fault
     found = document(

@@ -41,6 +41,7 @@ class WhyNot(Enum):
     PDF = auto()
     DAMAGED = auto()
     TOO_LARGE = auto()
+    TOO_DEEP = auto()
     ENCRYPTED = auto()
     COPY_PROTECTED = auto()
     BOOK = auto()
@@ -83,7 +84,7 @@ class BrokenOff(UnreadableText):
 
 
 class NotRead(UnreadableText):
-    """What pandoc makes of a document isn't what is known of it, or is too deep."""
+    """What pandoc makes of a document isn't what is known of it."""
 
 
 #: How many bytes of the text of a container are read at most, unpacked.
@@ -177,6 +178,8 @@ def unpacked(data: bytes) -> Iterator["ZipFile"]:
             if sum(sizes) > MOST_BYTES:
                 raise NoDocument(WhyNot.TOO_LARGE)
             yield container
+    except RecursionError as fault:
+        raise NoDocument(WhyNot.TOO_DEEP) from fault
     except (BadZipFile, ParseError, *_FAULTS) as fault:
         raise NoDocument(WhyNot.DAMAGED) from fault
 

@@ -30,7 +30,7 @@ _ALONE = f"{_TEXT}numbered-paragraph"
 #: What stands around paragraphs and isn't left: lists, once their items have their numbers, and sections,
 #: whose text pandoc leaves out.
 _AROUND = frozenset({_LIST, *_ITEMS, _ALONE, f"{_TEXT}section"})
-_DELETED = f"{_TEXT}tracked-changes"
+_DELETED, _NOTE = f"{_TEXT}tracked-changes", f"{_TEXT}note-body"
 #: Where the form of a number has the number of a level, from 1 on.
 _PLACE = re.compile("%([1-9][0-9]?)%")
 _OUTLINE = "outline-style"
@@ -143,7 +143,9 @@ class _Numbering:
         for root in roots:
             self._note_styles(root)
         self._named: dict[str, _Count] = {}
+        #: The newest list outside of notes, or in them while one is read; and that of the notes before.
         self._last: _Count | None = None
+        self._last_of_notes: _Count | None = None
         self._outline = _Count(_OUTLINE)
         self._labels: dict[int, str] = {}
         #: The numbers that are otherwise in print.
@@ -185,8 +187,16 @@ class _Numbering:
             elif child.tag == _HEADING:
                 self._heading(child)
                 self._read(child)
+            elif child.tag == _NOTE:
+                self._note(child)
             elif child.tag != _DELETED:
                 self._read(child)
+
+    def _note(self, note: Element) -> None:
+        """Counts the lists of a note, with which none outside of notes goes on."""
+        outside, self._last = self._last, self._last_of_notes
+        self._read(note)
+        self._last_of_notes, self._last = self._last, outside
 
     def _list(self, found: Element, around: _Place | None, is_anew: bool) -> None:
         style = found.get(f"{_TEXT}style-name", around.style if around else "")
@@ -244,8 +254,8 @@ class _Numbering:
         place = _Place(self._outline, _OUTLINE, _number(heading, "outline-level", 1))
         start = None
         if heading.get(f"{_TEXT}restart-numbering") == "true":
-            self._outline.numbers.pop(place.level, None)
-            start = heading.get(f"{_TEXT}start-value")
+            usual = self._start(_OUTLINE, place.level)
+            start = heading.get(f"{_TEXT}start-value", f"{usual}")
         self._put(heading, place, start)
 
     def _has_own_list(self, style: str) -> bool:

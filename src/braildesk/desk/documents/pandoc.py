@@ -61,7 +61,9 @@ def tree(data: bytes, kind: ManuscriptKind) -> tuple[dict[str, Any], frozenset[s
         answered, said = _run("pandoc", words, source)
     try:
         found = json.loads(answered)
-    except (ValueError, RecursionError) as fault:
+    except RecursionError as fault:
+        raise NoDocument(WhyNot.TOO_DEEP) from fault
+    except ValueError as fault:
         raise NotConverted("pandoc", "") from fault
     if not isinstance(found, dict):
         raise NotConverted("pandoc", "")

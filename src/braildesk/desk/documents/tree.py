@@ -9,7 +9,7 @@ from collections.abc import Iterable, Iterator, Mapping, Sequence
 from dataclasses import dataclass, field, replace
 from typing import Any
 
-from braildesk.desk.documents.kinds import NotRead
+from braildesk.desk.documents.kinds import NoDocument, NotRead, WhyNot
 from braildesk.desk.documents.markup import Tags
 from braildesk.desk.documents.options import ReadingOptions
 from braildesk.desk.documents.reading import Loss, LossKind, Part, plain
@@ -44,7 +44,6 @@ FAULTS = (
     IndexError,
     TypeError,
     ValueError,
-    RecursionError,
 )
 
 
@@ -57,7 +56,7 @@ def document(
 ) -> Document:
     """The paragraphs of a tree; with its title and those who wrote it if these are print too.
 
-    The titles of its tables may stand below them. Raises ``NotRead``.
+    The titles of its tables may stand below them. Raises ``UnreadableText``.
     """
     reader = _Reader(reading, has_titles_below)
     try:
@@ -65,6 +64,8 @@ def document(
             reader.front(tree["meta"])
         reader.blocks(tree["blocks"])
         reader.put_notes()
+    except RecursionError as fault:
+        raise NoDocument(WhyNot.TOO_DEEP) from fault
     except FAULTS as fault:
         raise NotRead from fault
     return Document(tuple(reader.parts), tuple(reader.losses))
