@@ -1,8 +1,8 @@
 """Manuscripts as publishers send them; of a text none of what reads documents is imported.
 
 `kinds` says what a file is, `document` reads one, and `reading` is what came of it. Before `pandoc`
-gets it, `numbers` writes the numbers that Word shows into a DOCX, `word_print` what else it shows,
-`package` has the pages of an EPUB, and `pages` keeps the names of their links. `tree` makes
-paragraphs of what pandoc gives, with the notes that `notes` finds, and `contents` has all words of
-the file, to be compared with them.
+gets it, `numbers` writes the numbers that Word shows into a DOCX, and `word_print` what else it shows,
+`tables_of_odt` keeps the places of cells, `package` has the pages of an EPUB, and `pages` keeps the
+names of their links. `tree` makes paragraphs of what pandoc gives, with the notes that `notes` finds,
+and `contents` has all words of the file, to be compared with them.
 """

@@ -1,12 +1,12 @@
 """Manuscripts as publishers send them, read as the paragraphs of a book.
 
-Documents are read by pandoc (`pages`, `package`, `numbers`, `numbers_of_odt`, `pandoc`, `tree`,
-`notes`). What it leaves out without a sign is found by comparing the words of its paragraphs with those
-that the file itself has (`contents`).
+Documents are read by pandoc (`pages`, `package`, `numbers`, `word_print`, `numbers_of_odt`,
+`tables_of_odt`, `pandoc`, `tree`, `notes`). What it leaves out without a sign is found by comparing the
+words of its paragraphs with those that the file itself has (`contents`).
 
 RTF and DOC are turned into DOCX by LibreOffice first: pandoc loses print of the one without a word, and
-doesn't read the other. ODT is where pandoc loses words of it, as the heads of tables, or numbers, if
-fewer are lost so: the text boxes that LibreOffice makes of frames are lost in their turn.
+doesn't read the other. ODT is where pandoc loses words of it, as what the text computes, or numbers,
+if fewer are lost so: the text boxes that LibreOffice makes of frames are lost in their turn.
 """
 
 from dataclasses import replace

@@ -13,6 +13,7 @@ from xml.etree.ElementTree import Element
 from xml.sax.saxutils import escape
 from zipfile import ZipFile
 
+from braildesk.desk.documents import tables_of_odt
 from braildesk.desk.documents.kinds import is_media, part_of, unpacked
 from braildesk.desk.documents.reading import Loss, LossKind, plain, whole
 from braildesk.desk.documents.tree import letters, roman
@@ -58,9 +59,10 @@ _FORMS: Mapping[tuple[str, bool], Callable[[int], str]] = {
 
 
 def with_odt_numbers(data: bytes, bullet: str) -> tuple[bytes, list[Loss]]:
-    """A text without lists, whose paragraphs begin with their numbers; and those not as in print.
+    """A text without lists, whose paragraphs begin with their numbers; and those not as in print, with
+    the cells that go on over rows.
 
-    It has no pictures any more, which aren't looked at. Raises `NoDocument`.
+    Its tables have no heads, and a place for each cell that goes on. It has no pictures any more, which aren't looked at. Raises `NoDocument`.
     """
     made = BytesIO()
     with unpacked(data) as container, ZipFile(made, "w") as other:
@@ -73,14 +75,23 @@ def with_odt_numbers(data: bytes, bullet: str) -> tuple[bytes, list[Loss]]:
         numbering = _Numbering((styles, root), bullet)
         labels = iter(numbering.labels(root))
 
+        spans = tables_of_odt.Spans(root)
+        ahead = iter([spans.ahead.get(id(each), "") for each in root.iter()])
+
         def front_of(name: str) -> str:
             return escape(next(labels)) if name in (_PARAGRAPH, _HEADING) else ""
 
+        how = Rewriting(
+            front_of,
+            lambda name: next(ahead),
+            _AROUND | tables_of_odt.AROUND_ROWS,
+            prefixes=tables_of_odt.PREFIXES,
+        )
         for name, part in parts.items():
             if name == _CONTENT:
-                part = rewritten(part, Rewriting(front_of, unwrapped=_AROUND))
+                part = rewritten(part, how)
             other.writestr(name, part)
-    return made.getvalue(), numbering.losses
+    return made.getvalue(), [*numbering.losses, *spans.losses]
 
 
 @dataclass(frozen=True, slots=True)

@@ -1,0 +1,74 @@
+"""The tables of a text in ODT: their heads, and the places of cells that go on over several rows.
+
+pandoc leaves out the rows of a head, and each cell that another one covers, so that those after it
+would stand under another head.
+"""
+
+from collections.abc import Iterator
+from xml.etree.ElementTree import Element
+
+from braildesk.desk.documents.reading import Loss, LossKind, plain, whole
+
+_TABLE = "{urn:oasis:names:tc:opendocument:xmlns:table:1.0}"
+_TEXT = "{urn:oasis:names:tc:opendocument:xmlns:text:1.0}"
+_ROW, _CELL = f"{_TABLE}table-row", f"{_TABLE}table-cell"
+_COVERED = f"{_TABLE}covered-table-cell"
+#: What stands around rows, and can be left out.
+AROUND_ROWS = frozenset(
+    f"{_TABLE}table-{name}" for name in ("header-rows", "rows", "row-group")
+)
+#: The prefixes by which the place of a cell is written.
+PREFIXES = {_TABLE[1:-1]: "table", _TEXT[1:-1]: "text"}
+_PLACE = "<table:table-cell><text:p/></table:table-cell>"
+#: The most columns and rows of a table that are counted.
+_MOST = 1_000
+
+
+class Spans:
+    """The cells of a text that go on over rows."""
+
+    def __init__(self, root: Element) -> None:
+        #: What stands ahead of elements, by their identities.
+        self.ahead: dict[int, str] = {}
+        self.losses: list[Loss] = []
+        for table in root.iter(f"{_TABLE}table"):
+            self._read(table)
+
+    def _read(self, table: Element) -> None:
+        # how many rows more the cell that begins at a column has
+        going_on: dict[int, int] = {}
+        for row in _rows(table):
+            begun: dict[int, int] = {}
+            column = 0
+            for cell in row:
+                if cell.tag not in (_CELL, _COVERED):
+                    continue
+                stop = column + _count(cell, "number-columns-repeated")
+                height = _count(cell, "number-rows-spanned")
+                if cell.tag == _COVERED:
+                    places = sum(each in going_on for each in range(column, stop))
+                    self.ahead[id(cell)] = _PLACE * places
+                elif height > 1:
+                    begun[column] = height
+                    self._note(cell)
+                column = stop
+            going_on = {each: left - 1 for each, left in going_on.items()} | begun
+            going_on = {each: left for each, left in going_on.items() if left > 1}
+
+    def _note(self, cell: Element) -> None:
+        texts = ("".join(each.itertext()) for each in cell.iter(f"{_TEXT}p"))
+        if words := plain(" ".join(texts).replace("\n", " ")):
+            self.losses.append(Loss(LossKind.SPAN, words, words))
+
+
+def _rows(table: Element) -> Iterator[Element]:
+    """The rows of a table, those of its head too."""
+    for child in table:
+        if child.tag == _ROW:
+            yield child
+        elif child.tag in AROUND_ROWS:
+            yield from _rows(child)
+
+
+def _count(cell: Element, name: str) -> int:
+    return min(max(whole(cell.get(f"{_TABLE}{name}"), 1), 1), _MOST)

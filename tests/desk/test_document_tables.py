@@ -1,0 +1,66 @@
+"""Tables of pages and of texts in ODT, whose cells may go on over rows and columns."""
+
+from pathlib import Path
+
+from braildesk.desk.documents.document import read_document
+from braildesk.desk.documents.kinds import ManuscriptKind
+from braildesk.desk.documents.reading import LossKind, Manuscript
+from braildesk.desk.manuscripts import read_manuscript
+
+from handmade import odt
+
+#: A table in which h, b, g and n go on over two rows, and i and b are of two columns.
+SHOWN = ["h; i; j", "; k; l; m", "a; b; d", "e; ; f", "g; n; o; p", "; ; q; r"]
+
+
+def spans(found: Manuscript) -> list[str]:
+    return [loss.words for loss in found.losses if loss.what is LossKind.SPAN]
+
+
+def test_cells_of_a_page_that_go_on_over_rows_have_a_place_in_each() -> None:
+    heads = "<tr><th rowspan=2>h</th><th colspan=2>i</th><th>j</th></tr>"
+    heads += "<tr><th>k</th><th>l</th><th>m</th></tr>"
+    rows = "<tr><td>a</td><td rowspan=2 colspan=2>b</td><td>d</td></tr>"
+    rows += "<tr><td>e</td><td>f</td></tr><tr><td rowspan=2>g</td>"
+    rows += "<td rowspan=2>n</td><td>o</td><td>p</td></tr><tr><td>q</td><td>r</td></tr>"
+    page = f"<html><table><thead>{heads}</thead>{rows}</table></html>"
+    found = read_document(page.encode(), ManuscriptKind.HTML)
+    assert (found.texts, found.missing) == (SHOWN, ())
+    assert spans(found) == ["h", "b", "g", "n"]
+
+
+def row(*cells: str) -> str:
+    return f"<table:table-row>{''.join(cells)}</table:table-row>"
+
+
+def cell(text: str, rows: int = 1, columns: int = 1) -> str:
+    """A cell that is of some rows and columns."""
+    size = (
+        f'table:number-rows-spanned="{rows}" table:number-columns-spanned="{columns}"'
+    )
+    return f"<table:table-cell {size}><text:p>{text}</text:p></table:table-cell>"
+
+
+def covered(count: int = 1) -> str:
+    """What stands in place of cells that another one covers."""
+    return f'<table:covered-table-cell table:number-columns-repeated="{count}"/>'
+
+
+def test_cells_of_a_text_in_odt_that_go_on_over_rows_have_a_place_in_each(
+    tmp_path: Path,
+) -> None:
+    head = row(cell("h", 2), cell("i", 1, 2), covered(), cell("j"))
+    head += row(covered(), cell("k"), cell("l"), cell("m"))
+    rows = row(cell("a"), cell("b", 2, 2), covered(), cell("d"))
+    rows += row(cell("e"), covered(2), cell("f"))
+    rows += row(cell("g", 2), cell("n", 2), cell("o"), cell("p"))
+    rows += row(covered(2), cell("q"), cell("r"))
+    text = (
+        '<table:table><table:table-column table:number-columns-repeated="4"/>'
+        f"<table:table-header-rows>{head}</table:table-header-rows>{rows}</table:table>"
+    )
+    found = read_manuscript(odt(tmp_path / "a.odt", text))
+    # pandoc fills up rows that have fewer cells than others
+    assert [each.rstrip("; ") for each in found.texts] == SHOWN
+    assert found.missing == ()
+    assert spans(found) == ["h", "b", "g", "n"]
