@@ -1228,6 +1228,16 @@ def test_templates_on_a_page_are_no_print() -> None:
     assert (found.missing, found.losses) == ((), ())
 
 
+def test_what_fields_of_a_form_on_a_page_show_is_print() -> None:
+    page = (
+        "<html><form><p>Name <input value='Anna &amp; Ben'>, <input type=hidden value=no>"
+        "<input type=checkbox value=no><input type=submit value=Go /></p></form></html>"
+    )
+    found = read_document(page.encode(), ManuscriptKind.HTML)
+    assert " ".join(found.texts) == "Name Anna & Ben , Go"
+    assert found.missing == ()
+
+
 def test_pictures_without_an_address_are_described_too() -> None:
     page = (
         "<html><p>One <img alt='A crater'> two <img data-src=x alt=Sea /> three <img>"

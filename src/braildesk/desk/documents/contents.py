@@ -17,7 +17,7 @@ from xml.etree import ElementTree
 from xml.etree.ElementTree import Element
 
 from braildesk.desk.documents.kinds import ManuscriptKind, part_of, unpacked
-from braildesk.desk.documents.markup import Tags, characters_of_page
+from braildesk.desk.documents.markup import Tags, characters_of_page, field_words
 from braildesk.desk.documents.notes import BACK
 from braildesk.desk.documents.package import Package
 from braildesk.desk.documents.reading import Loss, LossKind, Missing, plain, whole
@@ -644,9 +644,11 @@ class _Html(Tags):
         self._open_lists.append(found)
 
     def _describe(self, tag: str, attrs: list[tuple[str, str | None]]) -> None:
-        """Takes the description of a picture for print."""
+        """Takes the description of a picture, and what is in a field of a form, for print."""
         if tag == "img":
             self.handle_data(f" {dict(attrs).get('alt') or ''} ")
+        elif words := field_words(tag, dict(attrs)):
+            self.handle_data(f" {words} ")
 
     def _end_reading(self) -> None:
         """Parts the reading of characters from what is after it, if there is one."""

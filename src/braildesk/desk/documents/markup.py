@@ -1,7 +1,7 @@
 """The tags of a page of HTML, and the characters of the bytes that it is."""
 
 import re
-from collections.abc import Iterable
+from collections.abc import Iterable, Mapping
 from contextlib import suppress
 from html.parser import HTMLParser
 
@@ -26,6 +26,10 @@ _OF_ONE_BYTE = re.compile(r"(iso[-_]?8859|windows[-_]?125|cp125|latin).*")
 _MARKS = ((b"\xff\xfe", "utf-16"), (b"\xfe\xff", "utf-16"), (b"", "utf-8-sig"))
 
 
+#: The fields of forms in which no words are seen.
+_WORDLESS = frozenset("hidden checkbox radio password file color range image".split())
+
+
 class Tags(HTMLParser):
     """What finds the tags of a page, whatever their attributes have."""
 
@@ -34,6 +38,13 @@ class Tags(HTMLParser):
         if self.rawdata.startswith("<![CDATA[", i):
             return super().parse_marked_section(i, bool(report))
         return self.parse_bogus_comment(i)
+
+
+def field_words(tag: str, attributes: Mapping[str, str | None]) -> str:
+    """The words that a field of a form shows, as a button does."""
+    kind = (attributes.get("type") or "").lower()
+    is_seen = tag == "input" and kind not in _WORDLESS
+    return (attributes.get("value") or "").strip() if is_seen else ""
 
 
 def characters_of_page(data: bytes) -> str:

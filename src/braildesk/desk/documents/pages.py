@@ -1,10 +1,10 @@
 """Pages of HTML written so that pandoc keeps the names to which their links lead.
 
-pandoc drops the names of paragraphs and terms, and the description of a picture that has a caption or
-no address. It doesn't know where an aside ends, nor that a link leads to another folder of a book in
-EPUB, and leaves out the title pages of one, and each CR, also where no LF follows. It takes templates
-for print, and parts no characters from their reading: that gets the brackets that print doesn't need. A
-page of a book that isn't UTF-8 is written so.
+pandoc drops the names of paragraphs and terms, what fields of forms show, and the description of a
+picture that has a caption or no address. It doesn't know where an aside ends, nor that a link leads to
+another folder of a book in EPUB, and leaves out the title pages of one, and each CR, also where no LF
+follows. It takes templates for print, and parts no characters from their reading: that gets brackets,
+which print doesn't need. A page of a book that isn't UTF-8 is written so.
 """
 
 import re
@@ -18,7 +18,7 @@ from urllib.parse import unquote
 from zipfile import ZipFile
 
 from braildesk.desk.documents.kinds import is_media, part_of, unpacked
-from braildesk.desk.documents.markup import Tags, characters_of_page
+from braildesk.desk.documents.markup import Tags, characters_of_page, field_words
 from braildesk.desk.documents.package import Package
 from braildesk.desk.manuscript import UnreadableText
 
@@ -140,6 +140,8 @@ class _Rewriting(Tags):
         found = written = self.get_starttag_text() or ""
         if tag in _DIVISIONS:
             written = f"<div{written[1 + len(tag) :]}"
+        if words := field_words(tag, dict(attrs)):
+            written = f" {escape(words)} "
         if tag == "img" and "src" not in dict(attrs):
             # it has its address elsewhere, or shows its description, or nothing
             is_shown = any(map(dict(attrs).get, ("alt", "srcset", "data-src")))
