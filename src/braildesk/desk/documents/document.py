@@ -29,10 +29,11 @@ from braildesk.desk.documents.reading import (
     Loss,
     LossKind,
     Manuscript,
+    Missing,
     Part,
     short_enough,
 )
-from braildesk.desk.documents.tree import FAULTS, document
+from braildesk.desk.documents.tree import FAULTS, document, said_beside
 from braildesk.desk.manuscript import UnreadableText
 from braildesk.text import limits
 
@@ -108,6 +109,7 @@ def _read(
     tree, left_out = pandoc.tree(_readable(data, kind), kind)
     try:
         noted = with_notes(tree)
+        beside = said_beside(tree) if kind is ManuscriptKind.MARKDOWN else []
     except RecursionError as fault:
         raise NoDocument(WhyNot.TOO_DEEP) from fault
     except FAULTS as fault:
@@ -125,6 +127,7 @@ def _read(
         passages = [*passages, *contents.notes_of(text, left_out)]
         passages += contents.addresses_of(text)
     missing = contents.missing(passages, [part.text for part in found.parts])
+    missing += [Missing(text, "", "") for text in beside]
     parts = tuple(each for part in found.parts for each in short_enough(part))
     losses = (*found.losses, *own.numbers, *_too_long(found.parts), *own.losses)
     return Manuscript(kind, parts, losses, tuple(missing))

@@ -10,8 +10,8 @@ from dataclasses import dataclass, field, replace
 from typing import Any
 
 from braildesk.desk.documents.kinds import NoDocument, NotRead, WhyNot
-from braildesk.desk.documents.markup import Tags
 from braildesk.desk.documents.options import ReadingOptions
+from braildesk.desk.documents.raw_html import RawHtml, RawTag
 from braildesk.desk.documents.reading import Loss, LossKind, Part, plain
 from braildesk.text.sequences import composed
 
@@ -71,6 +71,13 @@ def document(
     return Document(tuple(reader.parts), tuple(reader.losses))
 
 
+def said_beside(tree: Node) -> list[str]:
+    """What is said about a document that is no print of it; raises what `FAULTS` has."""
+    reader = _Reader(ReadingOptions(), has_titles_below=False)
+    reader.rest(tree["meta"])
+    return [part.text for part in reader.parts]
+
+
 @dataclass
 class _Line:
     """A text while it is written, with the places of what can't be in it, and its notes."""
@@ -79,6 +86,8 @@ class _Line:
     length: int = 0
     spans: list[tuple[LossKind, int, int]] = field(default_factory=list)
     notes: list[tuple[str, list[Node]]] = field(default_factory=list)
+    #: The tags of HTML that are open, each with its place.
+    opened: list[tuple[str, int]] = field(default_factory=list)
 
     def add(self, text: str) -> None:
         self.pieces.append(text)
@@ -95,19 +104,6 @@ class _Line:
         text = self.text
         for what, start, stop in self.spans:
             yield Loss(what, plain(text[start:stop]), _around(text, start, stop))
-
-
-class _Print(Tags):
-    """Whether a piece of HTML is more than tags."""
-
-    def __init__(self, text: str) -> None:
-        super().__init__()
-        self.is_there = False
-        self.feed(text)
-        self.close()
-
-    def handle_data(self, data: str) -> None:
-        self.is_there |= bool(data.strip())
 
 
 class _Reader:
@@ -133,6 +129,12 @@ class _Reader:
         if "title" in meta and self.parts:
             self.parts[0] = replace(self.parts[0], level=0)
 
+    def rest(self, meta: dict[str, Node]) -> None:
+        """Reads what else is said about a document, but its language and how it is written."""
+        for name in meta:
+            if name not in (*_FRONT, "lang", "dir"):
+                self._said(meta[name])
+
     def _said(self, node: Node) -> None:
         content: Any = node["c"]
         match node["t"]:
@@ -140,8 +142,8 @@ class _Reader:
                 self._paragraph(content)
             case "MetaBlocks":
                 self.blocks(content)
-            case "MetaList":
-                for each in content:
+            case "MetaList" | "MetaMap" as kind:
+                for each in content if kind == "MetaList" else content.values():
                     self._said(each)
             case "MetaString":
                 self._lines(content)
@@ -187,7 +189,9 @@ class _Reader:
                 self.blocks(content[2], before)
                 self.blocks(content[1][1])
             case "RawBlock":
-                self._raw(content)
+                line = _Line()
+                self._raw(content, line)
+                self._take(line)
             case "HorizontalRule" | "Null":
                 pass
             case _:
@@ -301,12 +305,28 @@ class _Reader:
         self._waiting += inner._waiting
         return [part.text for part in inner.parts]
 
-    def _raw(self, content: Sequence[str]) -> None:
+    def _raw(self, content: Sequence[str], line: _Line) -> None:
         """Notes text in the language of another program; a page break, as in DOCX, is nothing."""
         words = plain(content[1].replace("\n", " "))
-        is_print = content[0] != "html" or _Print(words).is_there
-        if content[0] != "openxml" and words and is_print:
+        found = RawHtml(content[1]) if content[0] == "html" else None
+        if found is not None:
+            for tag in found.tags:
+                self._tag(tag, line)
+        is_left_out = found is None or found.is_left_out
+        if content[0] != "openxml" and words and is_left_out:
             self.losses.append(Loss(LossKind.RAW, words, words))
+
+    def _tag(self, tag: RawTag, line: _Line) -> None:
+        """Writes what a tag of HTML is for: the end of a line, a picture, or a form of print that is lost."""
+        if tag.name == "br":
+            line.add("\n")
+        elif tag.name == "img":
+            self._described(tag.attributes.get("alt") or "", line)
+        elif tag.name in _LOST_WITHIN and not tag.is_end:
+            line.opened.append((tag.name, line.length))
+        elif line.opened and line.opened[-1][0] == tag.name:
+            _, since = line.opened.pop()
+            line.lose(_LOST_WITHIN[tag.name], since)
 
     def _line(self, nodes: Sequence[Node], before: str = "") -> _Line:
         line = _Line()
@@ -338,7 +358,7 @@ class _Reader:
             case "Code" | "Math":
                 line.add(content[1])
             case "RawInline":
-                self._raw(content)
+                self._raw(content, line)
             case "Link":
                 self._link(content, line)
             case "Image":
@@ -379,13 +399,15 @@ class _Reader:
             line.lose(LossKind.LINK, since)
 
     def _picture(self, content: Sequence[Any], line: _Line) -> None:
-        described = self._line(content[1])
-        words = plain(described.text.replace("\n", " "))
-        since = line.length
+        self._described(self._line(content[1]).text, line)
+
+    def _described(self, description: str, line: _Line) -> None:
+        """Writes the description of a picture in brackets, or notes that there is none."""
+        words = plain(description.replace("\n", " "))
         if words:
             line.add(self._bracketed(words))
         else:
-            line.lose(LossKind.PICTURE, since)
+            line.lose(LossKind.PICTURE, line.length)
 
 
 #: What is lost of inline nodes whose text stays.
@@ -399,6 +421,15 @@ _LOST_AROUND = {
     "Superscript": LossKind.SUPERSCRIPT,
     "Math": LossKind.MATHEMATICS,
     UNKNOWN_NOTE: LossKind.NOTE,
+}
+#: What is lost of what stands between tags of HTML.
+_LOST_WITHIN = {
+    **dict.fromkeys(
+        ("b", "del", "em", "i", "ins", "s", "small", "strong", "strike", "u"),
+        LossKind.EMPHASIS,
+    ),
+    "sub": LossKind.SUBSCRIPT,
+    "sup": LossKind.SUPERSCRIPT,
 }
 _QUOTES = {"SingleQuote": ("\u2018", "\u2019"), "DoubleQuote": ("\u201c", "\u201d")}
 
