@@ -6,6 +6,8 @@ from pathlib import Path
 
 import pytest
 
+from braildesk.desk.documents.document import read_document
+from braildesk.desk.documents.kinds import ManuscriptKind
 from braildesk.desk.documents.options import ReadingOptions
 from braildesk.desk.documents.reading import LossKind
 from braildesk.desk.manuscripts import read_manuscript
@@ -592,3 +594,51 @@ def test_lists_of_a_page_whose_style_hides_or_changes_their_numbers_are_noted(
     path.write_text(f"{head}<body>{page}</body></html>")
     losses = read_manuscript(path).losses
     assert [loss.words for loss in losses if loss.what is LossKind.LIST] == noted
+
+
+LINK = "<link rel=stylesheet {} href=a.css>"
+
+
+@pytest.mark.parametrize(
+    "head, words",
+    [
+        ("", []),
+        (LINK.format(""), ["One"]),
+        (LINK.format("media='screen, print'"), ["One"]),
+        (LINK.format("media=screen"), []),
+        (LINK.format("media=screen") + '<style>@import "x.css";</style>', ["One"]),
+    ],
+)
+def test_lists_are_noted_whose_numbers_a_sheet_may_say_that_is_not_read(
+    head: str, words: list[str]
+) -> None:
+    page = (
+        f"<html><head>{head}<style>.own {{list-style: decimal}}</style></head>"
+        "<ol class='loweralpha simple'><li>One</li></ol><ol><li>Two</li></ol>"
+        "<ol class='arabic simple'><li>Three</li></ol><ol class=own><li>Four</li></ol>"
+        "<ol class=x type=a><li>Five</li></ol><ul class=x><li>Six</li></ul></html>"
+    )
+    found = read_document(page.encode(), ManuscriptKind.HTML)
+    assert [loss.words for loss in found.losses if loss.what is LossKind.SHEET] == words
+    assert not [loss for loss in found.losses if loss.what is LossKind.LIST]
+
+
+@pytest.mark.parametrize(
+    "attributes, typed, is_so",
+    [
+        ("style='list-style-type: lower-roman'", "i. x", True),
+        ("style='color: red; list-style:lower-roman'", "i. x", True),
+        ("class=x style='list-style:lower-roman'", "1. x", False),
+        ("style='list-style: lower-roman inside'", "1. x", False),
+        ("class=lower-roman", "i. x", False),
+        ("class='x lower-roman'", "1. x", True),
+    ],
+)
+def test_numbers_of_a_page_are_judged_by_what_is_typed(
+    attributes: str, typed: str, is_so: bool
+) -> None:
+    page = f"<html><ol {attributes}><li>x</li></ol></html>"
+    found = read_document(page.encode(), ManuscriptKind.HTML)
+    assert found.texts == [typed]
+    noted = [loss.words for loss in found.losses if loss.what is LossKind.LIST]
+    assert noted == ([] if is_so else ["x"])

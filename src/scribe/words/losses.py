@@ -106,6 +106,10 @@ _SAID = {
         "1 list is typed with numbers or bullets that its style hides or changes",
         "{} lists are typed with numbers or bullets that their styles hide or change",
     ),
+    LossKind.SHEET: (
+        "1 list may have other numbers in print, by a style sheet that isn't read",
+        "{} lists may have other numbers in print, by style sheets that aren't read",
+    ),
     LossKind.LEVEL: (
         "1 heading is below the first level, and a book has only one",
         "{} headings are below the first level, and a book has only one",

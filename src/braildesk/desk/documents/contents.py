@@ -37,6 +37,10 @@ _TYPES = {
     "I": "upper-roman",
 }
 _IS_NUMBER = re.compile("decimal.*|.*-(alpha|latin|roman|greek)")
+#: Classes that many programs give to lists whose numbers are plain.
+_PLAIN_CLASSES = frozenset("arabic decimal itemized ordered orderedlist simple".split())
+_FOR_PRINT = re.compile(r"\b(all|print)\b", re.IGNORECASE)
+_IMPORT = re.compile("@import", re.IGNORECASE)
 #: How many words before and after missing ones are shown.
 _NEIGHBOURS = 4
 
@@ -102,6 +106,8 @@ class Contents:
         self.note_numbers(page.numbers)
         for words in page.restyled:
             self.numbers.append(Loss(LossKind.LIST, words, words))
+        for words in page.unsure:
+            self.numbers.append(Loss(LossKind.SHEET, words, words))
 
     def note_numbers(self, numbers: Iterable[str]) -> None:
         """Notes numbers that aren't typed as they are in print."""
@@ -117,7 +123,8 @@ def contents_of(data: bytes, kind: ManuscriptKind) -> Contents:
     """What the file of a document has, a page in UTF-8; nothing for the kinds that are text."""
     found = Contents()
     if kind is ManuscriptKind.HTML:
-        page = _page_of(data.decode())
+        # it is alone, without the sheets to which it links
+        page = _page_of(data.decode(), lambda address: None)
         found.passages += page.passages
         found.note_page(page)
     if kind in _READERS:
@@ -467,6 +474,8 @@ class _List:
     own: list[int | None] = field(default_factory=list)
     #: The number of the text with which the first item begins that has another mark in print.
     restyled: int | None = None
+    #: The number of the text with which it begins if a sheet that isn't read may say what its numbers are.
+    unsure: int | None = None
 
     def note(self, shown: str, text: int) -> None:
         """Notes the mark of an item, with the number of the text with which it begins."""
@@ -510,9 +519,11 @@ class _Html(Tags):
         "area base br col embed hr img input link meta param source track wbr".split()
     )
 
-    def __init__(self, linked: Callable[[str], Sequence[Rule]]) -> None:
+    def __init__(self, linked: Callable[[str], Sequence[Rule] | None]) -> None:
         super().__init__()
         self._linked = linked
+        #: Whether a sheet wasn't read.
+        self._is_unread = False
         self._sheet = Sheet()
         #: The elements that are open.
         self._path: list[PageElement] = []
@@ -543,8 +554,19 @@ class _Html(Tags):
     @property
     def restyled(self) -> Iterator[str]:
         """The first words of each list that has other marks in print than those that are typed."""
-        for each in self._found:
-            if (text := each.restyled) is not None:
+        yield from self._firsts(each.restyled for each in self._found)
+
+    @property
+    def unsure(self) -> Iterator[str]:
+        """The first words of each list whose numbers a sheet may change that wasn't read."""
+        if self._is_unread:
+            lists = (each for each in self._found if each.restyled is None)
+            yield from self._firsts(each.unsure for each in lists)
+
+    def _firsts(self, places: Iterable[int | None]) -> Iterator[str]:
+        """The first words from each place on that there is."""
+        for text in places:
+            if text is not None:
                 words = map(plain, (*self.texts[text:], *self.lists[text:]))
                 yield next(filter(None, words), "")[:_SHOWN]
 
@@ -587,6 +609,7 @@ class _Html(Tags):
     def handle_data(self, data: str) -> None:
         if self._path and self._path[-1].tag == "style":
             self._sheet.add(rules_of(data))
+            self._is_unread |= _IMPORT.search(data) is not None
         if not self._silent and not self._back:
             texts = self.lists if self._in_list else self.texts
             if self._reading == "begun" and data.strip():
@@ -617,7 +640,10 @@ class _Html(Tags):
 
     def _link(self, tag: str, attributes: dict[str, str | None]) -> None:
         if tag == "link" and "stylesheet" in (attributes.get("rel") or "").lower():
-            self._sheet.add(self._linked(attributes.get("href") or ""))
+            rules = self._linked(attributes.get("href") or "")
+            is_print = _FOR_PRINT.search(attributes.get("media") or "all")
+            self._is_unread |= rules is None and is_print is not None
+            self._sheet.add(rules or ())
 
     def _count(self, tag: str, attributes: dict[str, str | None]) -> None:
         """Notes a list, or an item of the list that is open."""
@@ -640,6 +666,8 @@ class _Html(Tags):
             _typed(attributes) or own,
             said or (own if is_numbered else "disc"),
         )
+        if is_numbered and said is None and _is_styled(attributes):
+            found.unsure = len(self.texts)
         self._found.append(found)
         self._open_lists.append(found)
 
@@ -669,19 +697,31 @@ def _is_back(attributes: dict[str, str | None]) -> bool:
     return not BACK.isdisjoint(" ".join(said).split())
 
 
+def _is_styled(attributes: dict[str, str | None]) -> bool:
+    """Whether the numbers of a list may be said by a sheet: it has a name or a class that isn't usual."""
+    classes = (attributes.get("class") or "").split()
+    is_named = bool(attributes.get("id") or set(classes) - _PLAIN_CLASSES)
+    return is_named and not attributes.get("type")
+
+
 def _typed(attributes: dict[str, str | None]) -> str:
     """The numbers that pandoc takes from an attribute of a list, if it does."""
     if _TYPES.get(attributes.get("type") or ""):
         return ""
-    # it takes a class of that name too
-    said = (attributes.get(name) or "" for name in ("class", "style"))
-    words = re.split(r"[\s:;]+", " ".join(said))
-    return next((word for word in words if word in _TYPES.values()), "")
+    # it takes a class of that name too, and looks no further where there is another one
+    said = attributes.get("class")
+    if said is None:
+        own = (attributes.get("style") or "").split(";")
+        values = {name.strip(): value.strip() for name, _, value in map(_halves, own)}
+        said = values.get("list-style-type", values.get("list-style", ""))
+    return said if said in _TYPES.values() else ""
 
 
-def _page_of(
-    text: str, linked: Callable[[str], Sequence[Rule]] = lambda address: ()
-) -> _Html:
+def _halves(declaration: str) -> tuple[str, str, str]:
+    return declaration.partition(":")
+
+
+def _page_of(text: str, linked: Callable[[str], Sequence[Rule] | None]) -> _Html:
     page = _Html(linked)
     page.feed(text)
     page.close()

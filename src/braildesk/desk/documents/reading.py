@@ -35,6 +35,7 @@ class LossKind(Enum):
     PICTURE = auto()
     NUMBER = auto()
     LIST = auto()
+    SHEET = auto()
     LEVEL = auto()
     LENGTH = auto()
     RAW = auto()
