@@ -642,3 +642,27 @@ def test_numbers_of_a_page_are_judged_by_what_is_typed(
     assert found.texts == [typed]
     noted = [loss.words for loss in found.losses if loss.what is LossKind.LIST]
     assert noted == ([] if is_so else ["x"])
+
+
+COUNTED = 'h2::before, li.x:before { content: counter(a) ". "; color: red }'
+
+
+@pytest.mark.parametrize(
+    "sheet, words",
+    [
+        (COUNTED, ["Tides", "One"]),
+        ("div > h2::before { content: 'x' counters(a, '.') }", []),
+        (COUNTED + "h2:before { content: none }", ["One"]),
+        ("@page { h2::before { content: counter(page) } }", []),
+        ("h2::before { counter-increment: a }", []),
+        ("h2::after { content: counter(a) }", []),
+    ],
+)
+def test_numbers_that_a_sheet_counts_are_noted(sheet: str, words: list[str]) -> None:
+    page = (
+        f"<html><style>{sheet}</style><section><h2><i>Tides</i></h2></section>"
+        "<ul><li class=x>One</li><li>Two</li></ul></html>"
+    )
+    found = read_document(page.encode(), ManuscriptKind.HTML)
+    noted = [loss.words for loss in found.losses if loss.what is LossKind.NUMBER]
+    assert noted == words

@@ -106,6 +106,7 @@ class Contents:
         self.note_numbers(page.numbers)
         for words in page.restyled:
             self.numbers.append(Loss(LossKind.LIST, words, words))
+        self.note_numbers(page.counted)
         for words in page.unsure:
             self.numbers.append(Loss(LossKind.SHEET, words, words))
 
@@ -524,6 +525,8 @@ class _Html(Tags):
         self._linked = linked
         #: Whether a sheet wasn't read.
         self._is_unread = False
+        #: The numbers of the texts before which a sheet counts.
+        self._counted: list[int] = []
         self._sheet = Sheet()
         #: The elements that are open.
         self._path: list[PageElement] = []
@@ -557,6 +560,11 @@ class _Html(Tags):
         yield from self._firsts(each.restyled for each in self._found)
 
     @property
+    def counted(self) -> Iterator[str]:
+        """The first words of what has a number in print that a sheet counts."""
+        return self._firsts(self._counted)
+
+    @property
     def unsure(self) -> Iterator[str]:
         """The first words of each list whose numbers a sheet may change that wasn't read."""
         if self._is_unread:
@@ -576,6 +584,8 @@ class _Html(Tags):
         if tag == "nav" and not self._LISTS.isdisjoint(types):
             self._in_list = True
         self._enter(tag, dict(attrs))
+        if tag not in self._VOID and self._sheet.is_counted(self._path):
+            self._counted.append(len(self.texts))
         self._count(tag, dict(attrs))
         self._open += tag == self._back
         if not self._back and tag in ("a", "span") and _is_back(dict(attrs)):

@@ -1,4 +1,5 @@
-"""What style sheets say of the marks of lists, as far as a plain reader of them can tell.
+"""What style sheets say of the marks of lists, and of numbers that they count themselves, as far as a
+plain reader of them can tell.
 
 Rules are known whose selectors name elements, classes and identifiers, within others or not, for all
 media or for print.
@@ -17,6 +18,11 @@ _SELECTOR = re.compile(r"([\w-]+|\*)?((?:[.#][\w-]+)*)")
 _DEEPEST = 8
 _TYPE, _DISPLAY = "list-style-type", "display"
 _PLACES = ("inside", "outside")
+#: What stands in front of an element, and a number in it; rules say of the element that it is counted.
+_BEFORE = re.compile("::?before$", re.IGNORECASE)
+_CONTENT = re.compile(r"(?:^|[;\s])content\s*:([^;]*)", re.IGNORECASE)
+_COUNTER = re.compile(r"\bcounters?\s*\(", re.IGNORECASE)
+_COUNTED = "counted"
 #: What only says where another value is taken from.
 _ELSEWHERE = ("inherit", "initial", "unset", "revert", "revert-layer")
 
@@ -77,6 +83,8 @@ class Sheet:
     def __init__(self) -> None:
         #: The lightest first.
         self._rules: list[Rule] = []
+        #: Those among them that say whether elements are counted, which are few.
+        self._counting: list[Rule] = []
         #: What they say of elements that were asked about, each after those that it is within.
         self._found: dict[tuple[PageElement, ...], dict[str, str]] = {}
 
@@ -84,6 +92,7 @@ class Sheet:
         """Adds the rules of a sheet after the others."""
         self._rules += rules
         self._rules.sort(key=lambda rule: rule.weight)
+        self._counting = [rule for rule in self._rules if _COUNTED in rule.values]
         self._found = {}
 
     def mark_of(self, path: Sequence[PageElement], own: str) -> str | None:
@@ -96,6 +105,11 @@ class Sheet:
         if path[-1].tag == "li" and "list-item" not in display:
             return "none"
         return values.get(_TYPE)
+
+    def is_counted(self, path: Sequence[PageElement]) -> bool:
+        """Whether a number stands in front of an element that no page has, within those before it."""
+        fit = [rule.values for rule in self._counting if rule.fits(path)]
+        return bool(fit and fit[-1][_COUNTED])
 
     def _values(self, path: tuple[PageElement, ...]) -> dict[str, str]:
         if path not in self._found:
@@ -113,9 +127,12 @@ def _rules(text: str, depth: int) -> Iterator[Rule]:
     for head, body in _blocks(text):
         if _FOR_PRINT.fullmatch(head):
             yield from _rules(body, depth + 1) if depth < _DEEPEST else ()
-        elif not head.startswith("@") and (values := _values(body)):
-            for selector in head.split(","):
-                if (rule := _rule(selector, values)) is not None:
+        elif not head.startswith("@"):
+            values, counted = _values(body), _counted(body)
+            for selector in map(str.strip, head.split(",")):
+                its = counted if _BEFORE.search(selector) else values
+                rule = _rule(_BEFORE.sub("", selector), its) if its else None
+                if rule is not None:
                     yield rule
 
 
@@ -164,6 +181,12 @@ def _weight(selectors: Sequence[_Selector]) -> tuple[int, int, int]:
     classes = sum(len(each.classes) for each in selectors)
     tags = sum(each.tag != "*" for each in selectors)
     return names, classes, tags
+
+
+def _counted(text: str) -> dict[str, str]:
+    """Whether declarations for the front of an element say that it is a number."""
+    found = _CONTENT.findall(text)
+    return {_COUNTED: "yes" * bool(_COUNTER.search(found[-1]))} if found else {}
 
 
 def _values(text: str) -> dict[str, str]:
