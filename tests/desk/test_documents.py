@@ -1292,6 +1292,17 @@ def test_a_book_is_read_whose_names_are_not_said_to_be_in_utf_8(tmp_path: Path) 
     assert (found.texts, found.missing) == (["The moon"], ())
 
 
+def test_a_book_is_read_without_pages_that_its_file_lacks(tmp_path: Path) -> None:
+    page = PAGE.format("<p>The moon</p>").encode()
+    path = book_of(tmp_path / "moon.epub", "b a b", {"a": page, "b": b"", "c": b""})
+    with zipfile.ZipFile(path) as container:
+        names = ["mimetype", "META-INF/container.xml", "in/book.opf", "in/a.xhtml"]
+        parts = {name: container.read(name).decode() for name in names}
+    found = read_document(container_of(path, **parts), ManuscriptKind.EPUB)
+    assert (found.texts, found.missing) == (["The moon"], ())
+    assert lost(found, LossKind.ABSENT) == ["in/b.xhtml"]
+
+
 def test_a_known_part_of_a_container_within_it_is_no_sign_of_a_folder(
     tmp_path: Path,
 ) -> None:

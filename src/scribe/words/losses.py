@@ -33,6 +33,10 @@ _SAID = {
         "1 page of the file can't be read in any encoding, and is left out",
         "{} pages of the file can't be read in any encoding, and are left out",
     ),
+    LossKind.ABSENT: (
+        "1 page that the order of reading names isn't in the file",
+        "{} pages that the order of reading names aren't in the file",
+    ),
     LossKind.PICTURE: (
         "1 picture without a description is left out",
         "{} pictures without a description are left out",

@@ -432,6 +432,8 @@ def _of_epub(container: zipfile.ZipFile, found: Contents) -> None:
         sheet = normpath(str(PurePosixPath(part).parent / unquote(address)))
         return rules_in(sheet) if sheet in names else ()
 
+    for part in package.absent:
+        found.lose(LossKind.ABSENT, part)
     for page in package.pages():
         try:
             text = characters_of_page(part_of(container, page.part))

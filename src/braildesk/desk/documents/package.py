@@ -39,15 +39,20 @@ class Package:
         self._items = {
             item.get("id"): item for item in self._root.iterfind(".//{*}item")
         }
-        named = [
-            each
-            for each in self._root.iterfind(".//{*}itemref")
-            if each.get("idref") in self._items
-        ]
-        parts = [self._part_of(self._items[each.get("idref")]) for each in named]
+        parts: list[str] = []
         firsts: dict[str, Element] = {}
-        for part, each in zip(parts, named):
+        absent: dict[str, None] = {}
+        for each in self._root.iterfind(".//{*}itemref"):
+            if each.get("idref") not in self._items:
+                continue
+            part = self._part_of(self._items[each.get("idref")])
+            if part not in self._parts:
+                absent[part] = None
+                continue
+            parts.append(part)
             firsts.setdefault(part, each)
+        #: The parts that the order of reading has and the container lacks.
+        self.absent = tuple(absent)
         #: The references to pages, each page at its first place.
         self._order = list(firsts.values())
         counts = Counter(parts)

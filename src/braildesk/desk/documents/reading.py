@@ -47,6 +47,7 @@ class LossKind(Enum):
     ASIDE = auto()
     REPEATED = auto()
     UNREAD = auto()
+    ABSENT = auto()
     EMBEDDED = auto()
 
 
