@@ -62,7 +62,8 @@ def with_odt_numbers(data: bytes, bullet: str) -> tuple[bytes, list[Loss]]:
     """A text without lists, whose paragraphs begin with their numbers; and those not as in print, with
     the cells that go on over rows.
 
-    Its tables have no heads, and a place for each cell that goes on. It has no pictures any more, which aren't looked at. Raises `NoDocument`.
+    Its tables have no heads, and a place for each cell that goes on. It has no pictures any more, which
+    aren't looked at. Raises `NoDocument`.
     """
     made = BytesIO()
     with unpacked(data) as container, ZipFile(made, "w") as other:
