@@ -28,7 +28,7 @@ class Rewriting:
 
     #: What is put at the front of an element, asked once for each, in their order.
     front_of: Callable[[str], str] = _nothing_at
-    #: What is put ahead of an element, asked after that, also of one that is left out.
+    #: What is put ahead of an element, asked after that, also of one that is left out itself.
     ahead_of: Callable[[str], str] = _nothing_at
     #: The elements of which what they have is left alone.
     unwrapped: Collection[str] = ()
@@ -84,9 +84,9 @@ class _Writer:
     def begin(self, name: str, attributes: list[str]) -> None:
         """Writes the tag with which an element begins, and what is put at its front."""
         found = _found(name)
-        front = self._how.front_of(found)
+        front, ahead = self._how.front_of(found), self._how.ahead_of(found)
         if not self._left_out:
-            self.pieces.append(self._how.ahead_of(found))
+            self.pieces.append(ahead)
         if self._left_out or self._how.is_left_out(found, attributes):
             self._left_out += 1
             self._declared = {}
