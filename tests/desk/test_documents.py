@@ -5,6 +5,7 @@ import resource
 import subprocess
 import sys
 import time
+import warnings
 import zipfile
 from collections.abc import Callable
 from pathlib import Path
@@ -1301,6 +1302,20 @@ def test_a_book_is_read_without_pages_that_its_file_lacks(tmp_path: Path) -> Non
     found = read_document(container_of(path, **parts), ManuscriptKind.EPUB)
     assert (found.texts, found.missing) == (["The moon"], ())
     assert lost(found, LossKind.ABSENT) == ["in/b.xhtml"]
+
+
+@pytest.mark.parametrize("folder", ["", "book/"])
+def test_of_parts_with_one_name_the_last_is_read(tmp_path: Path, folder: str) -> None:
+    pages = {"a": PAGE.format("<p>The moon</p>").encode()}
+    path = book_of(tmp_path / "moon.epub", "a", pages)
+    with zipfile.ZipFile(path) as container:
+        parts = {name: container.read(name) for name in container.namelist()}
+    with zipfile.ZipFile(path, "w") as container, pytest.warns(UserWarning):
+        for name, part in (("in/a.xhtml", b"<p>No</p>"), *parts.items()):
+            container.writestr(folder + name, part)
+    with warnings.catch_warnings():
+        warnings.simplefilter("error")
+        assert read_manuscript(path).texts == ["The moon"]
 
 
 def test_a_known_part_of_a_container_within_it_is_no_sign_of_a_folder(

@@ -203,7 +203,8 @@ def repacked(data: bytes) -> bytes:
             return data
         made = BytesIO()
         with ZipFile(made, "w") as other:
-            for name, entry in zip(names, entries):
+            # of parts with one name the last one counts, as where they are read
+            for name, entry in dict(zip(names, entries)).items():
                 part = b"" if is_media(name) else part_of(container, entry.filename)
                 other.writestr(name, part)
     return made.getvalue()

@@ -53,7 +53,8 @@ def readable_book(data: bytes) -> bytes:
     It has no pictures any more, which aren't looked at.
     """
     with unpacked(data) as container:
-        names = [each for each in container.namelist() if not each.endswith("/")]
+        found = dict.fromkeys(container.namelist())
+        names = [each for each in found if not each.endswith("/")]
         parts = {name: part_of(container, name) for name in names if not is_media(name)}
         package = Package(container)
         pages = frozenset(page.part for page in package.pages())
