@@ -113,21 +113,32 @@ def test_a_box_of_a_form_is_typed_as_a_sign(
     assert boxes == [Loss(LossKind.BOX, sign, "Tides yes")]
 
 
-def test_a_newer_box_is_its_sign_or_a_symbol_that_is_missing(tmp_path: Path) -> None:
+def test_a_newer_box_is_its_sign_or_a_symbol_that_is_typed_as_one(
+    tmp_path: Path,
+) -> None:
     properties = (
         '<w14:checkbox xmlns:w14="http://schemas.microsoft.com/office/word/2010/wordml">'
-        '<w14:checked w14:val="1"/></w14:checkbox>'
+        '<w14:checked w14:val="{}"/></w14:checkbox>'
     )
     body = "".join(
         paragraph(
-            f"<w:sdt><w:sdtPr>{properties}</w:sdtPr><w:sdtContent>{sign}</w:sdtContent></w:sdt>",
+            f"<w:sdt><w:sdtPr>{properties.format(value)}</w:sdtPr>"
+            f"<w:sdtContent>{sign}</w:sdtContent></w:sdt>",
             run(" yes"),
         )
-        for sign in (run("\u2612"), symbol("Wingdings", "F0FE"))
+        for value, sign in (
+            (1, run("\u2612")),
+            (1, symbol("Wingdings", "F0FE")),
+            (0, symbol("Wingdings", "F0A8")),
+        )
     )
     found = read_manuscript(docx(tmp_path / "a.docx", body))
-    assert found.texts == ["\u2612 yes", "yes"]
-    assert found.missing == (Missing("Wingdings_F0FE", "", "yes"),)
+    assert found.texts == ["\u2612 yes", "\u2612 yes", "\u2610 yes"]
+    assert found.missing == ()
+    assert found.losses == (
+        Loss(LossKind.BOX, "\u2612", "yes"),
+        Loss(LossKind.BOX, "\u2610", "yes"),
+    )
 
 
 def ruby(base: str, reading: str) -> str:

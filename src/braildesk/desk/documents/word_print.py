@@ -1,6 +1,7 @@
 """What Word shows in print that isn't text of a document in DOCX, as pandoc reads it, written as text.
 
-These are the readings of characters, which stand above them, and the boxes of older forms.
+These are the readings of characters, which stand above them, and the boxes of forms: older ones, which
+have nothing in the text, and those of newer ones that are symbols of a font.
 """
 
 from collections.abc import Iterator
@@ -10,6 +11,7 @@ from xml.sax.saxutils import escape
 from braildesk.desk.documents.reading import Loss, LossKind, plain
 
 _W = "{http://schemas.openxmlformats.org/wordprocessingml/2006/main}"
+_W14 = "{http://schemas.microsoft.com/office/word/2010/wordml}"
 _RUN, _RUBY = f"{_W}r", f"{_W}ruby"
 _OFF = ("0", "false", "off")
 #: What was deleted, or is for older programs.
@@ -33,7 +35,10 @@ _SHOWN = 60
 def texts_ahead(root: Element) -> dict[int, str]:
     """What stands in XML ahead of elements of a part, by their places in it; and see `replaced`."""
     found: dict[int, str] = {}
+    symbols = _symbols(root)
     for place, element in enumerate(root.iter()):
+        if id(element) in symbols:
+            found[place] = _text(symbols[id(element)])
         if element.tag == _RUN:
             signs = "".join(map(_sign, _boxes(element)))
             if signs:
@@ -46,10 +51,11 @@ def texts_ahead(root: Element) -> dict[int, str]:
 
 def replaced(root: Element) -> frozenset[int]:
     """The places of elements that are left out, since a text ahead of them is all that they have."""
+    symbols = _symbols(root)
     return frozenset(
         place
         for place, element in enumerate(root.iter())
-        if element.tag == _RUBY and _is_replaced(element)
+        if id(element) in symbols or element.tag == _RUBY and _is_replaced(element)
     )
 
 
@@ -62,11 +68,26 @@ def signs(root: Element) -> Iterator[Loss]:
         for run in paragraph.iter(_RUN)
     }
     gone = {id(run) for tag in _GONE for each in root.iter(tag) for run in each.iter()}
+    symbols = _symbols(root)
     for run in root.iter(_RUN):
         if id(run) in around and id(run) not in gone:
             texts = [each.text or "" for each in around[id(run)].iter(f"{_W}t")]
             words = plain("".join(texts))[:_SHOWN]
-            yield from (Loss(LossKind.BOX, _sign(each), words) for each in _boxes(run))
+            its = [*map(_sign, _boxes(run)), *(symbols.get(id(each)) for each in run)]
+            yield from (Loss(LossKind.BOX, sign, words) for sign in its if sign)
+
+
+def _symbols(root: Element) -> dict[int, str]:
+    """The signs of the newer boxes that are symbols of a font, by the identities of these."""
+    found = {}
+    for control in root.iter(f"{_W}sdt"):
+        box = control.find(f"{_W}sdtPr/{_W14}checkbox")
+        symbols = list(control.iterfind(f"{_W}sdtContent//{_W}sym"))
+        if box is not None and len(symbols) == 1:
+            checked = box.find(f"{_W14}checked")
+            is_crossed = checked is not None and checked.get(f"{_W14}val") not in _OFF
+            found[id(symbols[0])] = _CROSSED if is_crossed else _EMPTY
+    return found
 
 
 def _boxes(run: Element) -> Iterator[Element]:
