@@ -2,6 +2,8 @@
 
 from pathlib import Path
 
+import pytest
+
 from braildesk.desk.documents.document import read_document
 from braildesk.desk.documents.kinds import ManuscriptKind
 from braildesk.desk.documents.reading import LossKind, Manuscript
@@ -27,6 +29,29 @@ def test_cells_of_a_page_that_go_on_over_rows_have_a_place_in_each() -> None:
     found = read_document(page.encode(), ManuscriptKind.HTML)
     assert (found.texts, found.missing) == (SHOWN, ())
     assert spans(found) == ["h", "b", "g", "n"]
+
+
+@pytest.mark.parametrize(
+    "page, texts",
+    [
+        ("<table><tr><td>a<td>b<tr><td>c<td>d</table>e", ["a; b", "c; d", "e"]),
+        (
+            "<table><thead><tr><th>a<th>b<tbody><tr><td>c</td><td>d</table>",
+            ["a; b", "c; d"],
+        ),
+        (
+            "<TABLE><TR><TD><p>a<TD><table><tr><td>x<td>y</table><TR><TD>c<TD>d</TABLE>",
+            ["a; x; y", "c; d"],
+        ),
+        ("<td>a<table><tr><td>b</td><td>c</table>", ["a", "b; c"]),
+        ("<table><tr><td>a<td>b", ["a", "b"]),
+    ],
+)
+def test_a_table_of_a_page_may_leave_out_where_its_cells_end(
+    page: str, texts: list[str]
+) -> None:
+    found = read_document(f"<html>{page}</html>".encode(), ManuscriptKind.HTML)
+    assert (found.texts, found.missing) == (texts, ())
 
 
 def row(*cells: str) -> str:

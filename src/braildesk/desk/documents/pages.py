@@ -1,10 +1,11 @@
 """Pages of HTML written so that pandoc keeps the names to which their links lead.
 
 pandoc drops the names of paragraphs and terms, what fields of forms show, and the description of a
-picture that has a caption or no address. It doesn't know where an aside ends, nor that a link leads to
-another folder of a book in EPUB, and leaves out the title pages of one, and each CR, also where no LF
-follows. It takes templates for print, and parts no characters from their reading: that gets brackets,
-which print doesn't need. A page of a book that isn't UTF-8 is written so.
+picture that has a caption or no address. It doesn't know where an aside ends, nor that a cell ends where
+the next one begins, nor that a link leads to another folder of a book in EPUB, and leaves out the title
+pages of one, and each CR, also where no LF follows. It takes templates for print, and parts no characters
+from their reading: that gets brackets, which print doesn't need. A page of a book that isn't UTF-8 is
+written so.
 """
 
 import re
@@ -27,6 +28,8 @@ _TITLE_PAGE = re.compile(r"""(epub:type\s*=\s*["'][^"']*)titlepage""")
 #: The folders in a link to another page of the same book.
 _FOLDERS = re.compile(r"""(\shref\s*=\s*["'])[^"'#:?<>]*/(([^"'#:?<>/]+)#)""")
 _DIVISIONS = frozenset({"aside", "figure", "figcaption"})
+#: The parts of a table, by how deep they are in it.
+_PARTS = {"thead": 0, "tbody": 0, "tfoot": 0, "tr": 1, "td": 2, "th": 2}
 #: Characters with a reading, and what ends one that isn't ended itself.
 _RUBY, _READING = "ruby", "rt"
 _AFTER_READING = frozenset({"rt", "rp", "rb", "rtc"})
@@ -85,6 +88,8 @@ class _Rewriting(Tags):
         self._done = 0
         #: Whether the characters that are open have no brackets around their reading, and it is open.
         self._is_bare = self._is_in_reading = False
+        #: The parts of each table that are open, from the outermost on.
+        self._tables: list[list[str]] = []
         #: Where the templates begin that are open.
         self._templates: list[int] = []
 
@@ -97,6 +102,7 @@ class _Rewriting(Tags):
     def handle_starttag(self, tag: str, attrs: list[tuple[str, str | None]]) -> None:
         if tag == _TEMPLATE:
             self._templates.append(self._start())
+        self._begin_part(tag)
         after = ""
         if tag in ("p", "dt") and (name := dict(attrs).get("id")):
             after = f'<span id="{escape(name)}"></span>'
@@ -107,6 +113,7 @@ class _Rewriting(Tags):
 
     def handle_endtag(self, tag: str) -> None:
         start = self._start()
+        self._end_parts(tag)
         if tag in (_READING, _RUBY):
             self._end_reading()
             self._is_bare &= tag != _RUBY
@@ -115,6 +122,29 @@ class _Rewriting(Tags):
         if tag == _TEMPLATE and self._templates:
             front, stop = self._templates.pop(), self._page.find(">", start) + 1
             self._put(front, stop or len(self._page), "")
+
+    def _begin_part(self, tag: str) -> None:
+        """Ends the parts of a table that end where another begins, and notes that one."""
+        if tag == "table":
+            self._tables.append([])
+        elif tag in _PARTS and self._tables:
+            self._close_parts(_PARTS[tag])
+            self._tables[-1].append(tag)
+
+    def _end_parts(self, tag: str) -> None:
+        """Ends the parts of a table that end with the one around them."""
+        if tag == "table" and self._tables:
+            self._close_parts(0)
+            self._tables.pop()
+        elif tag in _PARTS and self._tables and tag in self._tables[-1]:
+            self._close_parts(_PARTS[tag] + 1)
+            self._tables[-1].remove(tag)
+
+    def _close_parts(self, depth: int) -> None:
+        """Writes the ends of the parts that are open, from some depth on."""
+        parts = self._tables[-1]
+        while parts and _PARTS[parts[-1]] >= depth:
+            self._put(self._start(), self._start(), f"</{parts.pop()}>")
 
     def _before_reading(self, tag: str) -> str:
         """What parts characters from their reading that begins with a tag, if it is one without brackets."""
