@@ -45,9 +45,14 @@ def test_cells_of_a_page_that_go_on_over_rows_have_a_place_in_each() -> None:
         ),
         ("<td>a<table><tr><td>b</td><td>c</table>", ["a", "b; c"]),
         ("<table><tr><td>a<td>b", ["a", "b"]),
+        ("<table><col><tr><td>a</td><td>b</td></tr></table>", ["a; b"]),
+        (
+            "<table><colgroup><col></colgroup><colgroup/><tr><td>a</td><td>b</td></tr></table>",
+            ["a; b"],
+        ),
     ],
 )
-def test_a_table_of_a_page_may_leave_out_where_its_cells_end(
+def test_a_table_of_a_page_may_leave_out_its_columns_and_where_its_cells_end(
     page: str, texts: list[str]
 ) -> None:
     found = read_document(f"<html>{page}</html>".encode(), ManuscriptKind.HTML)

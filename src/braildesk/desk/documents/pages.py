@@ -28,6 +28,8 @@ _TITLE_PAGE = re.compile(r"""(epub:type\s*=\s*["'][^"']*)titlepage""")
 #: The folders in a link to another page of the same book.
 _FOLDERS = re.compile(r"""(\shref\s*=\s*["'])[^"'#:?<>]*/(([^"'#:?<>/]+)#)""")
 _DIVISIONS = frozenset({"aside", "figure", "figcaption"})
+#: What says how wide columns are, after which pandoc leaves out cells of columns that it doesn't name.
+_COLUMNS = frozenset({"col", "colgroup"})
 #: The parts of a table, by how deep they are in it.
 _PARTS = {"thead": 0, "tbody": 0, "tfoot": 0, "tr": 1, "td": 2, "th": 2}
 #: Characters with a reading, and what ends one that isn't ended itself.
@@ -117,11 +119,13 @@ class _Rewriting(Tags):
         if tag in (_READING, _RUBY):
             self._end_reading()
             self._is_bare &= tag != _RUBY
+        stop = self._page.find(">", start) + 1 or len(self._page)
         if tag in _DIVISIONS:
             self._put(start + len("</"), start + len("</") + len(tag), "div")
-        if tag == _TEMPLATE and self._templates:
-            front, stop = self._templates.pop(), self._page.find(">", start) + 1
-            self._put(front, stop or len(self._page), "")
+        elif tag in _COLUMNS:
+            self._put(start, stop, "")
+        elif tag == _TEMPLATE and self._templates:
+            self._put(self._templates.pop(), stop, "")
 
     def _begin_part(self, tag: str) -> None:
         """Ends the parts of a table that end where another begins, and notes that one."""
@@ -171,6 +175,8 @@ class _Rewriting(Tags):
         found = written = self.get_starttag_text() or ""
         if tag in _DIVISIONS:
             written = f"<div{written[1 + len(tag) :]}"
+        if tag in _COLUMNS:
+            written = ""
         if words := field_words(tag, dict(attrs)):
             written = f" {escape(words)} "
         if tag == "img" and "src" not in dict(attrs):
