@@ -97,11 +97,10 @@ def read_file(path: StrPath, most: int) -> bytes:
         before = _state(file)
         size, _ = before
         data = file.read(most + 1) if size <= most else b""
-        is_changed = _state(file) != before
-    if is_changed and not is_handed_over(path):
-        raise _named(Changing(), path)
-    if max(size, len(data)) > most:
-        raise _named(TooLarge(most), path)
+        if max(size, len(data)) > most:
+            raise _named(TooLarge(most), path)
+        if not is_handed_over(path) and _is_changed(file, before, data):
+            raise _named(Changing(), path)
     return data
 
 
@@ -109,6 +108,18 @@ def _state(file: BinaryIO) -> tuple[int, int]:
     """What is another one once a file was written into: its size, and when that was."""
     found = os.fstat(file.fileno())
     return found.st_size, found.st_mtime_ns
+
+
+def _is_changed(file: BinaryIO, before: tuple[int, int], data: bytes) -> bool:
+    """Whether a file was written into since it was in a state, in which these bytes were read of it.
+
+    Who touches it changes its time alone, and a file system may give another one each time.
+    """
+    now = _state(file)
+    if now == before:
+        return False
+    file.seek(0)
+    return now[0] != before[0] or file.read(len(data) + 1) != data
 
 
 def _judge(mode: int, path: StrPath) -> None:

@@ -8,6 +8,7 @@ import stat
 import subprocess
 import sys
 from collections.abc import Callable, Iterator
+from functools import partial
 from pathlib import Path
 
 import pytest
@@ -51,27 +52,50 @@ def test_a_file_with_holes_is_refused_by_its_size(tmp_path: Path) -> None:
         read_file(file, 1 << 27)
 
 
-class Growing(io.BufferedReader):
-    """A file to which another program adds a line as its last bytes are read."""
+class Meanwhile(io.BufferedReader):
+    """A file to which another program does something as its last bytes are read, once."""
 
-    def __init__(self, path: str | os.PathLike[str]) -> None:
-        super().__init__(io.FileIO(os.fspath(path)))
-        self.path = path
+    def __init__(
+        self,
+        does: Callable[[Path], object],
+        path: Path,
+    ) -> None:
+        super().__init__(io.FileIO(path))
+        self.left = [partial(does, path)]
 
     def read(self, size: int | None = -1) -> bytes:
         data = super().read(size)
-        with open(self.path, "ab") as file:
-            file.write(b"The tides\n")
+        while self.left:
+            self.left.pop()()
         return data
 
 
+def grow(path: Path) -> None:
+    """Adds a line to a text."""
+    with open(path, "ab") as file:
+        file.write(b"The tides\n")
+
+
+def rewrite(path: Path) -> None:
+    """Writes as many other bytes in the place of those of a text."""
+    with open(path, "r+b") as file:
+        file.write(b"The sun \n")
+    touch(path)
+
+
+def touch(path: Path) -> None:
+    """Gives a text another time, as some file systems do each time that they are asked."""
+    os.utime(path, (0, 0))
+
+
+@pytest.mark.parametrize("does", [grow, rewrite])
 def test_a_text_that_is_written_while_it_is_read_is_not_imported(
-    book: Path, monkeypatch: pytest.MonkeyPatch
+    book: Path, monkeypatch: pytest.MonkeyPatch, does: Callable[[Path], None]
 ) -> None:
     text = book.with_name("text.txt")
     text.write_text("The moon\n")
     with monkeypatch.context() as patched:
-        patched.setattr("braildesk.named_files.open_file", Growing)
+        patched.setattr("braildesk.named_files.open_file", partial(Meanwhile, does))
         console = Console(io.BytesIO(), shown := io.StringIO(), said := io.StringIO())
         assert run_words(["import", str(book), str(text)], console) == 2
     assert (shown.getvalue(), said.getvalue()) == (
@@ -79,7 +103,19 @@ def test_a_text_that_is_written_while_it_is_read_is_not_imported(
         f"{text} can't be read: it was changed while it was read. Nothing was typed.\n",
     )
     assert braildesk.check(book) == 1
+    text.write_text("The moon\nThe tides\n")
     assert read_file(text, 99) == b"The moon\nThe tides\n"
+
+
+def test_a_text_whose_time_alone_is_another_is_read(
+    tmp_path: Path, monkeypatch: pytest.MonkeyPatch
+) -> None:
+    text = tmp_path / "text.txt"
+    text.write_text("The moon\n")
+    monkeypatch.setattr("braildesk.named_files.open_file", partial(Meanwhile, touch))
+    assert read_file(text, 9) == b"The moon\n"
+    with pytest.raises(TooLarge):
+        read_file(text, 8)
 
 
 def test_a_pipe_is_refused_and_not_waited_for(pipe: Path) -> None:
