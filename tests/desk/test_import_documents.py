@@ -20,6 +20,7 @@ from braildesk.desk.replacements import Replacer
 from handmade import deleted, docx, note, paragraph, run, symbol, table, text_box
 from scribe.cli import run_words
 from scribe.words.console import Console
+from scribe.words.status import Interrupted
 from sitting import Sit
 from stand_in import ANSWERED, KEPT, KILL_BOTH, KILL_PROGRAM, READ
 from terminal import standing_in
@@ -213,6 +214,44 @@ def test_a_text_that_another_imports_while_what_is_lost_is_read_is_typed_once(
         "--again types it once more. Nothing was typed.\n"
     )
     assert parts(book) == PARTS
+
+
+def test_a_text_of_which_another_types_a_part_while_what_is_lost_is_read_is_not_begun_again(
+    book: Path,
+) -> None:
+    killed = standing_in(5, READ, KILL_BOTH)
+    words = ("import", book, "moon.md", "--volumes", "1")
+    others: list[int] = []
+
+    def work() -> None:
+        if not others:
+            done = scribe(*words, folder=book.parent, given="", before=None, **killed)
+            others.append(done.status)
+
+    console = Console(BytesIO(), StringIO(), said := Reader(work))
+    assert run_words(["import", str(book), "moon.md"], console) == 2
+    assert others == [-signal.SIGKILL]
+    assert "was cut short" in said.getvalue() and "--continue" in said.getvalue()
+    assert prints(book) == [text for text, _ in PARTS[:2]]
+    assert put(book, "--continue").status == 0
+    assert parts(book) == PARTS
+
+
+def test_who_stops_an_import_while_what_is_lost_is_read_is_told_that_nothing_was_typed(
+    book: Path,
+) -> None:
+    left = [Interrupted(signal.SIGINT)]
+
+    def work() -> None:
+        while left:
+            raise left.pop()
+
+    console = Console(BytesIO(), StringIO(), said := Reader(work))
+    with pytest.raises(Interrupted) as caught:
+        run_words(["import", str(book), "moon.md"], console)
+    assert caught.value.is_said
+    assert said.getvalue() == "Stopped. Nothing was typed.\n"
+    assert prints(book) == []
 
 
 def test_each_word_of_a_file_is_in_the_book_or_in_the_report(book: Path) -> None:

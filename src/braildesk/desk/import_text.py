@@ -2,7 +2,7 @@
 
 import os
 from collections.abc import Callable, Sequence
-from contextlib import AbstractContextManager, ExitStack
+from contextlib import AbstractContextManager, ExitStack, nullcontext
 from dataclasses import dataclass, replace
 from functools import cached_property
 from pathlib import Path
@@ -196,7 +196,7 @@ class Importer:
         """What is to be typed, once nothing stands in its way; raises `NotImported`."""
         data = self._data = bytes_of(self.job.text)
         self._earlier = self._noted()
-        self.job = self._decided(self._earlier)
+        self.job = self._decided(self._earlier, self.job.opened)
         if self.job.way is not Way.GO_ON:
             self.job = self._chosen(data)
         with ExitStack() as stack:
@@ -215,11 +215,16 @@ class Importer:
         self._is_let_go = True
 
     def hold_again(self, intake: Intake) -> Intake:
-        """What is to be typed, judged anew if the book was let go, since it may be another now."""
+        """What is to be typed, judged anew if the book was let go, since it may be another now.
+
+        Somebody else may have begun to import the text meanwhile.
+        """
         if self.taken is None or not self._is_let_go:
             return intake
-        self._session = self._open.enter_context(self.job.opened())
+        self._session = held = self._open.enter_context(self.job.opened())
         self._is_let_go = False
+        self._earlier = self._noted()
+        self.job = self._decided(self._earlier, lambda: nullcontext(held))
         return self._judged(self.taken.data)
 
     def _judged(self, data: bytes) -> Intake:
@@ -339,7 +344,11 @@ class Importer:
         except NotKept as fault:
             self._report(fault)
 
-    def _decided(self, note: ImportNote | None) -> Import:
+    def _decided(
+        self,
+        note: ImportNote | None,
+        opened: Callable[[], AbstractContextManager[Session]],
+    ) -> Import:
         """The import with that by which it goes on; raises `Undecided` if a person has to say."""
         job = self.job
         if note is None:
@@ -348,7 +357,7 @@ class Importer:
             return job
         if job.way is Way.AGAIN or job.line is not None:
             return job
-        with job.opened() as session:
+        with opened() as session:
             its = unfinished(session, session.paragraphs(), note)
         if job.way is Way.GO_ON:
             if not its.has_before:

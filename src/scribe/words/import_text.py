@@ -137,7 +137,7 @@ def prepared(
         except Faulty:
             _report(importer, show, report)
             raise
-    _report(importer, show, report)
+        _report(importer, show, report)
     return intake
 
 
@@ -162,7 +162,6 @@ def _report(importer: Importer, show: Callable[..., None], report: Path | None) 
         taken = replace(taken, replaced=used)
     if report is None and taken.document is None and not taken.replaced:
         return
-    importer.let_go()
     # imported here, since of a text nothing is lost
     from scribe.words.losses import FEW, report_lines
 
@@ -172,6 +171,7 @@ def _report(importer: Importer, show: Callable[..., None], report: Path | None) 
     if job.way is Way.GO_ON:
         return
     lines = report_lines(job.text, taken, FEW)
+    importer.let_go()
     show(*lines)
     if report is not None:
         show(f"All places are in {report}.")
