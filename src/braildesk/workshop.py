@@ -318,18 +318,33 @@ def _link(folder: int, name: str, target: Place) -> None:
 
 
 def _rename_over_empty(folder: int, name: str, target: Place) -> None:
-    """Does the same on a file system without links, as of a stick: over a file that is made for it."""
-    flags = os.O_RDONLY | os.O_CREAT | os.O_EXCL | os.O_NOFOLLOW | os.O_CLOEXEC
-    with open(os.open(target.name, flags, 0o600, dir_fd=target.folder), "rb") as empty:
+    """Does the same on a file system without links, as of a stick: over a file that is made for it.
+
+    No program begins a book in that meanwhile, which would be lost.
+    """
+    flags = os.O_RDWR | os.O_CREAT | os.O_EXCL | os.O_NOFOLLOW | os.O_CLOEXEC
+    with open(os.open(target.name, flags, 0o600, dir_fd=target.folder), "r+b") as empty:
+        is_own = _is_kept_empty(empty)
         try:
-            if not target.has(empty):
+            if not (is_own and target.has(empty)):
                 raise FileExistsError(errno.EEXIST, os.strerror(errno.EEXIST))
             names = name, target.name
             os.replace(*names, src_dir_fd=folder, dst_dir_fd=target.folder)
         except BaseException:
-            if target.has(empty):
+            if is_own and target.has(empty):
                 os.unlink(target.name, dir_fd=target.folder)
             raise
+
+
+def _is_kept_empty(file: BinaryIO) -> bool:
+    """Keeps others from using a new file, unless one has begun a book in it already."""
+    from braildesk.opening import take_alone  # which few sessions need here
+
+    with suppress(OSError):
+        # no program uses a book where a file system has no such locks
+        if not take_alone(file):
+            return False
+    return os.fstat(file.fileno()).st_size == 0
 
 
 def _sync_folder(place: Place) -> None:

@@ -13,7 +13,7 @@ import time
 from collections.abc import Callable, Iterator
 from contextlib import closing, suppress
 from pathlib import Path
-from typing import Any
+from typing import Any, BinaryIO
 
 import pytest
 
@@ -31,6 +31,7 @@ from braildesk import (
     Table,
     Why,
     limits,
+    opening,
     requests,
     workshop,
 )
@@ -734,6 +735,43 @@ def test_where_a_file_system_has_no_links_either_a_copy_is_made_and_replaces_not
         braildesk.copy(book, tmp_path / "third")
     assert os.strerror(number) in caught.value.sentence
     assert names(tmp_path) == {book.name, "copied", "other"}
+
+
+@pytest.mark.parametrize("moment", ["before it is locked", "once it is locked"])
+def test_where_a_file_system_has_no_links_no_book_is_lost_that_is_begun_at_the_path(
+    book: Path, tmp_path: Path, monkeypatch: pytest.MonkeyPatch, moment: str
+) -> None:
+    def failed(*_: object, **__: object) -> None:
+        raise OSError(errno.EOPNOTSUPP, os.strerror(errno.EOPNOTSUPP))
+
+    to, replace, take_alone = tmp_path / "copied", os.replace, opening.take_alone
+
+    def begin() -> None:
+        braildesk.new_book(to, holding=[requests.Supply("other")])
+
+    def taken(file: BinaryIO) -> bool:
+        if moment == "before it is locked":
+            begin()
+        return take_alone(file)
+
+    def replaced(*names: str, **folders: int) -> None:
+        with pytest.raises(CannotOpen) as caught:
+            begin()
+        assert caught.value.why is Why.IN_USE
+        replace(*names, **folders)
+
+    monkeypatch.setattr(workshop, "_rename", failed)
+    monkeypatch.setattr(os, "link", failed)
+    monkeypatch.setattr(os, "replace", replaced)
+    monkeypatch.setattr(opening, "take_alone", taken)
+    if moment == "before it is locked":
+        with pytest.raises(NotCopied):
+            braildesk.copy(book, to)
+        assert [table.name for table in braildesk.read_tables(to)] == ["other"]
+    else:
+        assert braildesk.copy(book, to) == 1
+        assert [table.name for table in braildesk.read_tables(to)] == ["en"]
+        assert names(tmp_path) == {book.name, "copied"}
 
 
 def test_what_a_killed_copy_left_is_cleared_away_by_the_next_one(
