@@ -17,6 +17,7 @@ from braildesk.protocol.requests import Mark, Type
 from scribe.cli import run_words
 from scribe.cli.commands import COMMANDS
 from scribe.words.console import Console
+from scribe.words.status import Status
 from sitting import Sit
 from tool import environment
 
@@ -179,6 +180,33 @@ def test_the_program_opens_the_book_while_most_is_imported(
     found = said(moon, BEGUN, command, str(moon), *others, "--width", "400")
     assert "braildesk.beginning" in found
     assert not BESIDE & found
+
+
+@pytest.mark.parametrize(
+    "words",
+    [
+        ["pages", "--line", "2"],
+        ["volumes", "--set"],
+        ["find", "--braille", "é"],
+    ],
+    ids=lambda words: str(words[0]),
+)
+def test_words_that_do_not_go_together_begin_nothing(
+    moon: Path, words: list[str], monkeypatch: pytest.MonkeyPatch
+) -> None:
+    begun: list[object] = []
+    # which is asked before a program is started
+    monkeypatch.setattr("braildesk.program.find", begun.append)
+    command, *others = words
+    console = Console(BytesIO(), StringIO(), said := StringIO())
+    status = run_words([command, str(moon), *others], console)
+    assert (status, begun) == (Status.WORDS_REFUSED, [])
+    assert said.getvalue().startswith("Argument ")
+    # whatever is at the path
+    gone = str(moon.with_name("gone"))
+    again = Console(BytesIO(), StringIO(), said_again := StringIO())
+    assert run_words([command, gone, *others], again) == Status.WORDS_REFUSED
+    assert said_again.getvalue() == said.getvalue()
 
 
 def test_what_stands_for_a_module_gives_all_that_it_has() -> None:

@@ -39,6 +39,8 @@ class BookCommand:
     looks: bool = False
     #: Whether its words have it change the book though it looks at it without them.
     changes: Callable[[Namespace], bool] = lambda _: False
+    #: Refuses words that don't go together, before anything is begun by them.
+    judge: Callable[[Namespace], None] = lambda _: None
     #: Begins at a shell what goes on beside the opening of the book.
     beside: Callable[[Namespace], AbstractContextManager[object]] = nullcontext
 
@@ -61,6 +63,7 @@ class BookCommand:
         """Opens the book, and does what the words ask for."""
         from braildesk.beginning import Beginning
 
+        self.judge(arguments)
         waiting = console.waiting()
         with self.beside(arguments), Beginning(arguments.file, waiting) as beginning:
             # imported once the program is at work, as is what answers

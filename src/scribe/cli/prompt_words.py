@@ -119,6 +119,7 @@ def command_answered(talk: Conversation, file: Path, name: str, rest: str) -> No
     _complete(talk, parser, arguments)
     console = as_asked(talk.console, arguments)
     try:
+        its.judge(arguments)
         outcome = its.answering()(talk.session, arguments, console)
     except WordsRefused as refused:
         _say_refused(talk, parser, refused)

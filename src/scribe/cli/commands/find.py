@@ -66,6 +66,12 @@ def add_words(parser: Parser) -> None:
     parser.set_defaults(usage=parser.format_usage().strip())
 
 
+def judge(arguments: Namespace) -> None:
+    """Refuses cells that are none."""
+    if arguments.braille:
+        cells(arguments)
+
+
 def answer(session: Session, arguments: Namespace, console: Console) -> None:
     """Shows where the words or cells stand, and how often."""
     text, width = arguments.text, console.columns
@@ -122,4 +128,6 @@ def cells(arguments: Namespace) -> str:
         ) from fault
 
 
-COMMAND = BookCommand("find", EXAMPLE, add_words, lambda: answer, MORE, looks=True)
+COMMAND = BookCommand(
+    "find", EXAMPLE, add_words, lambda: answer, MORE, looks=True, judge=judge
+)

@@ -53,10 +53,14 @@ def add_words(parser: Parser) -> None:
     parser.set_defaults(usage=parser.format_usage().strip(), exported=None)
 
 
-def answer(session: Session, arguments: Namespace, console: Console) -> None:
-    """Shows what is laid out, once it was compared with what export writes of the book."""
+def judge(arguments: Namespace) -> None:
+    """Refuses a line of no page."""
     if arguments.line is not None and arguments.page is None:
         raise WordsRefused("Argument --line: say the page by --page.", arguments.usage)
+
+
+def answer(session: Session, arguments: Namespace, console: Console) -> None:
+    """Shows what is laid out, once it was compared with what export writes of the book."""
     volumes = laid_out(session, arguments)
     parts = shown(session, volumes, arguments)
     counts = _compared(session, parts, arguments)
@@ -220,5 +224,6 @@ COMMAND = BookCommand(
     lambda: answer,
     MORE,
     looks=True,
+    judge=judge,
     beside=exported_beside,
 )

@@ -50,18 +50,22 @@ def add_words(parser: Parser) -> None:
     parser.set_defaults(usage=parser.format_usage().strip())
 
 
-def answer(session: Session, arguments: Namespace, console: Console) -> None:
-    """Shows the volumes, or proposes others, or sets these."""
-    page_size, most = page_size_of(arguments), arguments.pages
-    if not arguments.set:
-        _show(session, page_size, most, console)
-    elif most is None:
+def judge(arguments: Namespace) -> None:
+    """Refuses to set volumes of which nobody said how long they are."""
+    if arguments.set and arguments.pages is None:
         raise WordsRefused(
             "Argument --set: say by --pages how many pages a volume has at most.",
             arguments.usage,
         )
-    else:
+
+
+def answer(session: Session, arguments: Namespace, console: Console) -> None:
+    """Shows the volumes, or proposes others, or sets these."""
+    page_size = page_size_of(arguments)
+    if arguments.set:
         _set(session, arguments, page_size, console)
+    else:
+        _show(session, page_size, arguments.pages, console)
 
 
 def _shown_lines(
@@ -124,4 +128,5 @@ COMMAND = BookCommand(
     MORE,
     looks=True,
     changes=lambda arguments: bool(arguments.set),
+    judge=judge,
 )
