@@ -64,8 +64,10 @@ def made(kind: type[BaseException]) -> BaseException:
     if not inspect.isfunction(kind.__init__):
         text = "The moon didn’t rise."
         return kind(errno.EIO, text) if issubclass(kind, OSError) else kind(text)
-    parameters = inspect.signature(kind, eval_str=True).parameters.values()
-    return kind(*(ARGUMENTS[each.annotation] for each in parameters))
+    # which the exceptions import for the checking of types alone
+    names = {"Request": requests.Request}
+    parameters = inspect.signature(kind, locals=names, eval_str=True).parameters
+    return kind(*(ARGUMENTS[each.annotation] for each in parameters.values()))
 
 
 @pytest.mark.parametrize("kind", kinds(), ids=lambda kind: str(kind.__name__))
