@@ -754,11 +754,11 @@ def test_where_a_file_system_has_no_links_no_book_is_lost_that_is_begun_at_the_p
             begin()
         return take_alone(file)
 
-    def replaced(*names: str, **folders: int) -> None:
+    def replaced(name: str, other: str, src_dir_fd: int, dst_dir_fd: int) -> None:
         with pytest.raises(CannotOpen) as caught:
             begin()
         assert caught.value.why is Why.IN_USE
-        replace(*names, **folders)
+        replace(name, other, src_dir_fd=src_dir_fd, dst_dir_fd=dst_dir_fd)
 
     monkeypatch.setattr(workshop, "_rename", failed)
     monkeypatch.setattr(os, "link", failed)
