@@ -1,7 +1,7 @@
 """An import: the paragraphs of a manuscript, judged and typed into a book, and noted until it is done."""
 
 import os
-from collections.abc import Callable, Sequence
+from collections.abc import Callable, Collection, Sequence
 from contextlib import AbstractContextManager, ExitStack, nullcontext
 from dataclasses import dataclass, replace
 from functools import cached_property
@@ -31,7 +31,7 @@ from braildesk.desk.intake import (
     settings,
     table_for,
 )
-from braildesk.desk.manuscript import Passage, UnreadableText, is_surely_text
+from braildesk.desk.manuscript import Passage, UnreadableText
 from braildesk.desk.manuscripts import Taken, read_bytes, taken
 from braildesk.desk.origin import standing
 from braildesk.desk.replacements import read_replacements
@@ -41,6 +41,7 @@ from braildesk.desk.validation import faults
 from braildesk.named_files import is_handed_over
 from braildesk.session import session_beside
 from braildesk.text import limits
+from braildesk.text.characters import characters_in
 
 
 if TYPE_CHECKING:
@@ -178,6 +179,8 @@ class Importer:
         #: What was read of the manuscript, once it was.
         self.taken: Taken | None = None
         self._data = b""
+        #: Those of a text of which nothing was replaced.
+        self._characters: set[str] = set()
         self._open = ExitStack()
         self._is_let_go = False
 
@@ -199,15 +202,13 @@ class Importer:
         self.job = self._decided(self._earlier, self.job.opened)
         if self.job.way is not Way.GO_ON:
             self.job = self._chosen(data)
-        with ExitStack() as stack:
-            # a book may be changed by being opened, and nobody else has it then
-            opened = self.job.opened
-            if _is_surely_read(self.job, data):
-                opened = stack.enter_context(self.job.opened_beside())
-            whole = self.taken = _taken(self.job, data)
-            self._parts = _parted(self.job, whole.passages)
+        whole = self.taken = _taken(self.job, data)
+        self._parts = _parted(self.job, whole.passages)
+        # a book may be changed by being opened, so that its text is read before
+        with self.job.opened_beside() as opened:
+            self._characters = characters_in(whole.data)
             self._session = self._open.enter_context(opened())
-        return self._judged(whole.data)
+        return self._judged()
 
     def let_go(self) -> None:
         """Lets others have the book, as while a person reads what is lost of the text."""
@@ -225,12 +226,12 @@ class Importer:
         self._is_let_go = False
         self._earlier = self._noted()
         self.job = self._decided(self._earlier, lambda: nullcontext(held))
-        return self._judged(self.taken.data)
+        return self._judged()
 
-    def _judged(self, data: bytes) -> Intake:
+    def _judged(self) -> Intake:
         # beside the program, which takes as long for the characters
         beside: Callable[[], object] = lambda: self._digest
-        return _intake(self.job, self._session, *self._parts, data, beside)
+        return _intake(self.job, self._session, *self._parts, self._characters, beside)
 
     @cached_property
     def _digest(self) -> str:
@@ -384,7 +385,7 @@ def _intake(
     session: Session,
     before: tuple[Passage, ...],
     rest: tuple[Passage, ...],
-    data: bytes,
+    characters: Collection[str],
     beside: Callable[[], object],
 ) -> Intake:
     """What is to be typed of a text, all of it judged."""
@@ -398,7 +399,7 @@ def _intake(
         if numbers := standing(session, book, job.after, rest):
             raise StandsThere(job.text, numbers)
     table = table_for(session.tables(), anchor, job.table)
-    found_faults = faults(rest, table, job.check, data, beside)
+    found_faults = faults(rest, table, job.check, characters, beside)
     if found_faults or len(book) + len(rest) > limits.PARAGRAPHS:
         # imported here, since few texts are at fault
         from braildesk.desk.tables import made_from
@@ -433,13 +434,6 @@ def _signs_for(job: Import, reading: ReadingOptions) -> ReadingOptions:
     if any(isinstance(each, Refused) for each in brackets):
         reading = replace(reading, brackets="()")
     return reading
-
-
-def _is_surely_read(job: Import, data: bytes) -> bool:
-    """Whether a manuscript has paragraphs to be typed, and no other program has to read it."""
-    if job.kind.is_document or job.line is not None or job.how.replacements:
-        return False
-    return is_surely_text(data)
 
 
 def _taken(job: Import, data: bytes) -> Taken:

@@ -92,6 +92,11 @@ class Passage:
         """The same as it stands in the file."""
         return " ".join([line.text for line in self.lines])
 
+    @property
+    def length(self) -> int:
+        """How many characters that has."""
+        return sum([len(line.text) for line in self.lines]) + len(self.lines) - 1
+
     def position(self, place: int) -> Position:
         """Where in the file a place of the print comes from, by the front of its sequence."""
         (position,) = self.positions([place])
@@ -151,15 +156,6 @@ def passages(data: bytes, by_lines: bool) -> tuple[Passage, ...]:
         decoded(data)  # what is no text at all is refused for that
         raise TooManyPassages(_MOST)
     return found
-
-
-def is_surely_text(data: bytes) -> bool:
-    """Whether `passages` surely finds some, which takes little time; of few texts that can't be told."""
-    try:
-        found = decoded(data)
-    except UnreadableText:
-        return False
-    return bool(found.strip(" \t\f\r\n")) and data.count(b"\n") < _MOST
 
 
 def _parted(lines: Iterator[TextLine], by_lines: bool) -> Iterator[Passage]:

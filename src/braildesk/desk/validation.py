@@ -1,13 +1,12 @@
 """What keeps the paragraphs of a text file from being typed, all of it before any is typed."""
 
-from collections.abc import Callable, Sequence
+from collections.abc import Callable, Collection, Sequence
 from typing import TYPE_CHECKING
 
 from braildesk import Refused, Table
 from braildesk.desk.manuscript import Passage
 from braildesk.program import translate_beside
 from braildesk.text import limits
-from braildesk.text.characters import characters_in
 from braildesk.text.sequences import is_plain
 
 if TYPE_CHECKING:
@@ -21,16 +20,16 @@ def faults(
     passages: Sequence[Passage],
     table: Table,
     while_waiting: Callable[[], None] = lambda: None,
-    data: bytes = b"",
+    characters: Collection[str] = (),
     beside: Callable[[], object] = lambda: None,
 ) -> "list[TextFault]":
     """Each character that can't be typed with a table, and each paragraph that is too long.
 
-    If all characters of the file are defined whose bytes are given, the paragraphs aren't gone
-    through for them. Beside that something else may be done.
+    If all characters of the file are given and defined, the paragraphs aren't gone through for
+    them. Beside that something else may be done.
     """
-    if data and _is_defined(data, table, while_waiting, beside):
-        if all(len(each.joined) <= limits.PRINT_CHARACTERS for each in passages):
+    if characters and _are_defined(characters, table, while_waiting, beside):
+        if all(each.length <= limits.PRINT_CHARACTERS for each in passages):
             return []
     # imported here, since few texts are at fault
     from braildesk.desk.text_faults import found_faults
@@ -38,15 +37,15 @@ def faults(
     return found_faults(passages, table, while_waiting)
 
 
-def _is_defined(
-    data: bytes,
+def _are_defined(
+    characters: Collection[str],
     table: Table,
     while_waiting: Callable[[], None],
     beside: Callable[[], object],
 ) -> bool:
-    """Whether a table has each character of a file, of which none is joined in normal form C."""
+    """Whether a table has all characters of a file, of which none is joined in normal form C."""
     # lines are joined by a blank, and other blanks become one
-    others = characters_in(data).difference(_NONE_IN_PRINT).union(" ")
+    others = {*characters}.difference(_NONE_IN_PRINT).union(" ")
     if not is_plain("".join(others)):
         return False
     asked = sorted(others)
