@@ -22,15 +22,39 @@ class Kind(StrEnum):
     UNDO = "undo"
 
 
-@dataclass(frozen=True, slots=True)
-class Done:
+class Value:
+    """What is equal to another one of its kind with the same fields."""
+
+    __slots__ = ()
+
+    # once for all values, since each is made as a class whenever a command is run
+    def __eq__(self, other: object) -> bool:
+        if not isinstance(other, Value):
+            return False
+        return type(other) is type(self) and _fields(other) == _fields(self)
+
+    def __hash__(self) -> int:
+        return hash((type(self), *_fields(self).values()))
+
+    def __repr__(self) -> str:
+        given = ", ".join(f"{key}={value!r}" for key, value in _fields(self).items())
+        return f"{type(self).__qualname__}({given})"
+
+
+def _fields(value: Value) -> dict[str, object]:
+    names: tuple[str, ...] = value.__slots__
+    return {name: getattr(value, name) for name in names}
+
+
+@dataclass(frozen=True, slots=True, eq=False, repr=False)
+class Done(Value):
     """A command was kept, and the book is at this version now."""
 
     version: int
 
 
-@dataclass(frozen=True, slots=True)
-class Typed:
+@dataclass(frozen=True, slots=True, eq=False, repr=False)
+class Typed(Value):
     """A paragraph was added."""
 
     version: int
@@ -38,8 +62,8 @@ class Typed:
     id: int
 
 
-@dataclass(frozen=True, slots=True)
-class Corrected:
+@dataclass(frozen=True, slots=True, eq=False, repr=False)
+class Corrected(Value):
     """A correction or an undo was kept."""
 
     version: int
@@ -47,8 +71,8 @@ class Corrected:
     seq: int
 
 
-@dataclass(frozen=True, slots=True)
-class Marked:
+@dataclass(frozen=True, slots=True, eq=False, repr=False)
+class Marked(Value):
     """A mark was put."""
 
     version: int
@@ -56,8 +80,8 @@ class Marked:
     id: int
 
 
-@dataclass(frozen=True, slots=True)
-class Paragraph:
+@dataclass(frozen=True, slots=True, eq=False, repr=False)
+class Paragraph(Value):
     """A paragraph as the list of a book shows it."""
 
     id: int
@@ -70,8 +94,8 @@ class Paragraph:
     length: int
 
 
-@dataclass(frozen=True, slots=True)
-class Mark:
+@dataclass(frozen=True, slots=True, eq=False, repr=False)
+class Mark(Value):
     """A proofreader's mark on places of a print."""
 
     id: int
@@ -85,8 +109,8 @@ class Mark:
     note: str
 
 
-@dataclass(frozen=True, slots=True)
-class Entry:
+@dataclass(frozen=True, slots=True, eq=False, repr=False)
+class Entry(Value):
     """An entry in the history of a paragraph."""
 
     seq: int
@@ -103,8 +127,8 @@ class Entry:
     undone: int | None
 
 
-@dataclass(frozen=True, slots=True)
-class Table:
+@dataclass(frozen=True, slots=True, eq=False, repr=False)
+class Table(Value):
     """A table of a book, with its text as it came."""
 
     name: str
