@@ -241,12 +241,14 @@ class Drafts:
 
     def begin_import(self, note: ImportNote) -> None:
         """Notes an import before its first paragraph is typed, in place of others of its text."""
-        self._note((note, *self._others(note)))
+        others = (each for each in self.imports() if not each.is_of(note))
+        self._note((note, *others))
 
     def end_import(self, note: ImportNote) -> None:
         """Takes away what is noted of an import: it is done, or nobody goes on with it."""
-        others = self._others(note)
-        if len(others) < len(self.imports()):
+        noted = self.imports()
+        others = tuple(each for each in noted if not each.is_of(note))
+        if len(others) < len(noted):
             self._note(others)
 
     def replacements(self) -> Pairs:
@@ -319,9 +321,6 @@ class Drafts:
         except NotSuch:
             return False
         return kept.is_equal("file", identity) and _identity(path) != identity
-
-    def _others(self, note: ImportNote) -> tuple[ImportNote, ...]:
-        return tuple(each for each in self.imports() if not each.is_of(note))
 
     def _note(self, notes: tuple[ImportNote, ...]) -> None:
         if notes:

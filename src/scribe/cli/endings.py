@@ -12,6 +12,7 @@ from contextlib import suppress
 from dataclasses import dataclass
 from pathlib import Path
 from types import FrameType
+from typing import NoReturn
 
 from braildesk.text.characters import visible
 from braildesk.version import version
@@ -41,6 +42,18 @@ def ended(run: Callable[[], int], may_change: Callable[[], bool]) -> int:
         _end_by_signal(cause, may_change)
         return Status.FAILED
     return status
+
+
+def leave(status: int) -> NoReturn:
+    """Ends the process at once, since to take all apart that was made takes as long as some commands."""
+    try:
+        for stream in (sys.stdout, sys.stderr):
+            # one that was closed at the beginning isn't there
+            if stream is not None:
+                stream.flush()
+    except OSError:
+        sys.exit(status)
+    os._exit(status)
 
 
 def _status(run: Callable[[], int], may_change: Callable[[], bool]) -> int:
