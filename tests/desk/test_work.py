@@ -273,8 +273,10 @@ def test_a_command_opens_the_book_once_and_asks_each_thing_once(
 
 @pytest.mark.parametrize("command", ["heading", "show", "strike"])
 def test_a_command_on_a_paragraph_reads_no_other_line_of_the_list(
-    long: Path, command: str, monkeypatch: pytest.MonkeyPatch
+    long: Path, command: str, tmp_path: Path, monkeypatch: pytest.MonkeyPatch
 ) -> None:
+    # without what other tests noted of files that had the same number on the disk
+    monkeypatch.setenv("XDG_STATE_HOME", str(tmp_path / "state"))
     read = []
 
     def counted(*fields: Any) -> Paragraph:
