@@ -1,18 +1,20 @@
 """What is typed where the screen asks for words, numbers and names: it is kept, and Up brings it back."""
 
+import os
 import signal
 import time
 from pathlib import Path
 
 import pytest
 
+from braildesk import requests
 from braildesk.desk.drafts import Drafts
 
 from scribe.screen.field import Field, Purpose
 from scribe.screen.keys import step
 from scribe.screen.state import Size, State
 from sitting import Sat, Sit
-from terminal import WAIT_SECONDS, Open
+from terminal import WAIT_SECONDS, Open, once_free
 
 #: The keys that have each of them be typed.
 ASKS = {
@@ -93,6 +95,56 @@ def test_up_puts_back_what_it_took_the_place_of(moon: Path, sit: Sit) -> None:
     assert sat.state.typed == Field(Purpose.WORDS, "sea", 3)
     sat.press("up")
     assert sat.state.typed == Field(Purpose.WORDS, "tide", 4)
+
+
+@pytest.mark.parametrize("keys, purpose", [("/", Purpose.WORDS), ("c", Purpose.OLD)])
+def test_what_is_typed_as_an_answer_outlives_a_session_that_ends_meanwhile(
+    moon: Path, sit: Sit, keys: str, purpose: Purpose
+) -> None:
+    sat = sit(moon)
+    sat.press(*keys.split(), *"far away")
+    os.kill(sat.desk.pid, signal.SIGKILL)
+    with once_free(moon):
+        sat.state = sat.desk.lost(sat.state)
+    assert sat.state.is_lost
+    sat.press("enter")
+    assert not sat.state.is_lost
+    a_second_goes_by(sat)
+    assert Drafts(moon).answers()[purpose.name] == "far away"
+    sat.press(*keys.split(), "up")
+    assert sat.state.typed and sat.state.typed.text == "far away"
+
+
+def test_what_is_typed_as_an_answer_outlives_a_book_that_another_program_changed(
+    moon: Path, sit: Sit
+) -> None:
+    sat = sit(moon)
+    sat.press("c", *"far", "enter", *"near")
+    os.kill(sat.desk.pid, signal.SIGKILL)
+    with once_free(moon) as session:
+        session.ask(requests.Strike(1))
+    sat.state = sat.desk.lost(sat.state)
+    assert (sat.state.is_lost, sat.state.typed) == (False, None)
+    a_second_goes_by(sat)
+    assert Drafts(moon).words() == ("far", "near")
+    sat.press("c", "up", "enter", "up")
+    assert sat.state.typed and sat.state.typed.text == "near"
+
+
+def test_a_size_that_stands_there_takes_the_place_of_none_that_was_typed(
+    moon: Path, sit: Sit
+) -> None:
+    sat = sit(moon)
+    sat.press("w", "c-u", *"32 24 or so", "enter", "escape")
+    sat.press("w")
+    assert sat.state.typed
+    there = sat.state.typed
+    a_second_goes_by(sat)
+    assert Drafts(moon).answers()["SIZE"] == "32 24 or so"
+    sat.press("escape", "w", "up")
+    assert sat.state.typed and sat.state.typed.text == "32 24 or so"
+    sat.press("up")
+    assert sat.state.typed == there
 
 
 def test_in_a_note_up_brings_nothing_back(moon: Path, sit: Sit) -> None:

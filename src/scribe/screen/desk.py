@@ -91,6 +91,7 @@ from scribe.screen.state import (
     saying_first,
     so_far,
     with_imported,
+    without_typed,
     words_of,
 )
 from scribe.screen.waiting import asked_about, unkept, where_kept, with_text
@@ -540,7 +541,7 @@ class Desk:
         try:
             self._session.close()
             self._open_further()
-            found = replace(state, typed=None, preview=None, question=None, pages=None)
+            found = replace(without_typed(state), question=None, pages=None)
             found = self._opened_again(replace(found, is_lost=False))
             is_same = found.version == state.version
             now = f"It is at version {found.version:,}" + (
@@ -593,7 +594,7 @@ class Desk:
                 elif state.typed.text:
                     found = found.saying_too(_TYPE_ON)
                 return refreshed(self._session, found)
-            found = replace(found, typed=None, preview=None, question=None)
+            found = replace(without_typed(found), question=None)
             found = self._opened_again(replace(found, version=lost.version))
             found = found if is_same else self._looked_at_anew(found)
             return refreshed(self._session, self._offered(found, waits))

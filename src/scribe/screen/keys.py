@@ -36,7 +36,15 @@ from scribe.screen.moves import (
 )
 from scribe.screen.pasted_lines import is_cut
 from scribe.screen.question_keys import answered
-from scribe.screen.state import Pages, Pane, Question, State, Step, prompted
+from scribe.screen.state import (
+    Pages,
+    Pane,
+    Question,
+    State,
+    Step,
+    prompted,
+    size_typed,
+)
 from scribe.screen.typing_keys import (
     KEYS_OF_ANSWER,
     KEYS_OF_LINE,
@@ -164,7 +172,7 @@ def keys_of(state: State) -> tuple[str, tuple[str, ...]]:
 
 
 def _size(state: State) -> Step:
-    text = f"{state.page_size.width} {state.page_size.lines}"
+    text = size_typed(state)
     return Step(replace(state, typed=Field(Purpose.SIZE, text, len(text))))
 
 

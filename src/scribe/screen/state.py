@@ -436,11 +436,25 @@ def draft_of(state: State) -> Draft | None:
     return Draft(aim, number, state.table, before, text, cells, state.version)
 
 
+def size_typed(state: State) -> str:
+    """The size of pages as it would be typed."""
+    return f"{state.page_size.width} {state.page_size.lines}"
+
+
 def answered_with(state: State, typed: Field | None) -> State:
     """The state in which Up brings back what is typed, if it isn't for the book."""
     if typed is None or typed.purpose.is_for_book or not typed.text:
         return state
+    if typed.purpose is Purpose.SIZE and typed.text == size_typed(state):
+        # which stands there before anything is typed
+        return state
     return replace(state, answers={**state.answers, typed.purpose: typed.text})
+
+
+def without_typed(state: State) -> State:
+    """The state in which nothing is typed; what isn't for the book is brought back by Up."""
+    state = replace(answered_with(state, state.typed), unchanged=words_of(state))
+    return replace(state, typed=None, preview=None)
 
 
 def words_of(state: State) -> tuple[str, str]:

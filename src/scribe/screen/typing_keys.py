@@ -123,7 +123,8 @@ def _brought_back(state: State, typed: Field) -> State:
     if text in ("", typed.text):
         return state.saying("Nothing else was typed for this before.")
     field = replace(typed, text=text, place=len(text))
-    return replace(answered_with(state, typed), typed=field)
+    answers = {**state.answers, typed.purpose: typed.text or text}
+    return replace(state, answers=answers, typed=field)
 
 
 def _left(state: State, typed: Field) -> State:
