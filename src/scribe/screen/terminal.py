@@ -404,7 +404,10 @@ class Screen:
         try:
             while rest:
                 self._carry_out(rest[0])
-                rest.popleft()
+                if self._is_stopped_among_lines(rest.popleft()):
+                    self._ends_among_lines = True
+                    self._waiting += rest
+                    break
         except Interrupted:
             # text among what is left is kept at the end
             self._waiting += self._not_begun()
@@ -413,6 +416,12 @@ class Screen:
             self._leave_said()
             self._end_work()
             self._wait_for_held()
+
+    def _is_stopped_among_lines(self, key: Stroke) -> bool:
+        """Whether lines still wait that a key had be typed, since scribe is to end."""
+        asked = self.state.question
+        is_of_lines = asked is not None and bool(asked.lines) and not asked.is_typed_on
+        return self._is_told_to_end and is_of_lines and key == "y"
 
     def _leave_said(self) -> None:
         """Leaves on the screen what wasn't there yet as the keys came that would take it away."""
