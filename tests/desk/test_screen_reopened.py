@@ -8,6 +8,8 @@ from pathlib import Path
 import pytest
 
 from braildesk import Displaced, Session
+from braildesk.desk.draft import Aim
+from braildesk.desk.drafts import Drafts
 
 from scribe.screen.desk import Desk
 from sitting import Sat, Sit
@@ -246,6 +248,29 @@ def test_lines_that_were_cut_short_go_on_where_the_book_ends(
     sat.press("y")
     found = ["The moon is far away.", "One.", "Two.", "Three.", "Four."]
     assert prints(sat)[:5] == found
+
+
+@pytest.mark.parametrize("typed, left", [(2, "Three.\nFour."), (3, "Four."), (4, "")])
+def test_lines_after_an_edit_that_are_in_the_book_are_not_offered_where_none_could_be_kept(
+    moon: Path, sit: Sit, typed: int, left: str
+) -> None:
+    sat = sit(moon)
+    sat.press("enter", "end")
+    lines = ["One.", "Two.", "Three.", "Four."]
+    sat.state = sat.desk.paste(sat.state, "\n".join(["", *lines]))
+    sat.state = sat.desk.save_draft(sat.state)
+    waits = sat.desk.drafts.waiting()
+    assert waits and waits.aim is Aim.EDIT
+    sat.press("escape", "escape", "enter", "end")
+    sat.state = sat.desk.paste(sat.state, "\n".join(["", *lines[:typed]]))
+    sat.press("y", "escape")
+    sat.desk.close()
+    # what was kept last, as on a disk that was full from then on
+    Drafts(moon).save(waits)
+    sat = sit(moon)
+    asked = sat.state.question
+    assert (asked.draft.text if asked and asked.draft else "") == left
+    assert left or sat.state.message.startswith("What was typed last is in the book")
 
 
 @pytest.mark.parametrize(

@@ -63,6 +63,21 @@ def lines_kept(
     return overlap(prints, lines)
 
 
+def lines_left(
+    session: Session, draft: Draft, version: int, numbers: Sequence[int]
+) -> Draft | None:
+    """The lines that aren't in a book of a version, of which the first is; none if all are."""
+    count, newest = 1, max(numbers)
+    if not draft.aim.is_new:
+        # the first changed a paragraph, and those after it are new ones
+        rest = draft.after_first_line(newest)
+        if rest is None or draft.version is None:
+            return rest
+        draft, count = replace(rest, version=draft.version + 1), 0
+    count = max(count, lines_kept(session, draft, version, numbers))
+    return draft.after_lines(count, newest) if count else draft
+
+
 def overlap(earlier: Sequence[str], later: Sequence[str]) -> int:
     """How many texts at most are both the last ones of some and the first ones of others."""
     # for each count of the first ones, how many fewer of them are the last ones of these too

@@ -4,7 +4,7 @@ from dataclasses import replace
 
 from braildesk import Session
 from braildesk.desk.draft import Aim, Draft
-from braildesk.desk.kept_lines import lines_kept
+from braildesk.desk.kept_lines import lines_kept, lines_left
 from braildesk.text.characters import visible
 from braildesk.text.sequences import composed
 from braildesk.text.spans import Span
@@ -150,10 +150,8 @@ def where_kept(session: Session, state: State, saved: Draft) -> str:
 
 def unkept(session: Session, state: State, saved: Draft) -> Draft | None:
     """What of a text that waits isn't in the book, where its first line is."""
-    numbers, count = [each.id for each in state.book], 1
-    if saved.aim.is_new:
-        count = lines_kept(session, saved, state.version, numbers)
-    return saved.after_lines(count, max(numbers))
+    numbers = [each.id for each in state.book]
+    return lines_left(session, saved, state.version, numbers)
 
 
 def _on_cells(session: Session, state: State, saved: Draft) -> State:

@@ -27,7 +27,7 @@ from braildesk.desk.highlighting import (
     highlighted_by_cell,
     highlighted_by_character,
 )
-from braildesk.desk.kept_lines import lines_kept
+from braildesk.desk.kept_lines import lines_kept, lines_left
 from braildesk.desk.layout import PageSize
 from braildesk.desk.places import cells_of, words_of
 from braildesk.desk.readings import ParagraphReading, answers
@@ -568,10 +568,8 @@ class OpenBook:
         """What of a text that waits isn't in the book: all, the lines after the first, or nothing."""
         if not self.where_kept(contents, draft):
             return draft
-        numbers, count = [each.id for each in contents.paragraphs], 1
-        if draft.aim.is_new:
-            count = lines_kept(self._session, draft, contents.version, numbers)
-        return draft.after_lines(count, max(numbers))
+        numbers = [each.id for each in contents.paragraphs]
+        return lines_left(self._session, draft, contents.version, numbers)
 
     def where_kept(self, contents: Contents, draft: Draft) -> str:
         """Where a text that waits, or its first line, is in the book, in words; or nothing.
