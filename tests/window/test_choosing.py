@@ -80,3 +80,19 @@ def test_a_new_book_takes_no_name_that_is_there_and_is_asked_for_again(
     assert firsts[1] == moon and moon.read_bytes() == before
     assert said[0] == "Which book shall be opened?"
     assert str(moon) in said[1] and len(said) == 2
+
+
+def test_a_new_book_has_the_ending_of_books_also_with_a_full_stop_in_its_name(
+    tmp_path: Path, monkeypatch: pytest.MonkeyPatch
+) -> None:
+    typed = tmp_path / "Dr. Jekyll"
+
+    def choice(over: None, title: str, sentence: str, answers: tuple[str, ...]) -> int:
+        return 1
+
+    def new_file(over: None, title: str, first: Path) -> Path | None:
+        return typed
+
+    monkeypatch.setattr(dialogs, "choice", choice)
+    monkeypatch.setattr(dialogs, "new_file", new_file)
+    assert choosing.chosen_book() == tmp_path / "Dr. Jekyll.braildesk"

@@ -31,7 +31,9 @@ def _new_book() -> Path | None:
         path = dialogs.new_file(None, "New book", first)
         if path is None:
             return None
-        first = path if path.suffix else path.with_name(path.name + _ENDING)
+        # a name may have a full stop elsewhere
+        is_ended = path.name.endswith(_ENDING)
+        first = path if is_ended else path.with_name(path.name + _ENDING)
         try:
             with in_sentences():
                 new_book(first, holding=[first_table()])
