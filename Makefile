@@ -3,7 +3,7 @@
 # make install    installs the program, the command scribe, tables, manual pages and documents below $(DESTDIR)$(PREFIX)
 # make uninstall  takes away what was installed there
 # make deb        makes the packages for Debian of what make built
-# make test       the gate: proves everything from nothing, tries the must-fail edits, and runs all tests
+# make test       the gate: proves everything from nothing, tries the must-fail edits, and runs its tests
 # make attacks    tries the wrong bodies that the gate leaves out, and those that only a test sees
 # make bench      measures speed
 # make clean      takes away what make built and proved
