@@ -8,6 +8,7 @@ import time
 import warnings
 import zipfile
 from collections.abc import Callable
+from io import BytesIO
 from pathlib import Path
 
 import pytest
@@ -24,6 +25,8 @@ from braildesk.desk.documents.kinds import (
     NotRead,
     WhyNot,
     kind_of,
+    repacked,
+    unpacked,
 )
 from braildesk.desk.documents.pandoc import office, tree
 from braildesk.desk.documents.options import ReadingOptions
@@ -1316,6 +1319,16 @@ def test_of_parts_with_one_name_the_last_is_read(tmp_path: Path, folder: str) ->
     with warnings.catch_warnings():
         warnings.simplefilter("error")
         assert read_manuscript(path).texts == ["The moon"]
+
+
+def test_no_picture_is_unpacked_for_the_name_that_it_gets() -> None:
+    made = BytesIO()
+    with zipfile.ZipFile(made, "w") as container:
+        container.writestr("word\\.png", bytes(1_000))
+        container.writestr("word\\document.xml", "<none/>")
+    with unpacked(repacked(made.getvalue())) as found:
+        sizes = {each.filename: each.file_size for each in found.infolist()}
+    assert sizes == {"word/.png": 0, "word/document.xml": 7}
 
 
 def test_a_known_part_of_a_container_within_it_is_no_sign_of_a_folder(

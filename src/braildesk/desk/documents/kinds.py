@@ -205,7 +205,9 @@ def repacked(data: bytes) -> bytes:
         with ZipFile(made, "w") as other:
             # of parts with one name the last one counts, as where they are read
             for name, entry in dict(zip(names, entries)).items():
-                part = b"" if is_media(name) else part_of(container, entry.filename)
+                # a part that wasn't counted by its own name isn't unpacked
+                is_uncounted = is_media(entry.filename) or is_media(name)
+                part = b"" if is_uncounted else part_of(container, entry.filename)
                 other.writestr(name, part)
     return made.getvalue()
 
