@@ -34,6 +34,18 @@ def test_what_tags_of_html_lose_is_noted_as_that_of_markdown_is() -> None:
     ]
 
 
+def test_an_item_keeps_its_number_that_begins_with_a_tag_of_html() -> None:
+    found = read(
+        "1. <p align=center>One</p>\n\n2. <!-- no print -->\n\n    two\n\n"
+        "3. <img src=a.png>\n\n4. <img src=a.png alt=Logo>\n\n5. <script>x</script>\n"
+    )
+    assert found.texts == ["1. One", "2. two", "3.", "4. [Logo]", "5."]
+    assert lost(found) == [
+        (LossKind.PICTURE, ""),
+        (LossKind.RAW, "<script>x</script>"),
+    ]
+
+
 def test_a_tag_that_html_does_not_have_is_a_piece_that_is_left_out() -> None:
     found = read(
         "Type <name>, <span>not</span> `<name>`.\n\n<your_street>\n\nBye </name>.\n"

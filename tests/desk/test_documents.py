@@ -1253,6 +1253,17 @@ def test_pictures_without_an_address_are_described_too() -> None:
     assert len(lost(found, LossKind.PICTURE)) == 1
 
 
+def test_an_item_of_a_list_keeps_its_number_whatever_it_begins_with() -> None:
+    page = (
+        "<html><ol><li><table><tr><td>a<td>b<tr><td>c<td>d</table><li><h2>Head</h2>"
+        "<li><hr>rule<li><table><caption>Title</caption><tr><td>e</table>"
+        "<li><ul><li>f<li>g</ul></ol></html>"
+    )
+    found = read_document(page.encode(), ManuscriptKind.HTML)
+    texts = ["1. a; b", "c; d", "2. Head", "3. rule", "4. Title", "e"]
+    assert found.texts == [*texts, "5. \u2022 f", "\u2022 g"]
+
+
 @pytest.mark.parametrize(
     "renamed",
     [

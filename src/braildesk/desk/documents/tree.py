@@ -149,10 +149,13 @@ class _Reader:
                 self._lines(content)
 
     def blocks(self, nodes: Sequence[Node], before: str = "") -> None:
-        """Reads blocks; what comes before the first of them stands in its first paragraph."""
+        """Reads blocks; what comes before them stands in their first paragraph, or alone if there is none."""
         for node in nodes:
+            count = len(self.parts)
             self._block(node, before)
-            before = ""
+            if len(self.parts) > count:
+                before = ""
+        self._put(before)
 
     def put_notes(self) -> None:
         """Puts the notes that wait as paragraphs, in the order of their numbers."""
@@ -176,7 +179,7 @@ class _Reader:
             case "CodeBlock":
                 self._lines(content[1], before)
             case "Header":
-                self._heading(content[0], content[2])
+                self._heading(content[0], content[2], before)
             case "BlockQuote":
                 self.blocks(content, before)
             case "Div":
@@ -189,9 +192,7 @@ class _Reader:
                 self.blocks(content[2], before)
                 self.blocks(content[1][1])
             case "RawBlock":
-                line = _Line()
-                self._raw(content, line)
-                self._take(line)
+                self._raw_block(content, before)
             case "HorizontalRule" | "Null":
                 pass
             case _:
@@ -201,25 +202,22 @@ class _Reader:
         match kind:
             case "OrderedList":
                 for number, item in enumerate(content[1], start=content[0][0]):
-                    self._item(item, before + _numbered(number, content[0]))
+                    self.blocks(item, before + _numbered(number, content[0]))
+                    before = ""
             case "BulletList":
                 for item in content:
-                    self._item(item, f"{before}{self._reading.bullet} ")
+                    self.blocks(item, f"{before}{self._reading.bullet} ")
+                    before = ""
             case _:
                 for term, definitions in content:
                     self._paragraph(term, before)
+                    before = ""
                     for definition in definitions:
                         self.blocks(definition)
 
-    def _item(self, nodes: Sequence[Node], before: str) -> None:
-        if nodes:
-            self.blocks(nodes, before)
-        else:
-            self._put(before)
-
-    def _heading(self, level: int, nodes: Sequence[Node]) -> None:
+    def _heading(self, level: int, nodes: Sequence[Node], before: str) -> None:
         self.put_notes()
-        line = self._line(nodes)
+        line = self._line(nodes, before)
         self._take(line, level)
         words = plain(_LINE_END.sub(" ", line.text))
         if level > 1 and words:
@@ -254,14 +252,16 @@ class _Reader:
     def _table(self, content: Sequence[Any], before: str) -> None:
         """Puts a paragraph for each row, and its title before or after them."""
         _, (_, title), _, (_, head), bodies, (_, foot) = content
-        if not self._has_titles_below:
+        if title and not self._has_titles_below:
             self.blocks(title, before)
+            before = ""
         texts: list[str] = []
         # a cell goes on no further than the part of the table in which it begins
         for rows in (head, *(rows for body in bodies for rows in body[2:]), foot):
             texts += self._rows(rows)
-        for text in texts:
-            self._put(text)
+        for text in filter(None, texts):
+            self._put(before + text)
+            before = ""
         if self._has_titles_below:
             self.blocks(title)
         if not self._reading.notes_at_end:
@@ -304,6 +304,14 @@ class _Reader:
         self.losses += inner.losses
         self._waiting += inner._waiting
         return [part.text for part in inner.parts]
+
+    def _raw_block(self, content: Sequence[str], before: str) -> None:
+        """Puts what stands between other blocks, after what comes before it if it has print."""
+        line = _Line()
+        line.add(before)
+        self._raw(content, line)
+        has_print = plain(_LINE_END.sub(" ", line.text)) != plain(before)
+        self._take(line if has_print else _Line(spans=line.spans))
 
     def _raw(self, content: Sequence[str], line: _Line) -> None:
         """Notes text in the language of another program; a page break, as in DOCX, is nothing."""
