@@ -9,7 +9,18 @@ import pytest
 from braildesk.desk.documents.reading import Loss, LossKind, Missing
 from braildesk.desk.manuscripts import read_manuscript
 
-from handmade import docx, in_list, level, lists, note, paragraph, run, symbol, table
+from handmade import (
+    docx,
+    in_list,
+    level,
+    lists,
+    note,
+    paragraph,
+    run,
+    symbol,
+    table,
+    text_box,
+)
 
 _W = "http://schemas.openxmlformats.org/wordprocessingml/2006/main"
 #: Prefixes in place of Word's: another one, none, and those that Word has for other names.
@@ -139,6 +150,15 @@ def test_a_newer_box_is_its_sign_or_a_symbol_that_is_typed_as_one(
         Loss(LossKind.BOX, "\u2612", "yes"),
         Loss(LossKind.BOX, "\u2610", "yes"),
     )
+
+
+def test_a_box_of_a_form_in_a_text_box_is_not_said_to_be_typed(tmp_path: Path) -> None:
+    inner = text_box("yes").replace(run("yes"), box() + run("yes"))
+    body = paragraph(run("Tides"), inner)
+    found = read_manuscript(docx(tmp_path / "a.docx", body))
+    assert found.texts == ["Tides"]
+    assert [each.words for each in found.missing] == ["yes"]
+    assert found.losses == ()
 
 
 def ruby(base: str, reading: str) -> str:

@@ -14,8 +14,9 @@ _W = "{http://schemas.openxmlformats.org/wordprocessingml/2006/main}"
 _W14 = "{http://schemas.microsoft.com/office/word/2010/wordml}"
 _RUN, _RUBY = f"{_W}r", f"{_W}ruby"
 _OFF = ("0", "false", "off")
-#: What was deleted, or is for older programs.
+#: What isn't typed: what was deleted, is in a text box, or is for older programs.
 _GONE = (
+    f"{_W}txbxContent",
     f"{_W}del",
     f"{_W}moveFrom",
     "{http://schemas.openxmlformats.org/markup-compatibility/2006}Fallback",
