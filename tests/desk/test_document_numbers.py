@@ -666,3 +666,13 @@ def test_numbers_that_a_sheet_counts_are_noted(sheet: str, words: list[str]) -> 
     found = read_document(page.encode(), ManuscriptKind.HTML)
     noted = [loss.words for loss in found.losses if loss.what is LossKind.NUMBER]
     assert noted == words
+
+
+def test_a_number_within_a_line_is_noted_with_the_words_of_that_line() -> None:
+    page = (
+        "<html><style>.n::before { content: counter(a) }</style><p>One <b class=n>b</b></p>"
+        "<p>Two</p></html>"
+    )
+    found = read_document(page.encode(), ManuscriptKind.HTML)
+    noted = [loss.words for loss in found.losses if loss.what is LossKind.NUMBER]
+    assert noted == ["One b"]

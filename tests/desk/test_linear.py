@@ -20,6 +20,7 @@ from braildesk import Mark, Paragraph, Session, Style, Table
 from braildesk.desk.documents import contents
 from braildesk.desk.documents.contents import contents_of, missing
 from braildesk.desk.documents.kinds import ManuscriptKind
+from braildesk.desk.documents.pages import readable_page
 from braildesk.desk.documents.reading import Missing
 from braildesk.desk.find import Hit
 from braildesk.desk.kept_lines import overlap
@@ -65,6 +66,33 @@ def test_each_character_that_a_table_lacks_is_found_in_one_walk_along_its_line()
 def test_what_style_sheets_say_of_a_page_is_found_in_one_walk(page: str) -> None:
     started = time.process_time()
     assert contents_of(page.encode(), ManuscriptKind.HTML).losses == []
+    assert time.process_time() - started < SECONDS
+
+
+@pytest.mark.parametrize(
+    "page",
+    [
+        f"<p>{'<ruby>a<rt>b' * 15_000}",
+        f"<p>{'<rt>a' * 50_000}",
+        f"<p>{'a' * 4_000_000}{'<b>a</b>' * 15_000}",
+        f"<style>li::before {{ content: counter(a) }}</style><ol>{'<li>' * 30_000}",
+        f"<style>div div::before {{ content: counter(a) }}</style>{'<div>' * 4_000}",
+        "<ol><li>" * 3_000,
+        f"{'<b>' * 30_000}{'</i>' * 30_000}",
+    ],
+    ids=["ruby", "readings", "pieces", "counted", "deep", "lists", "ends"],
+)
+def test_a_page_is_compared_and_written_in_one_walk(page: str) -> None:
+    started = time.process_time()
+    contents_of(page.encode(), ManuscriptKind.HTML)
+    readable_page(page)
+    assert time.process_time() - started < SECONDS
+
+
+def test_passages_of_one_word_are_looked_for_in_few_places() -> None:
+    started = time.process_time()
+    found = missing(["a " * 300] * 300, ["a " * 299] * 300)
+    assert sum(len(each.words.split()) for each in found) == 300
     assert time.process_time() - started < SECONDS
 
 

@@ -10,6 +10,7 @@ from collections import Counter, deque
 from collections.abc import Callable, Collection, Iterable, Iterator, Sequence
 from dataclasses import dataclass, field
 from functools import cache, partial
+from itertools import islice
 from pathlib import PurePosixPath
 from posixpath import normpath
 from urllib.parse import unquote
@@ -41,6 +42,8 @@ _IS_NUMBER = re.compile("decimal.*|.*-(alpha|latin|roman|greek)")
 _PLAIN_CLASSES = frozenset("arabic decimal itemized ordered orderedlist simple".split())
 _FOR_PRINT = re.compile(r"\b(all|print)\b", re.IGNORECASE)
 _IMPORT = re.compile("@import", re.IGNORECASE)
+#: In how many places a passage is looked for, of which each word may stand nearly everywhere.
+_MOST_TRIED = 1_000
 #: How many words before and after missing ones are shown.
 _NEIGHBOURS = 4
 
@@ -213,7 +216,7 @@ class _Rest:
             return True
         offset, places = self._rarest(words)
         wanted = list(words)
-        for place in places:
+        for place in islice(places, _MOST_TRIED):
             front = place - offset
             if front >= 0 and self.words[front : front + len(words)] == wanted:
                 self.words[front : front + len(words)] = [None] * len(words)
@@ -532,9 +535,11 @@ class _Html(Tags):
         self._sheet = Sheet()
         #: The elements that are open.
         self._path: list[PageElement] = []
-        self.texts: list[str] = [""]
-        #: The texts of the lists by which a program finds the pages.
-        self.lists: list[str] = [""]
+        #: How many of them have each tag.
+        self._tags: Counter[str] = Counter()
+        #: The pieces of each text, and of each of the lists by which a program finds the pages.
+        self._texts: list[list[str]] = [[]]
+        self._lists: list[list[str]] = [[]]
         self._found: list[_List] = []
         #: The lists that are open.
         self._open_lists: list[_List] = []
@@ -548,7 +553,12 @@ class _Html(Tags):
     @property
     def passages(self) -> list[str]:
         """The texts that have print."""
-        return [text for text in self.texts if text.strip()]
+        return [text for text in map("".join, self._texts) if text.strip()]
+
+    @property
+    def lists(self) -> list[str]:
+        """The texts of the lists by which a program finds the pages."""
+        return ["".join(pieces) for pieces in self._lists]
 
     @property
     def numbers(self) -> list[str]:
@@ -575,10 +585,10 @@ class _Html(Tags):
 
     def _firsts(self, places: Iterable[int | None]) -> Iterator[str]:
         """The first words from each place on that there is."""
-        for text in places:
-            if text is not None:
-                words = map(plain, (*self.texts[text:], *self.lists[text:]))
-                yield next(filter(None, words), "")[:_SHOWN]
+        known = [place for place in places if place is not None]
+        if known:
+            texts, lists = _first_words(self._texts), _first_words(self._lists)
+            yield from (texts[place] or lists[place] for place in known)
 
     def handle_starttag(self, tag: str, attrs: list[tuple[str, str | None]]) -> None:
         self._silent += tag in self._SILENT
@@ -587,7 +597,7 @@ class _Html(Tags):
             self._in_list = True
         self._enter(tag, dict(attrs))
         if tag not in self._VOID and self._sheet.is_counted(self._path):
-            self._counted.append(len(self.texts))
+            self._counted.append(len(self._texts) - (tag not in self._BLOCKS))
         self._count(tag, dict(attrs))
         self._open += tag == self._back
         if not self._back and tag in ("a", "span") and _is_back(dict(attrs)):
@@ -596,8 +606,8 @@ class _Html(Tags):
         self._part(tag)
         if tag in ("rt", "rp", "rb", "rtc"):
             self._end_reading()
-            is_within = any(each.tag == "ruby" for each in self._path)
-            self._reading = "begun" if tag == "rt" and is_within else ""
+            is_within = tag == "rt" and self._tags["ruby"] > 0
+            self._reading = "begun" if is_within else ""
 
     def handle_startendtag(self, tag: str, attrs: list[tuple[str, str | None]]) -> None:
         # an element that ends at once has nothing to be silent about
@@ -623,17 +633,17 @@ class _Html(Tags):
             self._sheet.add(rules_of(data))
             self._is_unread |= _IMPORT.search(data) is not None
         if not self._silent and not self._back:
-            texts = self.lists if self._in_list else self.texts
+            texts = self._lists if self._in_list else self._texts
             if self._reading == "begun" and data.strip():
                 # it is parted from the characters by a bracket
-                texts[-1] += " "
+                texts[-1].append(" ")
                 self._reading = "read"
-            texts[-1] += data
+            texts[-1].append(data)
 
     def _enter(self, tag: str, attributes: dict[str, str | None]) -> None:
         """Notes an element that is open from here on, or that links to a sheet."""
         self._link(tag, attributes)
-        if tag == "li":
+        if tag == "li" and self._tags["li"]:
             # an item ends where the next one of its list begins
             lists = (each.tag for each in reversed(self._path))
             if next((tag for tag in lists if tag in ("li", "ol", "ul")), "") == "li":
@@ -643,12 +653,13 @@ class _Html(Tags):
         if tag not in self._VOID:
             classes = frozenset((attributes.get("class") or "").split())
             self._path.append(PageElement(tag, attributes.get("id") or "", classes))
+            self._tags[tag] += 1
 
     def _leave(self, tag: str) -> None:
-        for place in range(len(self._path) - 1, -1, -1):
-            if self._path[place].tag == tag:
-                del self._path[place:]
-                return
+        left = None if self._tags[tag] else tag
+        while left != tag:
+            left = self._path.pop().tag
+            self._tags[left] -= 1
 
     def _link(self, tag: str, attributes: dict[str, str | None]) -> None:
         if tag == "link" and "stylesheet" in (attributes.get("rel") or "").lower():
@@ -666,7 +677,7 @@ class _Html(Tags):
             if self._open_lists:
                 its = self._open_lists[-1]
                 its.own.append(whole(attributes.get("value"), None))
-                its.note(said or its.shown, len(self.texts))
+                its.note(said or its.shown, len(self._texts))
             return
         is_numbered = tag == "ol"
         own = _TYPES.get(attributes.get("type") or "", "decimal")
@@ -679,7 +690,7 @@ class _Html(Tags):
             said or (own if is_numbered else "disc"),
         )
         if is_numbered and said is None and _is_styled(attributes):
-            found.unsure = len(self.texts)
+            found.unsure = len(self._texts)
         self._found.append(found)
         self._open_lists.append(found)
 
@@ -698,9 +709,17 @@ class _Html(Tags):
 
     def _part(self, tag: str) -> None:
         if tag in self._BLOCKS:
-            self.texts.append("")
-            self.lists.append("\n")
+            self._texts.append([])
+            self._lists.append(["\n"])
             self._back, self._open = "", 0
+
+
+def _first_words(texts: Sequence[Sequence[str]]) -> list[str]:
+    """The first words from each of some texts on, and none after the last one."""
+    found = [""]
+    for pieces in reversed(texts):
+        found.append(plain("".join(pieces))[:_SHOWN] or found[-1])
+    return found[::-1]
 
 
 def _is_back(attributes: dict[str, str | None]) -> bool:

@@ -9,8 +9,9 @@ written so.
 """
 
 import re
+from bisect import bisect_left
 from collections import Counter
-from collections.abc import Mapping
+from collections.abc import Mapping, Sequence
 from contextlib import suppress
 from html import escape
 from io import BytesIO
@@ -90,6 +91,9 @@ class _Rewriting(Tags):
         self._done = 0
         #: Whether the characters that are open have no brackets around their reading, and it is open.
         self._is_bare = self._is_in_reading = False
+        # they are looked for once: a search from each tag would go on to the end where nothing is found
+        self._brackets = [each.start() for each in _BRACKET.finditer(page)]
+        self._ruby_ends = [each.start() for each in _RUBY_END.finditer(page)]
         #: The parts of each table that are open, from the outermost on.
         self._tables: list[list[str]] = []
         #: Where the templates begin that are open.
@@ -154,15 +158,19 @@ class _Rewriting(Tags):
         """What parts characters from their reading that begins with a tag, if it is one without brackets."""
         stop = self._start() + len(self.get_starttag_text() or "")
         if tag == _RUBY:
-            end = _RUBY_END.search(self._page, stop)
-            last = end.start() if end else len(self._page)
-            self._is_bare = not _BRACKET.search(self._page, stop, last)
+            end, bracket = self._first(self._ruby_ends), self._first(self._brackets)
+            self._is_bare = bracket >= end
         elif tag in _AFTER_READING:
             self._end_reading()
             is_empty = _TAG_END.match(self._page, stop)
             self._is_in_reading = self._is_bare and tag == _READING and not is_empty
             return "(" if self._is_in_reading else ""
         return ""
+
+    def _first(self, places: Sequence[int]) -> int:
+        """The first of some places after the tag that was found, else the end of the page."""
+        found = bisect_left(places, self._start())
+        return places[found] if found < len(places) else len(self._page)
 
     def _end_reading(self) -> None:
         if self._is_in_reading:

@@ -16,6 +16,8 @@ _FOR_PRINT = re.compile(r"@media\s+(?:only\s+)?(?:all|print)", re.IGNORECASE)
 _SELECTOR = re.compile(r"([\w-]+|\*)?((?:[.#][\w-]+)*)")
 #: How deep rules for some media are looked for within others.
 _DEEPEST = 8
+#: How many elements around each other are looked at, the innermost: programs that show pages nest no more.
+_INNERMOST = 512
 _TYPE, _DISPLAY = "list-style-type", "display"
 _PLACES = ("inside", "outside")
 #: What stands in front of an element, and a number in it; rules say of the element that it is counted.
@@ -100,7 +102,7 @@ class Sheet:
 
         ``path`` is the element and those that it is within, ``own`` the style that it has itself.
         """
-        values = self._values(tuple(path)) | _values(own)
+        values = self._values(tuple(path[-_INNERMOST:])) | _values(own)
         display = values.get(_DISPLAY, "list-item")
         if path[-1].tag == "li" and "list-item" not in display:
             return "none"
@@ -108,7 +110,8 @@ class Sheet:
 
     def is_counted(self, path: Sequence[PageElement]) -> bool:
         """Whether a number stands in front of an element that no page has, within those before it."""
-        fit = [rule.values for rule in self._counting if rule.fits(path)]
+        inner = path[-_INNERMOST:] if self._counting else ()
+        fit = [rule.values for rule in self._counting if rule.fits(inner)]
         return bool(fit and fit[-1][_COUNTED])
 
     def _values(self, path: tuple[PageElement, ...]) -> dict[str, str]:
